@@ -1,0 +1,129 @@
+-- What items with no fault in form give
+use Rattle.std.proofs.Common.{◌≡◌, ℕ, Bool, true, false, cond, List, [], ◌∷◌, Option, Some, None, not, ◌||◌, refl, inl, inr, sym, ap, ◌∙◌, subst}
+use Rattle.std.specs.Prelude.{◌==◌, find, option_map, unwrap_or}
+use Rattle.std.specs.Cmp.Lexicographic.{bytes_decides}
+use Rattle.std.proofs.lemmas.Bool.{eqb-true, or_cases, true≢false}
+use Rattle.ck_types.specs.Attributes.{type_of, form_of, is_of_form, attribute_of, same_bytes, flag_bytes, number_bytes}
+use Rattle.ck_types.specs.Templates.{given, given_or, first_error, form_error, value_error, or_else, error_if, is_unsupported, created_error}
+use Rattle.ck_types.specs.declared.attributes.Attribute.{Attribute}
+use Rattle.ck_types.specs.declared.attributes.Attribute.TheVariants as attribute
+use Rattle.ck_types.specs.declared.attributes.Form.TheVariants as form
+use Rattle.ck_types.specs.declared.return_codes.Rv.{Rv}
+use Rattle.ck_types.specs.declared.return_codes.Rv.TheVariants as rv
+use Rattle.ck_types.specs.declared.templates.Item.{Item}
+
+-- each attribute has its type
+pub attribute_of-type_of : (a : Attribute) → attribute_of (type_of a) ≡ Some a
+attribute_of-type_of attribute.Class = refl
+attribute_of-type_of attribute.Token = refl
+attribute_of-type_of attribute.Private = refl
+attribute_of-type_of attribute.Label = refl
+attribute_of-type_of attribute.Application = refl
+attribute_of-type_of attribute.Value = refl
+attribute_of-type_of attribute.ObjectId = refl
+attribute_of-type_of attribute.KeyType = refl
+attribute_of-type_of attribute.Id = refl
+attribute_of-type_of attribute.Sensitive = refl
+attribute_of-type_of attribute.Encrypt = refl
+attribute_of-type_of attribute.Decrypt = refl
+attribute_of-type_of attribute.Wrap = refl
+attribute_of-type_of attribute.Unwrap = refl
+attribute_of-type_of attribute.Sign = refl
+attribute_of-type_of attribute.Verify = refl
+attribute_of-type_of attribute.Derive = refl
+attribute_of-type_of attribute.ValueLen = refl
+attribute_of-type_of attribute.Extractable = refl
+attribute_of-type_of attribute.Local = refl
+attribute_of-type_of attribute.NeverExtractable = refl
+attribute_of-type_of attribute.AlwaysSensitive = refl
+attribute_of-type_of attribute.KeyGenMechanism = refl
+attribute_of-type_of attribute.Modifiable = refl
+attribute_of-type_of attribute.Copyable = refl
+attribute_of-type_of attribute.Destroyable = refl
+attribute_of-type_of attribute.KeyState = refl
+
+-- where neither of two checks finds an error
+pub or_else-none : (first later : Option Rv) → or_else first later ≡ None → (first ≡ None) × (later ≡ None)
+or_else-none None later e = (refl, e)
+or_else-none (Some code) later e = cc
+
+error_if-none : (test : Bool) (code : Rv) → error_if test code ≡ None → test ≡ false
+error_if-none false code e = refl
+error_if-none true code e = cc
+
+form_holds : (fits unsupported : Bool) → (not fits || unsupported) ≡ false → fits ≡ true
+form_holds true unsupported e = refl
+form_holds false unsupported e = cc
+
+-- a value with no fault in form is of its attribute's form
+is_of_form-value : (a : Attribute) (value : List ℕ) → value_error (Some a) value ≡ None → is_of_form (form_of a) value ≡ true
+is_of_form-value a value e = form_holds (is_of_form (form_of a) value) (is_unsupported a value) (error_if-none _ _ e)
+
+module _ (a : Attribute) (value : List ℕ) where
+  value_error-first : (test : Bool) (item : Item) (items : List Item)
+      → (first_error form_error items ≡ None → given items (type_of a) ≡ Some value → value_error (Some a) value ≡ None)
+      → (item.kind == type_of a) ≡ test
+      → first_error form_error (item ∷ items) ≡ None
+      → option_map (λ (i : Item). i.value) (cond test (Some item) (find (λ i. i.kind == type_of a) items)) ≡ Some value
+      → value_error (Some a) value ≡ None
+  value_error-first true item items later t fine e =
+      let here = (or_else-none (form_error item) (first_error form_error items) fine).0 in
+      let known : attribute_of item.kind ≡ Some a = ap attribute_of (eqb-true item.kind (type_of a) t) ∙ attribute_of-type_of a in
+      let same : item.value ≡ value = cc in
+      subst (λ v. value_error (Some a) v ≡ None) same (subst (λ o. value_error o item.value ≡ None) known here)
+  value_error-first false item items later t fine e =
+      later (or_else-none (form_error item) (first_error form_error items) fine).1 e
+
+  -- what items with no fault in form give an attribute has none
+  pub value_error-given : (items : List Item) → first_error form_error items ≡ None → given items (type_of a) ≡ Some value → value_error (Some a) value ≡ None
+  value_error-given [] fine e = cc
+  value_error-given (item ∷ items) fine e =
+      value_error-first (item.kind == type_of a) item items (value_error-given items) refl fine e
+
+-- a value with no fault is that of a data object's class
+class-value : (value : List ℕ) → value_error (Some attribute.Class) value ≡ None → value ≡ number_bytes 0
+class-value value e =
+    let fine = error_if-none (not (is_of_form form.Class value) || is_unsupported attribute.Class value) rv.AttributeValueInvalid e in
+    class-test (same_bytes value (number_bytes 0)) (same_bytes value (number_bytes 4)) (λ t. (bytes_decides value (number_bytes 0)).0 t) fine
+  where
+    class-test : (data_class key_class : Bool) → (data_class ≡ true → value ≡ number_bytes 0)
+        → (not (data_class || key_class) || key_class) ≡ false → value ≡ number_bytes 0
+    class-test true key_class h fine = h refl
+    class-test false true h fine = cc
+    class-test false false h fine = cc
+
+or-default : (o : Option (List ℕ)) (other : List ℕ) → ((value : List ℕ) → o ≡ Some value → value ≡ other) → unwrap_or o other ≡ other
+or-default None other h = refl
+or-default (Some value) other h = h value refl
+
+-- items with no fault in form give no class but that of data objects
+pub given_or-class : (items : List Item) → first_error form_error items ≡ None → given_or items (type_of attribute.Class) (number_bytes 0) ≡ number_bytes 0
+given_or-class items fine =
+    or-default (given items (type_of attribute.Class)) (number_bytes 0) (λ value e. class-value value (value_error-given attribute.Class value items fine e))
+
+flag_bytes-test : (test : Bool) (value : List ℕ) → same_bytes value (flag_bytes true) ≡ test → (same_bytes value (flag_bytes false) || test) ≡ true → flag_bytes test ≡ value
+flag_bytes-test true value t h = sym ((bytes_decides value (flag_bytes true)).0 t)
+flag_bytes-test false value t h =
+    elim (or_cases (same_bytes value (flag_bytes false)) false h) [ inl e ↦ sym ((bytes_decides value (flag_bytes false)).0 e) | inr e ↦ absurd (true≢false (sym e)) ]
+
+-- a value of the form of a flag is the bytes of the flag that it is
+pub flag_bytes-is_true : (value : List ℕ) → is_of_form form.Flag value ≡ true → flag_bytes (same_bytes value (flag_bytes true)) ≡ value
+flag_bytes-is_true value h = flag_bytes-test (same_bytes value (flag_bytes true)) value refl h
+
+-- the flag that items with no fault in form give an attribute
+pub flag_bytes-given : (items : List Item) (a : Attribute) (value : List ℕ) → form_of a ≡ form.Flag → first_error form_error items ≡ None
+    → given items (type_of a) ≡ Some value → flag_bytes (same_bytes value (flag_bytes true)) ≡ value
+flag_bytes-given items a value flag fine e =
+    flag_bytes-is_true value (subst (λ f. is_of_form f value ≡ true) flag (is_of_form-value a value (value_error-given a value items fine e)))
+
+-- the same, where a test of the value says which flag it is
+pub flag_bytes-given_or : (items : List Item) (a : Attribute) (kind : ℕ) (value other : List ℕ) (test : Bool) → form_of a ≡ form.Flag → first_error form_error items ≡ None
+    → Some value ≡ given items kind → kind ≡ type_of a → test ≡ same_bytes value (flag_bytes true) → flag_bytes test ≡ given_or items (type_of a) other
+flag_bytes-given_or items a kind value other test flag fine e k t =
+    let here : given items (type_of a) ≡ Some value = subst (λ n. given items n ≡ Some value) k (sym e) in
+    rw (t, here) (flag_bytes-given items a value flag fine here)
+
+-- ---- a template that passes the checks
+
+pub form-created : (items : List Item) → created_error items ≡ None → first_error form_error items ≡ None
+form-created items fine = (or_else-none (first_error form_error items) _ fine).0

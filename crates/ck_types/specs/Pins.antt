@@ -1,0 +1,12 @@
+-- What the token knows of a PIN
+use Rattle.std.specs.Prelude.{ℕ, Bool, List, length, nat_le, ◌&&◌}
+use Rattle.sha2.specs.Sha256.{sha256}
+use Rattle.ck_types.specs.declared.pins.Pin.{Pin}
+
+-- the length and the SHA-256 digest of a PIN's bytes
+abbrev pub pin_of : List ℕ → Pin
+pin_of bytes = record { len = length bytes; tag = sha256 bytes }
+
+-- a PIN has 4 to 64 bytes
+abbrev pub fits_a_pin : Pin → Bool
+fits_a_pin pin = nat_le 4 pin.len && nat_le pin.len 64

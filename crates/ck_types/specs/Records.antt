@@ -1,0 +1,83 @@
+-- The attributes of an object, in the order of the table
+use Rattle.std.specs.Prelude.{◌≡◌, ℕ, Bool, true, List, [], ◌∷◌, Option, Some, None, Result, Ok, Err, map, option_and_then}
+use Rattle.ck_types.specs.Attributes.{Default, preset, Column, flag_bytes, number_bytes, same_bytes, type_of, form_of, column_of, attribute_of, attributes}
+use Rattle.std.specs.List.{flat_map}
+use Rattle.ck_types.specs.Templates.{given, given_or, created_error}
+use Rattle.ck_types.specs.declared.attributes.Attribute.{Attribute}
+use Rattle.ck_types.specs.declared.attributes.Attribute.TheVariants as attribute
+use Rattle.ck_types.specs.declared.attributes.Class.{Class}
+use Rattle.ck_types.specs.declared.attributes.Class.TheVariants as class
+use Rattle.ck_types.specs.declared.attributes.Form.{Form}
+use Rattle.ck_types.specs.declared.attributes.Form.TheVariants as form
+use Rattle.ck_types.specs.declared.records.Refusal.{Refusal}
+use Rattle.ck_types.specs.declared.records.Refusal.TheVariants as refusal
+use Rattle.ck_types.specs.declared.records.Data.{Data}
+use Rattle.ck_types.specs.declared.records.Object.{Object}
+use Rattle.ck_types.specs.declared.records.Object.TheVariants as object
+use Rattle.ck_types.specs.declared.templates.Item.{Item}
+
+abbrev pub item_of : Attribute → List ℕ → Item
+item_of a value = record { kind = type_of a; value = value }
+
+-- ---- an object as its attributes
+
+abbrev pub data_items : Data → List Item
+data_items d =
+    item_of attribute.Class (number_bytes 0)
+    ∷ item_of attribute.Token (flag_bytes d.token)
+    ∷ item_of attribute.Private (flag_bytes d.private)
+    ∷ item_of attribute.Label d.label
+    ∷ item_of attribute.Application d.application
+    ∷ item_of attribute.Value d.value
+    ∷ item_of attribute.ObjectId d.object_id
+    ∷ item_of attribute.Modifiable (flag_bytes d.modifiable)
+    ∷ item_of attribute.Copyable (flag_bytes d.copyable)
+    ∷ item_of attribute.Destroyable (flag_bytes d.destroyable)
+    ∷ []
+
+abbrev pub object_items : Object → List Item
+object_items (object.Data d) = data_items d
+
+-- ---- what a template makes
+
+-- the items, with the template's values of the types that it gives
+abbrev pub with_given : List Item → List Item → List Item
+with_given template items = map (λ (item : Item). record { kind = item.kind; value = given_or template item.kind item.value }) items
+
+-- the value of an attribute of a created data object where the template gives none; its class is CKO_DATA (0)
+abbrev pub default_value : Default → List ℕ
+default_value (preset value) = value
+default_value other = number_bytes 0
+
+abbrev pub default_item : Attribute → Option Column → List Item
+default_item a None = []
+default_item a (Some column) = item_of a (default_value column.created) ∷ []
+
+-- the attributes of an object of the class that is created by a template which gives no more than it must
+abbrev pub default_items : Class → List Item
+default_items c = flat_map (λ a. default_item a (column_of c a)) attributes
+
+-- the attributes of a created data object, as its template and the table give them
+abbrev pub created_items : List Item → List Item
+created_items template = with_given template (default_items class.Data)
+
+-- what creating an object answers
+abbrev pub IsCreated : List Item → Result (List Item) Refusal → Type 0
+IsCreated template (Ok items) = (created_error template ≡ None) × (items ≡ created_items template)
+IsCreated template (Err (refusal.Code code)) = created_error template ≡ Some code
+IsCreated template (Err refusal.Memory) = created_error template ≡ None
+
+-- ---- reading an attribute
+
+-- a flag's value as a bool
+abbrev pub flag_of : Form → List ℕ → Option Bool
+flag_of form.Flag value = Some (same_bytes value (flag_bytes true))
+flag_of other value = None
+
+-- the flag that the items give an attribute
+abbrev pub flag_at : List Item → Attribute → Option Bool
+flag_at items a = option_and_then (flag_of (form_of a)) (given items (type_of a))
+
+-- the flag of this type that the items have
+abbrev pub flag_in : List Item → ℕ → Option Bool
+flag_in items kind = option_and_then (flag_at items) (attribute_of kind)

@@ -1,0 +1,256 @@
+ghost use Rattle.std.specs.Prelude.{◌≡◌, IfSome};
+ghost use Rattle.ck_types.specs.Attributes.{same_bytes, number_bytes};
+ghost use Rattle.ck_types.specs.declared.attributes.Class.TheVariants as class;
+
+/// What an attribute's value looks like.
+#[derive(Clone, Copy, Debug, PartialEq, Eq)]
+pub enum Form {
+    /// One byte, 0 or 1 (CK_BBOOL).
+    Flag,
+    /// 8 bytes, the least first (CK_ULONG).
+    Number,
+    /// A number that is CKO_DATA (0) or CKO_SECRET_KEY (4).
+    Class,
+    /// A number that is CKK_GENERIC_SECRET (16).
+    KeyType,
+    /// A number; in a template 0 (pre-activation) or 1 (active).
+    KeyState,
+    /// Any bytes.
+    Bytes,
+}
+
+/// An object's class (CK_OBJECT_CLASS): data objects and secret keys.
+#[derive(Clone, Copy, Debug, PartialEq, Eq)]
+pub enum Class {
+    Data,
+    SecretKey,
+}
+
+/// What a template is for.
+#[derive(Clone, Copy, Debug, PartialEq, Eq)]
+pub enum Purpose {
+    Create,
+    Generate,
+    Copy,
+    Set,
+}
+
+/// An attribute that the token knows (PKCS #11 Base 3.0, Object attributes; Current Mechanisms 3.0, Generic
+/// secret key). `KeyState` is a vendor attribute of this token.
+#[derive(Clone, Copy, Debug, PartialEq, Eq)]
+pub enum Attribute {
+    Class,
+    Token,
+    Private,
+    Label,
+    Application,
+    Value,
+    ObjectId,
+    KeyType,
+    Id,
+    Sensitive,
+    Encrypt,
+    Decrypt,
+    Wrap,
+    Unwrap,
+    Sign,
+    Verify,
+    Derive,
+    ValueLen,
+    Extractable,
+    Local,
+    NeverExtractable,
+    AlwaysSensitive,
+    KeyGenMechanism,
+    Modifiable,
+    Copyable,
+    Destroyable,
+    KeyState,
+}
+
+impl Form {
+    ghost use Rattle.ck_types.specs.Attributes.{is_of_form};
+
+    /// Whether a template may give these bytes as a value of this form.
+    pub fn admits(self, value: &[u8]) -> bool
+        ensures { result ≡ is_of_form self value.now }
+    {
+        match self {
+            Form::Flag => value == [0].as_slice() || value == [1].as_slice(),
+            Form::Number => value.len() == 8,
+            Form::Class => is_number(value, 0) || is_number(value, 4),
+            Form::KeyType => is_number(value, 16),
+            Form::KeyState => is_number(value, 0) || is_number(value, 1),
+            Form::Bytes => true,
+        }
+    }
+}
+
+/// Whether these are the 8 bytes of a number, the least first.
+fn is_number(value: &[u8], number: u64) -> bool
+    ensures { result ≡ same_bytes value.now (number_bytes number) }
+{
+    value == number.to_le_bytes().as_slice()
+}
+
+impl Attribute {
+    ghost use Rattle.ck_types.specs.Attributes.{type_of, form_of, standing, attribute_of};
+
+    /// The number of the attribute's type (CK_ATTRIBUTE_TYPE).
+    pub fn number(self) -> u64
+        ensures { result ≡ type_of self }
+    {
+        match self {
+            Attribute::Class => 0x0,
+            Attribute::Token => 0x1,
+            Attribute::Private => 0x2,
+            Attribute::Label => 0x3,
+            Attribute::Application => 0x10,
+            Attribute::Value => 0x11,
+            Attribute::ObjectId => 0x12,
+            Attribute::KeyType => 0x100,
+            Attribute::Id => 0x102,
+            Attribute::Sensitive => 0x103,
+            Attribute::Encrypt => 0x104,
+            Attribute::Decrypt => 0x105,
+            Attribute::Wrap => 0x106,
+            Attribute::Unwrap => 0x107,
+            Attribute::Sign => 0x108,
+            Attribute::Verify => 0x10a,
+            Attribute::Derive => 0x10c,
+            Attribute::ValueLen => 0x161,
+            Attribute::Extractable => 0x162,
+            Attribute::Local => 0x163,
+            Attribute::NeverExtractable => 0x164,
+            Attribute::AlwaysSensitive => 0x165,
+            Attribute::KeyGenMechanism => 0x166,
+            Attribute::Modifiable => 0x170,
+            Attribute::Copyable => 0x171,
+            Attribute::Destroyable => 0x172,
+            Attribute::KeyState => 0x8000_0001,
+        }
+    }
+
+    /// The attribute of a type, or `None` where the token knows no such type.
+    pub fn of(kind: u64) -> Option<Attribute>
+        ensures attribute { result ≡ attribute_of kind }
+        ensures number { IfSome result (λ a. type_of a ≡ kind) }
+    {
+        match kind {
+            0x0 => Some(Attribute::Class),
+            0x1 => Some(Attribute::Token),
+            0x2 => Some(Attribute::Private),
+            0x3 => Some(Attribute::Label),
+            0x10 => Some(Attribute::Application),
+            0x11 => Some(Attribute::Value),
+            0x12 => Some(Attribute::ObjectId),
+            0x100 => Some(Attribute::KeyType),
+            0x102 => Some(Attribute::Id),
+            0x103 => Some(Attribute::Sensitive),
+            0x104 => Some(Attribute::Encrypt),
+            0x105 => Some(Attribute::Decrypt),
+            0x106 => Some(Attribute::Wrap),
+            0x107 => Some(Attribute::Unwrap),
+            0x108 => Some(Attribute::Sign),
+            0x10a => Some(Attribute::Verify),
+            0x10c => Some(Attribute::Derive),
+            0x161 => Some(Attribute::ValueLen),
+            0x162 => Some(Attribute::Extractable),
+            0x163 => Some(Attribute::Local),
+            0x164 => Some(Attribute::NeverExtractable),
+            0x165 => Some(Attribute::AlwaysSensitive),
+            0x166 => Some(Attribute::KeyGenMechanism),
+            0x170 => Some(Attribute::Modifiable),
+            0x171 => Some(Attribute::Copyable),
+            0x172 => Some(Attribute::Destroyable),
+            0x8000_0001 => Some(Attribute::KeyState),
+            _ => None,
+        }
+    }
+
+    /// The form of the attribute's value.
+    pub fn form(self) -> Form
+        ensures { result ≡ form_of self }
+    {
+        match self {
+            Attribute::Class => Form::Class,
+            Attribute::KeyType => Form::KeyType,
+            Attribute::KeyState => Form::KeyState,
+            Attribute::Label
+            | Attribute::Application
+            | Attribute::Value
+            | Attribute::ObjectId
+            | Attribute::Id => Form::Bytes,
+            Attribute::ValueLen | Attribute::KeyGenMechanism => Form::Number,
+            Attribute::Token
+            | Attribute::Private
+            | Attribute::Sensitive
+            | Attribute::Encrypt
+            | Attribute::Decrypt
+            | Attribute::Wrap
+            | Attribute::Unwrap
+            | Attribute::Sign
+            | Attribute::Verify
+            | Attribute::Derive
+            | Attribute::Extractable
+            | Attribute::Local
+            | Attribute::NeverExtractable
+            | Attribute::AlwaysSensitive
+            | Attribute::Modifiable
+            | Attribute::Copyable
+            | Attribute::Destroyable => Form::Flag,
+        }
+    }
+
+    /// Whether the attribute may stand in a template of this purpose for an object of this class, or `None`
+    /// where objects of the class don't have it.
+    pub fn standing(self, class: Class, purpose: Purpose) -> Option<bool>
+        ensures { result ≡ standing class purpose self }
+    {
+        match class {
+            Class::Data => self.standing_in_data(purpose),
+            Class::SecretKey => self.standing_in_keys(purpose),
+        }
+    }
+
+    fn standing_in_data(self, purpose: Purpose) -> Option<bool>
+        ensures { result ≡ standing class.Data purpose self }
+    {
+        match self {
+            Attribute::Class => { Some(matches!(purpose, Purpose::Create | Purpose::Generate)) }
+            Attribute::Token
+            | Attribute::Private
+            | Attribute::Modifiable
+            | Attribute::Copyable
+            | Attribute::Destroyable => Some(!matches!(purpose, Purpose::Set)),
+            Attribute::Label => Some(true),
+            Attribute::Application | Attribute::Value | Attribute::ObjectId => {
+                Some(!matches!(purpose, Purpose::Generate))
+            }
+            _ => None,
+        }
+    }
+
+    fn standing_in_keys(self, purpose: Purpose) -> Option<bool>
+        ensures { result ≡ standing class.SecretKey purpose self }
+    {
+        match self {
+            Attribute::Class | Attribute::KeyType | Attribute::KeyState => {
+                Some(matches!(purpose, Purpose::Create | Purpose::Generate))
+            }
+            Attribute::Token
+            | Attribute::Private
+            | Attribute::Modifiable
+            | Attribute::Copyable
+            | Attribute::Destroyable => Some(!matches!(purpose, Purpose::Set)),
+            Attribute::Value => Some(matches!(purpose, Purpose::Create)),
+            Attribute::ValueLen => Some(matches!(purpose, Purpose::Generate)),
+            Attribute::Local
+            | Attribute::NeverExtractable
+            | Attribute::AlwaysSensitive
+            | Attribute::KeyGenMechanism => Some(false),
+            Attribute::Application | Attribute::ObjectId => None,
+            _ => Some(true),
+        }
+    }
+}

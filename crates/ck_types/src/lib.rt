@@ -1,0 +1,20 @@
+//! Return codes, attributes, templates, records of objects, PINs and limits of a PKCS #11 token.
+#![tactic(auto)]
+
+mod attributes;
+mod memory;
+mod pins;
+mod records;
+mod return_codes;
+mod sequences;
+mod templates;
+mod token_limits;
+
+pub use attributes::{Attribute, Class, Form, Purpose};
+pub use memory::NoMemory;
+pub use pins::Pin;
+pub use records::{Record, Refusal};
+pub use return_codes::Rv;
+pub use sequences::{Bytes, Sequence};
+pub use templates::{Item, Template};
+pub use token_limits::Limits;

@@ -1,0 +1,137 @@
+ghost use Rattle.std.specs.Prelude.{◌≡◌, Some, not};
+ghost use Rattle.std.specs.Option.{option_copied};
+ghost use Rattle.ck_types.specs.Attributes.{type_of, same_bytes};
+ghost use Rattle.ck_types.specs.Templates.{given, given_or, is_unsupported, form_error, first_error, has_conflict, class_error, created_error};
+
+use crate::attributes::{Attribute, Class, Purpose};
+use crate::return_codes::Rv;
+use crate::sequences::{Bytes, Sequence};
+
+/// One attribute of a template or of an object (CK_ATTRIBUTE): its type and the bytes of its value.
+#[derive(Debug, Drop)]
+pub struct Item {
+    /// The attribute's type (CK_ATTRIBUTE_TYPE), known to the token or not.
+    pub kind: u64,
+    pub value: Bytes,
+}
+
+/// The attributes that a caller hands in, in the caller's order (PKCS #11 Base 3.0, Object management
+/// functions).
+#[derive(Debug, Drop)]
+pub struct Template {
+    pub items: Sequence<Item>,
+}
+
+/// The value that the items give a type: that of the first item of the type.
+pub(crate) fn given(items: &[Item], kind: u64) -> Option<&Bytes>
+    ensures { option_copied result ≡ given items.now kind }
+{
+    for item in items {
+        if item.kind == kind {
+            return Some(&item.value);
+        }
+    }
+    None
+}
+
+/// What isn't supported yet: token objects, private objects and secret keys.
+fn is_unsupported(attribute: Attribute, value: &[u8]) -> bool
+    ensures { result ≡ is_unsupported attribute value.now }
+{
+    match attribute {
+        Attribute::Token | Attribute::Private => value == [1].as_slice(),
+        Attribute::Class => value == 4u64.to_le_bytes().as_slice(),
+        _ => false,
+    }
+}
+
+/// CKR_ATTRIBUTE_TYPE_INVALID for a type that the token doesn't know, CKR_ATTRIBUTE_VALUE_INVALID for a value
+/// that isn't of the type's form.
+fn item_form_error(item: &Item) -> Option<Rv>
+    ensures { result ≡ form_error item.now }
+{
+    match Attribute::of(item.kind) {
+        None => Some(Rv::AttributeTypeInvalid),
+        Some(attribute) => {
+            let value = item.value.as_slice();
+            if !attribute.form().admits(value) || is_unsupported(attribute, value) {
+                Some(Rv::AttributeValueInvalid)
+            } else {
+                None
+            }
+        }
+    }
+}
+
+fn first_form_error(items: &[Item]) -> Option<Rv>
+    ensures { result ≡ first_error form_error items.now }
+{
+    for item in items {
+        let error = item_form_error(item);
+        if error.is_some() {
+            return error;
+        }
+    }
+    None
+}
+
+/// CKR_ATTRIBUTE_TYPE_INVALID for an attribute that objects of the class don't have, CKR_ATTRIBUTE_READ_ONLY for
+/// one that may not stand in a template of this purpose.
+fn item_class_error(class: Class, purpose: Purpose, item: &Item) -> Option<Rv>
+    ensures { result ≡ class_error class purpose item.now }
+{
+    match Attribute::of(item.kind) {
+        None => Some(Rv::AttributeTypeInvalid),
+        Some(attribute) => match attribute.standing(class, purpose) {
+            None => Some(Rv::AttributeTypeInvalid),
+            Some(false) => Some(Rv::AttributeReadOnly),
+            Some(true) => None,
+        },
+    }
+}
+
+fn first_class_error(class: Class, purpose: Purpose, items: &[Item]) -> Option<Rv>
+    ensures { result ≡ first_error (class_error class purpose) items.now }
+{
+    for item in items {
+        let error = item_class_error(class, purpose, item);
+        if error.is_some() {
+            return error;
+        }
+    }
+    None
+}
+
+/// Whether the item's value is another than that of the first item of its type.
+fn differs_from_first(items: &[Item], item: &Item) -> bool
+    ensures { result ≡ not (same_bytes item.now.value (given_or items.now item.now.kind item.now.value)) }
+{
+    match given(items, item.kind) {
+        None => false,
+        Some(first) => item.value.as_slice() != first.as_slice(),
+    }
+}
+
+/// Whether two items of one type have different values.
+fn has_conflict(items: &[Item]) -> bool
+    ensures { result ≡ has_conflict items.now }
+{
+    items.iter().any(|item| differs_from_first(items, item))
+}
+
+/// The code of the first check that a template which creates an object fails.
+pub(crate) fn created_error(items: &[Item]) -> Option<Rv>
+    ensures { result ≡ created_error items.now }
+{
+    let error = first_form_error(items);
+    if error.is_some() {
+        return error;
+    }
+    if has_conflict(items) {
+        return Some(Rv::TemplateInconsistent);
+    }
+    if given(items, Attribute::Class.number()).is_none() {
+        return Some(Rv::TemplateIncomplete);
+    }
+    first_class_error(Class::Data, Purpose::Create, items)
+}

@@ -1,0 +1,94 @@
+use std::marker::Model;
+
+/// How much one token gives out in its life: sessions open at once (1 to 64), openings of sessions in all and
+/// creations of objects in all (each 1 to 2^32 - 1), and OK logins of the user in all (1 to 2^31 - 1).
+#[derive(Clone, Copy, Debug, PartialEq, Eq)]
+pub struct Limits {
+    sessions: u64,
+    openings: u64,
+    creations: u64,
+    logins: u64,
+}
+
+impl Model for Limits {
+    ghost use Rattle.ck_types.specs.TokenLimits.{Ranges, AreInRange};
+
+    ghost Value = { Ranges };
+
+    ghost view = { λ l. record { sessions = l.sessions; openings = l.openings; creations = l.creations; logins = l.logins } };
+
+    ghost invariant = { λ l. AreInRange l.sessions l.openings l.creations l.logins };
+
+    ghost inverse = { λ r. record { sessions = r.sessions; openings = r.openings; creations = r.creations; logins = r.logins } };
+}
+
+impl Limits {
+    ghost use Rattle.std.specs.Prelude.{◌≡◌, ◌^◌, ◌-◌, ◌↔◌, IfSome, IsSome};
+    ghost use Rattle.ck_types.specs.TokenLimits.{AreInRange};
+
+    /// Limits of these numbers, or `None` where one of them is outside its range.
+    pub fn of(sessions: u64, openings: u64, creations: u64, logins: u64) -> Option<Limits>
+        ensures ranges { IsSome result ↔ AreInRange sessions openings creations logins }
+        ensures limits { IfSome result (λ l. l ≡ record { sessions = sessions; openings = openings; creations = creations; logins = logins }) }
+    {
+        let is_in_range = 1 <= sessions
+            && sessions <= 64
+            && 1 <= openings
+            && openings <= 0xffff_ffff
+            && 1 <= creations
+            && creations <= 0xffff_ffff
+            && 1 <= logins
+            && logins <= 0x7fff_ffff;
+        if is_in_range {
+            Some(Limits {
+                sessions,
+                openings,
+                creations,
+                logins,
+            })
+        } else {
+            None
+        }
+    }
+
+    /// The largest limits.
+    pub fn largest() -> Limits
+        ensures { result ≡ record { sessions = 64; openings = 2 ^ 32 - 1; creations = 2 ^ 32 - 1; logins = 2 ^ 31 - 1 } }
+    {
+        Limits {
+            sessions: 64,
+            openings: 0xffff_ffff,
+            creations: 0xffff_ffff,
+            logins: 0x7fff_ffff,
+        }
+    }
+
+    /// The most sessions that may be open at once.
+    pub fn sessions(&self) -> u64
+        ensures value { result ≡ self.now.sessions }
+        ensures ranges { AreInRange self.now.sessions self.now.openings self.now.creations self.now.logins }
+    {
+        self.sessions
+    }
+
+    /// The most sessions that are opened in all.
+    pub fn openings(&self) -> u64
+        ensures { result ≡ self.now.openings }
+    {
+        self.openings
+    }
+
+    /// The most objects that are created in all.
+    pub fn creations(&self) -> u64
+        ensures { result ≡ self.now.creations }
+    {
+        self.creations
+    }
+
+    /// The most OK logins of the user in all.
+    pub fn logins(&self) -> u64
+        ensures { result ≡ self.now.logins }
+    {
+        self.logins
+    }
+}
