@@ -1,0 +1,6 @@
+pub mod Answers
+pub mod Histories
+pub mod Objects
+pub mod Pins
+pub mod Queries
+pub mod Sessions

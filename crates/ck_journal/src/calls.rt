@@ -1,0 +1,73 @@
+use ck_types::{Bytes, Pin, Rv, Sequence, Template};
+
+/// What C_GetAttributeValue is asked of one attribute: its type, and the room for its value in bytes. No room asks
+/// for the value's length alone (PKCS #11 Base 3.0, Object management functions).
+#[derive(Clone, Copy, Debug, PartialEq, Eq)]
+pub struct AttributeQuery {
+    pub kind: u64,
+    pub room: Option<u64>,
+}
+
+/// A call of the application with its arguments. The names are those of the standard's functions without `C_`.
+#[derive(Debug, Drop)]
+pub enum Call {
+    InitToken {
+        pin: Pin,
+    },
+    OpenSession {
+        flags: u64,
+    },
+    CloseSession {
+        session: u64,
+    },
+    CreateObject {
+        session: u64,
+        template: Template,
+    },
+    GetAttributeValue {
+        session: u64,
+        object: u64,
+        queries: Sequence<AttributeQuery>,
+    },
+    DestroyObject {
+        session: u64,
+        object: u64,
+    },
+}
+
+/// What one query of an attribute is answered.
+#[derive(Debug, Drop)]
+pub enum Answer {
+    Value(Bytes),
+    /// The value's length in bytes.
+    Length(u64),
+    /// The object doesn't have the attribute, its value may not be revealed, or the room is too small
+    /// (CK_UNAVAILABLE_INFORMATION).
+    Unavailable,
+}
+
+/// What a reply has beside its return code.
+#[derive(Debug, Drop)]
+pub enum Body {
+    Empty,
+    /// The handle of a new session or a new object.
+    Handle(u64),
+    /// One answer for each query, in their order.
+    Attributes(Sequence<Answer>),
+}
+
+/// What a call is answered.
+#[derive(Debug, Drop)]
+pub struct Reply {
+    pub rv: Rv,
+    pub body: Body,
+}
+
+/// An answered call: who made it, what was called and what was answered. Callers have numbers of the application's
+/// choice.
+#[derive(Debug, Drop)]
+pub struct Entry {
+    pub caller: u32,
+    pub call: Call,
+    pub reply: Reply,
+}

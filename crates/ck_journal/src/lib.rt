@@ -1,0 +1,9 @@
+//! The calls of a PKCS #11 token, their replies, the journal of both, and the definitions of what each call
+//! answers, read off the journal.
+#![tactic(auto)]
+
+mod calls;
+mod journals;
+
+pub use calls::{Answer, AttributeQuery, Body, Call, Entry, Reply};
+pub use journals::Journal;
