@@ -4,6 +4,7 @@ use Rattle.std.specs.Prelude.{ℕ, suc, Bool, true, false, List, [], ◌∷◌, 
 use Rattle.ck_types.specs.declared.return_codes.Rv.{Rv}
 use Rattle.ck_types.specs.declared.return_codes.Rv.TheVariants as rv
 use Rattle.ck_journal.specs.declared.calls.Call.{Call}
+use Rattle.ck_journal.specs.declared.calls.Call.TheVariants as call
 use Rattle.ck_journal.specs.declared.calls.Entry.{Entry}
 
 abbrev pub History : Type 0
@@ -26,3 +27,9 @@ is_ok other = false
 -- what was done in an entry: its call, where that was answered OK
 abbrev pub done : Entry → Option Call
 done e = if is_ok e.reply.rv then Some e.call else None
+
+-- nothing was done, or a call that changes nothing but the journal
+abbrev pub only_reads : Option Call → Bool
+only_reads None = true
+only_reads (Some (call.GetAttributeValue session object queries)) = true
+only_reads other = false

@@ -1,7 +1,6 @@
 -- What C_GetAttributeValue answers (PKCS #11 Base 3.0, Object management functions)
-use Rattle.std.specs.Prelude.{ℕ, Bool, false, List, Option, Some, None, ◌==◌, nat_lt, length, map, if◌then◌else◌}
+use Rattle.std.specs.Prelude.{ℕ, Bool, false, List, Option, Some, None, nat_lt, is_none, length, map, if◌then◌else◌}
 use Rattle.std.specs.List.{list_any}
-use Rattle.ck_types.specs.ReturnCodes.{number_of}
 use Rattle.ck_types.specs.Templates.{given}
 use Rattle.ck_types.specs.declared.return_codes.Rv.{Rv}
 use Rattle.ck_types.specs.declared.return_codes.Rv.TheVariants as rv
@@ -12,42 +11,35 @@ use Rattle.ck_journal.specs.declared.calls.AttributeQuery.{AttributeQuery}
 use Rattle.ck_journal.specs.declared.calls.Body.TheVariants as body
 use Rattle.ck_journal.specs.declared.calls.Reply.{Reply}
 
--- what became of one query: its answer, and its fault, where it has one
-pub record Outcome : Type 0 where
-  pub answer : Answer
-  pub fault : Option Rv
+-- a value, if the object has one, asked for with this room; no room asks for its length
+abbrev pub value_answer : Option (List ℕ) → Option ℕ → Answer
+value_answer None room = answer.Unavailable
+value_answer (Some value) None = answer.Length (length value)
+value_answer (Some value) (Some room) = if nat_lt room (length value) then answer.Unavailable else answer.Value value
 
--- a value, asked for with this room: no room asks for its length
-abbrev pub value_outcome : List ℕ → Option ℕ → Outcome
-value_outcome value None = record { answer = answer.Length (length value); fault = None }
-value_outcome value (Some room) =
-    if nat_lt room (length value) then record { answer = answer.Unavailable; fault = Some rv.BufferTooSmall }
-    else record { answer = answer.Value value; fault = None }
+abbrev pub query_answer : List Item → AttributeQuery → Answer
+query_answer attributes query = value_answer (given attributes query.kind) query.room
 
-abbrev pub given_outcome : Option (List ℕ) → Option ℕ → Outcome
-given_outcome None room = record { answer = answer.Unavailable; fault = Some rv.AttributeTypeInvalid }
-given_outcome (Some value) room = value_outcome value room
+-- the object doesn't have the attribute
+abbrev pub is_missing : List Item → AttributeQuery → Bool
+is_missing attributes query = is_none (given attributes query.kind)
 
--- a query of an object with these attributes
-abbrev pub outcome : List Item → AttributeQuery → Outcome
-outcome attributes query = given_outcome (given attributes query.kind) query.room
+abbrev pub is_longer : Option (List ℕ) → Option ℕ → Bool
+is_longer (Some value) (Some room) = nat_lt room (length value)
+is_longer other room = false
 
-abbrev pub is_fault : Rv → Option Rv → Bool
-is_fault code None = false
-is_fault code (Some fault) = number_of fault == number_of code
-
-abbrev pub has_fault : Rv → List Outcome → Bool
-has_fault code outcomes = list_any (λ (o : Outcome). is_fault code o.fault) outcomes
+-- the value needs more room than there is
+abbrev pub lacks_room : List Item → AttributeQuery → Bool
+lacks_room attributes query = is_longer (given attributes query.kind) query.room
 
 -- the one code of the call: a missing attribute comes before too little room
-abbrev pub outcomes_code : List Outcome → Rv
-outcomes_code outcomes =
-    if has_fault rv.AttributeTypeInvalid outcomes then rv.AttributeTypeInvalid
-    else if has_fault rv.BufferTooSmall outcomes then rv.BufferTooSmall
+abbrev pub queries_code : List Item → List AttributeQuery → Rv
+queries_code attributes queries =
+    if list_any (is_missing attributes) queries then rv.AttributeTypeInvalid
+    else if list_any (lacks_room attributes) queries then rv.BufferTooSmall
     else rv.Ok
 
 -- the reply to these queries of an object with these attributes: one answer for each, whatever the code
 abbrev pub queries_reply : List Item → List AttributeQuery → Reply
 queries_reply attributes queries =
-    let outcomes = map (outcome attributes) queries in
-    record { rv = outcomes_code outcomes; body = body.Attributes (map (λ (o : Outcome). o.answer) outcomes) }
+    record { rv = queries_code attributes queries; body = body.Attributes (map (query_answer attributes) queries) }

@@ -1,3 +1,10 @@
 pub use Rattle.ck_journal.specs.Answers
 pub use Rattle.ck_journal.specs.Histories
+pub use Rattle.ck_journal.specs.Objects
+pub use Rattle.ck_journal.specs.Pins
+pub use Rattle.ck_journal.specs.Queries
+pub use Rattle.ck_journal.specs.Sessions
+pub mod Agreement
+pub mod Runs
+pub mod StoredObjects
 pub mod TokenStates

@@ -1,7 +1,7 @@
 -- What callers see of a token, and what one call does to it
-use Rattle.std.specs.Prelude.{◌≡◌, ℕ, ◌∷◌}
+use Rattle.std.specs.Prelude.{◌≡◌, ℕ, List, [], ◌∷◌}
 use Rattle.ck_types.specs.TokenLimits.{Ranges}
-use Rattle.ck_journal.specs.Answers.{answer}
+use Rattle.ck_journal.specs.Answers.{answer, IsLegal}
 use Rattle.ck_journal.specs.Histories.{History}
 use Rattle.ck_journal.specs.declared.calls.Call.{Call}
 use Rattle.ck_journal.specs.declared.calls.Entry.{Entry}
@@ -26,3 +26,16 @@ pub record IsAnswered (old new : TokenState) (caller : ℕ) (call : Call) (reply
 pub record IsUnchanged (old new : TokenState) : Type 0 where
   pub limits : new.limits ≡ old.limits
   pub history : new.history ≡ old.history
+
+-- ---- lists of calls, each with its caller
+
+-- the history after these calls, from a history on
+abbrev pub after : Ranges → History → List (ℕ × Call) → History
+after limits h [] = h
+after limits h (c ∷ calls) = after limits (entry_of limits h c.0 c.1 ∷ h) calls
+
+-- a token with these limits that has answered these calls and no other
+pub record HasAnswered (limits : Ranges) (calls : List (ℕ × Call)) (token : TokenState) : Type 0 where
+  pub limits_stay : token.limits ≡ limits
+  pub history : token.history ≡ after limits [] calls
+  pub legal : IsLegal limits token.history

@@ -1,6 +1,11 @@
 //! One token: each call is answered as the journal of the calls before it says, and stands in the journal itself.
 #![tactic(auto)]
 
+mod objects;
+mod queries;
+mod runs;
+mod sessions;
 mod tokens;
 
+pub use runs::{Stopped, run};
 pub use tokens::Token;

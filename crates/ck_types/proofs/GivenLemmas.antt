@@ -47,7 +47,7 @@ pub or_else-none : (first later : Option Rv) → or_else first later ≡ None �
 or_else-none None later e = (refl, e)
 or_else-none (Some code) later e = cc
 
-error_if-none : (test : Bool) (code : Rv) → error_if test code ≡ None → test ≡ false
+pub error_if-none : (test : Bool) (code : Rv) → error_if test code ≡ None → test ≡ false
 error_if-none false code e = refl
 error_if-none true code e = cc
 

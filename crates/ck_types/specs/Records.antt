@@ -58,7 +58,7 @@ abbrev pub default_items : Class → List Item
 default_items c = flat_map (λ a. default_item a (column_of c a)) attributes
 
 -- the attributes of a created data object, as its template and the table give them
-abbrev pub created_items : List Item → List Item
+unfoldable pub created_items : List Item → List Item
 created_items template = with_given template (default_items class.Data)
 
 -- what creating an object answers

@@ -202,6 +202,7 @@ impl Record {
     /// (CKR_ATTRIBUTE_TYPE_INVALID) or a value that isn't of its form (CKR_ATTRIBUTE_VALUE_INVALID), item by item;
     /// two values of one type (CKR_TEMPLATE_INCONSISTENT); no class (CKR_TEMPLATE_INCOMPLETE); an attribute that the
     /// class doesn't have (CKR_ATTRIBUTE_TYPE_INVALID) or that may not be given (CKR_ATTRIBUTE_READ_ONLY), item by item.
+    #[tactic(auto, unfolding(crate::specs::Records::created_items))]
     pub fn created(alloc: Global, template: &Template) -> Result<Record, Refusal>
         ensures { IsCreated template.now.items result }
     {

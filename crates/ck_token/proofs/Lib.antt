@@ -1,0 +1,4 @@
+pub mod ObjectLemmas
+pub mod RunLemmas
+pub mod SessionLemmas
+pub mod TokenLemmas

@@ -1,0 +1,104 @@
+ghost use Rattle.std.specs.Prelude.{◌≡◌, IfOk, map};
+ghost use Rattle.std.specs.List.{list_any};
+ghost use Rattle.ck_journal.specs.Queries.{query_answer, is_missing, lacks_room, queries_code, queries_reply};
+
+use ck_journal::{Answer, AttributeQuery, Body, Reply};
+use ck_types::{NoMemory, Record, Rv, Sequence};
+use std::alloc::Global;
+
+fn is_missing(attributes: &Record, query: &AttributeQuery) -> bool
+    ensures { result ≡ is_missing attributes.now query.now }
+{
+    attributes.length(query.kind).is_none()
+}
+
+fn lacks_room(attributes: &Record, query: &AttributeQuery) -> bool
+    ensures { result ≡ lacks_room attributes.now query.now }
+{
+    match attributes.length(query.kind) {
+        None => false,
+        Some(length) => match query.room {
+            None => false,
+            Some(room) => room < length,
+        },
+    }
+}
+
+fn any_is_missing(attributes: &Record, queries: &[AttributeQuery]) -> bool
+    ensures { result ≡ list_any (is_missing attributes.now) queries.now }
+{
+    queries.iter().any(|query| is_missing(attributes, query))
+}
+
+fn any_lacks_room(attributes: &Record, queries: &[AttributeQuery]) -> bool
+    ensures { result ≡ list_any (lacks_room attributes.now) queries.now }
+{
+    queries.iter().any(|query| lacks_room(attributes, query))
+}
+
+/// The one code of the call.
+fn queries_code(attributes: &Record, queries: &[AttributeQuery]) -> Rv
+    ensures { result ≡ queries_code attributes.now queries.now }
+{
+    if any_is_missing(attributes, queries) {
+        Rv::AttributeTypeInvalid
+    } else if any_lacks_room(attributes, queries) {
+        Rv::BufferTooSmall
+    } else {
+        Rv::Ok
+    }
+}
+
+fn query_answer(
+    alloc: Global,
+    attributes: &Record,
+    query: &AttributeQuery,
+) -> Result<Answer, NoMemory>
+    ensures { IfOk result (λ answer. answer ≡ query_answer attributes.now query.now) }
+{
+    match attributes.length(query.kind) {
+        None => Ok(Answer::Unavailable),
+        Some(length) => match query.room {
+            None => Ok(Answer::Length(length)),
+            Some(room) => {
+                if room < length {
+                    return Ok(Answer::Unavailable);
+                }
+                match attributes.value(alloc, query.kind)? {
+                    None => Ok(Answer::Unavailable),
+                    Some(value) => Ok(Answer::Value(value)),
+                }
+            }
+        },
+    }
+}
+
+fn query_answers(
+    alloc: Global,
+    attributes: &Record,
+    queries: &[AttributeQuery],
+) -> Result<Vec<Answer>, NoMemory>
+    ensures { IfOk result (λ answers. answers.items ≡ map (query_answer attributes.now) queries.now) }
+{
+    let mut answers = Vec::with_capacity(alloc, queries.len())?;
+    for query in queries {
+        let answer = query_answer(alloc, attributes, query)?;
+        answers.push(answer)?;
+    }
+    Ok(answers)
+}
+
+/// The reply to queries of an object with these attributes: one answer for each, and one code.
+pub(crate) fn queries_reply(
+    alloc: Global,
+    attributes: &Record,
+    queries: &[AttributeQuery],
+) -> Result<Reply, NoMemory>
+    ensures { IfOk result (λ reply. reply ≡ queries_reply attributes.now queries.now) }
+{
+    let answers = query_answers(alloc, attributes, queries)?;
+    Ok(Reply {
+        rv: queries_code(attributes, queries),
+        body: Body::Attributes(Sequence::from_vec(answers)),
+    })
+}
