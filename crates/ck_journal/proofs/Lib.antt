@@ -1,6 +1,6 @@
 pub mod EntryLemmas
+pub mod LoginMoves
 pub mod ObjectMoves
-pub mod ReadingMoves
 pub mod RefusalLemmas
 pub mod Selections
 pub mod SessionMoves

@@ -9,7 +9,7 @@ use Rattle.ck_types.specs.declared.templates.Template.{Template}
 use Rattle.ck_journal.specs.declared.calls.Call.{Call}
 use Rattle.ck_journal.specs.declared.calls.Call.TheVariants as call
 use Rattle.ck_journal.specs.declared.calls.Entry.{Entry}
-use Rattle.ck_journal.specs.Histories.{History, done}
+use Rattle.ck_journal.specs.Histories.{History, done, leaves_objects}
 use Rattle.ck_journal.specs.Objects.{creates, creations, creation_session, session_of, creation_attributes, attributes_of, ends, has_object, objects, names, names_with, is_set, object_named}
 use Rattle.ck_journal.specs.Sessions.{numbers}
 use Rattle.ck_journal.proofs.Selections.{selected, selected-suc, selected-same, find-filter_same}
@@ -145,3 +145,24 @@ pub object_named-among : (h : History) (handle : ℕ) →
 object_named-among h handle =
     find-filter_same (names h handle) (λ n. not (is_set (attributes_of h n) attribute.Private) && n == handle) (has_object h)
     (λ n t. ap (λ b. names_with b (attributes_of h n) handle n) t) (numbers (creations h))
+
+-- ---- an entry that leaves objects as they are
+
+creates-left : (c : Option Call) → leaves_objects c ≡ true → creates c ≡ false
+creates-left (Some (call.CreateObject session template)) l = cc
+creates-left other l = refl
+
+ends-left : (c : Option Call) (attributes : List Item) (creator : ℕ) (was_there : Bool) (n : ℕ) → leaves_objects c ≡ true → ends c attributes creator was_there n ≡ false
+ends-left (Some (call.InitToken pin)) attributes creator was_there n l = cc
+ends-left (Some (call.CloseSession session)) attributes creator was_there n l = cc
+ends-left (Some call.CloseAllSessions) attributes creator was_there n l = cc
+ends-left (Some (call.Logout session)) attributes creator was_there n l = cc
+ends-left (Some (call.DestroyObject session object)) attributes creator was_there n l = cc
+ends-left other attributes creator was_there n l = refl
+
+module _ (e : Entry) (h : History) (l : leaves_objects (done e) ≡ true) where
+  pub creations-left : creations (e ∷ h) ≡ creations h
+  creations-left = creations-same e h (creates-left (done e) l)
+
+  pub object_rows-left : {X : Type 0} (row : ℕ → ℕ → List Item → X) → object_rows row (e ∷ h) ≡ object_rows row h
+  object_rows-left row = object_rows-same row e h (creates-left (done e) l) (λ attributes creator was_there n. ends-left (done e) attributes creator was_there n l)

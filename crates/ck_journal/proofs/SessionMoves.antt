@@ -1,15 +1,13 @@
--- How sessions and the token's initialization move by one entry
+-- How sessions move by one entry
 use Rattle.std.proofs.Common.{◌≡◌, ℕ, suc, ◌≤◌, Bool, true, false, cond, not, ◌&&◌, List, [], ◌∷◌, ◌++◌, Option, Some, None, refl, ap, ◌∙◌, arith}
-use Rattle.std.specs.Prelude.{◌==◌, ◌||◌, is_some}
-use Rattle.ck_types.specs.declared.pins.Pin.{Pin}
+use Rattle.std.specs.Prelude.{◌==◌, map, length}
 use Rattle.std.proofs.lemmas.Bool.{eqb-true, eq-eqb, ne_eqb}
 use Rattle.ck_journal.specs.declared.calls.Call.{Call}
 use Rattle.ck_journal.specs.declared.calls.Call.TheVariants as call
 use Rattle.ck_journal.specs.declared.calls.Entry.{Entry}
 use Rattle.ck_journal.specs.Histories.{History, done}
-use Rattle.ck_journal.specs.Pins.{so_pin, so_pin_after, is_initialized, initializes}
-use Rattle.ck_journal.specs.Sessions.{opens, openings, closes, is_open, opening_flags, flags_of}
-use Rattle.ck_journal.proofs.Selections.{selected, selected-suc, selected-same}
+use Rattle.ck_journal.specs.Sessions.{opens, openings, closes, is_open, opening_flags, flags_of, open_sessions}
+use Rattle.ck_journal.proofs.Selections.{selected, selected-suc, selected-same, length-selected}
 
 -- ---- steps, over what was done
 
@@ -31,6 +29,16 @@ below_suc k n h = ne_eqb k (suc n) (λ e. omega arith)
 
 same_number : (k : ℕ) → k == k ≡ true
 same_number k = eq-eqb k k refl
+
+closed_test : (closed was_open : Bool) → cond closed false was_open ≡ was_open && not closed
+closed_test true true = refl
+closed_test true false = refl
+closed_test false true = refl
+closed_test false false = refl
+
+and-true : (b : Bool) → (b && true) ≡ b
+and-true true = refl
+and-true false = refl
 
 module _ (e : Entry) (h : History) where
   -- ---- an opening
@@ -67,49 +75,34 @@ module _ (e : Entry) (h : History) where
         (selected-same (is_open (e ∷ h)) (is_open h) (λ s. row s (flags_of (e ∷ h) s)) (λ s. row s (flags_of h s)) (openings h) is_open-below
         (λ k below. ap (row k) (flags_of-below k below))))
 
-  -- ---- a closing
+  -- ---- an entry that opens nothing
 
-  module _ (session : ℕ) (d : done e ≡ Some (call.CloseSession session)) where
-    pub openings-closed : openings (e ∷ h) ≡ openings h
-    openings-closed = ap (λ o. openings_step o (openings h)) d
+  module _ (no_opening : opens (done e) ≡ false) where
+    pub openings-later : openings (e ∷ h) ≡ openings h
+    openings-later = ap (λ t. cond t (suc (openings h)) (openings h)) no_opening
 
-    closed_test : (closed was_open : Bool) → cond closed false was_open ≡ was_open && not closed
-    closed_test true true = refl
-    closed_test true false = refl
-    closed_test false true = refl
-    closed_test false false = refl
+    is_open-later : (k : ℕ) → is_open (e ∷ h) k ≡ is_open h k && not (closes (done e) k)
+    is_open-later k =
+        ap (λ t. cond (t && k == suc (openings h)) true (cond (closes (done e) k) false (is_open h k))) no_opening
+        ∙ closed_test (closes (done e) k) (is_open h k)
 
-    is_open-closed : (k : ℕ) → is_open (e ∷ h) k ≡ is_open h k && not (session == k)
-    is_open-closed k = ap (λ o. is_open_step o (openings h) k (is_open h k)) d ∙ closed_test (session == k) (is_open h k)
+    flags_of-later : (k : ℕ) → flags_of (e ∷ h) k ≡ flags_of h k
+    flags_of-later k = ap (λ t. cond (t && k == suc (openings h)) (opening_flags (done e)) (flags_of h k)) no_opening
 
-    flags_of-closed : (k : ℕ) → flags_of (e ∷ h) k ≡ flags_of h k
-    flags_of-closed k = ap (λ o. flags_step o (openings h) k (flags_of h k)) d
+    -- the rows of the sessions that it doesn't close stay
+    pub session_rows-later : {X : Type 0} (row : ℕ → ℕ → X) →
+        session_rows row (e ∷ h) ≡ selected (λ k. is_open h k && not (closes (done e) k)) (λ s. row s (flags_of h s)) (openings h)
+    session_rows-later row =
+        ap (λ n. selected (is_open (e ∷ h)) (λ s. row s (flags_of (e ∷ h) s)) n) openings-later
+        ∙ selected-same (is_open (e ∷ h)) (λ k. is_open h k && not (closes (done e) k)) (λ s. row s (flags_of (e ∷ h) s)) (λ s. row s (flags_of h s)) (openings h)
+          (λ k below. is_open-later k) (λ k below. ap (row k) (flags_of-later k))
 
-    -- the rows of the other sessions stay
-    pub session_rows-closed : {X : Type 0} (row : ℕ → ℕ → X) →
-        session_rows row (e ∷ h) ≡ selected (λ k. is_open h k && not (session == k)) (λ s. row s (flags_of h s)) (openings h)
-    session_rows-closed row =
-        ap (λ n. selected (is_open (e ∷ h)) (λ s. row s (flags_of (e ∷ h) s)) n) openings-closed
-        ∙ selected-same (is_open (e ∷ h)) (λ k. is_open h k && not (session == k)) (λ s. row s (flags_of (e ∷ h) s)) (λ s. row s (flags_of h s)) (openings h)
-        (λ k below. is_open-closed k) (λ k below. ap (row k) (flags_of-closed k))
-
-  -- ---- an entry that opens and closes nothing
-
-  module _ (no_opening : opens (done e) ≡ false) (no_closing : (s : ℕ) → closes (done e) s ≡ false) where
-    pub openings-same : openings (e ∷ h) ≡ openings h
-    openings-same = ap (λ t. cond t (suc (openings h)) (openings h)) no_opening
-
-    pub is_open-same : (k : ℕ) → is_open (e ∷ h) k ≡ is_open h k
-    is_open-same k = rw (no_opening, no_closing k)
-
-    flags_of-same : (k : ℕ) → flags_of (e ∷ h) k ≡ flags_of h k
-    flags_of-same k = rw no_opening
-
-    pub session_rows-same : {X : Type 0} (row : ℕ → ℕ → X) → session_rows row (e ∷ h) ≡ session_rows row h
-    session_rows-same row =
-        ap (λ n. selected (is_open (e ∷ h)) (λ s. row s (flags_of (e ∷ h) s)) n) openings-same
-        ∙ selected-same (is_open (e ∷ h)) (is_open h) (λ s. row s (flags_of (e ∷ h) s)) (λ s. row s (flags_of h s)) (openings h)
-        (λ k below. is_open-same k) (λ k below. ap (row k) (flags_of-same k))
+    -- where it closes nothing either all stay
+    pub session_rows-same : {X : Type 0} (row : ℕ → ℕ → X) → ((s : ℕ) → closes (done e) s ≡ false) → session_rows row (e ∷ h) ≡ session_rows row h
+    session_rows-same row no_closing =
+        session_rows-later row
+        ∙ selected-same (λ k. is_open h k && not (closes (done e) k)) (is_open h) (λ s. row s (flags_of h s)) (λ s. row s (flags_of h s)) (openings h)
+          (λ k below. ap (λ t. is_open h k && not t) (no_closing k) ∙ and-true (is_open h k)) (λ k below. refl)
 
 -- ---- an open session is one of those opened
 
@@ -127,22 +120,16 @@ is_open-within [] s is_so = cc
 is_open-within (e ∷ h) s is_so =
     within_step e h s (is_open-within h s) (opens (done e)) (closes (done e) s) (s == suc (openings h)) refl refl is_so
 
--- ---- the token's initialization
+-- ---- handles alone
 
-pub so_pin-step : (e : Entry) (h : History) (o : Option Call) → done e ≡ o → so_pin (e ∷ h) ≡ so_pin_after o (so_pin h)
-so_pin-step e h o d = ap (λ x. so_pin_after x (so_pin h)) d
+map-same : (ks : List ℕ) → map (λ k. k) ks ≡ ks
+map-same [] = refl
+map-same (k ∷ ks) = ap (λ js. k ∷ js) (map-same ks)
 
-initialized-step : (done : Option Call) (pin : Option Pin) → is_some (so_pin_after done pin) ≡ initializes done || is_some pin
-initialized-step None pin = refl
-initialized-step (Some (call.InitToken new)) None = refl
-initialized-step (Some (call.InitToken new)) (Some pin) = refl
-initialized-step (Some (call.OpenSession flags)) pin = refl
-initialized-step (Some (call.CloseSession session)) pin = refl
-initialized-step (Some (call.CreateObject session template)) pin = refl
-initialized-step (Some (call.GetAttributeValue session object queries)) pin = refl
-initialized-step (Some (call.DestroyObject session object)) pin = refl
+-- the handles in the rows are the open sessions
+pub open_sessions-rows : (h : History) → session_rows (λ s flags. s) h ≡ open_sessions h
+open_sessions-rows h = map-same (open_sessions h)
 
--- the SO has a PIN exactly where the token is initialized
-pub is_some-so_pin : (h : History) → is_some (so_pin h) ≡ is_initialized h
-is_some-so_pin [] = refl
-is_some-so_pin (e ∷ h) = initialized-step (done e) (so_pin h) ∙ ap (λ b. initializes (done e) || b) (is_some-so_pin h)
+-- as many rows as open sessions
+pub length-session_rows : {X : Type 0} (row : ℕ → ℕ → X) (h : History) → length (session_rows row h) ≡ length (open_sessions h)
+length-session_rows row h = length-selected (is_open h) (λ s. row s (flags_of h s)) (openings h)

@@ -1,14 +1,22 @@
 -- What each call answers, read off the history just before it: a list of checks, of which the first that fails gives
 -- the code, and the body where none does. Who calls makes no difference.
-use Rattle.std.specs.Prelude.{◌≡◌, ℕ, suc, List, [], ◌∷◌, Option, Some, None, ◌==◌, not, is_none, nat_le, length, bit_and, option_map, unwrap_or}
+use Rattle.std.specs.Prelude.{◌≡◌, ℕ, suc, List, [], ◌∷◌, Option, Some, None, ◌==◌, ◌&&◌, not, is_none, nat_le, length, bit_and, option_map, unwrap_or, if◌then◌else◌, Bool, true, false, is_some}
+use Rattle.std.specs.List.{list_any}
 use Rattle.ck_types.specs.Pins.{fits_a_pin}
 use Rattle.ck_types.specs.Templates.{error_if, first_of, created_error}
+use Rattle.ck_types.specs.TokenFlagBits.{token_flags}
 use Rattle.ck_types.specs.TokenLimits.{Ranges}
+use Rattle.ck_types.specs.Users.{user_of, same_user}
 use Rattle.ck_types.specs.declared.attributes.Attribute.TheVariants as attribute
 use Rattle.ck_types.specs.declared.pins.Pin.{Pin}
 use Rattle.ck_types.specs.declared.return_codes.Rv.{Rv}
 use Rattle.ck_types.specs.declared.return_codes.Rv.TheVariants as rv
 use Rattle.ck_types.specs.declared.templates.Item.{Item}
+use Rattle.ck_types.specs.declared.token_flags.TokenFlags.{TokenFlags}
+use Rattle.ck_types.specs.declared.users.SessionState.{SessionState}
+use Rattle.ck_types.specs.declared.users.SessionState.TheVariants as state
+use Rattle.ck_types.specs.declared.users.UserType.{UserType}
+use Rattle.ck_types.specs.declared.users.UserType.TheVariants as user
 use Rattle.ck_journal.specs.declared.calls.Body.{Body}
 use Rattle.ck_journal.specs.declared.calls.Body.TheVariants as body
 use Rattle.ck_journal.specs.declared.calls.Call.{Call}
@@ -16,9 +24,9 @@ use Rattle.ck_journal.specs.declared.calls.Call.TheVariants as call
 use Rattle.ck_journal.specs.declared.calls.Reply.{Reply}
 use Rattle.ck_journal.specs.Histories.{History}
 use Rattle.ck_journal.specs.Objects.{creations, attributes_of, is_set, object_named}
-use Rattle.ck_journal.specs.Pins.{is_initialized}
+use Rattle.ck_journal.specs.Pins.{is_initialized, is_pin, pin_owner, pin_of, user_pin, tries, is_locked}
 use Rattle.ck_journal.specs.Queries.{queries_reply}
-use Rattle.ck_journal.specs.Sessions.{openings, is_open, open_sessions}
+use Rattle.ck_journal.specs.Sessions.{openings, is_open, flags_of, open_sessions, has_rw_flag, is_read_write, rw_sessions, login, user_logins, state_of}
 
 -- ---- replies
 
@@ -35,19 +43,49 @@ unless (Some code) reply = refusal code
 
 -- ---- checks
 
+abbrev pub is_so_state : SessionState → Bool
+is_so_state state.RwSo = true
+is_so_state other = false
+
+abbrev pub is_so : Option UserType → Bool
+is_so (Some user.So) = true
+is_so other = false
+
 abbrev pub session_error : History → ℕ → Option Rv
 session_error h session = error_if (not (is_open h session)) rv.SessionHandleInvalid
 
--- Until a token can be initialized again, its second initialization is refused as bad arguments.
-abbrev pub second_initialization_error : History → Option Rv
-second_initialization_error h = error_if (is_initialized h) rv.ArgumentsBad
+-- the user's PIN is locked, or this isn't it
+abbrev pub pin_error : UserType → History → Pin → Option Rv
+pin_error u h pin = first_of (
+    error_if (is_locked u h) rv.PinLocked
+    ∷ error_if (not (is_pin (pin_of u h) pin)) rv.PinIncorrect
+    ∷ [])
 
+-- a token that isn't initialized takes any PIN that fits; later it must be the security officer's
 abbrev pub init_token_error : History → Pin → Option Rv
 init_token_error h pin = first_of (
     error_if (not (length (open_sessions h) == 0)) rv.SessionExists
-    ∷ second_initialization_error h
+    ∷ (if is_initialized h then pin_error user.So h pin else error_if (not (fits_a_pin pin)) rv.PinLenRange)
+    ∷ [])
+
+abbrev pub init_pin_error : History → ℕ → Pin → Option Rv
+init_pin_error h session pin = first_of (
+    session_error h session
+    ∷ error_if (not (is_so_state (state_of h session))) rv.UserNotLoggedIn
     ∷ error_if (not (fits_a_pin pin)) rv.PinLenRange
     ∷ [])
+
+abbrev pub set_pin_error : History → ℕ → Pin → Pin → Option Rv
+set_pin_error h session old new =
+    let owner = pin_owner (state_of h session) in
+    first_of (
+      session_error h session
+      ∷ error_if (not (is_read_write h session)) rv.SessionReadOnly
+      ∷ error_if (is_none (pin_of owner h)) rv.UserPinNotInitialized
+      ∷ error_if (is_locked owner h) rv.PinLocked
+      ∷ error_if (not (fits_a_pin new)) rv.PinLenRange
+      ∷ error_if (not (is_pin (pin_of owner h) old)) rv.PinIncorrect
+      ∷ [])
 
 -- CKF_SERIAL_SESSION is 4, CKF_RW_SESSION is 2
 abbrev pub open_session_error : Ranges → History → ℕ → Option Rv
@@ -55,8 +93,48 @@ open_session_error limits h flags = first_of (
     error_if (not (is_initialized h)) rv.TokenNotRecognized
     ∷ error_if (bit_and flags 4 == 0) rv.SessionParallelNotSupported
     ∷ error_if (not (bit_and flags 6 == flags)) rv.ArgumentsBad
+    ∷ error_if (not (has_rw_flag flags) && is_so (login h)) rv.SessionReadWriteSoExists
     ∷ error_if (nat_le limits.sessions (length (open_sessions h))) rv.SessionCount
     ∷ error_if (nat_le limits.openings (openings h)) rv.DeviceMemory
+    ∷ [])
+
+-- somebody is logged in: the same user or the other one
+abbrev pub logged_in_error : UserType → Option UserType → Option Rv
+logged_in_error u None = None
+logged_in_error u (Some other) = Some (if same_user u other then rv.UserAlreadyLoggedIn else rv.UserAnotherAlreadyLoggedIn)
+
+-- the security officer logs in beside read/write sessions alone
+abbrev pub read_only_error : UserType → History → Option Rv
+read_only_error user.So h = error_if (list_any (λ s. not (is_read_write h s)) (open_sessions h)) rv.SessionReadOnlyExists
+read_only_error user.User h = None
+
+abbrev pub logins_error : Ranges → UserType → History → Option Rv
+logins_error limits user.So h = None
+logins_error limits user.User h = error_if (nat_le limits.logins (user_logins h)) rv.DeviceMemory
+
+abbrev pub user_login_error : Ranges → History → UserType → Pin → Option Rv
+user_login_error limits h u pin = first_of (
+    logged_in_error u (login h)
+    ∷ read_only_error u h
+    ∷ error_if (is_none (pin_of u h)) rv.UserPinNotInitialized
+    ∷ pin_error u h pin
+    ∷ logins_error limits u h
+    ∷ [])
+
+abbrev pub known_login_error : Ranges → History → Option UserType → Pin → Option Rv
+known_login_error limits h None pin = Some rv.UserTypeInvalid
+known_login_error limits h (Some u) pin = user_login_error limits h u pin
+
+abbrev pub login_error : Ranges → History → ℕ → ℕ → Pin → Option Rv
+login_error limits h session user pin = first_of (
+    session_error h session
+    ∷ known_login_error limits h (user_of user) pin
+    ∷ [])
+
+abbrev pub logout_error : History → ℕ → Option Rv
+logout_error h session = first_of (
+    session_error h session
+    ∷ error_if (is_none (login h)) rv.UserNotLoggedIn
     ∷ [])
 
 abbrev pub create_object_error : Ranges → History → ℕ → List Item → Option Rv
@@ -88,9 +166,20 @@ destroy_object_error h session object = first_of (
 
 -- ---- the answer
 
+-- the flags that C_GetTokenInfo gives
+abbrev pub flags_of_token : History → TokenFlags
+flags_of_token h = record { 0 = token_flags (is_initialized h) (is_some (user_pin h)) (tries user.User h) (tries user.So h) }
+
 abbrev pub answer : Ranges → History → Call → Reply
 answer limits h (call.InitToken pin) = unless (init_token_error h pin) (ok body.Empty)
 answer limits h (call.OpenSession flags) = unless (open_session_error limits h flags) (ok (body.Handle (suc (openings h))))
+answer limits h (call.InitPin session pin) = unless (init_pin_error h session pin) (ok body.Empty)
+answer limits h (call.SetPin session old new) = unless (set_pin_error h session old new) (ok body.Empty)
+answer limits h call.CloseAllSessions = ok body.Empty
+answer limits h (call.Login session user pin) = unless (login_error limits h session user pin) (ok body.Empty)
+answer limits h (call.Logout session) = unless (logout_error h session) (ok body.Empty)
+answer limits h (call.GetSessionInfo session) = unless (session_error h session) (ok (body.Session (state_of h session) (flags_of h session)))
+answer limits h call.GetTokenInfo = ok (body.Token (flags_of_token h) limits.sessions (length (open_sessions h)) (length (rw_sessions h)))
 answer limits h (call.CloseSession session) = unless (session_error h session) (ok body.Empty)
 answer limits h (call.CreateObject session template) =
     unless (create_object_error limits h session template.items) (ok (body.Handle (suc (creations h))))

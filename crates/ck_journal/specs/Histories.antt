@@ -28,8 +28,34 @@ is_ok other = false
 abbrev pub done : Entry → Option Call
 done e = if is_ok e.reply.rv then Some e.call else None
 
--- nothing was done, or a call that changes nothing but the journal
-abbrev pub only_reads : Option Call → Bool
-only_reads None = true
-only_reads (Some (call.GetAttributeValue session object queries)) = true
-only_reads other = false
+abbrev pub is_wrong_pin : Rv → Bool
+is_wrong_pin rv.PinIncorrect = true
+is_wrong_pin other = false
+
+-- the call of an entry that was refused for a wrong PIN
+abbrev pub wrong_try : Entry → Option Call
+wrong_try e = if is_wrong_pin e.reply.rv then Some e.call else None
+
+-- ---- what a call leaves as it is
+
+-- nothing was done, or a call that leaves sessions, the login and PINs as they are
+abbrev pub leaves_sessions : Option Call → Bool
+leaves_sessions None = true
+leaves_sessions (Some (call.GetSessionInfo session)) = true
+leaves_sessions (Some call.GetTokenInfo) = true
+leaves_sessions (Some (call.CreateObject session template)) = true
+leaves_sessions (Some (call.GetAttributeValue session object queries)) = true
+leaves_sessions (Some (call.DestroyObject session object)) = true
+leaves_sessions other = false
+
+-- nothing was done, or a call that leaves objects as they are
+abbrev pub leaves_objects : Option Call → Bool
+leaves_objects None = true
+leaves_objects (Some (call.InitPin session pin)) = true
+leaves_objects (Some (call.SetPin session old new)) = true
+leaves_objects (Some (call.OpenSession flags)) = true
+leaves_objects (Some (call.Login session user pin)) = true
+leaves_objects (Some (call.GetSessionInfo session)) = true
+leaves_objects (Some call.GetTokenInfo) = true
+leaves_objects (Some (call.GetAttributeValue session object queries)) = true
+leaves_objects other = false

@@ -57,11 +57,14 @@ names_with is_there attributes handle n = is_visible_with is_there attributes &&
 -- ---- the end of objects
 
 -- the call ends the object of this number, from its attributes, its session and whether it is there: a destruction that
--- names it, an initialization of the token, or, for a session object, the closing of its session
+-- names it, an initialization of the token, for a session object the closing of its session or of all sessions, and
+-- for a private session object a logout
 abbrev pub ends : Option Call → List Item → ℕ → Bool → ℕ → Bool
 ends (Some (call.DestroyObject session object)) attributes creator is_there n = names_with is_there attributes object n
 ends (Some (call.InitToken pin)) attributes creator is_there n = true
 ends (Some (call.CloseSession session)) attributes creator is_there n = not (is_set attributes attribute.Token) && session == creator
+ends (Some call.CloseAllSessions) attributes creator is_there n = not (is_set attributes attribute.Token)
+ends (Some (call.Logout session)) attributes creator is_there n = not (is_set attributes attribute.Token) && is_set attributes attribute.Private
 ends other attributes creator is_there n = false
 
 -- the object has been created and hasn't ended since

@@ -1,18 +1,49 @@
--- PINs and the token's initialization (PKCS #11 Base 3.0, Slot and token management functions)
-use Rattle.std.specs.Prelude.{Bool, true, false, ◌||◌, [], ◌∷◌, Option, Some, None}
+-- PINs, wrong tries and the token's initialization (PKCS #11 Base 3.0, Slot and token management functions)
+use Rattle.std.specs.Prelude.{ℕ, suc, Bool, true, false, [], ◌∷◌, Option, Some, None, ◌==◌, ◌||◌, ◌&&◌, if◌then◌else◌}
+use Rattle.ck_types.specs.Attributes.{same_bytes}
+use Rattle.ck_types.specs.Users.{user_of, same_user}
 use Rattle.ck_types.specs.declared.pins.Pin.{Pin}
+use Rattle.ck_types.specs.declared.users.SessionState.{SessionState}
+use Rattle.ck_types.specs.declared.users.SessionState.TheVariants as state
+use Rattle.ck_types.specs.declared.users.UserType.{UserType}
+use Rattle.ck_types.specs.declared.users.UserType.TheVariants as user
 use Rattle.ck_journal.specs.declared.calls.Call.{Call}
 use Rattle.ck_journal.specs.declared.calls.Call.TheVariants as call
-use Rattle.ck_journal.specs.Histories.{History, done}
+use Rattle.ck_journal.specs.Histories.{History, done, wrong_try}
+use Rattle.ck_journal.specs.Sessions.{state_of}
 
--- the SO's PIN after a call, with the PIN before it: the first initialization sets it
-abbrev pub so_pin_after : Option Call → Option Pin → Option Pin
-so_pin_after (Some (call.InitToken pin)) None = Some pin
-so_pin_after other before = before
+-- two PINs are the same where their lengths and tags agree
+abbrev pub same_pin : Pin → Pin → Bool
+same_pin a b = a.len == b.len && same_bytes a.tag b.tag
 
-abbrev pub so_pin : History → Option Pin
-so_pin [] = None
-so_pin (e ∷ h) = so_pin_after (done e) (so_pin h)
+-- this is the PIN, if there is one
+abbrev pub is_pin : Option Pin → Pin → Bool
+is_pin None given = false
+is_pin (Some pin) given = same_pin pin given
+
+-- ---- whom a call is about
+
+-- a session's PIN is that of the security officer in the state read/write SO, else that of the user
+abbrev pub pin_owner : SessionState → UserType
+pin_owner state.RwSo = user.So
+pin_owner other = user.User
+
+-- the user whose PIN a call sets or tries, by the history just before it
+abbrev pub about : History → Option Call → Option UserType
+about h (Some (call.InitToken pin)) = Some user.So
+about h (Some (call.InitPin session pin)) = Some user.User
+about h (Some (call.SetPin session old new)) = Some (pin_owner (state_of h session))
+about h (Some (call.Login session user pin)) = user_of user
+about h other = None
+
+abbrev pub is_user : UserType → Option UserType → Bool
+is_user u None = false
+is_user u (Some other) = same_user u other
+
+abbrev pub is_about : UserType → History → Option Call → Bool
+is_about u h c = is_user u (about h c)
+
+-- ---- PINs
 
 abbrev pub initializes : Option Call → Bool
 initializes (Some (call.InitToken pin)) = true
@@ -22,3 +53,52 @@ initializes other = false
 abbrev pub is_initialized : History → Bool
 is_initialized [] = false
 is_initialized (e ∷ h) = initializes (done e) || is_initialized h
+
+-- the security officer's PIN after a call, by the owner of the session's PIN: the first initialization sets it, a later
+-- one keeps it
+abbrev pub so_pin_after : Option Call → UserType → Option Pin → Option Pin
+so_pin_after (Some (call.InitToken pin)) owner None = Some pin
+so_pin_after (Some (call.SetPin session old new)) user.So before = Some new
+so_pin_after other owner before = before
+
+-- the user's PIN after a call: an initialization takes it away
+abbrev pub user_pin_after : Option Call → UserType → Option Pin → Option Pin
+user_pin_after (Some (call.InitToken pin)) owner before = None
+user_pin_after (Some (call.InitPin session pin)) owner before = Some pin
+user_pin_after (Some (call.SetPin session old new)) user.User before = Some new
+user_pin_after other owner before = before
+
+-- the owner of the PIN of the session that a call names
+abbrev pub named_owner : History → Option Call → UserType
+named_owner h (Some (call.SetPin session old new)) = pin_owner (state_of h session)
+named_owner h other = user.User
+
+abbrev pub so_pin : History → Option Pin
+so_pin [] = None
+so_pin (e ∷ h) = so_pin_after (done e) (named_owner h (done e)) (so_pin h)
+
+abbrev pub user_pin : History → Option Pin
+user_pin [] = None
+user_pin (e ∷ h) = user_pin_after (done e) (named_owner h (done e)) (user_pin h)
+
+abbrev pub pin_of : UserType → History → Option Pin
+pin_of user.So h = so_pin h
+pin_of user.User h = user_pin h
+
+-- ---- wrong tries
+
+-- the user's tries go back to 0: a call that is about the user's PIN was answered OK, or the token was initialized
+abbrev pub resets : UserType → History → Option Call → Bool
+resets u h c = is_about u h c || initializes c
+
+-- how many wrong tries of the user's PIN were made since they last went back to 0
+abbrev pub tries : UserType → History → ℕ
+tries u [] = 0
+tries u (e ∷ h) =
+    if resets u h (done e) then 0
+    else if is_about u h (wrong_try e) then suc (tries u h)
+    else tries u h
+
+-- three wrong tries lock a user
+abbrev pub is_locked : UserType → History → Bool
+is_locked u h = tries u h == 3

@@ -1,4 +1,4 @@
-use ck_types::{Bytes, Pin, Rv, Sequence, Template};
+use ck_types::{Bytes, Pin, Rv, Sequence, SessionState, Template, TokenFlags};
 
 /// What C_GetAttributeValue is asked of one attribute: its type, and the room for its value in bytes. No room asks
 /// for the value's length alone (PKCS #11 Base 3.0, Object management functions).
@@ -14,12 +14,35 @@ pub enum Call {
     InitToken {
         pin: Pin,
     },
+    InitPin {
+        session: u64,
+        pin: Pin,
+    },
+    SetPin {
+        session: u64,
+        old: Pin,
+        new: Pin,
+    },
     OpenSession {
         flags: u64,
     },
     CloseSession {
         session: u64,
     },
+    CloseAllSessions,
+    Login {
+        session: u64,
+        /// A user's number (CK_USER_TYPE).
+        user: u64,
+        pin: Pin,
+    },
+    Logout {
+        session: u64,
+    },
+    GetSessionInfo {
+        session: u64,
+    },
+    GetTokenInfo,
     CreateObject {
         session: u64,
         template: Template,
@@ -52,6 +75,19 @@ pub enum Body {
     Empty,
     /// The handle of a new session or a new object.
     Handle(u64),
+    /// A session's state, and the flags that it was opened with.
+    Session {
+        state: SessionState,
+        flags: u64,
+    },
+    /// The token's flags, the most sessions that may be open at once, and how many sessions and how many read/write
+    /// sessions are open.
+    Token {
+        flags: TokenFlags,
+        limit: u64,
+        sessions: u64,
+        rw_sessions: u64,
+    },
     /// One answer for each query, in their order.
     Attributes(Sequence<Answer>),
 }

@@ -4,4 +4,6 @@ pub mod Pins
 pub mod Records
 pub mod ReturnCodes
 pub mod Templates
+pub mod TokenFlagBits
 pub mod TokenLimits
+pub mod Users

@@ -8,7 +8,9 @@ mod records;
 mod return_codes;
 mod sequences;
 mod templates;
+mod token_flags;
 mod token_limits;
+mod users;
 
 pub use attributes::{Attribute, Class, Form, Purpose};
 pub use memory::NoMemory;
@@ -17,4 +19,6 @@ pub use records::{Record, Refusal};
 pub use return_codes::Rv;
 pub use sequences::{Bytes, Sequence};
 pub use templates::{Item, Template};
+pub use token_flags::TokenFlags;
 pub use token_limits::Limits;
+pub use users::{SessionState, UserType};

@@ -1,0 +1,101 @@
+-- How sessions, the login and PINs keep agreeing with the history
+use Rattle.std.proofs.Common.{◌≡◌, ◌≢◌, ℕ, suc, ◌+◌, ◌<◌, Bool, true, false, not, cond, ◌||◌, List, [], ◌∷◌, ◌++◌, Option, Some, None, refl, sym, ap, ◌∙◌, add-one, arith}
+use Rattle.std.specs.Prelude.{◌==◌, filter, length, is_some}
+use Rattle.std.proofs.lemmas.Bool.{ne_eqb}
+use Rattle.ck_types.specs.Users.{user_of, same_user}
+use Rattle.ck_types.specs.declared.pins.Pin.{Pin}
+use Rattle.ck_types.specs.declared.users.UserType.{UserType}
+use Rattle.ck_types.specs.declared.users.UserType.TheVariants as user
+use Rattle.ck_journal.specs.declared.calls.Call.{Call}
+use Rattle.ck_journal.specs.declared.calls.Call.TheVariants as call
+use Rattle.ck_journal.specs.declared.calls.Entry.{Entry}
+use Rattle.ck_journal.specs.Histories.{History, done, wrong_try, leaves_sessions}
+use Rattle.ck_journal.specs.Pins.{so_pin, so_pin_after, user_pin, user_pin_after, named_owner, pin_owner, pin_of, is_initialized, initializes, about, is_about, is_user, resets, tries}
+use Rattle.ck_journal.specs.Sessions.{opens, openings, closes, is_open, flags_of, open_sessions, login, login_after, user_logins, logs_user_in, state_of}
+use Rattle.ck_journal.proofs.LoginMoves.{wrong_try-done, login-none, login-open, login-same, login-logged_out, user_logins-step, so_pin-step, user_pin-step, tries-step, tries-done, openings-left, session_rows-left, login-left, user_logins-left, so_pin-left, user_pin-left, is_initialized-left, tries-left}
+use Rattle.ck_journal.proofs.Selections.{filter-selected, selected-none}
+use Rattle.ck_journal.proofs.SessionMoves.{session_rows, openings-opened, session_rows-opened, openings-later, session_rows-later, session_rows-same, open_sessions-rows, length-session_rows}
+use Rattle.ck_sessions.specs.Agreement.{SessionsState, SessionsAgree, CredentialAgrees, credential_of, session_row}
+use Rattle.ck_sessions.specs.declared.session_table.Credential.{Credential}
+use Rattle.ck_sessions.specs.declared.session_table.Session.{Session}
+
+module _ (h : History) (old : SessionsState) (agree : SessionsAgree h old) (e : Entry) where
+  -- ---- rows of a call that opens and closes nothing
+
+  module _ (c : Call) (d : done e ≡ Some c) (o : opens (Some c) ≡ false) (cl : (s : ℕ) → closes (Some c) s ≡ false) where
+    no_opening : opens (done e) ≡ false
+    no_opening = ap opens d ∙ o
+
+    no_closing : (s : ℕ) → closes (done e) s ≡ false
+    no_closing s = ap (λ x. closes x s) d ∙ cl s
+
+    rows-stay : old.rows ≡ session_rows session_row (e ∷ h)
+    rows-stay = agree.rows ∙ sym (session_rows-same e h no_opening session_row no_closing)
+
+    openings-stay : old.openings ≡ openings (e ∷ h)
+    openings-stay = agree.openings ∙ sym (openings-later e h no_opening)
+
+    sessions-stay : open_sessions (e ∷ h) ≡ open_sessions h
+    sessions-stay = sym (open_sessions-rows (e ∷ h)) ∙ session_rows-same e h no_opening (λ s flags. s) no_closing ∙ open_sessions-rows h
+
+    login-stays : ((before : Option UserType) → login_after (Some c) before ≡ before) → old.login ≡ login (e ∷ h)
+    login-stays left = agree.login ∙ sym (login-same e h sessions-stay (ap (λ x. login_after x (login h)) d ∙ left (login h)))
+
+  logins-stay : (c : Call) → done e ≡ Some c → logs_user_in (Some c) ≡ false → old.logins ≡ user_logins (e ∷ h)
+  logins-stay c d n = agree.logins ∙ sym (user_logins-step e h (Some c) d ∙ ap (λ t. cond t (suc (user_logins h)) (user_logins h)) n)
+
+  initialized-stays : (c : Call) → done e ≡ Some c → initializes (Some c) ≡ false → is_some old.so.pin ≡ is_initialized (e ∷ h)
+  initialized-stays c d n = agree.initialized ∙ sym (ap (λ x. initializes x || is_initialized h) d ∙ ap (λ t. t || is_initialized h) n)
+
+  -- a credential that a call leaves
+  so-stays : (c : Call) → done e ≡ Some c → ((owner : UserType) (before : Option Pin) → so_pin_after (Some c) (named_owner h (Some c)) before ≡ before)
+    → resets user.So h (Some c) ≡ false → CredentialAgrees user.So (e ∷ h) old.so
+  so-stays c d pin r = record {
+    pin = agree.so.pin ∙ sym (so_pin-step e h (Some c) d ∙ pin user.So (so_pin h));
+    tries = agree.so.tries ∙ sym (tries-done e h user.So c d ∙ ap (λ t. cond t 0 (tries user.So h)) r);
+  }
+
+  user-stays : (c : Call) → done e ≡ Some c → ((owner : UserType) (before : Option Pin) → user_pin_after (Some c) (named_owner h (Some c)) before ≡ before)
+    → resets user.User h (Some c) ≡ false → CredentialAgrees user.User (e ∷ h) old.user
+  user-stays c d pin r = record {
+    pin = agree.user.pin ∙ sym (user_pin-step e h (Some c) d ∙ pin user.User (user_pin h));
+    tries = agree.user.tries ∙ sym (tries-done e h user.User c d ∙ ap (λ t. cond t 0 (tries user.User h)) r);
+  }
+
+  -- ---- an entry that leaves all of it as it is
+
+  pub SessionsAgree-left : leaves_sessions (done e) ≡ true → ((u : UserType) → is_about u h (wrong_try e) ≡ false) → SessionsAgree (e ∷ h) old
+  SessionsAgree-left l w = record {
+    rows = agree.rows ∙ sym (session_rows-left e h l session_row);
+    openings = agree.openings ∙ sym (openings-left e h l);
+    login = agree.login ∙ sym (login-left e h l);
+    logins = agree.logins ∙ sym (user_logins-left e h l);
+    so = record { pin = agree.so.pin ∙ sym (so_pin-left e h l); tries = agree.so.tries ∙ sym (tries-left e h l user.So (w user.So)) };
+    user = record { pin = agree.user.pin ∙ sym (user_pin-left e h l); tries = agree.user.tries ∙ sym (tries-left e h l user.User (w user.User)) };
+    initialized = agree.initialized ∙ sym (is_initialized-left e h l);
+  }
+
+  -- ---- a wrong try
+
+  other_user : (u v : UserType) (a : Option UserType) → a ≡ Some u → is_user v a ≡ same_user v u
+  other_user u v a x = ap (is_user v) x
+
+  tries-wrong : (u v : UserType) → done e ≡ None → about h (wrong_try e) ≡ Some u → tries v (e ∷ h) ≡ cond (same_user v u) (suc (tries v h)) (tries v h)
+  tries-wrong u v d a =
+    tries-step e h v None (wrong_try e) d refl ∙ ap (λ t. cond t (suc (tries v h)) (tries v h)) (other_user u v (about h (wrong_try e)) a)
+
+  pub SessionsAgree-wrong : (u : UserType) (new : SessionsState) → done e ≡ None → about h (wrong_try e) ≡ Some u
+    → new.rows ≡ old.rows → new.openings ≡ old.openings → new.login ≡ old.login → new.logins ≡ old.logins → new.so.pin ≡ old.so.pin → new.user.pin ≡ old.user.pin
+    → new.so.tries ≡ cond (same_user user.So u) (suc old.so.tries) old.so.tries → new.user.tries ≡ cond (same_user user.User u) (suc old.user.tries) old.user.tries
+    → SessionsAgree (e ∷ h) new
+  SessionsAgree-wrong u new d a rows count login logins so_pin user_pin so_tries user_tries =
+    let l : leaves_sessions (done e) ≡ true = ap leaves_sessions d in
+    record {
+      rows = rows ∙ agree.rows ∙ sym (session_rows-left e h l session_row);
+      openings = count ∙ agree.openings ∙ sym (openings-left e h l);
+      login = login ∙ agree.login ∙ sym (login-left e h l);
+      logins = logins ∙ agree.logins ∙ sym (user_logins-left e h l);
+      so = record { pin = so_pin ∙ agree.so.pin ∙ sym (so_pin-left e h l); tries = so_tries ∙ rw agree.so.tries (sym (tries-wrong u user.So d a)) };
+      user = record { pin = user_pin ∙ agree.user.pin ∙ sym (user_pin-left e h l); tries = user_tries ∙ rw agree.user.tries (sym (tries-wrong u user.User d a)) };
+      initialized = ap is_some so_pin ∙ agree.initialized ∙ sym (is_initialized-left e h l);
+    }

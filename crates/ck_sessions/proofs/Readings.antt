@@ -1,0 +1,53 @@
+-- What sessions that agree with a history tell of it
+use Rattle.std.proofs.Common.{◌≡◌, ℕ, suc, Bool, true, false, not, cond, List, [], ◌∷◌, Option, Some, None, refl, sym, ap, ◌∙◌}
+use Rattle.std.specs.Prelude.{◌==◌, map, filter, find, length, is_some, option_map}
+use Rattle.std.specs.List.{list_any}
+use Rattle.ck_types.specs.declared.users.UserType.{UserType}
+use Rattle.ck_types.specs.declared.users.UserType.TheVariants as user
+use Rattle.ck_journal.specs.Histories.{History}
+use Rattle.ck_journal.specs.Pins.{pin_of, tries}
+use Rattle.ck_journal.specs.Sessions.{openings, is_open, flags_of, open_sessions, is_read_write, rw_sessions, numbers}
+use Rattle.ck_journal.proofs.Selections.{list_any-selected, list_any-at, length-selected, filter-selected, find-map}
+use Rattle.ck_journal.proofs.SessionMoves.{is_open-within}
+use Rattle.ck_sessions.specs.Agreement.{SessionsState, SessionsAgree, CredentialAgrees, credential_of, session_row}
+use Rattle.ck_sessions.specs.Rows.{is_session, is_rw_row, is_read_only_row}
+use Rattle.ck_sessions.specs.declared.session_table.Session.{Session}
+
+length-cond : (t : Bool) (row : Session) (rows : List Session) (k : ℕ) (ks : List ℕ) → length rows ≡ length ks → length (cond t (row ∷ rows) rows) ≡ length (cond t (k ∷ ks) ks)
+length-cond true row rows k ks e = ap suc e
+length-cond false row rows k ks e = e
+
+length-map_filter : (test : ℕ → Bool) (row : ℕ → Session) (again : Session → Bool) → ((k : ℕ) → again (row k) ≡ test k) → (ks : List ℕ)
+    → length (filter again (map row ks)) ≡ length (filter test ks)
+length-map_filter test row again same [] = refl
+length-map_filter test row again same (k ∷ ks) =
+    ap (λ t. length (cond t (row k ∷ filter again (map row ks)) (filter again (map row ks)))) (same k)
+    ∙ length-cond (test k) (row k) (filter again (map row ks)) k (filter test ks) (length-map_filter test row again same ks)
+
+list_any-map : (test : ℕ → Bool) (row : ℕ → Session) (again : Session → Bool) → ((k : ℕ) → again (row k) ≡ test k) → (ks : List ℕ)
+    → list_any again (map row ks) ≡ list_any test ks
+list_any-map test row again same [] = refl
+list_any-map test row again same (k ∷ ks) = rw (same k, list_any-map test row again same ks)
+
+module _ (h : History) (s : SessionsState) (agree : SessionsAgree h s) where
+  abbrev row_of : ℕ → Session
+  row_of n = session_row n (flags_of h n)
+
+  pub length-rows : length s.rows ≡ length (open_sessions h)
+  length-rows = ap length agree.rows ∙ length-selected (is_open h) row_of (openings h)
+
+  pub list_any-rows : (session : ℕ) → list_any (is_session session) s.rows ≡ is_open h session
+  list_any-rows session =
+    ap (list_any (is_session session)) agree.rows
+    ∙ list_any-selected (is_session session) (is_open h) row_of (openings h)
+    ∙ list_any-at (is_open h) session (openings h) (is_open-within h session)
+
+  pub rw-rows : length (filter is_rw_row s.rows) ≡ length (rw_sessions h)
+  rw-rows = ap (λ rows. length (filter is_rw_row rows)) agree.rows ∙ length-map_filter (is_read_write h) row_of is_rw_row (λ k. refl) (open_sessions h)
+
+  pub read_only-rows : list_any is_read_only_row s.rows ≡ list_any (λ n. not (is_read_write h n)) (open_sessions h)
+  read_only-rows = ap (list_any is_read_only_row) agree.rows ∙ list_any-map (λ n. not (is_read_write h n)) row_of is_read_only_row (λ k. refl) (open_sessions h)
+
+  pub CredentialAgrees-of : (u : UserType) → CredentialAgrees u h (credential_of u s)
+  CredentialAgrees-of user.So = agree.so
+  CredentialAgrees-of user.User = agree.user

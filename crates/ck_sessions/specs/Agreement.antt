@@ -1,0 +1,41 @@
+-- When sessions, the login and PINs are what a history says
+use Rattle.std.specs.Prelude.{◌≡◌, ℕ, Bool, true, List, Option, map, is_some}
+use Rattle.ck_types.specs.declared.users.UserType.{UserType}
+use Rattle.ck_types.specs.declared.users.UserType.TheVariants as user
+use Rattle.ck_journal.specs.Histories.{History}
+use Rattle.ck_journal.specs.Pins.{pin_of, tries, is_initialized}
+use Rattle.ck_journal.specs.Sessions.{openings, flags_of, open_sessions, login, user_logins}
+use Rattle.ck_sessions.specs.declared.session_table.Credential.{Credential}
+use Rattle.ck_sessions.specs.declared.session_table.Session.{Session}
+
+-- the open sessions, how many there may be, how many have been opened, who is logged in, how many times the user has
+-- logged in, and the PINs and wrong tries of the security officer and the user
+pub record SessionsState : Type 0 where
+  pub rows : List Session
+  pub limit : ℕ
+  pub openings : ℕ
+  pub login : Option UserType
+  pub logins : ℕ
+  pub so : Credential
+  pub user : Credential
+
+abbrev pub credential_of : UserType → SessionsState → Credential
+credential_of user.So s = s.so
+credential_of user.User s = s.user
+
+abbrev pub session_row : ℕ → ℕ → Session
+session_row handle flags = record { handle = handle; flags = flags }
+
+-- a user's PIN and tries are the history's
+pub record CredentialAgrees (u : UserType) (h : History) (c : Credential) : Type 0 where
+  pub pin : c.pin ≡ pin_of u h
+  pub tries : c.tries ≡ tries u h
+
+pub record SessionsAgree (h : History) (s : SessionsState) : Type 0 where
+  pub rows : s.rows ≡ map (λ n. session_row n (flags_of h n)) (open_sessions h)
+  pub openings : s.openings ≡ openings h
+  pub login : s.login ≡ login h
+  pub logins : s.logins ≡ user_logins h
+  pub so : CredentialAgrees user.So h s.so
+  pub user : CredentialAgrees user.User h s.user
+  pub initialized : is_some s.so.pin ≡ is_initialized h

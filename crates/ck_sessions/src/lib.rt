@@ -1,0 +1,7 @@
+//! The sessions of a PKCS #11 token, who is logged in, and the PINs: what the journal says of them.
+#![tactic(auto)]
+
+mod rows;
+mod session_table;
+
+pub use session_table::{Credential, Session, Sessions};

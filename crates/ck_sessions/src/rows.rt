@@ -1,0 +1,54 @@
+ghost use Rattle.std.specs.Prelude.{◌≡◌, ◌==◌, not, filter, find, length, vec_capacity};
+ghost use Rattle.std.specs.List.{list_any};
+ghost use Rattle.std.specs.Option.{option_copied};
+ghost use Rattle.ck_sessions.specs.Rows.{is_session, is_rw_row, is_read_only_row};
+ghost use Rattle.ck_sessions.specs.declared.session_table.Session.{Session};
+
+use crate::session_table::Session;
+
+/// CKF_RW_SESSION (PKCS #11 Base 3.0, Session types).
+const RW_SESSION: u64 = 2;
+
+fn is_read_write(row: &Session) -> bool
+    ensures { result ≡ is_rw_row row.now }
+{
+    row.flags & RW_SESSION != 0
+}
+
+pub(crate) fn has_session(rows: &[Session], session: u64) -> bool
+    ensures { result ≡ list_any (is_session session) rows.now }
+{
+    rows.iter().any(|row| row.handle == session)
+}
+
+pub(crate) fn find_session(rows: &[Session], session: u64) -> Option<&Session>
+    ensures { option_copied result ≡ find (is_session session) rows.now }
+{
+    for row in rows {
+        if row.handle == session {
+            return Some(row);
+        }
+    }
+    None
+}
+
+/// How many of the sessions are read/write.
+pub(crate) fn count_read_write(rows: &[Session]) -> u64
+    ensures { result ≡ length (filter is_rw_row rows.now) }
+{
+    rows.iter().filter(|row| is_read_write(row)).count() as u64
+}
+
+/// Whether a session is read-only.
+pub(crate) fn has_read_only(rows: &[Session]) -> bool
+    ensures { result ≡ list_any is_read_only_row rows.now }
+{
+    rows.iter().any(|row| !is_read_write(row))
+}
+
+pub(crate) fn remove_session(rows: &mut Vec<Session>, session: u64)
+    ensures rows { rows.new.items ≡ filter (λ (row : Session). not (session == row.handle)) rows.old.items }
+    ensures capacity { vec_capacity rows.new ≡ vec_capacity rows.old }
+{
+    rows.retain(|row| session != row.handle);
+}

@@ -1,0 +1,50 @@
+ghost use Rattle.std.specs.Prelude.{◌≡◌};
+ghost use Rattle.ck_types.specs.Users.{user_of, state_number};
+
+/// Who logs in (CK_USER_TYPE; PKCS #11 Base 3.0, Session management functions).
+#[derive(Clone, Copy, Debug, PartialEq, Eq)]
+pub enum UserType {
+    /// The security officer (CKU_SO).
+    So,
+    /// The normal user (CKU_USER).
+    User,
+}
+
+impl UserType {
+    /// The user of a number: 0 is the security officer, 1 the user, and no other number is one.
+    pub fn of(number: u64) -> Option<UserType>
+        ensures { result ≡ user_of number }
+    {
+        match number {
+            0 => Some(UserType::So),
+            1 => Some(UserType::User),
+            _ => None,
+        }
+    }
+}
+
+/// The state of a session (CK_STATE; PKCS #11 Base 3.0, Session states): read-only or read/write, and who is logged
+/// in.
+#[derive(Clone, Copy, Debug, PartialEq, Eq)]
+pub enum SessionState {
+    RoPublic,
+    RoUser,
+    RwPublic,
+    RwUser,
+    RwSo,
+}
+
+impl SessionState {
+    /// The number that the standard gives the state.
+    pub fn number(self) -> u64
+        ensures { result ≡ state_number self }
+    {
+        match self {
+            SessionState::RoPublic => 0,
+            SessionState::RoUser => 1,
+            SessionState::RwPublic => 2,
+            SessionState::RwUser => 3,
+            SessionState::RwSo => 4,
+        }
+    }
+}
