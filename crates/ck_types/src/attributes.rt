@@ -97,6 +97,37 @@ impl Attribute {
     ghost use Rattle.ck_types.specs.Attributes.{type_of, form_of, standing, attribute_of};
     ghost use Rattle.ck_types.specs.declared.attributes.Attribute.{Attribute};
 
+    /// Every attribute, in rising types.
+    pub(crate) const ALL: [Attribute; 27] = [
+        Attribute::Class,
+        Attribute::Token,
+        Attribute::Private,
+        Attribute::Label,
+        Attribute::Application,
+        Attribute::Value,
+        Attribute::ObjectId,
+        Attribute::KeyType,
+        Attribute::Id,
+        Attribute::Sensitive,
+        Attribute::Encrypt,
+        Attribute::Decrypt,
+        Attribute::Wrap,
+        Attribute::Unwrap,
+        Attribute::Sign,
+        Attribute::Verify,
+        Attribute::Derive,
+        Attribute::ValueLen,
+        Attribute::Extractable,
+        Attribute::Local,
+        Attribute::NeverExtractable,
+        Attribute::AlwaysSensitive,
+        Attribute::KeyGenMechanism,
+        Attribute::Modifiable,
+        Attribute::Copyable,
+        Attribute::Destroyable,
+        Attribute::KeyState,
+    ];
+
     /// The number of the attribute's type (CK_ATTRIBUTE_TYPE).
     pub fn number(self) -> u64
         ensures { result ≡ type_of self }

@@ -120,6 +120,22 @@ fn templates(rt: HostRuntime) -> Result<(), Fail> {
     Ok(())
 }
 
+/// A template of many items, the first of whose second type stands in the middle, is checked in time.
+#[test]
+fn many_items(rt: HostRuntime) -> Result<(), Fail> {
+    let mut items = Vec::new(rt.alloc());
+    for kind in [0x3, 0x12] {
+        for _ in 0..300_000 {
+            let value = Bytes::new(rt.alloc());
+            items.push(Item { kind, value })?;
+        }
+    }
+    let items = Sequence::from_vec(items);
+    let refused = Record::created(rt.alloc(), &Template { items }).err();
+    assert_eq!(rt; refused, Some(Refusal::Code(Rv::TemplateIncomplete)));
+    Ok(())
+}
+
 /// What each of the three readers answers of an attribute. Where the copy's memory is refused, the next one is made.
 fn check_attribute(
     rt: &impl Abort,
