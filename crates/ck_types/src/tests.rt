@@ -25,97 +25,59 @@ fn template_of(alloc: Global, text: &str) -> Result<Template, Fail> {
     Ok(Template { items })
 }
 
-/// Templates and the code that refuses each, or `None` where it creates an object.
+/// Templates and the number of the code that creating an object by each answers.
 #[test]
 fn templates(rt: HostRuntime) -> Result<(), Fail> {
     for (text, expected) in [
         // no class, a class of one byte, an attribute of keys, an unknown type, two values of one type
-        ("", Some(Rv::TemplateIncomplete)),
-        ("0=00", Some(Rv::AttributeValueInvalid)),
-        ("0=0000000000000000,103=01", Some(Rv::AttributeTypeInvalid)),
-        ("80000002=00", Some(Rv::AttributeTypeInvalid)),
-        (
-            "0=0000000000000000,170=00,170=01",
-            Some(Rv::TemplateInconsistent),
-        ),
-        ("0=0000000000000000,1=00,1=00", None),
-        ("0=0000000000000000,172=00", None),
+        ("", 0xd0),
+        ("0=00", 0x13),
+        ("0=0000000000000000,103=01", 0x12),
+        ("80000002=00", 0x12),
+        ("0=0000000000000000,170=00,170=01", 0xd1),
+        ("0=0000000000000000,1=00,1=00", 0x0),
+        ("0=0000000000000000,172=00", 0x0),
         // token objects, private objects and secret keys, for now
-        ("0=0000000000000000,1=01", Some(Rv::AttributeValueInvalid)),
-        (
-            "0=0000000000000000,1=00,1=01",
-            Some(Rv::AttributeValueInvalid),
-        ),
-        ("0=0000000000000000,2=01", Some(Rv::AttributeValueInvalid)),
-        (
-            "0=0400000000000000,100=1000000000000000,11=4a656665",
-            Some(Rv::AttributeValueInvalid),
-        ),
+        ("0=0000000000000000,1=01", 0x13),
+        ("0=0000000000000000,1=00,1=01", 0x13),
+        ("0=0000000000000000,2=01", 0x13),
+        ("0=0400000000000000,100=1000000000000000,11=4a656665", 0x13),
         // values that aren't of their form
-        ("0=0100000000000000", Some(Rv::AttributeValueInvalid)),
-        ("0=000000000000000000", Some(Rv::AttributeValueInvalid)),
-        ("0=0000000000000000,1=02", Some(Rv::AttributeValueInvalid)),
-        ("0=0000000000000000,1=0000", Some(Rv::AttributeValueInvalid)),
-        ("0=0000000000000000,170=", Some(Rv::AttributeValueInvalid)),
-        (
-            "0=0000000000000000,100=1100000000000000",
-            Some(Rv::AttributeValueInvalid),
-        ),
-        (
-            "0=0000000000000000,161=04000000000000",
-            Some(Rv::AttributeValueInvalid),
-        ),
-        (
-            "0=0000000000000000,80000001=0200000000000000",
-            Some(Rv::AttributeValueInvalid),
-        ),
+        ("0=0100000000000000", 0x13),
+        ("0=000000000000000000", 0x13),
+        ("0=0000000000000000,1=02", 0x13),
+        ("0=0000000000000000,1=0000", 0x13),
+        ("0=0000000000000000,170=", 0x13),
+        ("0=0000000000000000,100=1100000000000000", 0x13),
+        ("0=0000000000000000,161=04000000000000", 0x13),
+        ("0=0000000000000000,80000001=0200000000000000", 0x13),
         // attributes of keys with values of their form
-        (
-            "0=0000000000000000,100=1000000000000000",
-            Some(Rv::AttributeTypeInvalid),
-        ),
-        (
-            "0=0000000000000000,161=0400000000000000",
-            Some(Rv::AttributeTypeInvalid),
-        ),
-        ("0=0000000000000000,163=01", Some(Rv::AttributeTypeInvalid)),
-        (
-            "0=0000000000000000,80000001=0100000000000000",
-            Some(Rv::AttributeTypeInvalid),
-        ),
+        ("0=0000000000000000,100=1000000000000000", 0x12),
+        ("0=0000000000000000,161=0400000000000000", 0x12),
+        ("0=0000000000000000,163=01", 0x12),
+        ("0=0000000000000000,80000001=0100000000000000", 0x12),
         // two values of one type, apart or of different lengths
-        (
-            "0=0000000000000000,3=61,10=62,3=63",
-            Some(Rv::TemplateInconsistent),
-        ),
-        (
-            "0=0000000000000000,3=61,3=6161",
-            Some(Rv::TemplateInconsistent),
-        ),
-        ("0=0000000000000000,3=,3=61", Some(Rv::TemplateInconsistent)),
-        ("0=0000000000000000,3=61,10=61,3=61", None),
+        ("0=0000000000000000,3=61,10=62,3=63", 0xd1),
+        ("0=0000000000000000,3=61,3=6161", 0xd1),
+        ("0=0000000000000000,3=,3=61", 0xd1),
+        ("0=0000000000000000,3=61,10=61,3=61", 0x0),
         // the order of the checks
-        ("80000002=00,0=00", Some(Rv::AttributeTypeInvalid)),
-        ("0=00,80000002=00", Some(Rv::AttributeValueInvalid)),
-        (
-            "0=0000000000000000,3=61,3=62,80000002=00",
-            Some(Rv::AttributeTypeInvalid),
-        ),
-        (
-            "0=0000000000000000,3=61,3=62,1=02",
-            Some(Rv::AttributeValueInvalid),
-        ),
-        ("3=61,3=62", Some(Rv::TemplateInconsistent)),
-        (
-            "0=0000000000000000,103=00,103=01",
-            Some(Rv::TemplateInconsistent),
-        ),
-        ("103=01", Some(Rv::TemplateIncomplete)),
-        ("103=01,80000002=00", Some(Rv::AttributeTypeInvalid)),
+        ("80000002=00,0=00", 0x12),
+        ("0=00,80000002=00", 0x13),
+        ("0=0000000000000000,3=61,3=62,80000002=00", 0x12),
+        ("0=0000000000000000,3=61,3=62,1=02", 0x13),
+        ("3=61,3=62", 0xd1),
+        ("0=0000000000000000,103=00,103=01", 0xd1),
+        ("103=01", 0xd0),
+        ("103=01,80000002=00", 0x12),
     ] {
         let template = template_of(rt.alloc(), text)?;
-        let refused = Record::created(rt.alloc(), &template).err();
-        assert_eq!(rt; refused, expected.map(Refusal::Code), "{text}");
+        let number = match Record::created(rt.alloc(), &template) {
+            Ok(_) => 0x0,
+            Err(Refusal::Code(code)) => code.number(),
+            Err(Refusal::Memory) => 0x2,
+        };
+        assert_eq!(rt; number, expected, "{text}");
     }
     Ok(())
 }
@@ -210,7 +172,8 @@ fn given_template(alloc: Global) -> Result<Template, NoMemory> {
     Ok(Template { items })
 }
 
-/// Passes too where one growth is refused, whichever it is: `rt try --test --fail-alloc N` refuses each test's Nth.
+/// Passes too where one growth is refused, whichever it is: `rt try --test --fail-alloc N` refuses the Nth of each
+/// test. Here 1 to 13 are of the template, 14 to 17 of the record and 18 to 27 of the values.
 #[test]
 fn given_values(rt: HostRuntime) -> Result<(), Fail> {
     let template = match given_template(rt.alloc()) {
