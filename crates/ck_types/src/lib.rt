@@ -18,3 +18,6 @@ pub use return_codes::Rv;
 pub use sequences::{Bytes, Sequence};
 pub use templates::{Item, Template};
 pub use token_limits::Limits;
+
+#[cfg(test)]
+mod tests;
