@@ -1,2 +1,3 @@
+pub mod ConflictLemmas
 pub mod FlagLemmas
 pub mod GivenLemmas

@@ -1,5 +1,5 @@
 -- Templates and the checks that one must pass
-use Rattle.std.specs.Prelude.{ℕ, Bool, true, false, List, [], ◌∷◌, Option, Some, None, ◌==◌, ◌||◌, not, find, option_map, unwrap_or, is_none}
+use Rattle.std.specs.Prelude.{ℕ, Bool, true, false, List, [], ◌∷◌, Option, Some, None, ◌==◌, ◌||◌, ◌&&◌, not, find, option_map, unwrap_or, is_none}
 use Rattle.std.specs.List.{list_any}
 use Rattle.ck_types.specs.Attributes.{flag_bytes, number_bytes, same_bytes, is_of_form, type_of, form_of, standing, attribute_of}
 use Rattle.ck_types.specs.declared.attributes.Attribute.{Attribute}
@@ -64,6 +64,10 @@ form_error item = value_error (attribute_of item.kind) item.value
 -- two items of one type have different values: an item's value isn't that of the first of its type
 abbrev pub has_conflict : List Item → Bool
 has_conflict items = list_any (λ (item : Item). not (same_bytes item.value (given_or items item.kind item.value))) items
+
+-- items of the attribute's type have different values: one isn't that of the first
+abbrev pub has_two_values : List Item → Attribute → Bool
+has_two_values items a = list_any (λ (item : Item). (type_of a == item.kind) && not (same_bytes item.value (given_or items (type_of a) item.value))) items
 
 -- objects of the class have the attribute, and it may stand in a template of this purpose
 abbrev pub standing_error : Option Bool → Option Rv

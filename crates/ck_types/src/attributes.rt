@@ -1,4 +1,4 @@
-ghost use Rattle.std.specs.Prelude.{◌≡◌, IfSome};
+ghost use Rattle.std.specs.Prelude.{◌≡◌, Some, IfSome};
 ghost use Rattle.ck_types.specs.Attributes.{same_bytes, number_bytes};
 ghost use Rattle.ck_types.specs.declared.attributes.Class.TheVariants as class;
 
@@ -95,6 +95,38 @@ fn is_number(value: &[u8], number: u64) -> bool
 
 impl Attribute {
     ghost use Rattle.ck_types.specs.Attributes.{type_of, form_of, standing, attribute_of};
+    ghost use Rattle.ck_types.specs.declared.attributes.Attribute.{Attribute};
+
+    /// Every attribute, in rising types.
+    pub(crate) const ALL: [Attribute; 27] = [
+        Attribute::Class,
+        Attribute::Token,
+        Attribute::Private,
+        Attribute::Label,
+        Attribute::Application,
+        Attribute::Value,
+        Attribute::ObjectId,
+        Attribute::KeyType,
+        Attribute::Id,
+        Attribute::Sensitive,
+        Attribute::Encrypt,
+        Attribute::Decrypt,
+        Attribute::Wrap,
+        Attribute::Unwrap,
+        Attribute::Sign,
+        Attribute::Verify,
+        Attribute::Derive,
+        Attribute::ValueLen,
+        Attribute::Extractable,
+        Attribute::Local,
+        Attribute::NeverExtractable,
+        Attribute::AlwaysSensitive,
+        Attribute::KeyGenMechanism,
+        Attribute::Modifiable,
+        Attribute::Copyable,
+        Attribute::Destroyable,
+        Attribute::KeyState,
+    ];
 
     /// The number of the attribute's type (CK_ATTRIBUTE_TYPE).
     pub fn number(self) -> u64
@@ -135,6 +167,7 @@ impl Attribute {
     pub fn of(kind: u64) -> Option<Attribute>
         ensures attribute { result ≡ attribute_of kind }
         ensures number { IfSome result (λ a. type_of a ≡ kind) }
+        ensures known { (a : Attribute) → type_of a ≡ kind → result ≡ Some a }
     {
         match kind {
             0x0 => Some(Attribute::Class),

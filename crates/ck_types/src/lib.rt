@@ -22,3 +22,6 @@ pub use templates::{Item, Template};
 pub use token_flags::TokenFlags;
 pub use token_limits::Limits;
 pub use users::{SessionState, UserType};
+
+#[cfg(test)]
+mod tests;

@@ -1,4 +1,4 @@
-ghost use Rattle.std.specs.Prelude.{◌≡◌};
+ghost use Rattle.std.specs.Prelude.{◌≡◌, Some, IfSome};
 
 use std::fmt;
 
@@ -51,6 +51,7 @@ pub enum Rv {
 
 impl Rv {
     ghost use Rattle.ck_types.specs.ReturnCodes.{number_of, code_of};
+    ghost use Rattle.ck_types.specs.declared.return_codes.Rv.{Rv};
 
     /// The number that the standard gives the code.
     pub fn number(&self) -> u64
@@ -102,7 +103,9 @@ impl Rv {
 
     /// The code of a number, or `None` where the token has no such code.
     pub fn of(number: u64) -> Option<Rv>
-        ensures { result ≡ code_of number }
+        ensures code { result ≡ code_of number }
+        ensures number { IfSome result (λ code. number_of code ≡ number) }
+        ensures known { (code : Rv) → number_of code ≡ number → result ≡ Some code }
     {
         match number {
             0x0 => Some(Rv::Ok),

@@ -1,7 +1,8 @@
-ghost use Rattle.std.specs.Prelude.{◌≡◌, Some, not};
+ghost use Rattle.std.specs.Prelude.{◌≡◌, ◌==◌, ◌&&◌, None, Some, not};
+ghost use Rattle.std.specs.List.{list_any};
 ghost use Rattle.std.specs.Option.{option_copied};
 ghost use Rattle.ck_types.specs.Attributes.{type_of, same_bytes};
-ghost use Rattle.ck_types.specs.Templates.{given, given_or, is_unsupported, form_error, first_error, has_conflict, class_error, created_error};
+ghost use Rattle.ck_types.specs.Templates.{given, given_or, is_unsupported, form_error, first_error, has_two_values, has_conflict, class_error, created_error};
 
 use crate::attributes::{Attribute, Class, Purpose};
 use crate::return_codes::Rv;
@@ -102,21 +103,40 @@ fn first_class_error(class: Class, purpose: Purpose, items: &[Item]) -> Option<R
     None
 }
 
-/// Whether the item's value is another than that of the first item of its type.
-fn differs_from_first(items: &[Item], item: &Item) -> bool
-    ensures { result ≡ not (same_bytes item.now.value (given_or items.now item.now.kind item.now.value)) }
+/// Whether the item is of the attribute's type and has another value than this one.
+fn differs(item: &Item, attribute: Attribute, value: &Bytes) -> bool
+    ensures { result ≡ (type_of attribute == item.now.kind) && not (same_bytes item.now.value value.now) }
 {
-    match given(items, item.kind) {
+    attribute.number() == item.kind && item.value.as_slice() != value.as_slice()
+}
+
+/// Whether items of the attribute's type have different values.
+#[tactic(auto, using(crate::proofs::ConflictLemmas::not_given))]
+fn has_two_values(items: &[Item], attribute: Attribute) -> bool
+    ensures { result ≡ has_two_values items.now attribute }
+{
+    match given(items, attribute.number()) {
         None => false,
-        Some(first) => item.value.as_slice() != first.as_slice(),
+        Some(first) => items.iter().any(|item| differs(item, attribute, first)),
     }
 }
 
-/// Whether two items of one type have different values.
+/// Whether items of one of the attributes' types have different values.
+fn has_conflict_in(attributes: &[Attribute], items: &[Item]) -> bool
+    ensures { result ≡ list_any (has_two_values items.now) attributes.now }
+{
+    attributes
+        .iter()
+        .any(|attribute| has_two_values(items, *attribute))
+}
+
+/// Whether two items of one type have different values. Each attribute takes one walk over the items, so that the
+/// time stays in proportion to their number.
 fn has_conflict(items: &[Item]) -> bool
+    requires well_formed { first_error form_error items.now ≡ None }
     ensures { result ≡ has_conflict items.now }
 {
-    items.iter().any(|item| differs_from_first(items, item))
+    has_conflict_in(Attribute::ALL.as_slice(), items)
 }
 
 /// The code of the first check that a template which creates an object fails.

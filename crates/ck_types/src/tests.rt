@@ -1,0 +1,331 @@
+use crate::{Bytes, Item, Limits, NoMemory, Pin, Record, Refusal, Rv, Sequence, Template};
+use std::alloc::Global;
+use std::process::Abort;
+use std::test::Fail;
+
+/// The bytes of these pairs of hexadecimal digits.
+fn bytes_of(alloc: Global, digits: &str) -> Result<Bytes, Fail> {
+    let mut bytes = Vec::new(alloc);
+    for pair in digits.as_bytes().chunks(2) {
+        bytes.push(u8::from_str_radix(str::from_utf8(pair)?, 16)?)?;
+    }
+    Ok(Bytes::from_vec(bytes))
+}
+
+/// The template of these items, each its type and its value in hexadecimal.
+fn template_of(alloc: Global, text: &str) -> Result<Template, Fail> {
+    let mut items = Vec::new(alloc);
+    for item in text.split(',').filter(|item| !item.is_empty()) {
+        let (kind, value) = item.split_once('=').ok_or("an item without =")?;
+        let kind = u64::from_str_radix(kind, 16)?;
+        let value = bytes_of(alloc, value)?;
+        items.push(Item { kind, value })?;
+    }
+    let items = Sequence::from_vec(items);
+    Ok(Template { items })
+}
+
+/// Templates and the number of the code that creating an object by each answers.
+#[test]
+fn templates(rt: HostRuntime) -> Result<(), Fail> {
+    for (text, expected) in [
+        // no class, a class of one byte, an attribute of keys, an unknown type, two values of one type
+        ("", 0xd0),
+        ("0=00", 0x13),
+        ("0=0000000000000000,103=01", 0x12),
+        ("80000002=00", 0x12),
+        ("0=0000000000000000,170=00,170=01", 0xd1),
+        ("0=0000000000000000,1=00,1=00", 0x0),
+        ("0=0000000000000000,172=00", 0x0),
+        // token objects, private objects and secret keys, for now
+        ("0=0000000000000000,1=01", 0x13),
+        ("0=0000000000000000,1=00,1=01", 0x13),
+        ("0=0000000000000000,2=01", 0x13),
+        ("0=0400000000000000,100=1000000000000000,11=4a656665", 0x13),
+        // values that aren't of their form
+        ("0=0100000000000000", 0x13),
+        ("0=000000000000000000", 0x13),
+        ("0=0000000000000000,1=02", 0x13),
+        ("0=0000000000000000,1=0000", 0x13),
+        ("0=0000000000000000,170=", 0x13),
+        ("0=0000000000000000,100=1100000000000000", 0x13),
+        ("0=0000000000000000,161=04000000000000", 0x13),
+        ("0=0000000000000000,80000001=0200000000000000", 0x13),
+        // attributes of keys with values of their form
+        ("0=0000000000000000,100=1000000000000000", 0x12),
+        ("0=0000000000000000,161=0400000000000000", 0x12),
+        ("0=0000000000000000,163=01", 0x12),
+        ("0=0000000000000000,80000001=0100000000000000", 0x12),
+        // two values of one type, apart or of different lengths
+        ("0=0000000000000000,3=61,10=62,3=63", 0xd1),
+        ("0=0000000000000000,3=61,3=6161", 0xd1),
+        ("0=0000000000000000,3=,3=61", 0xd1),
+        ("0=0000000000000000,3=61,10=61,3=61", 0x0),
+        // the order of the checks
+        ("80000002=00,0=00", 0x12),
+        ("0=00,80000002=00", 0x13),
+        ("0=0000000000000000,3=61,3=62,80000002=00", 0x12),
+        ("0=0000000000000000,3=61,3=62,1=02", 0x13),
+        ("3=61,3=62", 0xd1),
+        ("0=0000000000000000,103=00,103=01", 0xd1),
+        ("103=01", 0xd0),
+        ("103=01,80000002=00", 0x12),
+    ] {
+        let template = template_of(rt.alloc(), text)?;
+        let number = match Record::created(rt.alloc(), &template) {
+            Ok(_) => 0x0,
+            Err(Refusal::Code(code)) => code.number(),
+            Err(Refusal::Memory) => 0x2,
+        };
+        assert_eq!(rt; number, expected, "{text}");
+    }
+    Ok(())
+}
+
+/// A template of many items, the first of whose second type stands in the middle, is checked in time.
+#[test]
+fn many_items(rt: HostRuntime) -> Result<(), Fail> {
+    let mut items = Vec::new(rt.alloc());
+    for kind in [0x3, 0x12] {
+        for _ in 0..300_000 {
+            let value = Bytes::new(rt.alloc());
+            items.push(Item { kind, value })?;
+        }
+    }
+    let items = Sequence::from_vec(items);
+    let refused = Record::created(rt.alloc(), &Template { items }).err();
+    assert_eq!(rt; refused, Some(Refusal::Code(Rv::TemplateIncomplete)));
+    Ok(())
+}
+
+/// What each of the three readers answers of an attribute. Where the copy's memory is refused, the next one is made.
+fn check_attribute(
+    rt: &impl Abort,
+    alloc: Global,
+    record: &Record,
+    kind: u64,
+    flag: Option<bool>,
+    expected: Option<&[u8]>,
+) -> Result<(), Fail> {
+    let value = match record.value(alloc, kind) {
+        Ok(value) => value,
+        Err(NoMemory) => record.value(alloc, kind)?,
+    };
+    let value = value.as_ref().map(|value| value.as_slice());
+    assert_eq!(rt; value, expected, "{kind:x}");
+    assert_eq!(rt;
+        record.length(kind),
+        expected.map(|value| value.len() as u64),
+        "{kind:x}"
+    );
+    assert_eq!(rt; record.flag(kind), flag, "{kind:x}");
+    Ok(())
+}
+
+#[test]
+fn defaults(rt: HostRuntime) -> Result<(), Fail> {
+    let template = template_of(rt.alloc(), "0=0000000000000000")?;
+    let record = Record::created(rt.alloc(), &template)?;
+    for (kind, flag, value) in [
+        (0x0, None, Some([0; 8].as_slice())),
+        (0x1, Some(false), Some([0].as_slice())),
+        (0x2, Some(false), Some([0].as_slice())),
+        (0x3, None, Some([].as_slice())),
+        (0x10, None, Some([].as_slice())),
+        (0x11, None, Some([].as_slice())),
+        (0x12, None, Some([].as_slice())),
+        (0x170, Some(true), Some([1].as_slice())),
+        (0x171, Some(true), Some([1].as_slice())),
+        (0x172, Some(true), Some([1].as_slice())),
+        (0x100, None, None),
+        (0x103, None, None),
+        (0x161, None, None),
+        (0x8000_0001, None, None),
+        (0xdead, None, None),
+    ] {
+        check_attribute(&rt, rt.alloc(), &record, kind, flag, value)?;
+    }
+    Ok(())
+}
+
+/// Attributes of a data object, each with the flag and the value that a template gives it.
+const GIVEN: [(u64, Option<bool>, &[u8]); 10] = [
+    (0x0, None, &[0; 8]),
+    (0x1, Some(false), &[0]),
+    (0x2, Some(false), &[0]),
+    (0x3, None, &[0x61]),
+    (0x10, None, &[0x62, 0x63]),
+    (0x11, None, &[0x00, 0xff]),
+    (0x12, None, &[0x2a, 0x03, 0x04]),
+    (0x170, Some(false), &[0]),
+    (0x171, Some(false), &[0]),
+    (0x172, Some(false), &[0]),
+];
+
+fn given_template(alloc: Global) -> Result<Template, NoMemory> {
+    let mut items = Vec::new(alloc);
+    for (kind, _, value) in GIVEN {
+        let value = Bytes::from_slice(alloc, value)?;
+        items.push(Item { kind, value })?;
+    }
+    let items = Sequence::from_vec(items);
+    Ok(Template { items })
+}
+
+/// Passes too where one growth is refused, whichever it is: `rt try --test --fail-alloc N` refuses the Nth of each
+/// test. Here 1 to 13 are of the template, 14 to 17 of the record and 18 to 27 of the values.
+#[test]
+fn given_values(rt: HostRuntime) -> Result<(), Fail> {
+    let template = match given_template(rt.alloc()) {
+        Ok(template) => template,
+        Err(NoMemory) => given_template(rt.alloc())?,
+    };
+    let record = match Record::created(rt.alloc(), &template) {
+        Ok(record) => record,
+        Err(refusal) => {
+            assert_eq!(rt; refusal, Refusal::Memory);
+            Record::created(rt.alloc(), &template)?
+        }
+    };
+    for (kind, flag, value) in GIVEN {
+        check_attribute(&rt, rt.alloc(), &record, kind, flag, Some(value))?;
+    }
+    Ok(())
+}
+
+#[test]
+fn pins(rt: HostRuntime) -> Result<(), Fail> {
+    let pin = Pin::of(b"abc");
+    let tag = bytes_of(
+        rt.alloc(),
+        "ba7816bf8f01cfea414140de5dae2223b00361a396177a9cb410ff61f20015ad",
+    )?;
+    assert_eq!(rt; pin.len, 3);
+    assert_eq!(rt; pin.tag.as_slice(), tag.as_slice());
+    for (len, expected) in [(3, false), (4, true), (64, true), (65, false)] {
+        let pin = Pin { len, tag: pin.tag };
+        assert_eq!(rt; pin.fits(), expected, "{len}");
+    }
+    Ok(())
+}
+
+#[test]
+fn limits(rt: HostRuntime) {
+    for (sessions, openings, creations, logins, expected) in [
+        (1, 1, 1, 1, true),
+        (64, 0xffff_ffff, 0xffff_ffff, 0x7fff_ffff, true),
+        (0, 1, 1, 1, false),
+        (1, 0, 1, 1, false),
+        (1, 1, 0, 1, false),
+        (1, 1, 1, 0, false),
+        (65, 1, 1, 1, false),
+        (1, 0x1_0000_0000, 1, 1, false),
+        (1, 1, 0x1_0000_0000, 1, false),
+        (1, 1, 1, 0x8000_0000, false),
+    ] {
+        let limits = Limits::of(sessions, openings, creations, logins);
+        assert_eq!(rt;
+            limits.is_some(),
+            expected,
+            "{sessions} {openings} {creations} {logins}"
+        );
+        if let Some(limits) = limits {
+            assert_eq!(rt; limits.sessions(), sessions);
+            assert_eq!(rt; limits.openings(), openings);
+            assert_eq!(rt; limits.creations(), creations);
+            assert_eq!(rt; limits.logins(), logins);
+        }
+    }
+    let largest = Limits::of(64, 0xffff_ffff, 0xffff_ffff, 0x7fff_ffff);
+    assert_eq!(rt; Some(Limits::largest()), largest);
+}
+
+#[test]
+fn return_codes(rt: HostRuntime) -> Result<(), Fail> {
+    for (number, code, name) in [
+        (0x0, Rv::Ok, "CKR_OK"),
+        (0x2, Rv::HostMemory, "CKR_HOST_MEMORY"),
+        (0x7, Rv::ArgumentsBad, "CKR_ARGUMENTS_BAD"),
+        (0x10, Rv::AttributeReadOnly, "CKR_ATTRIBUTE_READ_ONLY"),
+        (0x11, Rv::AttributeSensitive, "CKR_ATTRIBUTE_SENSITIVE"),
+        (0x12, Rv::AttributeTypeInvalid, "CKR_ATTRIBUTE_TYPE_INVALID"),
+        (
+            0x13,
+            Rv::AttributeValueInvalid,
+            "CKR_ATTRIBUTE_VALUE_INVALID",
+        ),
+        (0x1b, Rv::ActionProhibited, "CKR_ACTION_PROHIBITED"),
+        (0x21, Rv::DataLenRange, "CKR_DATA_LEN_RANGE"),
+        (0x31, Rv::DeviceMemory, "CKR_DEVICE_MEMORY"),
+        (0x60, Rv::KeyHandleInvalid, "CKR_KEY_HANDLE_INVALID"),
+        (0x62, Rv::KeySizeRange, "CKR_KEY_SIZE_RANGE"),
+        (0x63, Rv::KeyTypeInconsistent, "CKR_KEY_TYPE_INCONSISTENT"),
+        (
+            0x68,
+            Rv::KeyFunctionNotPermitted,
+            "CKR_KEY_FUNCTION_NOT_PERMITTED",
+        ),
+        (0x70, Rv::MechanismInvalid, "CKR_MECHANISM_INVALID"),
+        (
+            0x71,
+            Rv::MechanismParamInvalid,
+            "CKR_MECHANISM_PARAM_INVALID",
+        ),
+        (0x82, Rv::ObjectHandleInvalid, "CKR_OBJECT_HANDLE_INVALID"),
+        (0x90, Rv::OperationActive, "CKR_OPERATION_ACTIVE"),
+        (
+            0x91,
+            Rv::OperationNotInitialized,
+            "CKR_OPERATION_NOT_INITIALIZED",
+        ),
+        (0xa0, Rv::PinIncorrect, "CKR_PIN_INCORRECT"),
+        (0xa2, Rv::PinLenRange, "CKR_PIN_LEN_RANGE"),
+        (0xa4, Rv::PinLocked, "CKR_PIN_LOCKED"),
+        (0xb1, Rv::SessionCount, "CKR_SESSION_COUNT"),
+        (0xb3, Rv::SessionHandleInvalid, "CKR_SESSION_HANDLE_INVALID"),
+        (
+            0xb4,
+            Rv::SessionParallelNotSupported,
+            "CKR_SESSION_PARALLEL_NOT_SUPPORTED",
+        ),
+        (0xb5, Rv::SessionReadOnly, "CKR_SESSION_READ_ONLY"),
+        (0xb6, Rv::SessionExists, "CKR_SESSION_EXISTS"),
+        (
+            0xb7,
+            Rv::SessionReadOnlyExists,
+            "CKR_SESSION_READ_ONLY_EXISTS",
+        ),
+        (
+            0xb8,
+            Rv::SessionReadWriteSoExists,
+            "CKR_SESSION_READ_WRITE_SO_EXISTS",
+        ),
+        (0xc0, Rv::SignatureInvalid, "CKR_SIGNATURE_INVALID"),
+        (0xc1, Rv::SignatureLenRange, "CKR_SIGNATURE_LEN_RANGE"),
+        (0xd0, Rv::TemplateIncomplete, "CKR_TEMPLATE_INCOMPLETE"),
+        (0xd1, Rv::TemplateInconsistent, "CKR_TEMPLATE_INCONSISTENT"),
+        (0xe1, Rv::TokenNotRecognized, "CKR_TOKEN_NOT_RECOGNIZED"),
+        (0x100, Rv::UserAlreadyLoggedIn, "CKR_USER_ALREADY_LOGGED_IN"),
+        (0x101, Rv::UserNotLoggedIn, "CKR_USER_NOT_LOGGED_IN"),
+        (
+            0x102,
+            Rv::UserPinNotInitialized,
+            "CKR_USER_PIN_NOT_INITIALIZED",
+        ),
+        (0x103, Rv::UserTypeInvalid, "CKR_USER_TYPE_INVALID"),
+        (
+            0x104,
+            Rv::UserAnotherAlreadyLoggedIn,
+            "CKR_USER_ANOTHER_ALREADY_LOGGED_IN",
+        ),
+        (0x150, Rv::BufferTooSmall, "CKR_BUFFER_TOO_SMALL"),
+    ] {
+        assert_eq!(rt; Rv::of(number), Some(code), "{number:x}");
+        assert_eq!(rt; code.number(), number);
+        assert_eq!(rt; format!(in rt.alloc(); "{code}")?.as_str(), name);
+    }
+    for number in [0x1, 0x5, 0x151] {
+        assert_eq!(rt; Rv::of(number), None, "{number:x}");
+    }
+    Ok(())
+}
