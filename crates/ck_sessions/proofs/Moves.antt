@@ -1,5 +1,5 @@
 -- How sessions, the login and PINs keep agreeing with the history
-use Rattle.std.proofs.Common.{◌≡◌, ◌≢◌, ℕ, suc, ◌+◌, ◌<◌, Bool, true, false, not, cond, ◌||◌, List, [], ◌∷◌, ◌++◌, Option, Some, None, refl, sym, ap, ◌∙◌, add-one, arith}
+use Rattle.std.proofs.Common.{◌≡◌, ◌≢◌, ℕ, suc, ◌+◌, ◌<◌, Bool, true, false, not, cond, ◌||◌, ◌&&◌, List, [], ◌∷◌, ◌++◌, Option, Some, None, refl, sym, ap, ◌∙◌, add-one, arith}
 use Rattle.std.specs.Prelude.{◌==◌, filter, length, is_some}
 use Rattle.std.proofs.lemmas.Bool.{ne_eqb}
 use Rattle.ck_types.specs.Users.{user_of, same_user}
@@ -13,14 +13,22 @@ use Rattle.ck_journal.specs.Histories.{History, done, wrong_try, leaves_sessions
 use Rattle.ck_journal.specs.Pins.{so_pin, so_pin_after, user_pin, user_pin_after, named_owner, pin_owner, pin_of, is_initialized, initializes, about, is_about, is_user, resets, tries}
 use Rattle.ck_journal.specs.Sessions.{opens, openings, closes, is_open, flags_of, open_sessions, login, login_after, user_logins, logs_user_in, state_of}
 use Rattle.ck_journal.proofs.LoginMoves.{wrong_try-done, login-none, login-open, login-same, login-logged_out, user_logins-step, so_pin-step, user_pin-step, tries-step, tries-done, openings-left, session_rows-left, login-left, user_logins-left, so_pin-left, user_pin-left, is_initialized-left, tries-left}
-use Rattle.ck_journal.proofs.Selections.{filter-selected, selected-none}
+use Rattle.ck_journal.proofs.Selections.{selected, filter-selected, selected-none}
 use Rattle.ck_journal.proofs.SessionMoves.{session_rows, openings-opened, session_rows-opened, openings-later, session_rows-later, session_rows-same, open_sessions-rows, length-session_rows}
 use Rattle.ck_sessions.specs.Agreement.{SessionsState, SessionsAgree, CredentialAgrees, credential_of, session_row}
 use Rattle.ck_sessions.specs.declared.session_table.Credential.{Credential}
 use Rattle.ck_sessions.specs.declared.session_table.Session.{Session}
 
+-- a list with one more item isn't empty
+more : (rows : List Session) (row : Session) → length (rows ++ row ∷ []) ≡ 0 → ⊥
+more [] row e = omega arith
+more (r ∷ rows) row e = omega arith
+
 module _ (h : History) (old : SessionsState) (agree : SessionsAgree h old) (e : Entry) where
   -- ---- rows of a call that opens and closes nothing
+
+  openings-stay : (c : Call) → done e ≡ Some c → opens (Some c) ≡ false → old.openings ≡ openings (e ∷ h)
+  openings-stay c d o = agree.openings ∙ sym (openings-later e h (ap opens d ∙ o))
 
   module _ (c : Call) (d : done e ≡ Some c) (o : opens (Some c) ≡ false) (cl : (s : ℕ) → closes (Some c) s ≡ false) where
     no_opening : opens (done e) ≡ false
@@ -31,9 +39,6 @@ module _ (h : History) (old : SessionsState) (agree : SessionsAgree h old) (e : 
 
     rows-stay : old.rows ≡ session_rows session_row (e ∷ h)
     rows-stay = agree.rows ∙ sym (session_rows-same e h no_opening session_row no_closing)
-
-    openings-stay : old.openings ≡ openings (e ∷ h)
-    openings-stay = agree.openings ∙ sym (openings-later e h no_opening)
 
     sessions-stay : open_sessions (e ∷ h) ≡ open_sessions h
     sessions-stay = sym (open_sessions-rows (e ∷ h)) ∙ session_rows-same e h no_opening (λ s flags. s) no_closing ∙ open_sessions-rows h
@@ -98,4 +103,53 @@ module _ (h : History) (old : SessionsState) (agree : SessionsAgree h old) (e : 
       so = record { pin = so_pin ∙ agree.so.pin ∙ sym (so_pin-left e h l); tries = so_tries ∙ rw agree.so.tries (sym (tries-wrong u user.So d a)) };
       user = record { pin = user_pin ∙ agree.user.pin ∙ sym (user_pin-left e h l); tries = user_tries ∙ rw agree.user.tries (sym (tries-wrong u user.User d a)) };
       initialized = ap is_some so_pin ∙ agree.initialized ∙ sym (is_initialized-left e h l);
+    }
+
+  -- ---- openings and closings
+
+  pub SessionsAgree-opened : (flags : ℕ) (new : SessionsState) → done e ≡ Some (call.OpenSession flags) → new.rows ≡ old.rows ++ session_row (old.openings + 1) flags ∷ []
+    → new.openings ≡ old.openings + 1 → new.login ≡ old.login → new.logins ≡ old.logins → new.so ≡ old.so → new.user ≡ old.user → SessionsAgree (e ∷ h) new
+  SessionsAgree-opened flags new d rows count log logs so us =
+    let c = call.OpenSession flags in
+    let all : session_rows session_row (e ∷ h) ≡ session_rows session_row h ++ session_row (suc (openings h)) flags ∷ [] = session_rows-opened e h flags d session_row in
+    let some : length (open_sessions (e ∷ h)) == 0 ≡ false =
+      ne_eqb (length (open_sessions (e ∷ h))) 0 (λ z. more (session_rows session_row h) (session_row (suc (openings h)) flags)
+        (sym (ap length all) ∙ length-session_rows session_row (e ∷ h) ∙ z)) in
+    record {
+      rows = rows ∙ rw (agree.rows, agree.openings, add-one) (sym all);
+      openings = count ∙ rw (agree.openings, add-one) (sym (openings-opened e h flags d));
+      login = log ∙ agree.login ∙ sym (login-open e h (Some c) d some);
+      logins = logs ∙ logins-stay c d refl;
+      so = rw so (so-stays c d (λ owner before. refl) refl);
+      user = rw us (user-stays c d (λ owner before. refl) refl);
+      initialized = ap (λ (s : Credential). is_some s.pin) so ∙ initialized-stays c d refl;
+    }
+
+  -- a call that opens nothing, closes some sessions and leaves the rest
+  closed : (c : Call) (new : SessionsState) → done e ≡ Some c → opens (Some c) ≡ false → ((before : Option UserType) → login_after (Some c) before ≡ before)
+    → new.rows ≡ session_rows session_row (e ∷ h) → new.openings ≡ old.openings → new.login ≡ cond (length new.rows == 0) None old.login
+    → new.login ≡ login (e ∷ h)
+  closed c new d o left rows count log =
+    log ∙ ap (λ rs. cond (length rs == 0) None old.login) rows
+    ∙ ap (λ n. cond (n == 0) None old.login) (length-session_rows session_row (e ∷ h))
+    ∙ ap (cond (length (open_sessions (e ∷ h)) == 0) None) (agree.login ∙ sym (ap (λ x. login_after x (login h)) d ∙ left (login h)))
+
+  pub SessionsAgree-closed : (session : ℕ) (new : SessionsState) → done e ≡ Some (call.CloseSession session)
+    → new.rows ≡ filter (λ (row : Session). not (session == row.handle)) old.rows → new.openings ≡ old.openings → new.login ≡ cond (length new.rows == 0) None old.login
+    → new.logins ≡ old.logins → new.so ≡ old.so → new.user ≡ old.user → SessionsAgree (e ∷ h) new
+  SessionsAgree-closed session new d rows count log logs so us =
+    let c = call.CloseSession session in
+    let all : new.rows ≡ session_rows session_row (e ∷ h) =
+      rows ∙ ap (filter (λ (row : Session). not (session == row.handle))) agree.rows
+      ∙ filter-selected (λ (row : Session). not (session == row.handle)) (is_open h) (λ n. session_row n (flags_of h n)) (openings h)
+      ∙ ap (λ x. selected (λ k. is_open h k && not (closes x k)) (λ n. session_row n (flags_of h n)) (openings h)) (sym d)
+      ∙ sym (session_rows-later e h (ap opens d) session_row) in
+    record {
+      rows = all;
+      openings = count ∙ openings-stay c d refl;
+      login = closed c new d refl (λ before. refl) all count log;
+      logins = logs ∙ logins-stay c d refl;
+      so = rw so (so-stays c d (λ owner before. refl) refl);
+      user = rw us (user-stays c d (λ owner before. refl) refl);
+      initialized = ap (λ (s : Credential). is_some s.pin) so ∙ initialized-stays c d refl;
     }
