@@ -1,5 +1,5 @@
 -- The code of a check that fails is never CKR_OK
-use Rattle.std.proofs.Common.{◌≡◌, ℕ, Bool, true, false, not, List, [], ◌∷◌, Option, Some, None, refl, ap, subst}
+use Rattle.std.proofs.Common.{◌≡◌, ℕ, Bool, true, false, not, cond, ◌||◌, List, [], ◌∷◌, Option, Some, None, refl, sym, ap, ◌∙◌, subst}
 use Rattle.std.proofs.lemmas.Bool.{not-true}
 use Rattle.ck_types.specs.Attributes.{standing, attribute_of}
 use Rattle.ck_types.specs.Templates.{error_if, or_else, first_error, form_error, value_error, class_error, known_standing_error, standing_error, created_error, has_conflict}
@@ -11,7 +11,15 @@ use Rattle.ck_types.specs.declared.attributes.Purpose.TheVariants as purpose
 use Rattle.ck_types.specs.declared.return_codes.Rv.{Rv}
 use Rattle.ck_types.specs.declared.return_codes.Rv.TheVariants as rv
 use Rattle.ck_types.specs.declared.templates.Item.{Item}
-use Rattle.ck_journal.specs.Histories.{is_ok}
+use Rattle.ck_types.specs.TokenLimits.{Ranges}
+use Rattle.ck_types.specs.Users.{user_of}
+use Rattle.ck_types.specs.declared.pins.Pin.{Pin}
+use Rattle.ck_types.specs.declared.users.UserType.{UserType}
+use Rattle.ck_types.specs.declared.users.UserType.TheVariants as user
+use Rattle.ck_journal.specs.Answers.{session_error, pin_error, init_token_error, init_pin_error, set_pin_error, open_session_error, logged_in_error, read_only_error, logins_error, user_login_error, known_login_error, login_error, logout_error}
+use Rattle.ck_journal.specs.Histories.{History, is_ok, is_wrong_pin}
+use Rattle.ck_journal.specs.Pins.{is_initialized, is_locked, pin_owner}
+use Rattle.ck_journal.specs.Sessions.{login, state_of}
 
 -- no error, or one that isn't CKR_OK
 abbrev pub is_refusal : Option Rv → Bool
@@ -54,3 +62,118 @@ is_refusal-created_error items =
 -- a code that a check gives isn't CKR_OK
 pub is_ok-refusal : (error : Option Rv) (code : Rv) → error ≡ Some code → is_refusal error ≡ true → is_ok code ≡ false
 is_ok-refusal error code e r = not-true (is_ok code) (subst (λ o. is_refusal o ≡ true) e r)
+
+-- ---- the errors of the calls
+
+pub is_refusal-session_error : (h : History) (session : ℕ) → is_refusal (session_error h session) ≡ true
+is_refusal-session_error h session = search (is_refusal-error_if)
+
+is_refusal-pin_error : (u : UserType) (h : History) (pin : Pin) → is_refusal (pin_error u h pin) ≡ true
+is_refusal-pin_error u h pin = search (is_refusal-or_else, is_refusal-error_if)
+
+init_case : (test : Bool) (a b : Option Rv) → is_refusal a ≡ true → is_refusal b ≡ true → is_refusal (cond test a b) ≡ true
+init_case true a b x y = x
+init_case false a b x y = y
+
+pub is_refusal-init_token_error : (h : History) (pin : Pin) → is_refusal (init_token_error h pin) ≡ true
+is_refusal-init_token_error h pin = search (is_refusal-or_else, is_refusal-error_if, init_case, is_refusal-pin_error) depth 12
+
+pub is_refusal-init_pin_error : (h : History) (session : ℕ) (pin : Pin) → is_refusal (init_pin_error h session pin) ≡ true
+is_refusal-init_pin_error h session pin = search (is_refusal-or_else, is_refusal-error_if, is_refusal-session_error) depth 12
+
+pub is_refusal-set_pin_error : (h : History) (session : ℕ) (old new : Pin) → is_refusal (set_pin_error h session old new) ≡ true
+is_refusal-set_pin_error h session old new = search (is_refusal-or_else, is_refusal-error_if, is_refusal-session_error) depth 12
+
+pub is_refusal-open_session_error : (limits : Ranges) (h : History) (flags : ℕ) → is_refusal (open_session_error limits h flags) ≡ true
+is_refusal-open_session_error limits h flags = search (is_refusal-or_else, is_refusal-error_if) depth 12
+
+is_refusal-logged_in_error : (u : UserType) (l : Option UserType) → is_refusal (logged_in_error u l) ≡ true
+is_refusal-logged_in_error u None = refl
+is_refusal-logged_in_error user.So (Some user.So) = refl
+is_refusal-logged_in_error user.So (Some user.User) = refl
+is_refusal-logged_in_error user.User (Some user.So) = refl
+is_refusal-logged_in_error user.User (Some user.User) = refl
+
+is_refusal-read_only_error : (u : UserType) (h : History) → is_refusal (read_only_error u h) ≡ true
+is_refusal-read_only_error user.So h = search (is_refusal-error_if) depth 12
+is_refusal-read_only_error user.User h = refl
+
+is_refusal-logins_error : (limits : Ranges) (u : UserType) (h : History) → is_refusal (logins_error limits u h) ≡ true
+is_refusal-logins_error limits user.So h = refl
+is_refusal-logins_error limits user.User h = search (is_refusal-error_if) depth 12
+
+pub is_refusal-known_login_error : (limits : Ranges) (h : History) (u : Option UserType) (pin : Pin) → is_refusal (known_login_error limits h u pin) ≡ true
+is_refusal-known_login_error limits h None pin = refl
+is_refusal-known_login_error limits h (Some u) pin =
+    search (is_refusal-or_else, is_refusal-error_if, is_refusal-logged_in_error, is_refusal-read_only_error, is_refusal-pin_error, is_refusal-logins_error) depth 12
+
+pub is_refusal-login_error : (limits : Ranges) (h : History) (session number : ℕ) (pin : Pin) → is_refusal (login_error limits h session number pin) ≡ true
+is_refusal-login_error limits h session number pin = search (is_refusal-or_else, is_refusal-session_error, is_refusal-known_login_error) depth 12
+
+pub is_refusal-logout_error : (h : History) (session : ℕ) → is_refusal (logout_error h session) ≡ true
+is_refusal-logout_error h session = search (is_refusal-or_else, is_refusal-error_if, is_refusal-session_error)
+
+-- ---- a wrong PIN is free only of a user who isn't locked
+
+abbrev pub tells_unlocked : Bool → Option Rv → Bool
+tells_unlocked locked None = true
+tells_unlocked locked (Some code) = not (is_wrong_pin code) || not locked
+
+or_true : (b : Bool) → (b || true) ≡ true
+or_true true = refl
+or_true false = refl
+
+tells-free : (error : Option Rv) → tells_unlocked false error ≡ true
+tells-free None = refl
+tells-free (Some code) = or_true (not (is_wrong_pin code))
+
+-- the check of the lock comes first
+tells-locked : (locked : Bool) (later : Option Rv) → tells_unlocked locked (or_else (error_if locked rv.PinLocked) later) ≡ true
+tells-locked true later = refl
+tells-locked false later = tells-free later
+
+tells-or_else : (locked : Bool) (first later : Option Rv) → tells_unlocked locked first ≡ true → tells_unlocked locked later ≡ true → tells_unlocked locked (or_else first later) ≡ true
+tells-or_else locked None later a b = b
+tells-or_else locked (Some code) later a b = a
+
+tells-error_if : (locked test : Bool) (code : Rv) → is_wrong_pin code ≡ false → tells_unlocked locked (error_if test code) ≡ true
+tells-error_if locked false code n = refl
+tells-error_if locked true code n = ap (λ t. not t || not locked) n
+
+tells-case : (locked test : Bool) (a b : Option Rv) → tells_unlocked locked a ≡ true → tells_unlocked locked b ≡ true → tells_unlocked locked (cond test a b) ≡ true
+tells-case locked true a b x y = x
+tells-case locked false a b x y = y
+
+pub tells-init_token_error : (h : History) (pin : Pin) → tells_unlocked (is_locked user.So h) (init_token_error h pin) ≡ true
+tells-init_token_error h pin = search (tells-or_else, tells-error_if, tells-locked, tells-case) depth 12
+
+pub tells-init_pin_error : (locked : Bool) (h : History) (session : ℕ) (pin : Pin) → tells_unlocked locked (init_pin_error h session pin) ≡ true
+tells-init_pin_error locked h session pin = search (tells-or_else, tells-error_if, tells-locked) depth 12
+
+pub tells-set_pin_error : (h : History) (session : ℕ) (old new : Pin) → tells_unlocked (is_locked (pin_owner (state_of h session)) h) (set_pin_error h session old new) ≡ true
+tells-set_pin_error h session old new = search (tells-or_else, tells-error_if, tells-locked) depth 12
+
+tells-logged_in_error : (locked : Bool) (u : UserType) (l : Option UserType) → tells_unlocked locked (logged_in_error u l) ≡ true
+tells-logged_in_error locked u None = refl
+tells-logged_in_error locked user.So (Some user.So) = refl
+tells-logged_in_error locked user.So (Some user.User) = refl
+tells-logged_in_error locked user.User (Some user.So) = refl
+tells-logged_in_error locked user.User (Some user.User) = refl
+
+tells-read_only_error : (locked : Bool) (u : UserType) (h : History) → tells_unlocked locked (read_only_error u h) ≡ true
+tells-read_only_error locked user.So h = search (tells-error_if) depth 12
+tells-read_only_error locked user.User h = refl
+
+tells-logins_error : (locked : Bool) (limits : Ranges) (u : UserType) (h : History) → tells_unlocked locked (logins_error limits u h) ≡ true
+tells-logins_error locked limits user.So h = refl
+tells-logins_error locked limits user.User h = search (tells-error_if) depth 12
+
+pub tells-user_login_error : (limits : Ranges) (h : History) (u : UserType) (pin : Pin) → tells_unlocked (is_locked u h) (user_login_error limits h u pin) ≡ true
+tells-user_login_error limits h u pin = search (tells-or_else, tells-error_if, tells-locked, tells-logged_in_error, tells-read_only_error, tells-logins_error) depth 12
+
+-- a wrong PIN: the user isn't locked
+pub unlocked-wrong : (locked : Bool) (error : Option Rv) (code : Rv) → error ≡ Some code → is_wrong_pin code ≡ true → tells_unlocked locked error ≡ true → locked ≡ false
+unlocked-wrong false error code e w t = refl
+unlocked-wrong true error code e w t =
+    let free : (not (is_wrong_pin code) || false) ≡ true = subst (λ o. tells_unlocked true o ≡ true) e t in
+    sym (sym (ap (λ b. not b || false) w) ∙ free)

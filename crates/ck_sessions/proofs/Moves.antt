@@ -1,6 +1,6 @@
 -- How sessions, the login and PINs keep agreeing with the history
 use Rattle.std.proofs.Common.{◌≡◌, ◌≢◌, ℕ, suc, ◌+◌, ◌<◌, Bool, true, false, not, cond, ◌||◌, ◌&&◌, List, [], ◌∷◌, ◌++◌, Option, Some, None, refl, sym, ap, ◌∙◌, add-one, arith}
-use Rattle.std.specs.Prelude.{◌==◌, filter, length, is_some}
+use Rattle.std.specs.Prelude.{◌==◌, filter, length, is_some, unwrap_or}
 use Rattle.std.proofs.lemmas.Bool.{ne_eqb}
 use Rattle.ck_types.specs.Users.{user_of, same_user}
 use Rattle.ck_types.specs.declared.pins.Pin.{Pin}
@@ -18,6 +18,23 @@ use Rattle.ck_journal.proofs.SessionMoves.{session_rows, openings-opened, sessio
 use Rattle.ck_sessions.specs.Agreement.{SessionsState, SessionsAgree, CredentialAgrees, credential_of, session_row}
 use Rattle.ck_sessions.specs.declared.session_table.Credential.{Credential}
 use Rattle.ck_sessions.specs.declared.session_table.Session.{Session}
+
+abbrev so_pin_of : History → Option Pin
+so_pin_of h = so_pin h
+
+and-false : (b : Bool) → (b && false) ≡ false
+and-false true = refl
+and-false false = refl
+
+-- the first initialization sets the PIN of the security officer
+pub Some-unwrap_or : (pin : Pin) (before : Option Pin) → Some (unwrap_or before pin) ≡ so_pin_after (Some (call.InitToken pin)) user.User before
+Some-unwrap_or pin None = refl
+Some-unwrap_or pin (Some before) = refl
+
+-- an initialized token has a PIN of the security officer
+some_after : (pin : Pin) (before : Option Pin) → is_some (so_pin_after (Some (call.InitToken pin)) user.User before) ≡ true
+some_after pin None = refl
+some_after pin (Some before) = refl
 
 -- a list with one more item isn't empty
 more : (rows : List Session) (row : Session) → length (rows ++ row ∷ []) ≡ 0 → ⊥
@@ -148,6 +165,159 @@ module _ (h : History) (old : SessionsState) (agree : SessionsAgree h old) (e : 
       rows = all;
       openings = count ∙ openings-stay c d refl;
       login = closed c new d refl (λ before. refl) all count log;
+      logins = logs ∙ logins-stay c d refl;
+      so = rw so (so-stays c d (λ owner before. refl) refl);
+      user = rw us (user-stays c d (λ owner before. refl) refl);
+      initialized = ap (λ (s : Credential). is_some s.pin) so ∙ initialized-stays c d refl;
+    }
+
+  pub SessionsAgree-all_closed : (new : SessionsState) → done e ≡ Some call.CloseAllSessions → new.rows ≡ [] → new.openings ≡ old.openings → new.login ≡ None
+    → new.logins ≡ old.logins → new.so ≡ old.so → new.user ≡ old.user → SessionsAgree (e ∷ h) new
+  SessionsAgree-all_closed new d rows count log logs so us =
+    let c = call.CloseAllSessions in
+    let all : session_rows session_row (e ∷ h) ≡ [] =
+      session_rows-later e h (ap opens d) session_row
+      ∙ selected-none (λ k. is_open h k && not (closes (done e) k)) (λ n. session_row n (flags_of h n)) (openings h)
+        (λ k below. ap (λ x. is_open h k && not (closes x k)) d ∙ and-false (is_open h k)) in
+    let none : length (open_sessions (e ∷ h)) == 0 ≡ true = rw (sym (length-session_rows session_row (e ∷ h)), all) in
+    record {
+      rows = rows ∙ sym all;
+      openings = count ∙ openings-stay c d refl;
+      login = log ∙ sym (login-none (e ∷ h) none);
+      logins = logs ∙ logins-stay c d refl;
+      so = rw so (so-stays c d (λ owner before. refl) refl);
+      user = rw us (user-stays c d (λ owner before. refl) refl);
+      initialized = ap (λ (s : Credential). is_some s.pin) so ∙ initialized-stays c d refl;
+    }
+
+  -- ---- PINs
+
+  pub SessionsAgree-initialized : (pin : Pin) (new : SessionsState) → done e ≡ Some (call.InitToken pin) → new.rows ≡ old.rows → new.openings ≡ old.openings
+    → new.login ≡ old.login → new.logins ≡ old.logins → new.so.pin ≡ so_pin_after (Some (call.InitToken pin)) user.User old.so.pin → new.so.tries ≡ 0
+    → new.user.pin ≡ None → new.user.tries ≡ 0 → SessionsAgree (e ∷ h) new
+  SessionsAgree-initialized pin new d rows count log logs so_pin so_tries user_pin user_tries =
+    let c = call.InitToken pin in
+    record {
+      rows = rows ∙ rows-stay c d refl (λ s. refl);
+      openings = count ∙ openings-stay c d refl;
+      login = log ∙ login-stays c d refl (λ s. refl) (λ before. refl);
+      logins = logs ∙ logins-stay c d refl;
+      so = record { pin = so_pin ∙ rw agree.so.pin (sym (so_pin-step e h (Some c) d)); tries = so_tries ∙ sym (tries-done e h user.So c d) };
+      user = record { pin = user_pin ∙ sym (user_pin-step e h (Some c) d); tries = user_tries ∙ sym (tries-done e h user.User c d) };
+      initialized = ap is_some so_pin ∙ some_after pin old.so.pin ∙ sym (ap (λ x. initializes x || is_initialized h) d);
+    }
+
+  pub SessionsAgree-pin_initialized : (session : ℕ) (pin : Pin) (new : SessionsState) → done e ≡ Some (call.InitPin session pin) → new.rows ≡ old.rows
+    → new.openings ≡ old.openings → new.login ≡ old.login → new.logins ≡ old.logins → new.so ≡ old.so → new.user.pin ≡ Some pin → new.user.tries ≡ 0 → SessionsAgree (e ∷ h) new
+  SessionsAgree-pin_initialized session pin new d rows count log logs so user_pin user_tries =
+    let c = call.InitPin session pin in
+    record {
+      rows = rows ∙ rows-stay c d refl (λ s. refl);
+      openings = count ∙ openings-stay c d refl;
+      login = log ∙ login-stays c d refl (λ s. refl) (λ before. refl);
+      logins = logs ∙ logins-stay c d refl;
+      so = rw so (so-stays c d (λ owner before. refl) refl);
+      user = record { pin = user_pin ∙ sym (user_pin-step e h (Some c) d); tries = user_tries ∙ sym (tries-done e h user.User c d) };
+      initialized = ap (λ (s : Credential). is_some s.pin) so ∙ initialized-stays c d refl;
+    }
+
+  -- the owner of the session's PIN sets it
+  module _ (session : ℕ) (before pin : Pin) (new : SessionsState) (d : done e ≡ Some (call.SetPin session before pin)) (rows : new.rows ≡ old.rows)
+    (count : new.openings ≡ old.openings) (log : new.login ≡ old.login) (logs : new.logins ≡ old.logins) where
+    abbrev c : Call
+    c = call.SetPin session before pin
+
+    pub SessionsAgree-so_pin_set : pin_owner (state_of h session) ≡ user.So → is_some old.so.pin ≡ true → new.so.pin ≡ Some pin → new.so.tries ≡ 0 → new.user ≡ old.user
+      → SessionsAgree (e ∷ h) new
+    SessionsAgree-so_pin_set owner had so_pin so_tries us = record {
+      rows = rows ∙ rows-stay c d refl (λ s. refl);
+      openings = count ∙ openings-stay c d refl;
+      login = log ∙ login-stays c d refl (λ s. refl) (λ b. refl);
+      logins = logs ∙ logins-stay c d refl;
+      so = record {
+        pin = so_pin ∙ sym (so_pin-step e h (Some c) d ∙ ap (λ o. so_pin_after (Some c) o (so_pin_of h)) owner);
+        tries = so_tries ∙ sym (tries-done e h user.So c d ∙ ap (λ o. cond (is_user user.So (Some o) || false) 0 (tries user.So h)) owner);
+      };
+      user = rw us (record {
+        pin = agree.user.pin ∙ sym (user_pin-step e h (Some c) d ∙ ap (λ o. user_pin_after (Some c) o (user_pin h)) owner);
+        tries = agree.user.tries ∙ sym (tries-done e h user.User c d ∙ ap (λ o. cond (is_user user.User (Some o) || false) 0 (tries user.User h)) owner);
+      });
+      initialized = ap is_some so_pin ∙ sym had ∙ initialized-stays c d refl;
+    }
+
+    pub SessionsAgree-user_pin_set : pin_owner (state_of h session) ≡ user.User → new.so ≡ old.so → new.user.pin ≡ Some pin → new.user.tries ≡ 0 → SessionsAgree (e ∷ h) new
+    SessionsAgree-user_pin_set owner so us_pin us_tries = record {
+      rows = rows ∙ rows-stay c d refl (λ s. refl);
+      openings = count ∙ openings-stay c d refl;
+      login = log ∙ login-stays c d refl (λ s. refl) (λ b. refl);
+      logins = logs ∙ logins-stay c d refl;
+      so = rw so (record {
+        pin = agree.so.pin ∙ sym (so_pin-step e h (Some c) d ∙ ap (λ o. so_pin_after (Some c) o (so_pin_of h)) owner);
+        tries = agree.so.tries ∙ sym (tries-done e h user.So c d ∙ ap (λ o. cond (is_user user.So (Some o) || false) 0 (tries user.So h)) owner);
+      });
+      user = record {
+        pin = us_pin ∙ sym (user_pin-step e h (Some c) d ∙ ap (λ o. user_pin_after (Some c) o (user_pin h)) owner);
+        tries = us_tries ∙ sym (tries-done e h user.User c d ∙ ap (λ o. cond (is_user user.User (Some o) || false) 0 (tries user.User h)) owner);
+      };
+      initialized = ap (λ (s : Credential). is_some s.pin) so ∙ initialized-stays c d refl;
+    }
+
+  -- ---- logins and logouts
+
+  module _ (session number : ℕ) (pin : Pin) (new : SessionsState) (d : done e ≡ Some (call.Login session number pin)) (some : length old.rows == 0 ≡ false)
+    (rows : new.rows ≡ old.rows) (count : new.openings ≡ old.openings) where
+    abbrev login_call : Call
+    login_call = call.Login session number pin
+
+    login-now : login (e ∷ h) ≡ user_of number
+    login-now =
+      login-open e h (Some login_call) d
+        (ap (λ hs. length hs == 0) (sessions-stay login_call d refl (λ s. refl)) ∙ ap (λ n. n == 0) (sym (ap length agree.rows ∙ length-session_rows session_row h)) ∙ some)
+
+    pub SessionsAgree-so_in : user_of number ≡ Some user.So → new.login ≡ Some user.So → new.logins ≡ old.logins → new.so.pin ≡ old.so.pin → new.so.tries ≡ 0
+      → new.user ≡ old.user → number == 1 ≡ false → SessionsAgree (e ∷ h) new
+    SessionsAgree-so_in u log logs so_pin so_tries us other = record {
+      rows = rows ∙ rows-stay login_call d refl (λ s. refl);
+      openings = count ∙ openings-stay login_call d refl;
+      login = log ∙ sym (login-now ∙ u);
+      logins = logs ∙ logins-stay login_call d other;
+      so = record {
+        pin = so_pin ∙ agree.so.pin ∙ sym (so_pin-step e h (Some login_call) d);
+        tries = so_tries ∙ sym (tries-done e h user.So login_call d ∙ ap (λ a. cond (is_user user.So a || false) 0 (tries user.So h)) u);
+      };
+      user = rw us (record {
+        pin = agree.user.pin ∙ sym (user_pin-step e h (Some login_call) d);
+        tries = agree.user.tries ∙ sym (tries-done e h user.User login_call d ∙ ap (λ a. cond (is_user user.User a || false) 0 (tries user.User h)) u);
+      });
+      initialized = ap is_some so_pin ∙ initialized-stays login_call d refl;
+    }
+
+    pub SessionsAgree-user_in : user_of number ≡ Some user.User → new.login ≡ Some user.User → new.logins ≡ old.logins + 1 → new.so ≡ old.so → new.user.pin ≡ old.user.pin
+      → new.user.tries ≡ 0 → number == 1 ≡ true → SessionsAgree (e ∷ h) new
+    SessionsAgree-user_in u log logs so us_pin us_tries same = record {
+      rows = rows ∙ rows-stay login_call d refl (λ s. refl);
+      openings = count ∙ openings-stay login_call d refl;
+      login = log ∙ sym (login-now ∙ u);
+      logins = logs ∙ rw (agree.logins, add-one) (sym (user_logins-step e h (Some login_call) d ∙ ap (λ t. cond t (suc (user_logins h)) (user_logins h)) same));
+      so = rw so (record {
+        pin = agree.so.pin ∙ sym (so_pin-step e h (Some login_call) d);
+        tries = agree.so.tries ∙ sym (tries-done e h user.So login_call d ∙ ap (λ a. cond (is_user user.So a || false) 0 (tries user.So h)) u);
+      });
+      user = record {
+        pin = us_pin ∙ agree.user.pin ∙ sym (user_pin-step e h (Some login_call) d);
+        tries = us_tries ∙ sym (tries-done e h user.User login_call d ∙ ap (λ a. cond (is_user user.User a || false) 0 (tries user.User h)) u);
+      };
+      initialized = ap (λ (s : Credential). is_some s.pin) so ∙ initialized-stays login_call d refl;
+    }
+
+  pub SessionsAgree-logged_out : (session : ℕ) (new : SessionsState) → done e ≡ Some (call.Logout session) → new.rows ≡ old.rows → new.openings ≡ old.openings
+    → new.login ≡ None → new.logins ≡ old.logins → new.so ≡ old.so → new.user ≡ old.user → SessionsAgree (e ∷ h) new
+  SessionsAgree-logged_out session new d rows count log logs so us =
+    let c = call.Logout session in
+    record {
+      rows = rows ∙ rows-stay c d refl (λ s. refl);
+      openings = count ∙ openings-stay c d refl;
+      login = log ∙ sym (login-logged_out e h session d);
       logins = logs ∙ logins-stay c d refl;
       so = rw so (so-stays c d (λ owner before. refl) refl);
       user = rw us (user-stays c d (λ owner before. refl) refl);

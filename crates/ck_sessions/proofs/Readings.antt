@@ -1,5 +1,7 @@
 -- What sessions that agree with a history tell of it
-use Rattle.std.proofs.Common.{◌≡◌, ℕ, suc, Bool, true, false, not, cond, List, [], ◌∷◌, Option, Some, None, refl, sym, ap, ◌∙◌}
+use Rattle.std.proofs.Common.{◌≡◌, ℕ, suc, Bool, true, false, not, ◌||◌, cond, List, [], ◌∷◌, Option, Some, None, refl, sym, ap, ◌∙◌, subst}
+use Rattle.std.proofs.lemmas.Bool.{eqb-true}
+use Rattle.std.proofs.lemmas.Option.{same_Some}
 use Rattle.std.specs.Prelude.{◌==◌, map, filter, find, length, is_some, option_map}
 use Rattle.std.specs.List.{list_any}
 use Rattle.ck_types.specs.declared.users.UserType.{UserType}
@@ -29,6 +31,22 @@ list_any-map : (test : ℕ → Bool) (row : ℕ → Session) (again : Session �
 list_any-map test row again same [] = refl
 list_any-map test row again same (k ∷ ks) = rw (same k, list_any-map test row again same ks)
 
+is_some-cond : {X : Type 0} (t : Bool) (x : X) (found : Option X) (any : Bool) → is_some found ≡ any → is_some (cond t (Some x) found) ≡ t || any
+is_some-cond true x found any e = refl
+is_some-cond false x found any e = e
+
+is_some-find : {X : Type 0} (test : X → Bool) (xs : List X) → is_some (find test xs) ≡ list_any test xs
+is_some-find test [] = refl
+is_some-find test (x ∷ xs) = is_some-cond (test x) x (find test xs) (list_any test xs) (is_some-find test xs)
+
+passes-cond : (test : ℕ → Bool) (t : Bool) (k j : ℕ) (found : Option ℕ) → test k ≡ t → (found ≡ Some j → test j ≡ true) → cond t (Some k) found ≡ Some j → test j ≡ true
+passes-cond test true k j found t later e = subst (λ n. test n ≡ true) (same_Some k j e) t
+passes-cond test false k j found t later e = later e
+
+find-passes : (test : ℕ → Bool) (ks : List ℕ) (j : ℕ) → find test ks ≡ Some j → test j ≡ true
+find-passes test [] j e = cc
+find-passes test (k ∷ ks) j e = passes-cond test (test k) k j (find test ks) refl (find-passes test ks j) e
+
 module _ (h : History) (s : SessionsState) (agree : SessionsAgree h s) where
   abbrev row_of : ℕ → Session
   row_of n = session_row n (flags_of h n)
@@ -51,3 +69,31 @@ module _ (h : History) (s : SessionsState) (agree : SessionsAgree h s) where
   pub CredentialAgrees-of : (u : UserType) → CredentialAgrees u h (credential_of u s)
   CredentialAgrees-of user.So = agree.so
   CredentialAgrees-of user.User = agree.user
+
+  -- ---- a session's row
+
+  abbrev found_row : ℕ → Option Session
+  found_row session = find (is_session session) s.rows
+
+  row-found : (session : ℕ) → found_row session ≡ option_map row_of (find (λ k. k == session) (open_sessions h))
+  row-found session = ap (find (is_session session)) agree.rows ∙ find-map (is_session session) row_of (open_sessions h)
+
+  pub is_some-row : (session : ℕ) → is_some (found_row session) ≡ is_open h session
+  is_some-row session = is_some-find (is_session session) s.rows ∙ list_any-rows session
+
+  pub is_open-not_found : (session : ℕ) → None ≡ found_row session → false ≡ is_open h session
+  is_open-not_found session e = ap is_some e ∙ is_some-row session
+
+  pub is_open-found : (session : ℕ) (row : Session) → Some row ≡ found_row session → true ≡ is_open h session
+  is_open-found session row e = ap is_some e ∙ is_some-row session
+
+  pub flags_of-found : (session : ℕ) (row : Session) → Some row ≡ found_row session → row.flags ≡ flags_of h session
+  flags_of-found session row e = flags-at session row (find (λ k. k == session) (open_sessions h)) refl (e ∙ row-found session)
+    where
+      flags-at : (session : ℕ) (row : Session) (found : Option ℕ) → find (λ k. k == session) (open_sessions h) ≡ found → Some row ≡ option_map row_of found
+        → row.flags ≡ flags_of h session
+      flags-at session row None f e = cc
+      flags-at session row (Some k) f e =
+        let same : k ≡ session = eqb-true k session (find-passes (λ j. j == session) (open_sessions h) k f) in
+        let r : row ≡ row_of k = same_Some row (row_of k) e in
+        ap (λ (x : Session). x.flags) r ∙ ap (flags_of h) same

@@ -2,6 +2,8 @@ use ck_types::{Limits, NoMemory, Pin, UserType};
 use std::alloc::Global;
 use std::marker::Model;
 
+use crate::rows::{count_read_write, find_session, has_read_only, has_session, remove_session};
+
 /// An open session.
 #[derive(Clone, Copy, Debug, PartialEq, Eq)]
 pub struct Session {
@@ -38,4 +40,245 @@ impl Model for Sessions {
     ghost view = { λ s. record { rows = s.rows.items; limit = s.limit; openings = s.openings; login = s.login; logins = s.logins; so = s.so; user = s.user } };
 
     ghost invariant = { λ s. s.limit ≤ vec_capacity s.rows };
+}
+
+const NO_PIN: Credential = Credential {
+    pin: None,
+    tries: 0,
+};
+
+impl Sessions {
+    ghost use Rattle.std.specs.Prelude.{◌≡◌, ◌∷◌, ◌+◌, ◌<◌, ◌^◌, ◌==◌, [], ℕ, true, false, not, Some, None, IfOk, IfSome, is_some, length};
+    ghost use Rattle.std.specs.List.{list_any};
+    ghost use Rattle.ck_types.specs.Users.{user_of};
+    ghost use Rattle.ck_types.specs.declared.users.UserType.TheVariants as user;
+    ghost use Rattle.ck_types.specs.declared.pins.Pin.{Pin};
+    ghost use Rattle.ck_journal.specs.Histories.{History, done, wrong_try};
+    ghost use Rattle.ck_journal.specs.Pins.{is_initialized, pin_of, tries, pin_owner, about};
+    ghost use Rattle.ck_journal.specs.Sessions.{openings, is_open, flags_of, open_sessions, is_read_write, rw_sessions, login, user_logins, state_of};
+    ghost use Rattle.ck_journal.specs.declared.calls.Call.TheVariants as call;
+    ghost use Rattle.ck_journal.specs.declared.calls.Entry.{Entry};
+    ghost use Rattle.ck_sessions.specs.Agreement.{SessionsAgree, CredentialAgrees, credential_of};
+
+    /// No sessions, with room for as many as may be open at once.
+    pub fn new(alloc: Global, limits: Limits) -> Result<Sessions, NoMemory>
+        ensures agree { IfOk result (λ sessions. SessionsAgree [] sessions) }
+        ensures limit { IfOk result (λ sessions. sessions.limit ≡ limits.sessions) }
+    {
+        let limit = limits.sessions();
+        let rows = Vec::with_capacity(alloc, limit as usize)?;
+        Ok(Sessions {
+            rows,
+            limit,
+            openings: 0,
+            login: None,
+            logins: 0,
+            so: NO_PIN,
+            user: NO_PIN,
+        })
+    }
+
+    // ---- what the sessions tell of every history that they agree with
+
+    pub fn is_initialized(&self) -> bool
+        ensures { (h : History) → SessionsAgree h self.now → result ≡ is_initialized h }
+    {
+        self.so.pin.is_some()
+    }
+
+    /// How many sessions are open.
+    pub fn count(&self) -> u64
+        ensures value { result ≡ length self.now.rows }
+        ensures count { (h : History) → SessionsAgree h self.now → result ≡ length (open_sessions h) }
+    {
+        self.rows.len() as u64
+    }
+
+    /// How many read/write sessions are open.
+    pub fn read_write_count(&self) -> u64
+        ensures { (h : History) → SessionsAgree h self.now → result ≡ length (rw_sessions h) }
+    {
+        count_read_write(self.rows.as_slice())
+    }
+
+    /// Whether a read-only session is open.
+    pub fn has_read_only(&self) -> bool
+        ensures { (h : History) → SessionsAgree h self.now → result ≡ list_any (λ s. not (is_read_write h s)) (open_sessions h) }
+    {
+        has_read_only(self.rows.as_slice())
+    }
+
+    /// How many sessions have been opened.
+    pub fn openings(&self) -> u64
+        ensures value { result ≡ self.now.openings }
+        ensures openings { (h : History) → SessionsAgree h self.now → result ≡ openings h }
+    {
+        self.openings
+    }
+
+    pub fn is_open(&self, session: u64) -> bool
+        ensures { (h : History) → SessionsAgree h self.now → result ≡ is_open h session }
+    {
+        has_session(self.rows.as_slice(), session)
+    }
+
+    /// The flags that an open session was opened with.
+    pub fn flags(&self, session: u64) -> Option<u64>
+        ensures is_open { (h : History) → SessionsAgree h self.now → is_some result ≡ is_open h session }
+        ensures flags { (h : History) → SessionsAgree h self.now → IfSome result (λ flags. flags ≡ flags_of h session) }
+    {
+        match find_session(self.rows.as_slice(), session) {
+            None => None,
+            Some(row) => Some(row.flags),
+        }
+    }
+
+    /// Who is logged in.
+    pub fn login(&self) -> Option<UserType>
+        ensures { (h : History) → SessionsAgree h self.now → result ≡ login h }
+    {
+        self.login
+    }
+
+    /// How many times the user has logged in.
+    pub fn logins(&self) -> u64
+        ensures value { result ≡ self.now.logins }
+        ensures logins { (h : History) → SessionsAgree h self.now → result ≡ user_logins h }
+    {
+        self.logins
+    }
+
+    /// A user's PIN and wrong tries.
+    pub fn credential(&self, user: UserType) -> Credential
+        ensures value { result ≡ credential_of user self.now }
+        ensures pin { (h : History) → SessionsAgree h self.now → result.pin ≡ pin_of user h }
+        ensures tries { (h : History) → SessionsAgree h self.now → result.tries ≡ tries user h }
+    {
+        match user {
+            UserType::So => self.so,
+            UserType::User => self.user,
+        }
+    }
+
+    // ---- changes, each that of a call that is answered OK
+
+    /// Initializes the token: the security officer keeps a PIN that was set before, the user's is taken away.
+    pub fn init_token(&mut self, pin: Pin)
+        ensures agree { (h : History) (e : Entry) → done e ≡ Some (call.InitToken pin) → SessionsAgree h self.old → SessionsAgree (e ∷ h) self.new }
+        ensures limit { self.new.limit ≡ self.old.limit }
+    {
+        let so_pin = self.so.pin.unwrap_or(pin);
+        self.so = Credential {
+            pin: Some(so_pin),
+            tries: 0,
+        };
+        self.user = NO_PIN;
+    }
+
+    /// Sets the user's PIN for the security officer.
+    pub fn init_pin(&mut self, pin: Pin)
+        ensures agree {
+            (h : History) (e : Entry) (session : ℕ) → done e ≡ Some (call.InitPin session pin) → SessionsAgree h self.old → SessionsAgree (e ∷ h) self.new
+        }
+        ensures limit { self.new.limit ≡ self.old.limit }
+    {
+        self.user = Credential {
+            pin: Some(pin),
+            tries: 0,
+        };
+    }
+
+    /// Sets the PIN of its owner.
+    pub fn set_pin(&mut self, owner: UserType, pin: Pin)
+        requires { is_some (credential_of owner self.old).pin ≡ true }
+        ensures agree {
+            (h : History) (e : Entry) (session : ℕ) (before : Pin) → done e ≡ Some (call.SetPin session before pin) → pin_owner (state_of h session) ≡ owner
+            → SessionsAgree h self.old → SessionsAgree (e ∷ h) self.new
+        }
+        ensures limit { self.new.limit ≡ self.old.limit }
+    {
+        let credential = Credential {
+            pin: Some(pin),
+            tries: 0,
+        };
+        match owner {
+            UserType::So => self.so = credential,
+            UserType::User => self.user = credential,
+        }
+    }
+
+    /// Opens a session, and answers its handle.
+    pub fn open_session(&mut self, flags: u64) -> u64
+        requires room { length self.old.rows < self.old.limit }
+        requires handles { self.old.openings < 2 ^ 32 }
+        ensures handle { result ≡ self.old.openings + 1 }
+        ensures agree { (h : History) (e : Entry) → done e ≡ Some (call.OpenSession flags) → SessionsAgree h self.old → SessionsAgree (e ∷ h) self.new }
+        ensures limit { self.new.limit ≡ self.old.limit }
+    {
+        self.openings += 1;
+        let handle = self.openings;
+        self.rows.push(Session { handle, flags }).unwrap();
+        handle
+    }
+
+    /// Closes a session; with the last one the login ends.
+    pub fn close(&mut self, session: u64)
+        ensures agree { (h : History) (e : Entry) → done e ≡ Some (call.CloseSession session) → SessionsAgree h self.old → SessionsAgree (e ∷ h) self.new }
+        ensures limit { self.new.limit ≡ self.old.limit }
+    {
+        remove_session(&mut self.rows, session);
+        if self.rows.as_slice().is_empty() {
+            self.login = None;
+        }
+    }
+
+    /// Closes all sessions, and so ends the login.
+    pub fn close_all(&mut self)
+        ensures agree { (h : History) (e : Entry) → done e ≡ Some call.CloseAllSessions → SessionsAgree h self.old → SessionsAgree (e ∷ h) self.new }
+        ensures limit { self.new.limit ≡ self.old.limit }
+    {
+        self.rows.clear();
+        self.login = None;
+    }
+
+    /// Logs a user in.
+    pub fn log_in(&mut self, user: UserType)
+        requires open { 0 < length self.old.rows }
+        requires logins { self.old.logins < 2 ^ 32 }
+        ensures agree {
+            (h : History) (e : Entry) (session number : ℕ) (pin : Pin) → done e ≡ Some (call.Login session number pin) → user_of number ≡ Some user
+            → SessionsAgree h self.old → SessionsAgree (e ∷ h) self.new
+        }
+        ensures limit { self.new.limit ≡ self.old.limit }
+    {
+        self.login = Some(user);
+        match user {
+            UserType::So => self.so.tries = 0,
+            UserType::User => {
+                self.user.tries = 0;
+                self.logins += 1;
+            }
+        }
+    }
+
+    pub fn log_out(&mut self)
+        ensures agree { (h : History) (e : Entry) (session : ℕ) → done e ≡ Some (call.Logout session) → SessionsAgree h self.old → SessionsAgree (e ∷ h) self.new }
+        ensures limit { self.new.limit ≡ self.old.limit }
+    {
+        self.login = None;
+    }
+
+    /// Counts a wrong try of a user's PIN.
+    pub fn count_wrong_try(&mut self, user: UserType)
+        requires { (credential_of user self.old).tries < 3 }
+        ensures agree {
+            (h : History) (e : Entry) → done e ≡ None → about h (wrong_try e) ≡ Some user → SessionsAgree h self.old → SessionsAgree (e ∷ h) self.new
+        }
+        ensures limit { self.new.limit ≡ self.old.limit }
+    {
+        match user {
+            UserType::So => self.so.tries += 1,
+            UserType::User => self.user.tries += 1,
+        }
+    }
 }

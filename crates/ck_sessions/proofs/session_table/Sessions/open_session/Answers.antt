@@ -1,0 +1,7 @@
+use Rattle.std.proofs.Common.{◌≡◌, ◌∙◌, sym, ap, refl, suc, add-one, true, false, Some, None}
+use Rattle.ck_sessions.proofs.Moves.{SessionsAgree-opened}
+use Rattle.ck_sessions.proofs.session_table.Sessions.open_session.Goals as goal
+
+pub returns-clause-agree : goal.returns-clause-agree
+returns-clause-agree c = λ h e d agree.
+    SessionsAgree-opened h _ (rw (← c.self.view_is) at agree) e c.args.flags _ d (rw c.unwrap.ensures at c.push.ensures.items) refl refl refl refl refl
