@@ -1,5 +1,5 @@
 -- When sessions, the login and PINs are what a history says
-use Rattle.std.specs.Prelude.{◌≡◌, ℕ, Bool, true, List, Option, map, is_some}
+use Rattle.std.specs.Prelude.{◌≡◌, ◌≤◌, ℕ, Bool, true, List, Option, map, is_some}
 use Rattle.ck_types.specs.declared.users.UserType.{UserType}
 use Rattle.ck_types.specs.declared.users.UserType.TheVariants as user
 use Rattle.ck_journal.specs.Histories.{History}
@@ -25,6 +25,12 @@ credential_of user.User s = s.user
 
 abbrev pub session_row : ℕ → ℕ → Session
 session_row handle flags = record { handle = handle; flags = flags }
+
+-- there is room for all sessions that may be open, and no user has made more than three wrong tries
+pub record IsSound (room limit so_tries user_tries : ℕ) : Type 0 where
+  pub rows : limit ≤ room
+  pub so : so_tries ≤ 3
+  pub user : user_tries ≤ 3
 
 -- a user's PIN and tries are the history's
 pub record CredentialAgrees (u : UserType) (h : History) (c : Credential) : Type 0 where

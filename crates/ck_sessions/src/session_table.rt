@@ -32,14 +32,14 @@ pub struct Sessions {
 }
 
 impl Model for Sessions {
-    ghost use Rattle.std.specs.Prelude.{◌≤◌, vec_capacity};
-    ghost use Rattle.ck_sessions.specs.Agreement.{SessionsState};
+    ghost use Rattle.std.specs.Prelude.{vec_capacity};
+    ghost use Rattle.ck_sessions.specs.Agreement.{SessionsState, IsSound};
 
     ghost Value = { SessionsState };
 
     ghost view = { λ s. record { rows = s.rows.items; limit = s.limit; openings = s.openings; login = s.login; logins = s.logins; so = s.so; user = s.user } };
 
-    ghost invariant = { λ s. s.limit ≤ vec_capacity s.rows };
+    ghost invariant = { λ s. IsSound (vec_capacity s.rows) s.limit s.so.tries s.user.tries };
 }
 
 const NO_PIN: Credential = Credential {
@@ -48,7 +48,7 @@ const NO_PIN: Credential = Credential {
 };
 
 impl Sessions {
-    ghost use Rattle.std.specs.Prelude.{◌≡◌, ◌∷◌, ◌+◌, ◌<◌, ◌^◌, ◌==◌, [], ℕ, true, false, not, Some, None, IfOk, IfSome, is_some, length};
+    ghost use Rattle.std.specs.Prelude.{◌≡◌, ◌∷◌, ◌≢◌, ◌+◌, ◌<◌, ◌≤◌, ◌^◌, ◌==◌, [], ℕ, true, false, not, Some, None, IfOk, IfSome, is_some, length};
     ghost use Rattle.std.specs.List.{list_any};
     ghost use Rattle.ck_types.specs.Users.{user_of};
     ghost use Rattle.ck_types.specs.declared.users.UserType.TheVariants as user;
@@ -153,6 +153,7 @@ impl Sessions {
         ensures value { result ≡ credential_of user self.now }
         ensures pin { (h : History) → SessionsAgree h self.now → result.pin ≡ pin_of user h }
         ensures tries { (h : History) → SessionsAgree h self.now → result.tries ≡ tries user h }
+        ensures bound { result.tries ≤ 3 }
     {
         match user {
             UserType::So => self.so,
@@ -242,17 +243,17 @@ impl Sessions {
     }
 
     /// Logs a user in.
-    pub fn log_in(&mut self, user: UserType)
+    pub fn log_in(&mut self, user_type: UserType)
         requires open { 0 < length self.old.rows }
-        requires logins { self.old.logins < 2 ^ 32 }
+        requires logins { user_type ≡ user.User → self.old.logins < 2 ^ 32 }
         ensures agree {
-            (h : History) (e : Entry) (session number : ℕ) (pin : Pin) → done e ≡ Some (call.Login session number pin) → user_of number ≡ Some user
+            (h : History) (e : Entry) (session number : ℕ) (pin : Pin) → done e ≡ Some (call.Login session number pin) → user_of number ≡ Some user_type
             → SessionsAgree h self.old → SessionsAgree (e ∷ h) self.new
         }
         ensures limit { self.new.limit ≡ self.old.limit }
     {
-        self.login = Some(user);
-        match user {
+        self.login = Some(user_type);
+        match user_type {
             UserType::So => self.so.tries = 0,
             UserType::User => {
                 self.user.tries = 0;
@@ -270,7 +271,7 @@ impl Sessions {
 
     /// Counts a wrong try of a user's PIN.
     pub fn count_wrong_try(&mut self, user: UserType)
-        requires { (credential_of user self.old).tries < 3 }
+        requires { (credential_of user self.old).tries ≢ 3 }
         ensures agree {
             (h : History) (e : Entry) → done e ≡ None → about h (wrong_try e) ≡ Some user → SessionsAgree h self.old → SessionsAgree (e ∷ h) self.new
         }

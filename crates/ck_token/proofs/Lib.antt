@@ -1,4 +1,3 @@
 pub mod ObjectLemmas
 pub mod RunLemmas
-pub mod SessionLemmas
 pub mod TokenLemmas

@@ -1,32 +1,12 @@
 -- When a token's parts are what a history says
 use Rattle.std.specs.Prelude.{◌≡◌, ℕ, List, Option, map}
-use Rattle.ck_types.specs.declared.pins.Pin.{Pin}
 use Rattle.ck_types.specs.declared.templates.Item.{Item}
 use Rattle.ck_types.specs.TokenLimits.{Ranges}
 use Rattle.ck_journal.specs.Answers.{IsLegal}
 use Rattle.ck_journal.specs.Histories.{History}
 use Rattle.ck_journal.specs.Objects.{creations, session_of, attributes_of, objects}
-use Rattle.ck_journal.specs.Pins.{so_pin}
-use Rattle.ck_journal.specs.Sessions.{openings, flags_of, open_sessions}
+use Rattle.ck_sessions.specs.Agreement.{SessionsState, SessionsAgree}
 use Rattle.ck_token.specs.declared.objects.StoredObject.{StoredObject}
-use Rattle.ck_token.specs.declared.sessions.Session.{Session}
-
--- ---- sessions and the SO's PIN
-
--- the open sessions, how many there may be, how many have been opened, and the SO's PIN
-pub record SessionsState : Type 0 where
-  pub rows : List Session
-  pub limit : ℕ
-  pub openings : ℕ
-  pub so_pin : Option Pin
-
-abbrev pub session_row : ℕ → ℕ → Session
-session_row handle flags = record { handle = handle; flags = flags }
-
-pub record SessionsAgree (h : History) (s : SessionsState) : Type 0 where
-  pub rows : s.rows ≡ map (λ n. session_row n (flags_of h n)) (open_sessions h)
-  pub openings : s.openings ≡ openings h
-  pub so_pin : s.so_pin ≡ so_pin h
 
 -- ---- objects
 

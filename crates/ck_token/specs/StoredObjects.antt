@@ -11,3 +11,11 @@ is_named handle row = not (is_set row.attributes attribute.Private) && row.numbe
 -- the object ends where the session is closed
 abbrev pub ends_with : ℕ → StoredObject → Bool
 ends_with session row = not (is_set row.attributes attribute.Token) && session == row.session
+
+-- the object ends where all sessions are closed
+abbrev pub is_session_object : StoredObject → Bool
+is_session_object row = not (is_set row.attributes attribute.Token)
+
+-- the object ends where its user logs out
+abbrev pub is_private_session_object : StoredObject → Bool
+is_private_session_object row = not (is_set row.attributes attribute.Token) && is_set row.attributes attribute.Private

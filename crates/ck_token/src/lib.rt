@@ -4,7 +4,6 @@
 mod objects;
 mod queries;
 mod runs;
-mod sessions;
 mod tokens;
 
 pub use runs::{Stopped, run};

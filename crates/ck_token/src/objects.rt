@@ -1,7 +1,7 @@
 ghost use Rattle.std.specs.Prelude.{◌≡◌, not, filter, find};
 ghost use Rattle.std.specs.Option.{option_copied};
 ghost use Rattle.ck_journal.specs.Objects.{is_set};
-ghost use Rattle.ck_token.specs.StoredObjects.{is_named, ends_with};
+ghost use Rattle.ck_token.specs.StoredObjects.{is_named, ends_with, is_session_object, is_private_session_object};
 
 use ck_types::{Attribute, NoMemory, Record};
 use std::alloc::Global;
@@ -29,6 +29,19 @@ impl StoredObject {
         ensures { result ≡ is_named handle self.now }
     {
         !is_set(&self.attributes, Attribute::Private) && self.number == handle
+    }
+
+    fn is_session_object(&self) -> bool
+        ensures { result ≡ is_session_object self.now }
+    {
+        !is_set(&self.attributes, Attribute::Token)
+    }
+
+    fn is_private_session_object(&self) -> bool
+        ensures { result ≡ is_private_session_object self.now }
+    {
+        !is_set(&self.attributes, Attribute::Token)
+            && is_set(&self.attributes, Attribute::Private)
     }
 
     /// Whether the object ends where the session is closed.
@@ -138,6 +151,20 @@ impl Objects {
         remove_of_session(&mut self.rows, session);
     }
 
+    /// Ends all session objects.
+    pub(crate) fn end_all_sessions(&mut self)
+        ensures { (h : History) (e : Entry) → done e ≡ Some call.CloseAllSessions → ObjectsAgree h self.old → ObjectsAgree (e ∷ h) self.new }
+    {
+        remove_session_objects(&mut self.rows);
+    }
+
+    /// Ends the private session objects.
+    pub(crate) fn end_private(&mut self)
+        ensures { (h : History) (e : Entry) (session : ℕ) → done e ≡ Some (call.Logout session) → ObjectsAgree h self.old → ObjectsAgree (e ∷ h) self.new }
+    {
+        remove_private_session_objects(&mut self.rows);
+    }
+
     /// Ends the object that a handle names.
     pub(crate) fn destroy(&mut self, handle: u64)
         ensures { (h : History) (e : Entry) (session : ℕ) → done e ≡ Some (call.DestroyObject session handle) → ObjectsAgree h self.old → ObjectsAgree (e ∷ h) self.new }
@@ -161,6 +188,18 @@ fn remove_of_session(rows: &mut Vec<StoredObject>, session: u64)
     ensures { rows.new.items ≡ filter (λ row. not (ends_with session row)) rows.old.items }
 {
     rows.retain(|row| !row.ends_with(session));
+}
+
+fn remove_session_objects(rows: &mut Vec<StoredObject>)
+    ensures { rows.new.items ≡ filter (λ row. not (is_session_object row)) rows.old.items }
+{
+    rows.retain(|row| !row.is_session_object());
+}
+
+fn remove_private_session_objects(rows: &mut Vec<StoredObject>)
+    ensures { rows.new.items ≡ filter (λ row. not (is_private_session_object row)) rows.old.items }
+{
+    rows.retain(|row| !row.is_private_session_object());
 }
 
 fn remove_named(rows: &mut Vec<StoredObject>, handle: u64)

@@ -1,0 +1,17 @@
+use Rattle.std.proofs.Common.{◌≡◌, ◌∙◌, ap, sym, refl, suc, add-one, Some, None}
+use Rattle.ck_journal.specs.Answers.{ok, refusal, unless}
+use Rattle.ck_journal.specs.declared.calls.Body.TheVariants as body
+use Rattle.ck_journal.specs.declared.calls.Call.TheVariants as call
+use Rattle.ck_types.specs.declared.return_codes.Rv.TheVariants as rv
+use Rattle.ck_token.proofs.TokenLemmas.{TokenAgrees-done, SessionsAgree-done, ObjectsAgree-done}
+use Rattle.ck_token.proofs.tokens.Token.close_all_sessions.Goals as goal
+
+pub invariant_of-self-2 : goal.invariant_of-self-2
+invariant_of-self-2 c =
+    let h = c.self.inside.journal.entries in
+    TokenAgrees-done c.self.inside.limits h c.self.inside.sessions c.self.inside.objects c.self.invariant
+      c.args.caller (call.CloseAllSessions) body.Empty c.done.result c.push_reserved.new.self.entries _ _ refl
+      (c.done.ensures) (c.push_reserved.ensures.entries ∙ rw c.in_ok-reserve.ensures.entries)
+      (λ d. c.close_all.ensures.agree h _ d c.self.invariant.sessions)
+      (λ d. c.end_all_sessions.ensures h _ d c.self.invariant.objects)
+      c.close_all.ensures.limit
