@@ -11,7 +11,7 @@ use Rattle.ck_journal.specs.declared.calls.Call.{Call}
 use Rattle.ck_journal.specs.declared.calls.Call.TheVariants as call
 use Rattle.ck_journal.specs.declared.calls.Entry.{Entry}
 use Rattle.ck_journal.specs.Histories.{History, done, wrong_try, is_ok, is_wrong_pin, leaves_sessions}
-use Rattle.ck_journal.specs.Pins.{so_pin, so_pin_after, user_pin, user_pin_after, named_owner, pin_of, is_initialized, initializes, about, is_about, is_user, resets, tries}
+use Rattle.ck_journal.specs.Pins.{so_pin, so_pin_after, user_pin, user_pin_after, named_owner, present_pin, is_initialized, initializes, about, is_about, is_user, resets, tries}
 use Rattle.ck_journal.proofs.SessionMoves.{session_rows, session_rows-same, openings-later, open_sessions-rows}
 use Rattle.ck_journal.specs.Sessions.{opens, openings, closes, open_sessions, login, login_after, logs_user_in, user_logins}
 

@@ -24,7 +24,7 @@ use Rattle.ck_journal.specs.declared.calls.Call.TheVariants as call
 use Rattle.ck_journal.specs.declared.calls.Reply.{Reply}
 use Rattle.ck_journal.specs.Histories.{History}
 use Rattle.ck_journal.specs.Objects.{creations, attributes_of, is_set, object_named}
-use Rattle.ck_journal.specs.Pins.{is_initialized, is_pin, pin_owner, pin_of, user_pin, tries, is_locked}
+use Rattle.ck_journal.specs.Pins.{is_initialized, is_pin, pin_owner, present_pin, user_pin, tries, is_locked}
 use Rattle.ck_journal.specs.Queries.{queries_reply}
 use Rattle.ck_journal.specs.Sessions.{openings, is_open, flags_of, open_sessions, has_rw_flag, is_read_write, rw_sessions, login, user_logins, state_of}
 
@@ -58,7 +58,7 @@ session_error h session = error_if (not (is_open h session)) rv.SessionHandleInv
 abbrev pub pin_error : UserType → History → Pin → Option Rv
 pin_error u h pin = first_of (
     error_if (is_locked u h) rv.PinLocked
-    ∷ error_if (not (is_pin (pin_of u h) pin)) rv.PinIncorrect
+    ∷ error_if (not (is_pin (present_pin u h) pin)) rv.PinIncorrect
     ∷ [])
 
 -- a token that isn't initialized takes any PIN that fits; later it must be the security officer's
@@ -81,10 +81,10 @@ set_pin_error h session old new =
     first_of (
       session_error h session
       ∷ error_if (not (is_read_write h session)) rv.SessionReadOnly
-      ∷ error_if (is_none (pin_of owner h)) rv.UserPinNotInitialized
+      ∷ error_if (is_none (present_pin owner h)) rv.UserPinNotInitialized
       ∷ error_if (is_locked owner h) rv.PinLocked
       ∷ error_if (not (fits_a_pin new)) rv.PinLenRange
-      ∷ error_if (not (is_pin (pin_of owner h) old)) rv.PinIncorrect
+      ∷ error_if (not (is_pin (present_pin owner h) old)) rv.PinIncorrect
       ∷ [])
 
 -- CKF_SERIAL_SESSION is 4, CKF_RW_SESSION is 2
@@ -116,7 +116,7 @@ abbrev pub user_login_error : Ranges → History → UserType → Pin → Option
 user_login_error limits h u pin = first_of (
     logged_in_error u (login h)
     ∷ read_only_error u h
-    ∷ error_if (is_none (pin_of u h)) rv.UserPinNotInitialized
+    ∷ error_if (is_none (present_pin u h)) rv.UserPinNotInitialized
     ∷ pin_error u h pin
     ∷ logins_error limits u h
     ∷ [])

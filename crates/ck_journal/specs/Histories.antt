@@ -38,7 +38,8 @@ wrong_try e = if is_wrong_pin e.reply.rv then Some e.call else None
 
 -- ---- what a call leaves as it is
 
--- nothing was done, or a call that leaves sessions, the login and PINs as they are
+-- nothing was done, or a call that leaves sessions, the login and PINs as they are. A refusal may still count as a wrong
+-- try of a PIN.
 abbrev pub leaves_sessions : Option Call → Bool
 leaves_sessions None = true
 leaves_sessions (Some (call.GetSessionInfo session)) = true

@@ -23,7 +23,7 @@ is_pin (Some pin) given = same_pin pin given
 
 -- ---- whom a call is about
 
--- a session's PIN is that of the security officer in the state read/write SO, else that of the user
+-- whose PIN C_SetPIN changes in a session of this state: the security officer's in read/write SO, else the normal user's
 abbrev pub pin_owner : SessionState → UserType
 pin_owner state.RwSo = user.So
 pin_owner other = user.User
@@ -68,7 +68,7 @@ user_pin_after (Some (call.InitPin session pin)) owner before = Some pin
 user_pin_after (Some (call.SetPin session old new)) user.User before = Some new
 user_pin_after other owner before = before
 
--- the owner of the PIN of the session that a call names
+-- whose PIN a call changes in the session that it names
 abbrev pub named_owner : History → Option Call → UserType
 named_owner h (Some (call.SetPin session old new)) = pin_owner (state_of h session)
 named_owner h other = user.User
@@ -81,9 +81,9 @@ abbrev pub user_pin : History → Option Pin
 user_pin [] = None
 user_pin (e ∷ h) = user_pin_after (done e) (named_owner h (done e)) (user_pin h)
 
-abbrev pub pin_of : UserType → History → Option Pin
-pin_of user.So h = so_pin h
-pin_of user.User h = user_pin h
+abbrev pub present_pin : UserType → History → Option Pin
+present_pin user.So h = so_pin h
+present_pin user.User h = user_pin h
 
 -- ---- wrong tries
 

@@ -1,14 +1,14 @@
 use ck_types::{Bytes, Pin, Rv, Sequence, SessionState, Template, TokenFlags};
 
-/// What C_GetAttributeValue is asked of one attribute: its type, and the room for its value in bytes. No room asks
-/// for the value's length alone (PKCS #11 Base 3.0, Object management functions).
+/// What C_GetAttributeValue is asked of one attribute: its type, and the room for its value in bytes. Room `None`, like
+/// a NULL pValue, asks for the value's length alone (PKCS #11 Base 3.0, Object management functions).
 #[derive(Clone, Copy, Debug, PartialEq, Eq)]
 pub struct AttributeQuery {
     pub kind: u64,
     pub room: Option<u64>,
 }
 
-/// A call of the application with its arguments. The names are those of the standard's functions without `C_`.
+/// A call of the application with its arguments, named after the standard's function.
 #[derive(Debug, Drop)]
 pub enum Call {
     InitToken {

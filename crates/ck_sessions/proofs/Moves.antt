@@ -10,7 +10,7 @@ use Rattle.ck_journal.specs.declared.calls.Call.{Call}
 use Rattle.ck_journal.specs.declared.calls.Call.TheVariants as call
 use Rattle.ck_journal.specs.declared.calls.Entry.{Entry}
 use Rattle.ck_journal.specs.Histories.{History, done, wrong_try, leaves_sessions}
-use Rattle.ck_journal.specs.Pins.{so_pin, so_pin_after, user_pin, user_pin_after, named_owner, pin_owner, pin_of, is_initialized, initializes, about, is_about, is_user, resets, tries}
+use Rattle.ck_journal.specs.Pins.{so_pin, so_pin_after, user_pin, user_pin_after, named_owner, pin_owner, present_pin, is_initialized, initializes, about, is_about, is_user, resets, tries}
 use Rattle.ck_journal.specs.Sessions.{opens, openings, closes, is_open, flags_of, open_sessions, login, login_after, user_logins, logs_user_in, state_of}
 use Rattle.ck_journal.proofs.LoginMoves.{wrong_try-done, login-none, login-open, login-same, login-logged_out, user_logins-step, so_pin-step, user_pin-step, tries-step, tries-done, openings-left, session_rows-left, login-left, user_logins-left, so_pin-left, user_pin-left, is_initialized-left, tries-left}
 use Rattle.ck_journal.proofs.Selections.{selected, filter-selected, selected-none}
@@ -259,67 +259,5 @@ module _ (h : History) (old : SessionsState) (agree : SessionsAgree h old) (e : 
         pin = us_pin ∙ sym (user_pin-step e h (Some c) d ∙ ap (λ o. user_pin_after (Some c) o (user_pin h)) owner);
         tries = us_tries ∙ sym (tries-done e h user.User c d ∙ ap (λ o. cond (is_user user.User (Some o) || false) 0 (tries user.User h)) owner);
       };
-      initialized = ap (λ (s : Credential). is_some s.pin) so ∙ initialized-stays c d refl;
-    }
-
-  -- ---- logins and logouts
-
-  module _ (session number : ℕ) (pin : Pin) (new : SessionsState) (d : done e ≡ Some (call.Login session number pin)) (some : length old.rows == 0 ≡ false)
-    (rows : new.rows ≡ old.rows) (count : new.openings ≡ old.openings) where
-    abbrev login_call : Call
-    login_call = call.Login session number pin
-
-    login-now : login (e ∷ h) ≡ user_of number
-    login-now =
-      login-open e h (Some login_call) d
-        (ap (λ hs. length hs == 0) (sessions-stay login_call d refl (λ s. refl)) ∙ ap (λ n. n == 0) (sym (ap length agree.rows ∙ length-session_rows session_row h)) ∙ some)
-
-    pub SessionsAgree-so_in : user_of number ≡ Some user.So → new.login ≡ Some user.So → new.logins ≡ old.logins → new.so.pin ≡ old.so.pin → new.so.tries ≡ 0
-      → new.user ≡ old.user → number == 1 ≡ false → SessionsAgree (e ∷ h) new
-    SessionsAgree-so_in u log logs so_pin so_tries us other = record {
-      rows = rows ∙ rows-stay login_call d refl (λ s. refl);
-      openings = count ∙ openings-stay login_call d refl;
-      login = log ∙ sym (login-now ∙ u);
-      logins = logs ∙ logins-stay login_call d other;
-      so = record {
-        pin = so_pin ∙ agree.so.pin ∙ sym (so_pin-step e h (Some login_call) d);
-        tries = so_tries ∙ sym (tries-done e h user.So login_call d ∙ ap (λ a. cond (is_user user.So a || false) 0 (tries user.So h)) u);
-      };
-      user = rw us (record {
-        pin = agree.user.pin ∙ sym (user_pin-step e h (Some login_call) d);
-        tries = agree.user.tries ∙ sym (tries-done e h user.User login_call d ∙ ap (λ a. cond (is_user user.User a || false) 0 (tries user.User h)) u);
-      });
-      initialized = ap is_some so_pin ∙ initialized-stays login_call d refl;
-    }
-
-    pub SessionsAgree-user_in : user_of number ≡ Some user.User → new.login ≡ Some user.User → new.logins ≡ old.logins + 1 → new.so ≡ old.so → new.user.pin ≡ old.user.pin
-      → new.user.tries ≡ 0 → number == 1 ≡ true → SessionsAgree (e ∷ h) new
-    SessionsAgree-user_in u log logs so us_pin us_tries same = record {
-      rows = rows ∙ rows-stay login_call d refl (λ s. refl);
-      openings = count ∙ openings-stay login_call d refl;
-      login = log ∙ sym (login-now ∙ u);
-      logins = logs ∙ rw (agree.logins, add-one) (sym (user_logins-step e h (Some login_call) d ∙ ap (λ t. cond t (suc (user_logins h)) (user_logins h)) same));
-      so = rw so (record {
-        pin = agree.so.pin ∙ sym (so_pin-step e h (Some login_call) d);
-        tries = agree.so.tries ∙ sym (tries-done e h user.So login_call d ∙ ap (λ a. cond (is_user user.So a || false) 0 (tries user.So h)) u);
-      });
-      user = record {
-        pin = us_pin ∙ agree.user.pin ∙ sym (user_pin-step e h (Some login_call) d);
-        tries = us_tries ∙ sym (tries-done e h user.User login_call d ∙ ap (λ a. cond (is_user user.User a || false) 0 (tries user.User h)) u);
-      };
-      initialized = ap (λ (s : Credential). is_some s.pin) so ∙ initialized-stays login_call d refl;
-    }
-
-  pub SessionsAgree-logged_out : (session : ℕ) (new : SessionsState) → done e ≡ Some (call.Logout session) → new.rows ≡ old.rows → new.openings ≡ old.openings
-    → new.login ≡ None → new.logins ≡ old.logins → new.so ≡ old.so → new.user ≡ old.user → SessionsAgree (e ∷ h) new
-  SessionsAgree-logged_out session new d rows count log logs so us =
-    let c = call.Logout session in
-    record {
-      rows = rows ∙ rows-stay c d refl (λ s. refl);
-      openings = count ∙ openings-stay c d refl;
-      login = log ∙ sym (login-logged_out e h session d);
-      logins = logs ∙ logins-stay c d refl;
-      so = rw so (so-stays c d (λ owner before. refl) refl);
-      user = rw us (user-stays c d (λ owner before. refl) refl);
       initialized = ap (λ (s : Credential). is_some s.pin) so ∙ initialized-stays c d refl;
     }

@@ -7,7 +7,7 @@ use Rattle.std.specs.List.{list_any}
 use Rattle.ck_types.specs.declared.users.UserType.{UserType}
 use Rattle.ck_types.specs.declared.users.UserType.TheVariants as user
 use Rattle.ck_journal.specs.Histories.{History}
-use Rattle.ck_journal.specs.Pins.{pin_of, tries}
+use Rattle.ck_journal.specs.Pins.{present_pin, tries}
 use Rattle.ck_journal.specs.Sessions.{openings, is_open, flags_of, open_sessions, is_read_write, rw_sessions, numbers}
 use Rattle.ck_journal.proofs.Selections.{list_any-selected, list_any-at, length-selected, filter-selected, find-map}
 use Rattle.ck_journal.proofs.SessionMoves.{is_open-within}

@@ -3,7 +3,7 @@ use Rattle.std.specs.Prelude.{◌≡◌, ◌≤◌, ℕ, Bool, true, List, Optio
 use Rattle.ck_types.specs.declared.users.UserType.{UserType}
 use Rattle.ck_types.specs.declared.users.UserType.TheVariants as user
 use Rattle.ck_journal.specs.Histories.{History}
-use Rattle.ck_journal.specs.Pins.{pin_of, tries, is_initialized}
+use Rattle.ck_journal.specs.Pins.{present_pin, tries, is_initialized}
 use Rattle.ck_journal.specs.Sessions.{openings, flags_of, open_sessions, login, user_logins}
 use Rattle.ck_sessions.specs.declared.session_table.Credential.{Credential}
 use Rattle.ck_sessions.specs.declared.session_table.Session.{Session}
@@ -34,7 +34,7 @@ pub record IsSound (room limit so_tries user_tries : ℕ) : Type 0 where
 
 -- a user's PIN and tries are the history's
 pub record CredentialAgrees (u : UserType) (h : History) (c : Credential) : Type 0 where
-  pub pin : c.pin ≡ pin_of u h
+  pub pin : c.pin ≡ present_pin u h
   pub tries : c.tries ≡ tries u h
 
 pub record SessionsAgree (h : History) (s : SessionsState) : Type 0 where

@@ -54,7 +54,7 @@ impl Sessions {
     ghost use Rattle.ck_types.specs.declared.users.UserType.TheVariants as user;
     ghost use Rattle.ck_types.specs.declared.pins.Pin.{Pin};
     ghost use Rattle.ck_journal.specs.Histories.{History, done, wrong_try};
-    ghost use Rattle.ck_journal.specs.Pins.{is_initialized, pin_of, tries, pin_owner, about};
+    ghost use Rattle.ck_journal.specs.Pins.{is_initialized, present_pin, tries, pin_owner, about};
     ghost use Rattle.ck_journal.specs.Sessions.{openings, is_open, flags_of, open_sessions, is_read_write, rw_sessions, login, user_logins, state_of};
     ghost use Rattle.ck_journal.specs.declared.calls.Call.TheVariants as call;
     ghost use Rattle.ck_journal.specs.declared.calls.Entry.{Entry};
@@ -151,7 +151,7 @@ impl Sessions {
     /// A user's PIN and wrong tries.
     pub fn credential(&self, user: UserType) -> Credential
         ensures value { result ≡ credential_of user self.now }
-        ensures pin { (h : History) → SessionsAgree h self.now → result.pin ≡ pin_of user h }
+        ensures pin { (h : History) → SessionsAgree h self.now → result.pin ≡ present_pin user h }
         ensures tries { (h : History) → SessionsAgree h self.now → result.tries ≡ tries user h }
         ensures bound { result.tries ≤ 3 }
     {

@@ -60,7 +60,7 @@ impl Token {
     ghost use Rattle.ck_journal.specs.Answers.{IsLegal, answer};
     ghost use Rattle.ck_journal.specs.Histories.{done, wrong_try, is_ok, is_wrong_pin, leaves_sessions, leaves_objects};
     ghost use Rattle.ck_journal.specs.Objects.{creations, attributes_of, object_named};
-    ghost use Rattle.ck_journal.specs.Pins.{is_initialized, pin_of, tries, is_locked, about, is_about};
+    ghost use Rattle.ck_journal.specs.Pins.{is_initialized, present_pin, tries, is_locked, about, is_about};
     ghost use Rattle.ck_journal.specs.Sessions.{openings, is_open, flags_of, open_sessions, is_read_write, rw_sessions, login, user_logins};
     ghost use Rattle.ck_token.specs.TokenStates.{IsAnswered, IsUnchanged, entry_of};
 
@@ -186,7 +186,7 @@ impl Token {
     }
 
     fn credential(&self, user: UserType) -> Credential
-        ensures pin { result.pin ≡ pin_of user self.now.history }
+        ensures pin { result.pin ≡ present_pin user self.now.history }
         ensures tries { result.tries ≡ tries user self.now.history }
         ensures bound { result.tries ≤ 3 }
     {

@@ -49,12 +49,12 @@ may_stand_in purposes purpose.Generate = purposes.generate
 may_stand_in purposes purpose.Copy = purposes.copy
 may_stand_in purposes purpose.Set = purposes.set
 
--- the value of an attribute that a template doesn't give: the template must give it, it is these bytes, or it follows
--- from how the key came to be
+-- the value of an attribute that a template doesn't give: the template must give it, it is these bytes, or the token
+-- computes it from how the object came to be. Data objects aren't generated.
 pub data Default : Type 0 where
   required : Default
   preset : List ℕ → Default
-  derived : Default
+  computed : Default
 
 -- an attribute of a class: where it may stand, and its value where it isn't given in a created and in a generated object
 pub record Column : Type 0 where
@@ -107,12 +107,12 @@ row number form for_data for_keys = record { number = number; form = form; for_d
 
 -- each line: type, form, for data objects, for secret keys
 abbrev pub table : Attribute → Row
-table attribute.Class = row 0x0 form.Class (stands CG required derived) (stands CG required (preset (number_bytes 4)))
+table attribute.Class = row 0x0 form.Class (stands CG required computed) (stands CG required (preset (number_bytes 4)))
 table attribute.Token = row 0x1 form.Flag (stands CGP off off) (stands CGP off off)
 table attribute.Private = row 0x2 form.Flag (stands CGP off off) (stands CGP on on)
 table attribute.Label = row 0x3 form.Bytes (stands CGPS empty empty) (stands CGPS empty empty)
 table attribute.Application = row 0x10 form.Bytes (stands CPS empty empty) None
-table attribute.Value = row 0x11 form.Bytes (stands CPS empty empty) (stands C required derived)
+table attribute.Value = row 0x11 form.Bytes (stands CPS empty empty) (stands C required computed)
 table attribute.ObjectId = row 0x12 form.Bytes (stands CPS empty empty) None
 table attribute.KeyType = row 0x100 form.KeyType None (stands CG required (preset (number_bytes 16)))
 table attribute.Id = row 0x102 form.Bytes None (stands CGPS empty empty)
@@ -124,11 +124,11 @@ table attribute.Unwrap = row 0x107 form.Flag None (stands CGPS off off)
 table attribute.Sign = row 0x108 form.Flag None (stands CGPS on on)
 table attribute.Verify = row 0x10a form.Flag None (stands CGPS on on)
 table attribute.Derive = row 0x10c form.Flag None (stands CGPS off off)
-table attribute.ValueLen = row 0x161 form.Number None (stands G derived required)
+table attribute.ValueLen = row 0x161 form.Number None (stands G computed required)
 table attribute.Extractable = row 0x162 form.Flag None (stands CGPS on on)
 table attribute.Local = row 0x163 form.Flag None (stands nowhere off on)
-table attribute.NeverExtractable = row 0x164 form.Flag None (stands nowhere off derived)
-table attribute.AlwaysSensitive = row 0x165 form.Flag None (stands nowhere off derived)
+table attribute.NeverExtractable = row 0x164 form.Flag None (stands nowhere off computed)
+table attribute.AlwaysSensitive = row 0x165 form.Flag None (stands nowhere off computed)
 table attribute.KeyGenMechanism = row 0x166 form.Number None (stands nowhere (preset (replicate 8 255)) (preset (number_bytes 0x350)))
 table attribute.Modifiable = row 0x170 form.Flag (stands CGP on on) (stands CGP on on)
 table attribute.Copyable = row 0x171 form.Flag (stands CGP on on) (stands CGP on on)

@@ -44,22 +44,22 @@ object_items (object.Data d) = data_items d
 abbrev pub with_given : List Item → List Item → List Item
 with_given template items = map (λ (item : Item). record { kind = item.kind; value = given_or template item.kind item.value }) items
 
--- the value of an attribute of a created data object where the template gives none; its class is CKO_DATA (0)
-abbrev pub default_value : Default → List ℕ
-default_value (preset value) = value
-default_value other = number_bytes 0
+-- the value of an attribute of a data object where the template gives none; the class, which it must give, is CKO_DATA (0)
+abbrev pub data_default : Default → List ℕ
+data_default (preset value) = value
+data_default other = number_bytes 0
 
-abbrev pub default_item : Attribute → Option Column → List Item
-default_item a None = []
-default_item a (Some column) = item_of a (default_value column.created) ∷ []
+abbrev pub data_default_item : Attribute → Option Column → List Item
+data_default_item a None = []
+data_default_item a (Some column) = item_of a (data_default column.created) ∷ []
 
--- the attributes of an object of the class that is created by a template which gives no more than it must
-abbrev pub default_items : Class → List Item
-default_items c = flat_map (λ a. default_item a (column_of c a)) attributes
+-- the attributes of a data object that is created by a template which gives its class alone
+abbrev pub data_defaults : List Item
+data_defaults = flat_map (λ a. data_default_item a (column_of class.Data a)) attributes
 
 -- the attributes of a created data object, as its template and the table give them
 unfoldable pub created_items : List Item → List Item
-created_items template = with_given template (default_items class.Data)
+created_items template = with_given template (data_defaults)
 
 -- what creating an object answers
 abbrev pub IsCreated : List Item → Result (List Item) Refusal → Type 0

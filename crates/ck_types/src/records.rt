@@ -125,13 +125,12 @@ impl Data {
     ghost use Rattle.ck_types.specs.Attributes.{type_of, number_bytes};
     ghost use Rattle.ck_types.specs.Templates.{given, given_or, first_error, form_error};
     ghost use Rattle.ck_types.specs.declared.attributes.Attribute.TheVariants as attribute;
-    ghost use Rattle.ck_types.specs.Records.{data_items, with_given, default_items, flag_at};
+    ghost use Rattle.ck_types.specs.Records.{data_items, with_given, data_defaults, flag_at};
     ghost use Rattle.ck_types.specs.Fields.{field_bytes, flag_field};
-    ghost use Rattle.ck_types.specs.declared.attributes.Class.TheVariants as class;
 
     /// A data object with the table's defaults.
     fn blank(alloc: Global) -> Data
-        ensures { data_items result ≡ default_items class.Data }
+        ensures { data_items result ≡ data_defaults }
     {
         Data {
             token: false,
