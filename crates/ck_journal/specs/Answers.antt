@@ -3,6 +3,7 @@
 use Rattle.std.specs.Prelude.{◌≡◌, ℕ, suc, List, [], ◌∷◌, Option, Some, None, ◌==◌, ◌&&◌, not, is_none, nat_le, length, bit_and, option_map, unwrap_or, if◌then◌else◌, Bool, true, false, is_some}
 use Rattle.std.specs.List.{list_any}
 use Rattle.ck_types.specs.Pins.{fits_a_pin}
+use Rattle.ck_types.specs.Records.{created_items, with_given, is_set, copied_error, changed_error}
 use Rattle.ck_types.specs.Templates.{error_if, first_of, created_error}
 use Rattle.ck_types.specs.TokenFlagBits.{token_flags}
 use Rattle.ck_types.specs.TokenLimits.{Ranges}
@@ -23,7 +24,7 @@ use Rattle.ck_journal.specs.declared.calls.Call.{Call}
 use Rattle.ck_journal.specs.declared.calls.Call.TheVariants as call
 use Rattle.ck_journal.specs.declared.calls.Reply.{Reply}
 use Rattle.ck_journal.specs.Histories.{History}
-use Rattle.ck_journal.specs.Objects.{creations, attributes_of, is_set, object_named}
+use Rattle.ck_journal.specs.Objects.{creations, view_of, is_user_in, handle_with, object_named, named_attributes}
 use Rattle.ck_journal.specs.Pins.{is_initialized, is_pin, pin_owner, present_pin, user_pin, tries, is_locked}
 use Rattle.ck_journal.specs.Queries.{queries_reply}
 use Rattle.ck_journal.specs.Sessions.{openings, is_open, flags_of, open_sessions, has_rw_flag, is_read_write, rw_sessions, login, user_logins, state_of}
@@ -137,19 +138,41 @@ logout_error h session = first_of (
     ∷ error_if (is_none (login h)) rv.UserNotLoggedIn
     ∷ [])
 
+-- a token object is written in a read-only session
+abbrev pub read_only_session_error : History → ℕ → List Item → Option Rv
+read_only_session_error h session attributes = error_if (is_set attributes attribute.Token && not (is_read_write h session)) rv.SessionReadOnly
+
+-- where a new object with these attributes may not stand: a token object in a read-only session, a private one where the
+-- normal user isn't logged in
+abbrev pub placement_error : History → ℕ → List Item → Option Rv
+placement_error h session attributes = first_of (
+    read_only_session_error h session attributes
+    ∷ error_if (is_set attributes attribute.Private && not (is_user_in h)) rv.UserNotLoggedIn
+    ∷ [])
+
+abbrev pub creations_error : Ranges → History → Option Rv
+creations_error limits h = error_if (nat_le limits.creations (creations h)) rv.DeviceMemory
+
 abbrev pub create_object_error : Ranges → History → ℕ → List Item → Option Rv
 create_object_error limits h session template = first_of (
     session_error h session
     ∷ created_error template
-    ∷ error_if (nat_le limits.creations (creations h)) rv.DeviceMemory
+    ∷ placement_error h session (created_items template)
+    ∷ creations_error limits h
     ∷ [])
-
--- the attributes of the object that the handle names
-abbrev pub named_attributes : History → ℕ → List Item
-named_attributes h handle = unwrap_or (option_map (attributes_of h) (object_named h handle)) []
 
 abbrev pub object_error : History → ℕ → Option Rv
 object_error h handle = error_if (is_none (object_named h handle)) rv.ObjectHandleInvalid
+
+abbrev pub copy_object_error : Ranges → History → ℕ → ℕ → List Item → Option Rv
+copy_object_error limits h session object template = first_of (
+    session_error h session
+    ∷ object_error h object
+    ∷ error_if (not (is_set (named_attributes h object) attribute.Copyable)) rv.ActionProhibited
+    ∷ copied_error (named_attributes h object) template
+    ∷ placement_error h session (with_given template (named_attributes h object))
+    ∷ creations_error limits h
+    ∷ [])
 
 abbrev pub get_attribute_value_error : History → ℕ → ℕ → Option Rv
 get_attribute_value_error h session object = first_of (
@@ -157,14 +180,28 @@ get_attribute_value_error h session object = first_of (
     ∷ object_error h object
     ∷ [])
 
+abbrev pub set_attribute_value_error : History → ℕ → ℕ → List Item → Option Rv
+set_attribute_value_error h session object template = first_of (
+    session_error h session
+    ∷ object_error h object
+    ∷ read_only_session_error h session (named_attributes h object)
+    ∷ error_if (not (is_set (named_attributes h object) attribute.Modifiable)) rv.ActionProhibited
+    ∷ changed_error template
+    ∷ [])
+
 abbrev pub destroy_object_error : History → ℕ → ℕ → Option Rv
 destroy_object_error h session object = first_of (
     session_error h session
     ∷ object_error h object
+    ∷ read_only_session_error h session (named_attributes h object)
     ∷ error_if (not (is_set (named_attributes h object) attribute.Destroyable)) rv.ActionProhibited
     ∷ [])
 
 -- ---- the answer
+
+-- the handle of a new object with these attributes
+abbrev pub new_handle : History → List Item → ℕ
+new_handle h attributes = handle_with (view_of h) attributes (suc (creations h))
 
 -- the flags that C_GetTokenInfo gives
 abbrev pub flags_of_token : History → TokenFlags
@@ -182,7 +219,12 @@ answer limits h (call.GetSessionInfo session) = unless (session_error h session)
 answer limits h call.GetTokenInfo = ok (body.Token (flags_of_token h) limits.sessions (length (open_sessions h)) (length (rw_sessions h)))
 answer limits h (call.CloseSession session) = unless (session_error h session) (ok body.Empty)
 answer limits h (call.CreateObject session template) =
-    unless (create_object_error limits h session template.items) (ok (body.Handle (suc (creations h))))
+    unless (create_object_error limits h session template.items) (ok (body.Handle (new_handle h (created_items template.items))))
+answer limits h (call.CopyObject session object template) =
+    unless (copy_object_error limits h session object template.items)
+      (ok (body.Handle (new_handle h (with_given template.items (named_attributes h object)))))
+answer limits h (call.SetAttributeValue session object template) =
+    unless (set_attribute_value_error h session object template.items) (ok body.Empty)
 answer limits h (call.GetAttributeValue session object queries) =
     unless (get_attribute_value_error h session object) (queries_reply (named_attributes h object) queries)
 answer limits h (call.DestroyObject session object) = unless (destroy_object_error h session object) (ok body.Empty)

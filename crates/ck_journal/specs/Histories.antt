@@ -45,7 +45,9 @@ leaves_sessions None = true
 leaves_sessions (Some (call.GetSessionInfo session)) = true
 leaves_sessions (Some call.GetTokenInfo) = true
 leaves_sessions (Some (call.CreateObject session template)) = true
+leaves_sessions (Some (call.CopyObject session object template)) = true
 leaves_sessions (Some (call.GetAttributeValue session object queries)) = true
+leaves_sessions (Some (call.SetAttributeValue session object template)) = true
 leaves_sessions (Some (call.DestroyObject session object)) = true
 leaves_sessions other = false
 

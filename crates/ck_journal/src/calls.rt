@@ -47,10 +47,20 @@ pub enum Call {
         session: u64,
         template: Template,
     },
+    CopyObject {
+        session: u64,
+        object: u64,
+        template: Template,
+    },
     GetAttributeValue {
         session: u64,
         object: u64,
         queries: Sequence<AttributeQuery>,
+    },
+    SetAttributeValue {
+        session: u64,
+        object: u64,
+        template: Template,
     },
     DestroyObject {
         session: u64,

@@ -1,14 +1,17 @@
 -- The attributes of an object, in the order of the table
-use Rattle.std.specs.Prelude.{◌≡◌, ℕ, Bool, true, List, [], ◌∷◌, Option, Some, None, Result, Ok, Err, map, option_and_then}
+use Rattle.std.specs.Prelude.{◌≡◌, ℕ, Bool, true, List, [], ◌∷◌, Option, Some, None, Result, Ok, Err, map, option_and_then, not, ◌&&◌, unwrap_or, false}
 use Rattle.ck_types.specs.Attributes.{Default, preset, Column, flag_bytes, number_bytes, same_bytes, type_of, form_of, column_of, attribute_of, attributes}
 use Rattle.std.specs.List.{flat_map}
-use Rattle.ck_types.specs.Templates.{given, given_or, created_error}
+use Rattle.ck_types.specs.Templates.{given, given_or, error_if, first_of, template_error}
 use Rattle.ck_types.specs.declared.attributes.Attribute.{Attribute}
 use Rattle.ck_types.specs.declared.attributes.Attribute.TheVariants as attribute
 use Rattle.ck_types.specs.declared.attributes.Class.{Class}
 use Rattle.ck_types.specs.declared.attributes.Class.TheVariants as class
 use Rattle.ck_types.specs.declared.attributes.Form.{Form}
 use Rattle.ck_types.specs.declared.attributes.Form.TheVariants as form
+use Rattle.ck_types.specs.declared.return_codes.Rv.{Rv}
+use Rattle.ck_types.specs.declared.return_codes.Rv.TheVariants as rv
+use Rattle.ck_types.specs.declared.attributes.Purpose.TheVariants as purpose
 use Rattle.ck_types.specs.declared.records.Refusal.{Refusal}
 use Rattle.ck_types.specs.declared.records.Refusal.TheVariants as refusal
 use Rattle.ck_types.specs.declared.records.Data.{Data}
@@ -61,12 +64,6 @@ data_defaults = flat_map (λ a. data_default_item a (column_of class.Data a)) at
 unfoldable pub created_items : List Item → List Item
 created_items template = with_given template (data_defaults)
 
--- what creating an object answers
-abbrev pub IsCreated : List Item → Result (List Item) Refusal → Type 0
-IsCreated template (Ok items) = (created_error template ≡ None) × (items ≡ created_items template)
-IsCreated template (Err (refusal.Code code)) = created_error template ≡ Some code
-IsCreated template (Err refusal.Memory) = created_error template ≡ None
-
 -- ---- reading an attribute
 
 -- a flag's value as a bool
@@ -81,3 +78,30 @@ flag_at items a = option_and_then (flag_of (form_of a)) (given items (type_of a)
 -- the flag of this type that the items have
 abbrev pub flag_in : List Item → ℕ → Option Bool
 flag_in items kind = option_and_then (flag_at items) (attribute_of kind)
+
+-- the items have the flag, and it is true
+abbrev pub is_set : List Item → Attribute → Bool
+is_set items a = unwrap_or (flag_at items a) false
+
+-- ---- templates that make objects
+
+-- the items are private, and the template makes them public
+abbrev pub makes_public : List Item → List Item → Bool
+makes_public items template = is_set items attribute.Private && not (unwrap_or (flag_at template attribute.Private) true)
+
+-- the error of a template that an object with these attributes is copied with
+abbrev pub copied_error : List Item → List Item → Option Rv
+copied_error items template = first_of (
+    template_error purpose.Copy template
+    ∷ error_if (makes_public items template) rv.TemplateInconsistent
+    ∷ [])
+
+-- the error of a template that an object is changed by
+abbrev pub changed_error : List Item → Option Rv
+changed_error template = template_error purpose.Set template
+
+-- the object with these attributes, or the refusal with this code; want of memory comes where the checks find nothing
+abbrev pub IsMade : Option Rv → List Item → Result (List Item) Refusal → Type 0
+IsMade error items (Ok object) = (error ≡ None) × (object ≡ items)
+IsMade error items (Err (refusal.Code code)) = error ≡ Some code
+IsMade error items (Err refusal.Memory) = error ≡ None

@@ -46,10 +46,8 @@ given_or items kind other = unwrap_or (given items kind) other
 
 -- ---- the checks
 
--- What isn't supported yet: token objects, private objects and secret keys
+-- What isn't supported yet: secret keys
 abbrev pub is_unsupported : Attribute → List ℕ → Bool
-is_unsupported attribute.Token value = same_bytes value (flag_bytes true)
-is_unsupported attribute.Private value = same_bytes value (flag_bytes true)
 is_unsupported attribute.Class value = same_bytes value (number_bytes 4)
 is_unsupported other value = false
 
@@ -89,4 +87,12 @@ created_error items = first_of (
     ∷ error_if (has_conflict items) rv.TemplateInconsistent
     ∷ error_if (is_none (given items (type_of attribute.Class))) rv.TemplateIncomplete
     ∷ first_error (class_error class.Data purpose.Create) items
+    ∷ [])
+
+-- the error of a template that changes an object, or that a copy is made with: its class is the object's
+abbrev pub template_error : Purpose → List Item → Option Rv
+template_error purpose items = first_of (
+    first_error form_error items
+    ∷ error_if (has_conflict items) rv.TemplateInconsistent
+    ∷ first_error (class_error class.Data purpose) items
     ∷ [])

@@ -3,11 +3,11 @@ ghost use Rattle.ck_types.specs.Attributes.{type_of, form_of, flag_bytes};
 ghost use Rattle.ck_types.specs.Templates.{given_or, first_error, form_error};
 ghost use Rattle.ck_types.specs.declared.attributes.Form.TheVariants as form;
 
-use crate::attributes::Attribute;
+use crate::attributes::{Attribute, Purpose};
 use crate::memory::NoMemory;
 use crate::return_codes::Rv;
 use crate::sequences::{Bytes, Sequence};
-use crate::templates::{Item, Template, created_error, given};
+use crate::templates::{Item, Template, created_error, given, template_error};
 use std::alloc::Global;
 use std::marker::Model;
 use thiserror::Error;
@@ -193,7 +193,8 @@ impl Data {
 impl Record {
     ghost use Rattle.std.specs.Prelude.{◌≡◌, IfOk, option_map, length};
     ghost use Rattle.ck_types.specs.Templates.{given};
-    ghost use Rattle.ck_types.specs.Records.{IsCreated, flag_in};
+    ghost use Rattle.ck_types.specs.Templates.{created_error, first_error, form_error};
+    ghost use Rattle.ck_types.specs.Records.{IsMade, created_items, copied_error, changed_error, with_given, flag_in, is_set};
     ghost use Rattle.ck_types.specs.Fields.{field_bytes, flag_field};
 
     /// The object that a template of C_CreateObject makes (PKCS #11 Base 3.0, Object management functions). It is
@@ -203,7 +204,7 @@ impl Record {
     /// class doesn't have (CKR_ATTRIBUTE_TYPE_INVALID) or that may not be given (CKR_ATTRIBUTE_READ_ONLY), item by item.
     #[tactic(auto, unfolding(crate::specs::Records::created_items))]
     pub fn created(alloc: Global, template: &Template) -> Result<Record, Refusal>
-        ensures { IsCreated template.now.items result }
+        ensures { IsMade (created_error template.now.items) (created_items template.now.items) result }
     {
         let items = template.items.as_slice();
         match created_error(items) {
@@ -215,6 +216,70 @@ impl Record {
                 })
             }
         }
+    }
+
+    /// A copy of the object with the values that a template of C_CopyObject gives (PKCS #11 Base 3.0, Object management
+    /// functions). The template is refused as that of a creation is, but for its class, which is the object's; a copy of
+    /// a private object stays private (CKR_TEMPLATE_INCONSISTENT).
+    pub fn copied(&self, alloc: Global, template: &Template) -> Result<Record, Refusal>
+        ensures { IsMade (copied_error self.now template.now.items) (with_given template.now.items self.now) result }
+    {
+        let items = template.items.as_slice();
+        match self.copied_error(items) {
+            Some(code) => Err(Refusal::Code(code)),
+            None => {
+                let copy = self.with(alloc, items)?;
+                Ok(copy)
+            }
+        }
+    }
+
+    /// The object with the values that a template of C_SetAttributeValue gives. The template is refused as that of a
+    /// copy is.
+    pub fn changed(&self, alloc: Global, template: &Template) -> Result<Record, Refusal>
+        ensures { IsMade (changed_error template.now.items) (with_given template.now.items self.now) result }
+    {
+        let items = template.items.as_slice();
+        match template_error(items, Purpose::Set) {
+            Some(code) => Err(Refusal::Code(code)),
+            None => {
+                let changed = self.with(alloc, items)?;
+                Ok(changed)
+            }
+        }
+    }
+
+    fn copied_error(&self, items: &[Item]) -> Option<Rv>
+        ensures { result ≡ copied_error self.now items.now }
+    {
+        let error = template_error(items, Purpose::Copy);
+        if error.is_some() {
+            return error;
+        }
+        let stays_private = flag_or(items, Attribute::Private, true);
+        if self.is_set(Attribute::Private) && !stays_private {
+            Some(Rv::TemplateInconsistent)
+        } else {
+            None
+        }
+    }
+
+    fn with(&self, alloc: Global, items: &[Item]) -> Result<Record, NoMemory>
+        requires well_formed { first_error form_error items.now ≡ None }
+        ensures { IfOk result (λ made. made ≡ with_given items.now self.now) }
+    {
+        let Object::Data(data) = &self.object;
+        let data = data.with(alloc, items)?;
+        Ok(Record {
+            object: Object::Data(data),
+        })
+    }
+
+    /// Whether the object has the flag and it is true.
+    pub fn is_set(&self, flag: Attribute) -> bool
+        ensures { result ≡ is_set self.now flag }
+    {
+        self.flag(flag.number()).unwrap_or(false)
     }
 
     /// The value of an attribute that is a flag, or `None` where the object has no such flag.

@@ -2,7 +2,7 @@ ghost use Rattle.std.specs.Prelude.{◌≡◌, ◌==◌, ◌&&◌, None, Some, n
 ghost use Rattle.std.specs.List.{list_any};
 ghost use Rattle.std.specs.Option.{option_copied};
 ghost use Rattle.ck_types.specs.Attributes.{type_of, same_bytes};
-ghost use Rattle.ck_types.specs.Templates.{given, given_or, is_unsupported, form_error, first_error, has_two_values, has_conflict, class_error, created_error};
+ghost use Rattle.ck_types.specs.Templates.{given, given_or, is_unsupported, form_error, first_error, has_two_values, has_conflict, class_error, created_error, template_error};
 
 use crate::attributes::{Attribute, Class, Purpose};
 use crate::return_codes::Rv;
@@ -35,12 +35,11 @@ pub(crate) fn given(items: &[Item], kind: u64) -> Option<&Bytes>
     None
 }
 
-/// What isn't supported yet: token objects, private objects and secret keys.
+/// What isn't supported yet: secret keys.
 fn is_unsupported(attribute: Attribute, value: &[u8]) -> bool
     ensures { result ≡ is_unsupported attribute value.now }
 {
     match attribute {
-        Attribute::Token | Attribute::Private => value == [1].as_slice(),
         Attribute::Class => value == 4u64.to_le_bytes().as_slice(),
         _ => false,
     }
@@ -154,4 +153,18 @@ pub(crate) fn created_error(items: &[Item]) -> Option<Rv>
         return Some(Rv::TemplateIncomplete);
     }
     first_class_error(Class::Data, Purpose::Create, items)
+}
+
+/// The code of the first check that a template fails which changes an object or which a copy is made with.
+pub(crate) fn template_error(items: &[Item], purpose: Purpose) -> Option<Rv>
+    ensures { result ≡ template_error purpose items.now }
+{
+    let error = first_form_error(items);
+    if error.is_some() {
+        return error;
+    }
+    if has_conflict(items) {
+        return Some(Rv::TemplateInconsistent);
+    }
+    first_class_error(Class::Data, purpose, items)
 }
