@@ -189,3 +189,21 @@ module _ (e : Entry) (h : History) (l : leaves_objects (done e) ≡ true) where
   object_rows-left row =
     object_rows-same row e h (creates-left (done e) l) (λ attributes creator is_named. ends-left (done e) attributes creator is_named l)
       (λ is_named attributes. attributes_after-left (done e) is_named attributes l)
+
+-- ---- an object that is there is one of those created
+
+within_step : (created was_there same : Bool) (n count : ℕ) → n == suc count ≡ same → (was_there ≡ true → (1 ≤ n) × (n ≤ count)) → (ended : Bool)
+    → cond (created && same) true (cond ended false was_there) ≡ true → (1 ≤ n) × (n ≤ cond created (suc count) count)
+within_step true was_there true n count e below ended t = let s : n ≡ suc count = eqb-true n (suc count) e in (omega arith, omega arith)
+within_step true true false n count e below false t = let b = below refl in (omega arith, omega arith)
+within_step true false false n count e below false t = cc
+within_step true was_there false n count e below true t = cc
+within_step false true same n count e below false t = below refl
+within_step false false same n count e below false t = cc
+within_step false was_there same n count e below true t = cc
+
+pub has_object-within : (h : History) (n : ℕ) → has_object h n ≡ true → (1 ≤ n) × (n ≤ creations h)
+has_object-within [] n t = cc
+has_object-within (e ∷ h) n t =
+    within_step (creates (done e)) (has_object h n) (n == suc (creations h)) n (creations h) refl (has_object-within h n)
+      (ends (done e) (attributes_of h n) (session_of h n) (λ handle. names h handle n)) t

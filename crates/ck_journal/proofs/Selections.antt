@@ -1,6 +1,7 @@
 -- Lists of rows that are read off the numbers from 1 to n: those that pass a test, each as its row
-use Rattle.std.proofs.Common.{◌≡◌, ℕ, zero, suc, ◌<◌, ◌≤◌, Bool, true, false, cond, ◌&&◌, ◌||◌, List, [], ◌∷◌, ◌++◌, Some, length, refl, sym, ap, ◌∙◌, arith, inl, inr}
-use Rattle.std.specs.Prelude.{◌==◌, map, filter, find, option_map}
+use Rattle.std.proofs.Common.{◌≡◌, ◌≢◌, ℕ, zero, suc, ◌<◌, ◌≤◌, Bool, true, false, cond, ◌&&◌, ◌||◌, List, [], ◌∷◌, ◌++◌, Option, Some, None, length, subst, refl, sym, ap, ◌∙◌, arith, inl, inr}
+use Rattle.std.specs.Prelude.{◌==◌, map, filter, find, option_map, is_some}
+use Rattle.std.proofs.lemmas.Option.{same_Some}
 use Rattle.std.specs.List.{list_any}
 use Rattle.std.proofs.lemmas.Bool.{eqb-true, eqb-false, ne_eqb, cases_Bool}
 use Rattle.std.proofs.lemmas.List.{map-append, length-map}
@@ -13,7 +14,7 @@ module _ {X : Type 0} where
   selected test row n = map row (filter test (numbers n))
 
   -- the row of one more number, where it passes
-  abbrev last_row : Bool → X → List X
+  abbrev pub last_row : Bool → X → List X
   last_row passes row = cond passes (row ∷ []) []
 
   map-cond_one : (row : ℕ → X) (k : ℕ) (passes : Bool) → map row (cond passes (k ∷ []) []) ≡ last_row passes (row k)
@@ -86,7 +87,7 @@ module _ {X : Type 0} where
   pub list_any-selected : (wanted : X → Bool) (test : ℕ → Bool) (row : ℕ → X) (n : ℕ) → list_any wanted (selected test row n) ≡ list_any (λ k. test k && wanted (row k)) (numbers n)
   list_any-selected wanted test row n = list_any-filter wanted test row (numbers n)
 
-list_any-append : (test : ℕ → Bool) (ks js : List ℕ) → list_any test (ks ++ js) ≡ list_any test ks || list_any test js
+pub list_any-append : {X : Type 0} (test : X → Bool) (ks js : List X) → list_any test (ks ++ js) ≡ list_any test ks || list_any test js
 list_any-append test [] js = refl
 list_any-append test (k ∷ ks) js = ap (λ b. test k || b) (list_any-append test ks js) ∙ or-or (test k) (list_any test ks) (list_any test js)
   where
@@ -161,3 +162,66 @@ find-filter_step p q test k ks false same later = later
 pub find-filter_same : (p q test : ℕ → Bool) → ((k : ℕ) → test k ≡ true → p k ≡ q k) → (ks : List ℕ) → find p (filter test ks) ≡ find q (filter test ks)
 find-filter_same p q test same [] = refl
 find-filter_same p q test same (k ∷ ks) = find-filter_step p q test k ks (test k) (same k) (find-filter_same p q test same ks)
+
+module _ {X : Type 0} where
+  last_row-same : (p : Bool) (x y : X) → (p ≡ true → x ≡ y) → last_row p x ≡ last_row p y
+  last_row-same true x y same = ap (λ r. r ∷ []) (same refl)
+  last_row-same false x y same = refl
+
+  -- rows that agree where the test passes
+  pub selected-rows_same : (test : ℕ → Bool) (row row' : ℕ → X) (n : ℕ) → ((k : ℕ) → k ≤ n → test k ≡ true → row k ≡ row' k) → selected test row n ≡ selected test row' n
+  selected-rows_same test row row' zero same = refl
+  selected-rows_same test row row' (suc n) same =
+    selected-suc test row n
+    ∙ ap (λ xs. xs ++ last_row (test (suc n)) (row (suc n))) (selected-rows_same test row row' n (λ k h. same k (omega arith)))
+    ∙ ap (λ xs. selected test row' n ++ xs) (last_row-same (test (suc n)) (row (suc n)) (row' (suc n)) (same (suc n) (omega arith)))
+    ∙ sym (selected-suc test row' n)
+
+-- ---- what is found
+
+pub is_some-cond : {X : Type 0} (t : Bool) (x : X) (found : Option X) (any : Bool) → is_some found ≡ any → is_some (cond t (Some x) found) ≡ t || any
+is_some-cond true x found any e = refl
+is_some-cond false x found any e = e
+
+-- something is found where something passes
+pub is_some-find : {X : Type 0} (test : X → Bool) (xs : List X) → is_some (find test xs) ≡ list_any test xs
+is_some-find test [] = refl
+is_some-find test (x ∷ xs) = is_some-cond (test x) x (find test xs) (list_any test xs) (is_some-find test xs)
+
+passes-cond : (test : ℕ → Bool) (t : Bool) (k j : ℕ) (found : Option ℕ) → test k ≡ t → (found ≡ Some j → test j ≡ true) → cond t (Some k) found ≡ Some j → test j ≡ true
+passes-cond test true k j found t later e = subst (λ n. test n ≡ true) (same_Some k j e) t
+passes-cond test false k j found t later e = later e
+
+-- what is found passes
+pub find-passes : (test : ℕ → Bool) (ks : List ℕ) (j : ℕ) → find test ks ≡ Some j → test j ≡ true
+find-passes test [] j e = cc
+find-passes test (k ∷ ks) j e = passes-cond test (test k) k j (find test ks) refl (find-passes test ks j) e
+
+or-true : (b : Bool) → (b || true) ≡ true
+or-true true = refl
+or-true false = refl
+
+member_step : (test : ℕ → Bool) (k n : ℕ) (same : Bool) → k == suc n ≡ same → k ≤ suc n → test k ≡ true → (k ≤ n → list_any test (numbers n) ≡ true)
+    → (list_any test (numbers n) || test (suc n)) ≡ true
+member_step test k n true e high t below =
+    ap (λ b. list_any test (numbers n) || b) (subst (λ j. test j ≡ true) (eqb-true k (suc n) e) t) ∙ or-true (list_any test (numbers n))
+member_step test k n false e high t below =
+    let other : k ≢ suc n = eqb-false k (suc n) e in
+    let low : k ≤ n = omega arith in
+    ap (λ b. b || test (suc n)) (below low)
+
+-- a number up to n that passes
+pub list_any-member : (test : ℕ → Bool) (k n : ℕ) → 1 ≤ k → k ≤ n → test k ≡ true → list_any test (numbers n) ≡ true
+list_any-member test k zero low high t = absurd (omega arith)
+list_any-member test k (suc n) low high t =
+    list_any_last test n ∙ member_step test k n (k == suc n) refl high t (λ b. list_any-member test k n low b t)
+
+passing_step : (wanted : ℕ → Bool) (passes : Bool) (k : ℕ) (ks : List ℕ) → list_any wanted (cond passes (k ∷ ks) ks) ≡ (passes && wanted k) || list_any wanted ks
+passing_step wanted true k ks = refl
+passing_step wanted false k ks = refl
+
+-- whether a number that passes is wanted
+pub list_any-passing : (wanted test : ℕ → Bool) (ks : List ℕ) → list_any wanted (filter test ks) ≡ list_any (λ k. test k && wanted k) ks
+list_any-passing wanted test [] = refl
+list_any-passing wanted test (k ∷ ks) =
+    passing_step wanted (test k) k (filter test ks) ∙ ap (λ b. (test k && wanted k) || b) (list_any-passing wanted test ks)

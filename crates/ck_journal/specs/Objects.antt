@@ -4,6 +4,7 @@ use Rattle.ck_types.specs.Records.{created_items, with_given, is_set}
 use Rattle.ck_types.specs.declared.attributes.Attribute.TheVariants as attribute
 use Rattle.ck_types.specs.declared.templates.Item.{Item}
 use Rattle.ck_types.specs.declared.users.UserType.TheVariants as user
+use Rattle.ck_journal.specs.declared.views.View.{View}
 use Rattle.ck_journal.specs.declared.calls.Call.{Call}
 use Rattle.ck_journal.specs.declared.calls.Call.TheVariants as call
 use Rattle.ck_journal.specs.Histories.{History, done}
@@ -33,11 +34,6 @@ session_of [] n = 0
 session_of (e ∷ h) n = if creates (done e) && n == suc (creations h) then creation_session (done e) else session_of h n
 
 -- ---- handles
-
--- what handles depend on beside the object: whether the normal user is logged in, and how often that has been so far
-pub record View : Type 0 where
-  pub user : Bool
-  pub logins : ℕ
 
 -- the normal user is logged in
 abbrev pub is_user_in : History → Bool

@@ -4,6 +4,8 @@
 
 mod calls;
 mod journals;
+mod views;
 
 pub use calls::{Answer, AttributeQuery, Body, Call, Entry, Reply};
 pub use journals::Journal;
+pub use views::View;

@@ -1,0 +1,6 @@
+use Rattle.std.proofs.Common.{◌≡◌, ◌∙◌, sym, ap, refl}
+use Rattle.ck_store.proofs.Moves.{StoreAgrees-all_closed}
+use Rattle.ck_store.proofs.stores.Store.end_all_sessions.Goals as goal
+
+pub returns : goal.returns
+returns c = λ h e d agree. StoreAgrees-all_closed h _ (rw (← c.self.view_is) at agree) e _ d c.remove_session_objects.ensures refl

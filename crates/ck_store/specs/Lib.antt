@@ -1,0 +1,5 @@
+pub use Rattle.ck_journal.specs.Histories
+pub use Rattle.ck_journal.specs.Objects
+pub use Rattle.ck_types.specs.Records
+pub mod Agreement
+pub mod Rows

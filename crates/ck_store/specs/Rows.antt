@@ -1,0 +1,28 @@
+-- An object as the token stores it
+use Rattle.std.specs.Prelude.{ℕ, Bool, true, List, [], ◌∷◌, ◌==◌, ◌&&◌, not, if◌then◌else◌}
+use Rattle.ck_types.specs.Records.{is_set}
+use Rattle.ck_types.specs.declared.attributes.Attribute.TheVariants as attribute
+use Rattle.ck_journal.specs.Objects.{names_with}
+use Rattle.ck_journal.specs.declared.views.View.{View}
+use Rattle.ck_store.specs.declared.stores.StoredObject.{StoredObject}
+
+-- the handle names the object
+abbrev pub is_named : View → ℕ → StoredObject → Bool
+is_named view handle row = names_with view true row.attributes handle row.number
+
+-- the object ends where the session is closed
+abbrev pub ends_with : ℕ → StoredObject → Bool
+ends_with session row = not (is_set row.attributes attribute.Token) && session == row.session
+
+-- the object ends where all sessions are closed
+abbrev pub is_session_object : StoredObject → Bool
+is_session_object row = not (is_set row.attributes attribute.Token)
+
+-- the object ends where its user logs out
+abbrev pub is_private_session_object : StoredObject → Bool
+is_private_session_object row = not (is_set row.attributes attribute.Token) && is_set row.attributes attribute.Private
+
+-- the rows with the first one that passes changed
+abbrev pub change_first : {X : Type 0} → (X → Bool) → (X → X) → List X → List X
+change_first test change [] = []
+change_first test change (row ∷ rows) = if test row then change row ∷ rows else row ∷ change_first test change rows

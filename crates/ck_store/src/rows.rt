@@ -1,0 +1,125 @@
+ghost use Rattle.std.specs.Prelude.{◌≡◌, ◌<◌, ◌^◌, not, filter, find, position};
+ghost use Rattle.std.specs.Option.{option_copied};
+ghost use Rattle.ck_store.specs.Rows.{is_named, ends_with, is_session_object, is_private_session_object, change_first};
+ghost use Rattle.ck_store.specs.declared.stores.StoredObject.{StoredObject};
+
+use ck_journal::View;
+use ck_types::{Attribute, Record};
+
+use crate::stores::StoredObject;
+
+/// How far the handles of private objects move with each login of the user.
+const LOGIN_STEP: u64 = 0x1_0000_0000;
+
+impl StoredObject {
+    ghost use Rattle.std.specs.Prelude.{◌≡◌, ◌==◌, ◌<◌, ◌^◌, true};
+    ghost use Rattle.ck_journal.specs.Objects.{is_visible_with, handle_with};
+    ghost use Rattle.ck_store.specs.Rows.{is_named, ends_with, is_session_object, is_private_session_object};
+
+    fn is_visible(&self, view: View) -> bool
+        ensures { result ≡ is_visible_with view true self.now.attributes }
+    {
+        !self.attributes.is_set(Attribute::Private) || view.user
+    }
+
+    /// Whether the handle is the object's: its number, and for a private object 2^32 more for each login of the user.
+    fn has_handle(&self, view: View, handle: u64) -> bool
+        requires { view.logins < 2 ^ 31 }
+        ensures { result ≡ (handle_with view self.now.attributes self.now.number == handle) }
+    {
+        if self.attributes.is_set(Attribute::Private) {
+            let above = LOGIN_STEP * view.logins;
+            above <= handle && handle - above == self.number
+        } else {
+            self.number == handle
+        }
+    }
+
+    /// Whether the handle names the object.
+    fn is_named(&self, view: View, handle: u64) -> bool
+        requires { view.logins < 2 ^ 31 }
+        ensures { result ≡ is_named view handle self.now }
+    {
+        self.is_visible(view) && self.has_handle(view, handle)
+    }
+
+    /// Whether the object ends where the session is closed.
+    fn ends_with(&self, session: u64) -> bool
+        ensures { result ≡ ends_with session self.now }
+    {
+        self.is_session_object() && session == self.session
+    }
+
+    fn is_session_object(&self) -> bool
+        ensures { result ≡ is_session_object self.now }
+    {
+        !self.attributes.is_set(Attribute::Token)
+    }
+
+    fn is_private_session_object(&self) -> bool
+        ensures { result ≡ is_private_session_object self.now }
+    {
+        self.is_session_object() && self.attributes.is_set(Attribute::Private)
+    }
+}
+
+/// The first object that the handle names.
+pub(crate) fn find_named(rows: &[StoredObject], view: View, handle: u64) -> Option<&StoredObject>
+    requires { view.logins < 2 ^ 31 }
+    ensures { option_copied result ≡ find (is_named view handle) rows.now }
+{
+    for row in rows {
+        if row.is_named(view, handle) {
+            return Some(row);
+        }
+    }
+    None
+}
+
+/// The place of the first object that the handle names.
+fn place_of(rows: &[StoredObject], view: View, handle: u64) -> Option<usize>
+    requires { view.logins < 2 ^ 31 }
+    ensures { result ≡ position (is_named view handle) rows.now }
+{
+    rows.iter().position(|row| row.is_named(view, handle))
+}
+
+/// Gives the first object that the handle names these attributes.
+pub(crate) fn replace_named(
+    rows: &mut Vec<StoredObject>,
+    view: View,
+    handle: u64,
+    attributes: Record,
+)
+    requires { view.logins < 2 ^ 31 }
+    ensures { rows.new.items ≡ change_first (is_named view handle) (λ (row : StoredObject). record row { attributes = attributes }) rows.old.items }
+{
+    if let Some(place) = place_of(rows.as_slice(), view, handle) {
+        rows[place].attributes = attributes;
+    }
+}
+
+pub(crate) fn remove_of_session(rows: &mut Vec<StoredObject>, session: u64)
+    ensures { rows.new.items ≡ filter (λ row. not (ends_with session row)) rows.old.items }
+{
+    rows.retain(|row| !row.ends_with(session));
+}
+
+pub(crate) fn remove_session_objects(rows: &mut Vec<StoredObject>)
+    ensures { rows.new.items ≡ filter (λ row. not (is_session_object row)) rows.old.items }
+{
+    rows.retain(|row| !row.is_session_object());
+}
+
+pub(crate) fn remove_private_session_objects(rows: &mut Vec<StoredObject>)
+    ensures { rows.new.items ≡ filter (λ row. not (is_private_session_object row)) rows.old.items }
+{
+    rows.retain(|row| !row.is_private_session_object());
+}
+
+pub(crate) fn remove_named(rows: &mut Vec<StoredObject>, view: View, handle: u64)
+    requires { view.logins < 2 ^ 31 }
+    ensures { rows.new.items ≡ filter (λ row. not (is_named view handle row)) rows.old.items }
+{
+    rows.retain(|row| !row.is_named(view, handle));
+}
