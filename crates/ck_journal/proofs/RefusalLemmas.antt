@@ -1,8 +1,13 @@
 -- The code of a check that fails is never CKR_OK
 use Rattle.std.proofs.Common.{◌≡◌, ℕ, Bool, true, false, not, cond, ◌||◌, List, [], ◌∷◌, Option, Some, None, refl, sym, ap, ◌∙◌, subst}
-use Rattle.std.proofs.lemmas.Bool.{not-true}
+use Rattle.std.proofs.lemmas.Bool.{not-true, leb-false}
 use Rattle.ck_types.specs.Attributes.{standing, attribute_of}
-use Rattle.ck_types.specs.Templates.{error_if, or_else, first_error, form_error, value_error, class_error, known_standing_error, standing_error, created_error, has_conflict}
+use Rattle.std.specs.Prelude.{nat_le, ◌<◌}
+use Rattle.ck_types.proofs.GivenLemmas.{or_else-none, error_if-none}
+use Rattle.ck_types.specs.Records.{with_given, is_set, copied_error}
+use Rattle.ck_types.specs.declared.attributes.Attribute.TheVariants as attribute
+use Rattle.ck_journal.specs.Objects.{creations, named_attributes}
+use Rattle.ck_types.specs.Templates.{template_error, error_if, or_else, first_error, form_error, value_error, class_error, known_standing_error, standing_error, created_error, has_conflict}
 use Rattle.ck_types.specs.declared.attributes.Attribute.{Attribute}
 use Rattle.ck_types.specs.declared.attributes.Class.{Class}
 use Rattle.ck_types.specs.declared.attributes.Class.TheVariants as class
@@ -16,7 +21,7 @@ use Rattle.ck_types.specs.Users.{user_of}
 use Rattle.ck_types.specs.declared.pins.Pin.{Pin}
 use Rattle.ck_types.specs.declared.users.UserType.{UserType}
 use Rattle.ck_types.specs.declared.users.UserType.TheVariants as user
-use Rattle.ck_journal.specs.Answers.{session_error, pin_error, init_token_error, init_pin_error, set_pin_error, open_session_error, logged_in_error, read_only_error, logins_error, user_login_error, known_login_error, login_error, logout_error}
+use Rattle.ck_journal.specs.Answers.{session_error, pin_error, init_token_error, init_pin_error, set_pin_error, open_session_error, logged_in_error, read_only_error, logins_error, user_login_error, known_login_error, login_error, logout_error, object_error, read_only_session_error, placement_error, creations_error, copy_object_error, set_attribute_value_error}
 use Rattle.ck_journal.specs.Histories.{History, is_ok, is_wrong_pin}
 use Rattle.ck_journal.specs.Pins.{is_initialized, is_locked, pin_owner}
 use Rattle.ck_journal.specs.Sessions.{login, state_of}
@@ -148,7 +153,7 @@ pub tells-init_token_error : (h : History) (pin : Pin) → tells_unlocked (is_lo
 tells-init_token_error h pin = search (tells-or_else, tells-error_if, tells-locked, tells-case) depth 12
 
 pub tells-init_pin_error : (locked : Bool) (h : History) (session : ℕ) (pin : Pin) → tells_unlocked locked (init_pin_error h session pin) ≡ true
-tells-init_pin_error locked h session pin = search (tells-or_else, tells-error_if, tells-locked) depth 12
+tells-init_pin_error locked h session pin = search (tells-or_else, tells-error_if) depth 12
 
 pub tells-set_pin_error : (h : History) (session : ℕ) (old new : Pin) → tells_unlocked (is_locked (pin_owner (state_of h session)) h) (set_pin_error h session old new) ≡ true
 tells-set_pin_error h session old new = search (tells-or_else, tells-error_if, tells-locked) depth 12
@@ -177,3 +182,53 @@ unlocked-wrong false error code e w t = refl
 unlocked-wrong true error code e w t =
     let free : (not (is_wrong_pin code) || false) ≡ true = subst (λ o. tells_unlocked true o ≡ true) e t in
     sym (sym (ap (λ b. not b || false) w) ∙ free)
+
+-- ---- the errors of the calls on objects
+
+is_refusal-template_error : (p : Purpose) (items : List Item) → is_refusal (template_error p items) ≡ true
+is_refusal-template_error p items =
+    is_refusal-or_else (first_error form_error items) _ (is_refusal-first_error form_error (λ item. is_refusal-value_error (attribute_of item.kind) item.value) items)
+    (is_refusal-or_else (error_if (has_conflict items) rv.TemplateInconsistent) _ (is_refusal-error_if (has_conflict items) rv.TemplateInconsistent refl)
+    (is_refusal-or_else (first_error (class_error class.Data p) items) None
+      (is_refusal-first_error (class_error class.Data p) (λ item. is_refusal-known class.Data p (attribute_of item.kind)) items) refl))
+
+is_refusal-copied_error : (items template : List Item) → is_refusal (copied_error items template) ≡ true
+is_refusal-copied_error items template = search (is_refusal-or_else, is_refusal-error_if, is_refusal-template_error) depth 12
+
+is_refusal-object_error : (h : History) (handle : ℕ) → is_refusal (object_error h handle) ≡ true
+is_refusal-object_error h handle = search (is_refusal-error_if)
+
+is_refusal-read_only_session_error : (h : History) (session : ℕ) (attributes : List Item) → is_refusal (read_only_session_error h session attributes) ≡ true
+is_refusal-read_only_session_error h session attributes = search (is_refusal-error_if)
+
+is_refusal-placement_error : (h : History) (session : ℕ) (attributes : List Item) → is_refusal (placement_error h session attributes) ≡ true
+is_refusal-placement_error h session attributes = search (is_refusal-or_else, is_refusal-error_if, is_refusal-read_only_session_error) depth 12
+
+is_refusal-creations_error : (limits : Ranges) (h : History) → is_refusal (creations_error limits h) ≡ true
+is_refusal-creations_error limits h = search (is_refusal-error_if)
+
+pub is_refusal-copy_object_error : (limits : Ranges) (h : History) (session object : ℕ) (template : List Item) → is_refusal (copy_object_error limits h session object template) ≡ true
+is_refusal-copy_object_error limits h session object template =
+    search (is_refusal-or_else, is_refusal-error_if, is_refusal-session_error, is_refusal-object_error, is_refusal-copied_error, is_refusal-placement_error, is_refusal-creations_error) depth 14
+
+pub is_refusal-set_attribute_value_error : (h : History) (session object : ℕ) (template : List Item) → is_refusal (set_attribute_value_error h session object template) ≡ true
+is_refusal-set_attribute_value_error h session object template =
+    search (is_refusal-or_else, is_refusal-error_if, is_refusal-session_error, is_refusal-object_error, is_refusal-read_only_session_error, is_refusal-template_error) depth 14
+
+-- ---- a copy that is let through finds another creation free
+
+last_none : (a b : Option Rv) → or_else a b ≡ None → b ≡ None
+last_none a b e = (or_else-none a b e).1
+
+free_creation : (t : Bool) (code : Rv) → or_else (error_if t code) None ≡ None → t ≡ false
+free_creation t code e = error_if-none t code (or_else-none (error_if t code) None e).0
+
+pub creations-copied : (limits : Ranges) (h : History) (session object : ℕ) (template : List Item) → copy_object_error limits h session object template ≡ None
+    → creations h < limits.creations
+creations-copied limits h session object template e =
+    leb-false limits.creations (creations h)
+      (free_creation (nat_le limits.creations (creations h)) rv.DeviceMemory
+        (last_none (placement_error h session (with_given template (named_attributes h object))) _
+        (last_none (copied_error (named_attributes h object) template) _
+        (last_none (error_if (not (is_set (named_attributes h object) attribute.Copyable)) rv.ActionProhibited) _
+        (last_none (object_error h object) _ (last_none (session_error h session) _ e))))))

@@ -9,7 +9,7 @@ use Rattle.ck_types.specs.declared.users.UserType.TheVariants as user
 use Rattle.ck_journal.specs.Histories.{History}
 use Rattle.ck_journal.specs.Pins.{present_pin, tries}
 use Rattle.ck_journal.specs.Sessions.{openings, is_open, flags_of, open_sessions, is_read_write, rw_sessions, numbers}
-use Rattle.ck_journal.proofs.Selections.{list_any-selected, list_any-at, length-selected, filter-selected, find-map}
+use Rattle.ck_journal.proofs.Selections.{list_any-selected, list_any-at, length-selected, filter-selected, find-map, is_some-find, find-passes}
 use Rattle.ck_journal.proofs.SessionMoves.{is_open-within}
 use Rattle.ck_sessions.specs.Agreement.{SessionsState, SessionsAgree, CredentialAgrees, credential_of, session_row}
 use Rattle.ck_sessions.specs.Rows.{is_session, is_rw_row, is_read_only_row}
@@ -30,22 +30,6 @@ list_any-map : (test : ℕ → Bool) (row : ℕ → Session) (again : Session �
     → list_any again (map row ks) ≡ list_any test ks
 list_any-map test row again same [] = refl
 list_any-map test row again same (k ∷ ks) = rw (same k, list_any-map test row again same ks)
-
-is_some-cond : {X : Type 0} (t : Bool) (x : X) (found : Option X) (any : Bool) → is_some found ≡ any → is_some (cond t (Some x) found) ≡ t || any
-is_some-cond true x found any e = refl
-is_some-cond false x found any e = e
-
-is_some-find : {X : Type 0} (test : X → Bool) (xs : List X) → is_some (find test xs) ≡ list_any test xs
-is_some-find test [] = refl
-is_some-find test (x ∷ xs) = is_some-cond (test x) x (find test xs) (list_any test xs) (is_some-find test xs)
-
-passes-cond : (test : ℕ → Bool) (t : Bool) (k j : ℕ) (found : Option ℕ) → test k ≡ t → (found ≡ Some j → test j ≡ true) → cond t (Some k) found ≡ Some j → test j ≡ true
-passes-cond test true k j found t later e = subst (λ n. test n ≡ true) (same_Some k j e) t
-passes-cond test false k j found t later e = later e
-
-find-passes : (test : ℕ → Bool) (ks : List ℕ) (j : ℕ) → find test ks ≡ Some j → test j ≡ true
-find-passes test [] j e = cc
-find-passes test (k ∷ ks) j e = passes-cond test (test k) k j (find test ks) refl (find-passes test ks j) e
 
 module _ (h : History) (s : SessionsState) (agree : SessionsAgree h s) where
   abbrev row_of : ℕ → Session

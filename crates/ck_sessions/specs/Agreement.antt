@@ -1,5 +1,5 @@
 -- When sessions, the login and PINs are what a history says
-use Rattle.std.specs.Prelude.{◌≡◌, ◌≤◌, ℕ, Bool, true, List, Option, map, is_some}
+use Rattle.std.specs.Prelude.{◌≡◌, ◌<◌, ◌≤◌, ◌^◌, ℕ, Bool, true, List, Option, map, is_some}
 use Rattle.ck_types.specs.declared.users.UserType.{UserType}
 use Rattle.ck_types.specs.declared.users.UserType.TheVariants as user
 use Rattle.ck_journal.specs.Histories.{History}
@@ -26,9 +26,11 @@ credential_of user.User s = s.user
 abbrev pub session_row : ℕ → ℕ → Session
 session_row handle flags = record { handle = handle; flags = flags }
 
--- there is room for all sessions that may be open, and no user has made more than three wrong tries
-pub record IsSound (room limit so_tries user_tries : ℕ) : Type 0 where
+-- there is room for all sessions that may be open, the user has logged in fewer than 2^31 times, and no user has made more
+-- than three wrong tries
+pub record IsSound (room limit logins so_tries user_tries : ℕ) : Type 0 where
   pub rows : limit ≤ room
+  pub login_bound : logins < 2 ^ 31
   pub so : so_tries ≤ 3
   pub user : user_tries ≤ 3
 

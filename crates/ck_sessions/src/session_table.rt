@@ -39,7 +39,7 @@ impl Model for Sessions {
 
     ghost view = { λ s. record { rows = s.rows.items; limit = s.limit; openings = s.openings; login = s.login; logins = s.logins; so = s.so; user = s.user } };
 
-    ghost invariant = { λ s. IsSound (vec_capacity s.rows) s.limit s.so.tries s.user.tries };
+    ghost invariant = { λ s. IsSound (vec_capacity s.rows) s.limit s.logins s.so.tries s.user.tries };
 }
 
 const NO_PIN: Credential = Credential {
@@ -144,6 +144,7 @@ impl Sessions {
     pub fn logins(&self) -> u64
         ensures value { result ≡ self.now.logins }
         ensures logins { (h : History) → SessionsAgree h self.now → result ≡ user_logins h }
+        ensures bound { result < 2 ^ 31 }
     {
         self.logins
     }
@@ -245,7 +246,7 @@ impl Sessions {
     /// Logs a user in.
     pub fn log_in(&mut self, user_type: UserType)
         requires open { 0 < length self.old.rows }
-        requires logins { user_type ≡ user.User → self.old.logins < 2 ^ 32 }
+        requires logins { user_type ≡ user.User → self.old.logins + 1 < 2 ^ 31 }
         ensures agree {
             (h : History) (e : Entry) (session number : ℕ) (pin : Pin) → done e ≡ Some (call.Login session number pin) → user_of number ≡ Some user_type
             → SessionsAgree h self.old → SessionsAgree (e ∷ h) self.new

@@ -1,3 +1,2 @@
-pub mod ObjectLemmas
 pub mod RunLemmas
 pub mod TokenLemmas

@@ -9,7 +9,9 @@ use Rattle.ck_journal.specs.Answers.{answer, ok, refusal, IsLegal, user_login_er
 use Rattle.ck_journal.specs.Histories.{History, done, wrong_try, is_ok, is_wrong_pin, leaves_sessions, leaves_objects}
 use Rattle.ck_journal.specs.Pins.{about, is_about, is_user}
 use Rattle.ck_journal.specs.declared.calls.Body.{Body}
+use Rattle.ck_journal.specs.Objects.{creates}
 use Rattle.ck_journal.specs.declared.calls.Call.{Call}
+use Rattle.ck_journal.specs.declared.calls.Call.TheVariants as call
 use Rattle.ck_journal.specs.declared.calls.Entry.{Entry}
 use Rattle.ck_journal.specs.declared.calls.Reply.{Reply}
 use Rattle.std.specs.Prelude.{◌<◌, length}
@@ -21,24 +23,25 @@ use Rattle.ck_sessions.specs.Rows.{is_session}
 use Rattle.ck_sessions.proofs.Readings.{list_any-rows}
 use Rattle.ck_sessions.proofs.Moves.{SessionsAgree-left}
 use Rattle.ck_sessions.specs.Agreement.{SessionsState, SessionsAgree}
-use Rattle.ck_token.specs.Agreement.{ObjectsState, ObjectsAgree, TokenAgrees}
+use Rattle.ck_store.proofs.Moves.{StoreAgrees-left}
+use Rattle.ck_store.specs.Agreement.{StoreState, StoreAgrees}
+use Rattle.ck_token.specs.Agreement.{TokenAgrees}
 use Rattle.ck_token.specs.TokenStates.{TokenState, entry_of}
-use Rattle.ck_token.proofs.ObjectLemmas.{ObjectsAgree-left}
 
-module _ (limits : Ranges) (h : History) (s : SessionsState) (o : ObjectsState) (agree : TokenAgrees limits h s o) where
+module _ (limits : Ranges) (h : History) (s : SessionsState) (o : StoreState) (agree : TokenAgrees limits h s o) where
   -- one more entry, with parts that agree with it
-  pub TokenAgrees-entered : (caller : ℕ) (call : Call) (reply : Reply) (entries : History) (s' : SessionsState) (o' : ObjectsState) → reply ≡ answer limits h call
+  pub TokenAgrees-entered : (caller : ℕ) (call : Call) (reply : Reply) (entries : History) (s' : SessionsState) (o' : StoreState) → reply ≡ answer limits h call
     → entries ≡ record { caller = caller; call = call; reply = reply } ∷ h
-    → SessionsAgree (entry_of limits h caller call ∷ h) s' → ObjectsAgree (entry_of limits h caller call ∷ h) o' → s'.limit ≡ s.limit → TokenAgrees limits entries s' o'
+    → SessionsAgree (entry_of limits h caller call ∷ h) s' → StoreAgrees (entry_of limits h caller call ∷ h) o' → s'.limit ≡ s.limit → TokenAgrees limits entries s' o'
   TokenAgrees-entered caller call reply entries s' o' answered entered sessions objects limit =
     let is : entries ≡ entry_of limits h caller call ∷ h = entered ∙ ap (λ r. record { caller = caller; call = call; reply = r } ∷ h) answered in
     rw is (record { legal = (refl, agree.legal); sessions = sessions; objects = objects; room = limit ∙ agree.room })
 
   -- one more entry of a call that is answered OK, with parts that agree with it
-  pub TokenAgrees-done : (caller : ℕ) (call : Call) (body : Body) (reply : Reply) (entries : History) (s' : SessionsState) (o' : ObjectsState) → answer limits h call ≡ ok body
+  pub TokenAgrees-done : (caller : ℕ) (call : Call) (body : Body) (reply : Reply) (entries : History) (s' : SessionsState) (o' : StoreState) → answer limits h call ≡ ok body
     → reply ≡ ok body → entries ≡ record { caller = caller; call = call; reply = reply } ∷ h
     → (done (entry_of limits h caller call) ≡ Some call → SessionsAgree (entry_of limits h caller call ∷ h) s')
-    → (done (entry_of limits h caller call) ≡ Some call → ObjectsAgree (entry_of limits h caller call ∷ h) o') → s'.limit ≡ s.limit → TokenAgrees limits entries s' o'
+    → (done (entry_of limits h caller call) ≡ Some call → StoreAgrees (entry_of limits h caller call ∷ h) o') → s'.limit ≡ s.limit → TokenAgrees limits entries s' o'
   TokenAgrees-done caller call body reply entries s' o' answered same entered sessions objects limit =
     let d : done (entry_of limits h caller call) ≡ Some call = ap (λ (r : Reply). cond (is_ok r.rv) (Some call) None) answered in
     TokenAgrees-entered caller call reply entries s' o' (same ∙ sym answered) entered (sessions d) (objects d) limit
@@ -50,7 +53,7 @@ module _ (limits : Ranges) (h : History) (s : SessionsState) (o : ObjectsState) 
     → ((u : UserType) → is_about u h (wrong_try (entry_of limits h caller call)) ≡ false) → TokenAgrees limits entries s o
   TokenAgrees-left caller call reply entries answered entered sessions objects tries =
     TokenAgrees-entered caller call reply entries s o answered entered
-    (SessionsAgree-left h s agree.sessions (entry_of limits h caller call) sessions tries) (ObjectsAgree-left h o agree.objects (entry_of limits h caller call) objects) refl
+    (SessionsAgree-left h s agree.sessions (entry_of limits h caller call) sessions tries) (StoreAgrees-left h o agree.objects (entry_of limits h caller call) objects) refl
 
 -- ---- refusals
 
@@ -81,9 +84,9 @@ pub SessionsAgree-done : (h : History) (s : SessionsState) → SessionsAgree h s
 SessionsAgree-done h s agree e call d l =
     SessionsAgree-left h s agree e (ap leaves_sessions d ∙ l) (λ u. ap (is_about u h) (wrong_try-done e call d))
 
-pub ObjectsAgree-done : (h : History) (o : ObjectsState) → ObjectsAgree h o → (e : Entry) (call : Call) → done e ≡ Some call → leaves_objects (Some call) ≡ true
-    → ObjectsAgree (e ∷ h) o
-ObjectsAgree-done h o agree e call d l = ObjectsAgree-left h o agree e (ap leaves_objects d ∙ l)
+pub StoreAgrees-done : (h : History) (o : StoreState) → StoreAgrees h o → (e : Entry) (call : Call) → done e ≡ Some call → leaves_objects (Some call) ≡ true
+    → StoreAgrees (e ∷ h) o
+StoreAgrees-done h o agree e call d l = StoreAgrees-left h o agree e (ap leaves_objects d ∙ l)
 
 -- ---- a wrong PIN
 
@@ -110,3 +113,9 @@ login_error-none limits h session number u pin open_session known none =
     ap (λ t. or_else (error_if (not t) rv.SessionHandleInvalid) (or_else (known_login_error limits h (user_of number) pin) None)) open_session
     ∙ ap (λ k. or_else (known_login_error limits h k pin) None) known
     ∙ ap (λ e. or_else e None) none
+
+-- a creation leaves sessions as they are
+pub leaves_sessions-creation : (c : Call) → creates (Some c) ≡ true → leaves_sessions (Some c) ≡ true
+leaves_sessions-creation (call.CreateObject session template) t = refl
+leaves_sessions-creation (call.CopyObject session object template) t = refl
+leaves_sessions-creation other t = cc

@@ -5,6 +5,6 @@ pub use Rattle.ck_journal.specs.Pins
 pub use Rattle.ck_journal.specs.Queries
 pub use Rattle.ck_journal.specs.Sessions
 pub mod Agreement
+pub mod Copies
 pub mod Runs
-pub mod StoredObjects
 pub mod TokenStates

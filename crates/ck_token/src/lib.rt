@@ -1,7 +1,6 @@
 //! One token: each call is answered as the journal of the calls before it says, and stands in the journal itself.
 #![tactic(auto)]
 
-mod objects;
 mod queries;
 mod runs;
 mod tokens;

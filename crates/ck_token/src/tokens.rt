@@ -1,15 +1,17 @@
 ghost use Rattle.std.specs.Prelude.{◌≡◌};
 ghost use Rattle.ck_types.specs.declared.return_codes.Rv.TheVariants as rv;
 ghost use Rattle.ck_journal.specs.Answers.{ok, refusal};
+ghost use Rattle.ck_types.specs.declared.users.UserType.TheVariants as user;
 ghost use Rattle.ck_journal.specs.Histories.{is_wrong_pin};
+ghost use Rattle.ck_journal.specs.Pins.{is_user};
 
-use ck_journal::{Body, Call, Entry, Journal, Reply};
+use ck_journal::{Body, Call, Entry, Journal, Reply, View};
 use ck_sessions::{Credential, Sessions};
+use ck_store::Store;
 use ck_types::{Limits, NoMemory, Record, Rv, UserType};
 use std::alloc::Global;
 use std::marker::Model;
 
-use crate::objects::Objects;
 
 mod object_calls;
 mod pin_calls;
@@ -21,7 +23,7 @@ mod session_calls;
 pub struct Token {
     limits: Limits,
     sessions: Sessions,
-    objects: Objects,
+    objects: Store,
     journal: Journal,
 }
 
@@ -53,13 +55,13 @@ fn done(body: Body) -> Reply
 }
 
 impl Token {
-    ghost use Rattle.std.specs.Prelude.{◌≡◌, ◌≤◌, ℕ, true, false, not, [], Some, None, IfOk, IfSome, OnErr, is_some, length, option_map};
+    ghost use Rattle.std.specs.Prelude.{◌≡◌, ◌<◌, ◌≤◌, ◌^◌, ℕ, true, false, not, [], Some, None, IfOk, IfSome, OnErr, is_some, length, option_map};
     ghost use Rattle.std.specs.List.{list_any};
     ghost use Rattle.std.specs.Option.{option_copied};
     ghost use Rattle.ck_types.specs.declared.users.UserType.{UserType};
     ghost use Rattle.ck_journal.specs.Answers.{IsLegal, answer};
     ghost use Rattle.ck_journal.specs.Histories.{done, wrong_try, is_ok, is_wrong_pin, leaves_sessions, leaves_objects};
-    ghost use Rattle.ck_journal.specs.Objects.{creations, attributes_of, object_named};
+    ghost use Rattle.ck_journal.specs.Objects.{creations, attributes_of, view_of, object_named};
     ghost use Rattle.ck_journal.specs.Pins.{is_initialized, present_pin, tries, is_locked, about, is_about};
     ghost use Rattle.ck_journal.specs.Sessions.{openings, is_open, flags_of, open_sessions, is_read_write, rw_sessions, login, user_logins};
     ghost use Rattle.ck_token.specs.TokenStates.{IsAnswered, IsUnchanged, entry_of};
@@ -72,7 +74,7 @@ impl Token {
         Ok(Token {
             limits,
             sessions,
-            objects: Objects::new(alloc),
+            objects: Store::new(alloc),
             journal: Journal::new(alloc),
         })
     }
@@ -115,11 +117,21 @@ impl Token {
             Call::CreateObject { session, template } => {
                 self.create_object(alloc, caller, session, template)
             }
+            Call::CopyObject {
+                session,
+                object,
+                template,
+            } => self.copy_object(alloc, caller, session, object, template),
             Call::GetAttributeValue {
                 session,
                 object,
                 queries,
             } => self.get_attribute_value(alloc, caller, session, object, queries),
+            Call::SetAttributeValue {
+                session,
+                object,
+                template,
+            } => self.set_attribute_value(alloc, caller, session, object, template),
             Call::DestroyObject { session, object } => {
                 self.destroy_object(caller, session, object)
             }
@@ -180,7 +192,8 @@ impl Token {
     }
 
     fn user_logins(&self) -> u64
-        ensures { result ≡ user_logins self.now.history }
+        ensures logins { result ≡ user_logins self.now.history }
+        ensures bound { result < 2 ^ 31 }
     {
         self.sessions.logins()
     }
@@ -193,6 +206,17 @@ impl Token {
         self.sessions.credential(user)
     }
 
+    /// What the handles of objects depend on now.
+    fn view(&self) -> View
+        ensures view { result ≡ view_of self.now.history }
+        ensures bound { result.logins < 2 ^ 31 }
+    {
+        View {
+            user: is_user_in(self.logged_in()),
+            logins: self.user_logins(),
+        }
+    }
+
     fn creations(&self) -> u64
         ensures { result ≡ creations self.now.history }
     {
@@ -203,7 +227,7 @@ impl Token {
     fn object(&self, handle: u64) -> Option<&Record>
         ensures { option_copied result ≡ option_map (attributes_of self.now.history) (object_named self.now.history handle) }
     {
-        self.objects.named(handle)
+        self.objects.get(self.view(), handle)
     }
 
     // ---- entries that change nothing else, and refusals
@@ -301,6 +325,13 @@ impl Token {
         });
         Ok(refusal(Rv::PinIncorrect))
     }
+}
+
+/// Whether the normal user is logged in.
+fn is_user_in(login: Option<UserType>) -> bool
+    ensures { result ≡ is_user user.User login }
+{
+    matches!(login, Some(UserType::User))
 }
 
 fn is_wrong_pin(code: Rv) -> bool

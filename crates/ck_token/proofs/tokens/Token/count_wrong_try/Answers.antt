@@ -1,6 +1,6 @@
 use Rattle.std.proofs.Common.{◌≡◌, ◌∙◌, ap, sym, ◌∷◌, Some, subst}
 use Rattle.ck_journal.specs.Histories.{leaves_objects}
-use Rattle.ck_token.proofs.ObjectLemmas.{ObjectsAgree-left}
+use Rattle.ck_store.proofs.Moves.{StoreAgrees-left}
 use Rattle.ck_token.proofs.TokenLemmas.{TokenAgrees-entered, done-wrong, about-wrong}
 use Rattle.ck_journal.specs.Pins.{about}
 use Rattle.ck_token.specs.TokenStates.{TokenState, entry_of}
@@ -16,5 +16,5 @@ invariant_of-self-2 c =
       c.args.caller c.args.call c.refusal.result c.push_reserved.new.self.entries _ _ (c.refusal.ensures ∙ sym answered)
       (c.push_reserved.ensures.entries ∙ rw c.in_ok-reserve.ensures.entries)
       (c.count_wrong_try.ensures.agree h _ d (about-wrong c.self.inside.limits h c.args.caller c.args.call answered c.args.user about_user) c.self.invariant.sessions)
-      (ObjectsAgree-left h c.self.inside.objects c.self.invariant.objects (entry_of c.self.inside.limits h c.args.caller c.args.call) (ap leaves_objects d))
+      (StoreAgrees-left h c.self.inside.objects c.self.invariant.objects (entry_of c.self.inside.limits h c.args.caller c.args.call) (ap leaves_objects d))
       c.count_wrong_try.ensures.limit

@@ -1,18 +1,18 @@
 use Rattle.std.proofs.Common.{◌≡◌, ◌∙◌, ap, sym, refl, suc, add-one, Some, None}
-use Rattle.ck_journal.specs.Answers.{ok, refusal, unless}
+use Rattle.ck_journal.specs.Answers.{ok, unless, new_handle}
 use Rattle.ck_journal.specs.declared.calls.Body.TheVariants as body
 use Rattle.ck_journal.specs.declared.calls.Call.TheVariants as call
-use Rattle.ck_types.specs.declared.return_codes.Rv.TheVariants as rv
-use Rattle.ck_token.proofs.TokenLemmas.{TokenAgrees-done, SessionsAgree-done, ObjectsAgree-done}
+use Rattle.ck_token.proofs.TokenLemmas.{TokenAgrees-done, SessionsAgree-done}
 use Rattle.ck_token.proofs.tokens.Token.end_object.Goals as goal
 
 pub invariant_of-self-2 : goal.invariant_of-self-2
 invariant_of-self-2 c =
     let h = c.self.inside.journal.entries in
     let error = rw (← c.self.view_is) at c.requires in
+    let view = rw (← c.self.view_is) at c.view-view.ensures.view in
     TokenAgrees-done c.self.inside.limits h c.self.inside.sessions c.self.inside.objects c.self.invariant
       c.args.caller (call.DestroyObject c.args.session c.args.object) body.Empty c.done.result c.push_reserved.new.self.entries _ _ (ap (λ e. unless e (ok body.Empty)) error)
-      (c.done.ensures) (c.push_reserved.ensures.entries ∙ rw c.in_ok-reserve.ensures.entries)
+      c.done.ensures (c.push_reserved.ensures.entries ∙ rw c.in_ok-reserve.ensures.entries)
       (λ d. SessionsAgree-done h _ c.self.invariant.sessions _ (call.DestroyObject c.args.session c.args.object) d refl)
-      (λ d. c.destroy.ensures h _ c.args.session d c.self.invariant.objects)
+      (λ d. c.destroy.ensures h _ c.args.session d view c.self.invariant.objects)
       refl

@@ -3,7 +3,7 @@ use Rattle.ck_journal.specs.Answers.{ok, refusal, unless}
 use Rattle.ck_journal.specs.declared.calls.Body.TheVariants as body
 use Rattle.ck_journal.specs.declared.calls.Call.TheVariants as call
 use Rattle.ck_types.specs.declared.return_codes.Rv.TheVariants as rv
-use Rattle.ck_token.proofs.TokenLemmas.{TokenAgrees-done, SessionsAgree-done, ObjectsAgree-done}
+use Rattle.ck_token.proofs.TokenLemmas.{TokenAgrees-done, SessionsAgree-done, StoreAgrees-done}
 use Rattle.ck_token.proofs.tokens.Token.end_session.Goals as goal
 
 pub invariant_of-self-2 : goal.invariant_of-self-2

@@ -4,7 +4,7 @@ use Rattle.ck_journal.specs.declared.calls.Body.TheVariants as body
 use Rattle.ck_journal.specs.declared.calls.Call.TheVariants as call
 use Rattle.ck_types.specs.declared.return_codes.Rv.TheVariants as rv
 use Rattle.ck_token.proofs.TokenLemmas.{login_error-none, some-open}
-use Rattle.ck_token.proofs.TokenLemmas.{TokenAgrees-done, SessionsAgree-done, ObjectsAgree-done}
+use Rattle.ck_token.proofs.TokenLemmas.{TokenAgrees-done, SessionsAgree-done, StoreAgrees-done}
 use Rattle.ck_token.proofs.tokens.Token.log_in.Goals as goal
 
 pub log_in-requires-clause-open : goal.log_in-requires-clause-open
@@ -21,5 +21,5 @@ invariant_of-self-2 c =
       c.args.caller (call.Login c.args.session c.args.user c.args.pin) body.Empty c.done.result c.push_reserved.new.self.entries _ _ (ap (λ e. unless e (ok body.Empty)) error)
       (c.done.ensures) (c.push_reserved.ensures.entries ∙ rw c.in_ok-reserve.ensures.entries)
       (λ d. c.log_in.ensures.agree h _ c.args.session c.args.user c.args.pin d c.requires.user c.self.invariant.sessions)
-      (λ d. ObjectsAgree-done h _ c.self.invariant.objects _ (call.Login c.args.session c.args.user c.args.pin) d refl)
+      (λ d. StoreAgrees-done h _ c.self.invariant.objects _ (call.Login c.args.session c.args.user c.args.pin) d refl)
       c.log_in.ensures.limit

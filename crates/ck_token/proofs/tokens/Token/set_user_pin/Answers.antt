@@ -3,7 +3,7 @@ use Rattle.ck_journal.specs.Answers.{ok, refusal, unless}
 use Rattle.ck_journal.specs.declared.calls.Body.TheVariants as body
 use Rattle.ck_journal.specs.declared.calls.Call.TheVariants as call
 use Rattle.ck_types.specs.declared.return_codes.Rv.TheVariants as rv
-use Rattle.ck_token.proofs.TokenLemmas.{TokenAgrees-done, SessionsAgree-done, ObjectsAgree-done}
+use Rattle.ck_token.proofs.TokenLemmas.{TokenAgrees-done, SessionsAgree-done, StoreAgrees-done}
 use Rattle.ck_token.proofs.tokens.Token.set_user_pin.Goals as goal
 
 pub invariant_of-self-2 : goal.invariant_of-self-2
@@ -14,5 +14,5 @@ invariant_of-self-2 c =
       c.args.caller (call.InitPin c.args.session c.args.pin) body.Empty c.done.result c.push_reserved.new.self.entries _ _ (ap (λ e. unless e (ok body.Empty)) error)
       (c.done.ensures) (c.push_reserved.ensures.entries ∙ rw c.in_ok-reserve.ensures.entries)
       (λ d. c.init_pin.ensures.agree h _ c.args.session d c.self.invariant.sessions)
-      (λ d. ObjectsAgree-done h _ c.self.invariant.objects _ (call.InitPin c.args.session c.args.pin) d refl)
+      (λ d. StoreAgrees-done h _ c.self.invariant.objects _ (call.InitPin c.args.session c.args.pin) d refl)
       c.init_pin.ensures.limit

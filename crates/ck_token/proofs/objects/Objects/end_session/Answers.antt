@@ -1,6 +1,0 @@
-use Rattle.std.proofs.Common.{refl}
-use Rattle.ck_token.proofs.ObjectLemmas.{ObjectsAgree-closed}
-use Rattle.ck_token.proofs.objects.Objects.end_session.Goals as goal
-
-pub returns : goal.returns
-returns c = λ h e d agree. ObjectsAgree-closed h _ (rw (← c.self.view_is) at agree) e _ c.args.session d c.remove_of_session.ensures refl
