@@ -1,4 +1,6 @@
-use crate::{Bytes, Item, Limits, NoMemory, Pin, Record, Refusal, Rv, Sequence, Template};
+use crate::{
+    Attribute, Bytes, Item, Limits, NoMemory, Pin, Record, Refusal, Rv, Sequence, Template,
+};
 use std::alloc::Global;
 use std::process::Abort;
 use std::test::Fail;
@@ -37,10 +39,10 @@ fn templates(rt: HostRuntime) -> Result<(), Fail> {
         ("0=0000000000000000,170=00,170=01", 0xd1),
         ("0=0000000000000000,1=00,1=00", 0x0),
         ("0=0000000000000000,172=00", 0x0),
-        // token objects, private objects and secret keys, for now
-        ("0=0000000000000000,1=01", 0x13),
-        ("0=0000000000000000,1=00,1=01", 0x13),
-        ("0=0000000000000000,2=01", 0x13),
+        // token objects, private objects and, for now, secret keys
+        ("0=0000000000000000,1=01", 0x0),
+        ("0=0000000000000000,1=00,1=01", 0xd1),
+        ("0=0000000000000000,2=01", 0x0),
         ("0=0400000000000000,100=1000000000000000,11=4a656665", 0x13),
         // values that aren't of their form
         ("0=0100000000000000", 0x13),
@@ -72,13 +74,79 @@ fn templates(rt: HostRuntime) -> Result<(), Fail> {
         ("103=01,80000002=00", 0x12),
     ] {
         let template = template_of(rt.alloc(), text)?;
-        let number = match Record::created(rt.alloc(), &template) {
-            Ok(_) => 0x0,
-            Err(Refusal::Code(code)) => code.number(),
-            Err(Refusal::Memory) => 0x2,
-        };
-        assert_eq!(rt; number, expected, "{text}");
+        assert_eq!(rt;
+            number_of(&Record::created(rt.alloc(), &template)),
+            expected,
+            "{text}"
+        );
     }
+    Ok(())
+}
+
+/// The number of the code of a record that is made or refused.
+fn number_of<T>(record: &Result<T, Refusal>) -> u64 {
+    match record {
+        Ok(_) => 0x0,
+        Err(Refusal::Code(code)) => code.number(),
+        Err(Refusal::Memory) => 0x2,
+    }
+}
+
+/// Templates, and the numbers of the codes that a copy and a change of a private object by each answer.
+#[test]
+fn copies_and_changes(rt: HostRuntime) -> Result<(), Fail> {
+    let template = template_of(rt.alloc(), "0=0000000000000000,2=01,3=61,11=62,170=00")?;
+    let record = Record::created(rt.alloc(), &template)?;
+    for (text, copied, changed) in [
+        ("", 0x0, 0x0),
+        ("3=63", 0x0, 0x0),
+        ("10=63,12=", 0x0, 0x0),
+        // attributes that only a copy takes
+        ("1=01", 0x0, 0x10),
+        ("2=01", 0x0, 0x10),
+        ("170=01", 0x0, 0x10),
+        ("172=00", 0x0, 0x10),
+        // a private object's copy is private
+        ("2=00", 0xd1, 0x10),
+        // the class stays
+        ("0=0000000000000000", 0x10, 0x10),
+        // types, forms and two values of one type
+        ("80000002=00", 0x12, 0x12),
+        ("103=01", 0x12, 0x12),
+        ("1=02", 0x13, 0x13),
+        ("3=61,3=62", 0xd1, 0xd1),
+        ("3=61,3=61", 0x0, 0x0),
+    ] {
+        let template = template_of(rt.alloc(), text)?;
+        assert_eq!(rt;
+            number_of(&record.copied(rt.alloc(), &template)),
+            copied,
+            "{text}"
+        );
+        assert_eq!(rt;
+            number_of(&record.changed(rt.alloc(), &template)),
+            changed,
+            "{text}"
+        );
+    }
+    let template = template_of(rt.alloc(), "3=63")?;
+    for record in [
+        record.copied(rt.alloc(), &template)?,
+        record.changed(rt.alloc(), &template)?,
+    ] {
+        for (kind, flag, value) in [
+            (0x0, None, [0; 8].as_slice()),
+            (0x1, Some(false), &[0]),
+            (0x2, Some(true), &[1]),
+            (0x3, None, &[0x63]),
+            (0x11, None, &[0x62]),
+            (0x170, Some(false), &[0]),
+        ] {
+            check_attribute(&rt, rt.alloc(), &record, kind, flag, Some(value))?;
+        }
+    }
+    assert!(rt; record.is_set(Attribute::Private));
+    assert!(rt; !record.is_set(Attribute::Token));
     Ok(())
 }
 

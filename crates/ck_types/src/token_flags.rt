@@ -26,11 +26,9 @@ impl Flags for TokenFlags {
 
     ghost exact = { ⊤ };
 
-    ghost table = {
-        (codes "LOGIN_REQUIRED", 0x4) ∷ (codes "USER_PIN_INITIALIZED", 0x8) ∷ (codes "TOKEN_INITIALIZED", 0x400)
+    ghost table = { (codes "LOGIN_REQUIRED", 0x4) ∷ (codes "USER_PIN_INITIALIZED", 0x8) ∷ (codes "TOKEN_INITIALIZED", 0x400)
         ∷ (codes "USER_PIN_COUNT_LOW", 0x10000) ∷ (codes "USER_PIN_FINAL_TRY", 0x20000) ∷ (codes "USER_PIN_LOCKED", 0x40000)
-        ∷ (codes "SO_PIN_COUNT_LOW", 0x100000) ∷ (codes "SO_PIN_FINAL_TRY", 0x200000) ∷ (codes "SO_PIN_LOCKED", 0x400000) ∷ []
-    };
+        ∷ (codes "SO_PIN_COUNT_LOW", 0x100000) ∷ (codes "SO_PIN_FINAL_TRY", 0x200000) ∷ (codes "SO_PIN_LOCKED", 0x400000) ∷ [] };
 
     ghost set_of = { λ f. f.0 };
 
