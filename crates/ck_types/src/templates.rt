@@ -159,12 +159,12 @@ pub(crate) fn created_error(items: &[Item]) -> Option<Rv>
 pub(crate) fn template_error(items: &[Item], purpose: Purpose) -> Option<Rv>
     ensures { result ≡ template_error purpose items.now }
 {
-    let error = first_form_error(items);
-    if error.is_some() {
-        return error;
+    let form_error = first_form_error(items);
+    if form_error.is_some() {
+        form_error
+    } else if has_conflict(items) {
+        Some(Rv::TemplateInconsistent)
+    } else {
+        first_class_error(Class::Data, purpose, items)
     }
-    if has_conflict(items) {
-        return Some(Rv::TemplateInconsistent);
-    }
-    first_class_error(Class::Data, purpose, items)
 }
