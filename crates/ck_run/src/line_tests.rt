@@ -1,5 +1,6 @@
 use crate::scripts::{Line, meaning_of};
 use ck_journal::Call;
+use ck_types::Pin;
 use std::alloc::Global;
 use std::process::Abort;
 use std::test::Fail;
@@ -60,6 +61,19 @@ fn lines_have_their_meanings(rt: HostRuntime) -> Result<(), Fail> {
                 "1 CloseSession 18446744073709551615",
                 "Called { caller: 1, call: CloseSession { session: 18446744073709551615 } }",
             ),
+            (
+                "1 CloseAllSessions",
+                "Called { caller: 1, call: CloseAllSessions }",
+            ),
+            (
+                "1 Logout 5",
+                "Called { caller: 1, call: Logout { session: 5 } }",
+            ),
+            (
+                "1 GetSessionInfo 5",
+                "Called { caller: 1, call: GetSessionInfo { session: 5 } }",
+            ),
+            ("2 GetTokenInfo", "Called { caller: 2, call: GetTokenInfo }"),
             (
                 "1 CreateObject 2 -",
                 "Called { caller: 1, call: CreateObject { session: 2, template: Template { items: Sequence { items: [] } } } }",
@@ -127,7 +141,35 @@ fn malformed_lines_are_bad(rt: HostRuntime) -> Result<(), Fail> {
             "1 OpenSessions 6",
             "1  6",
             "1 Open 6",
-            "1 Login 1 1 31323334",
+            "1 InitPin 1 31323334",
+            "1 SetPin 1 31323334 31323334",
+            "1 CloseAllSession",
+            "1 InitPINInitPIN",
+            // logins, logouts and information
+            "1 InitPIN 1",
+            "1 InitPIN 31323334",
+            "1 InitPIN 1 313",
+            "1 InitPIN x 31323334",
+            "1 InitPIN 1 31323334 31323334",
+            "1 SetPIN 1 31323334",
+            "1 SetPIN 1 31323334 3132333",
+            "1 SetPIN 1 3132333 31323334",
+            "1 SetPIN 01 31323334 31323334",
+            "1 SetPIN 1 31323334 31323334 31323334",
+            "1 Login 1 31323334",
+            "1 Login 1 01 31323334",
+            "1 Login 1 a 31323334",
+            "1 Login 1 1 1",
+            "1 Login 1 1 31323334 1",
+            "1 Logout",
+            "1 Logout 1 1",
+            "1 Logout a",
+            "1 GetSessionInfo",
+            "1 GetSessionInfo 1 1",
+            "1 GetTokenInfo ",
+            "1 GetTokenInfo 1",
+            "1 CloseAllSessions ",
+            "1 CloseAllSessions 1",
             // numbers and code numbers
             "1 CloseSession 07",
             "1 CloseSession 00",
@@ -215,6 +257,44 @@ fn a_pin_is_read_as_its_length_and_digest(rt: HostRuntime) -> Result<(), Fail> {
         };
         assert_eq!(rt; pin.len, len);
         assert_eq!(rt; hex::encode(rt.alloc(), pin.tag)?.as_str(), tag);
+    }
+    Ok(())
+}
+
+#[test]
+fn pins_stand_in_their_order(rt: HostRuntime) -> Result<(), Fail> {
+    let old = Pin::of(b"old PIN");
+    let new = Pin::of(b"newest PIN");
+    let rows = [
+        (
+            "1 InitPIN 2 6f6c642050494e",
+            Call::InitPin {
+                session: 2,
+                pin: old,
+            },
+        ),
+        (
+            "1 SetPIN 2 6f6c642050494e 6e65776573742050494E",
+            Call::SetPin {
+                session: 2,
+                old,
+                new,
+            },
+        ),
+        (
+            "1 Login 2 18446744073709551615 6e65776573742050494e",
+            Call::Login {
+                session: 2,
+                user: u64::MAX,
+                pin: new,
+            },
+        ),
+    ];
+    for (text, call) in rows {
+        let want = Line::Called { caller: 1, call };
+        let line = meaning_of(rt.alloc(), text.as_bytes())?;
+        let shown = format!(in rt.alloc(); "{line:?}")?;
+        assert_eq!(rt; shown, format!(in rt.alloc(); "{want:?}")?, "{text}");
     }
     Ok(())
 }

@@ -2,6 +2,8 @@
 #![tactic(auto)]
 
 mod arguments;
+#[cfg(test)]
+mod device_tests;
 mod devices;
 mod faults;
 #[cfg(test)]
@@ -16,8 +18,6 @@ mod replies;
 #[cfg(test)]
 mod reply_tests;
 mod scripts;
-#[cfg(test)]
-mod tests;
 
 use ck_types::Limits;
 pub use devices::{ReadSource, Sink, Source, WriteSink};

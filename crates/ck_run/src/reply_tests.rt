@@ -1,6 +1,6 @@
 use crate::replies::push_reply;
 use ck_journal::{Answer, Body, Reply};
-use ck_types::{Bytes, NoMemory, Rv, Sequence};
+use ck_types::{Bytes, NoMemory, Rv, Sequence, SessionState, TokenFlags};
 use std::alloc::Global;
 use std::test::Fail;
 
@@ -19,6 +19,25 @@ fn handle(number: u64) -> Reply {
     Reply {
         rv: Rv::Ok,
         body: Body::Handle(number),
+    }
+}
+
+fn session(state: SessionState, flags: u64) -> Reply {
+    Reply {
+        rv: Rv::Ok,
+        body: Body::Session { state, flags },
+    }
+}
+
+fn token(flags: TokenFlags, limit: u64, sessions: u64, rw_sessions: u64) -> Reply {
+    Reply {
+        rv: Rv::Ok,
+        body: Body::Token {
+            flags,
+            limit,
+            sessions,
+            rw_sessions,
+        },
     }
 }
 
@@ -48,6 +67,23 @@ fn replies_have_their_text(rt: HostRuntime) -> Result<(), Fail> {
         (handle(10), "0 10\n"),
         (handle(4_294_967_298), "0 4294967298\n"),
         (handle(u64::MAX), "0 18446744073709551615\n"),
+        (session(SessionState::RoPublic, 4), "0 0 4\n"),
+        (session(SessionState::RoUser, 4), "0 1 4\n"),
+        (session(SessionState::RwPublic, 6), "0 2 6\n"),
+        (session(SessionState::RwUser, 10), "0 3 a\n"),
+        (session(SessionState::RwSo, 16), "0 4 10\n"),
+        (
+            token(TokenFlags::of(false, false, 0, 0), 64, 0, 0),
+            "0 4 64 0 0\n",
+        ),
+        (
+            token(TokenFlags::of(true, true, 2, 0), 64, 12, 11),
+            "0 3040c 64 12 11\n",
+        ),
+        (
+            token(TokenFlags::of(true, false, 0, 3), 1, 0, 0),
+            "0 500404 1 0 0\n",
+        ),
         (attributes(Rv::Ok, vec![in alloc;]?), "0 -\n"),
         (attributes(Rv::Ok, vec![in alloc; no_bytes]?), "0 =-\n"),
         (attributes(Rv::Ok, vec![in alloc; bytes]?), "0 =000fa0ff\n"),
