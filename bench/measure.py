@@ -1,0 +1,73 @@
+#!/usr/bin/env python3
+"""Plays scripts of 1,000, 10,000 and 100,000 lines with the built program, and prints what a line takes.
+
+The program is crates/ck_run/out/ck_run, or the path that is given; it is built by `rt run` in crates/ck_run. Times are
+processor time, the median of several runs, and memory is the peak; those of an empty script are taken off both.
+"""
+import os
+import statistics
+import sys
+import tempfile
+
+from make_script import ROUNDS, script
+
+SIZES = [1_000, 10_000, 100_000]
+# A short run hardly differs from an empty one, so it is made often.
+RUNS = {0: 301, 1_000: 301, 10_000: 101, 100_000: 21}
+PROGRAM = os.path.join(os.path.dirname(__file__), "..", "crates", "ck_run", "out", "ck_run")
+
+
+def play(words, text):
+    """Seconds of one run of a command, and its output."""
+    with tempfile.TemporaryFile() as source, tempfile.TemporaryFile() as output:
+        source.write(text.encode())
+        source.seek(0)
+        files = [(os.POSIX_SPAWN_DUP2, source.fileno(), 0), (os.POSIX_SPAWN_DUP2, output.fileno(), 1)]
+        child = os.posix_spawn(words[0], words, {}, file_actions=files)
+        _, status, usage = os.wait4(child, 0)
+        if status != 0:
+            sys.exit(f"the program ended with wait status {status}")
+        output.seek(0)
+        return usage.ru_utime + usage.ru_stime, output.read()
+
+
+def peak_memory(program, text):
+    """Peak kilobytes, asked of `time`, since what this process holds would count as the child's."""
+    with tempfile.NamedTemporaryFile() as peak:
+        play(["/usr/bin/time", "-f", "%M", "-o", peak.name, program], text)
+        return int(peak.read())
+
+
+def median_time(program, text, size):
+    return statistics.median(play([program], text)[0] for _ in range(RUNS[size]))
+
+
+def check_replies(program, text, kind, size):
+    """Every line has its reply, and each is OK."""
+    replies = play([program], text)[1].split(b"\n")
+    if len(replies) != size + 1 or not all(reply.split(b" ")[0] == b"0" for reply in replies[:-1]):
+        sys.exit(f"{kind}: not every line was answered OK")
+
+
+def measure(program, kind, start_time, start_memory):
+    times = []
+    for size in SIZES:
+        text = script(kind, size)
+        check_replies(program, text, kind, size)
+        times.append((median_time(program, text, size) - start_time) / size)
+        bytes_a_line = (peak_memory(program, text) - start_memory) * 1024 / size
+        print(f"{kind}, {size} lines: {times[-1] * 1e6:.3f} us a line, {bytes_a_line:.0f} bytes a line at the peak")
+    print(f"{kind}: {times[-1] / times[0]:.2f} times as much time a line at {SIZES[-1]} lines as at {SIZES[0]}")
+
+
+def main():
+    program = sys.argv[1] if len(sys.argv) > 1 else PROGRAM
+    start_time = median_time(program, "", 0)
+    start_memory = peak_memory(program, "")
+    print(f"empty script: {start_time * 1e6:.0f} us, {start_memory} KiB")
+    for kind in ROUNDS:
+        measure(program, kind, start_time, start_memory)
+
+
+if __name__ == "__main__":
+    main()

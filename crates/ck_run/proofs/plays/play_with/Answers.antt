@@ -1,0 +1,18 @@
+use Rattle.std.proofs.lemmas.Result.{err_from_is_err_and}
+use Rattle.ck_run.proofs.PlayLemmas.{played-nothing, reading-nothing}
+use Rattle.ck_run.proofs.plays.play_with.Goals as goal
+
+pub returns-in_err-buffer : goal.returns-in_err-buffer
+returns-in_err-buffer g c =
+    let p = err_from_is_err_and c.from_residual.result c.from_residual.ensures.1 in
+    rw p.1 (λ read written h w. played-nothing _ _ read written _ _ _ p.2 h w)
+
+pub returns-in_err-player : goal.returns-in_err-player
+returns-in_err-player g c =
+    let p = err_from_is_err_and c.from_residual-in_err-player.result c.from_residual-in_err-player.ensures.1 in
+    rw p.1 (λ read written h w. played-nothing _ _ read written _ _ _ p.2 h w)
+
+pub returns : goal.returns
+returns g c read written h w =
+    c.play_on.ensures c.args.limits read written
+    (reading-nothing c.args.limits read written _ _ _ c.in_ok-player.ensures.token c.in_ok-player.ensures.open_line c.in_ok-player.ensures.number h w)

@@ -1,0 +1,48 @@
+-- What was read of a source and written to a sink
+use Rattle.std.specs.Prelude.{ℕ, suc, Bool, ◌&&◌, ◌==◌, ◌++◌, not, List, Result, Ok, Err, length, take, if◌then◌else◌}
+
+-- the bytes that were read, and how many reads were made, found the end, and failed
+pub record Reading : Type 0 where
+  pub bytes : List ℕ
+  pub reads : ℕ
+  pub ends : ℕ
+  pub failures : ℕ
+
+-- the bytes that were written, and how many writes failed or took no byte
+pub record Writing : Type 0 where
+  pub bytes : List ℕ
+  pub failures : ℕ
+
+-- a read of no bytes finds the end, where there was room for some
+abbrev pub is_end : ℕ → List ℕ → Bool
+is_end count buffer = count == 0 && not (length buffer == 0)
+
+-- the same and one more read, which found the end
+abbrev pub end_read : Reading → Reading
+end_read r = record { bytes = r.bytes; reads = suc r.reads; ends = suc r.ends; failures = r.failures }
+
+-- the same and one more read, which failed
+abbrev pub failed_read : Reading → Reading
+failed_read r = record { bytes = r.bytes; reads = suc r.reads; ends = r.ends; failures = suc r.failures }
+
+-- the same and one more read, which gave these bytes
+abbrev pub read_on : Reading → List ℕ → Reading
+read_on r bytes = record { bytes = r.bytes ++ bytes; reads = suc r.reads; ends = r.ends; failures = r.failures }
+
+-- the same and one more read, which put so many bytes into the front of the buffer
+abbrev pub after_read : {E : Type 0} → Reading → Result ℕ E → List ℕ → Reading
+after_read r (Ok count) buffer = if is_end count buffer then end_read r else read_on r (take count buffer)
+after_read r (Err error) buffer = failed_read r
+
+-- the same and one more write, which failed or took no byte
+abbrev pub failed_write : Writing → Writing
+failed_write w = record { bytes = w.bytes; failures = suc w.failures }
+
+-- the same and these bytes more
+abbrev pub wrote : Writing → List ℕ → Writing
+wrote w bytes = record { bytes = w.bytes ++ bytes; failures = w.failures }
+
+-- the same and one more write, which took so many bytes of the front
+abbrev pub after_write : {E : Type 0} → Writing → Result ℕ E → List ℕ → Writing
+after_write w (Ok count) bytes = if count == 0 then failed_write w else wrote w (take count bytes)
+after_write w (Err error) bytes = failed_write w

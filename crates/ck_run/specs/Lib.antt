@@ -1,0 +1,10 @@
+pub use Rattle.ck_token.specs.TokenStates
+pub mod Devices
+pub mod Faults
+pub mod MemoryDevices
+pub mod Parts
+pub mod Arguments
+pub mod Players
+pub mod Plays
+pub mod Replies
+pub mod Scripts

@@ -1,0 +1,147 @@
+-- What playing a script writes, and how it ends
+use Rattle.std.specs.Prelude.{◌≡◌, ◌⊎◌, ◌<◌, ◌≤◌, ◌+◌, ◌==◌, ℕ, suc, Bool, true, false, List, [], ◌∷◌, ◌++◌, Result, Ok, Err, length}
+use Rattle.std.specs.List.{slice_split}
+use Rattle.ck_types.specs.TokenLimits.{Ranges}
+use Rattle.ck_journal.specs.Histories.{History}
+use Rattle.ck_journal.specs.declared.calls.Call.{Call}
+use Rattle.ck_token.specs.TokenStates.{after}
+use Rattle.ck_run.specs.Devices.{Reading, Writing}
+use Rattle.ck_run.specs.Replies.{reply_text}
+use Rattle.ck_run.specs.Scripts.{meaning}
+use Rattle.ck_run.specs.declared.faults.PlayFault.{PlayFault}
+use Rattle.ck_run.specs.declared.faults.PlayFault.TheVariants as fault
+use Rattle.ck_run.specs.declared.scripts.Line.{Line}
+use Rattle.ck_run.specs.declared.scripts.Line.TheVariants as line
+
+-- ---- lines and their calls
+
+-- the lines without their ends; the last is the one that has no end yet, and is empty where the bytes end with a line end
+abbrev pub lines_in : List ℕ → List (List ℕ)
+lines_in bytes = slice_split (λ b. b == 10) bytes
+
+-- a caller and its call, before other calls
+abbrev pub with_call : Line → List (ℕ × Call) → List (ℕ × Call)
+with_call (line.Called caller call) calls = (caller, call) ∷ calls
+with_call other calls = calls
+
+-- the calls of lines, each with its caller
+abbrev pub calls_in : List (List ℕ) → List (ℕ × Call)
+calls_in [] = []
+calls_in (l ∷ lines) = with_call (meaning l) (calls_in lines)
+
+abbrev pub is_bad : Line → Bool
+is_bad line.Bad = true
+is_bad other = false
+
+-- no line is bad
+abbrev pub AreGood : List (List ℕ) → Type 0
+AreGood [] = Unit {0}
+AreGood (l ∷ lines) = (is_bad (meaning l) ≡ false) × AreGood lines
+
+-- ---- replies
+
+-- the texts of the replies of a history, the oldest first
+abbrev pub replies_text : History → List ℕ
+replies_text [] = []
+replies_text (e ∷ h) = replies_text h ++ reply_text e.reply
+
+-- the replies of a new token to the calls of these lines
+abbrev pub output_of : Ranges → List (List ℕ) → List ℕ
+output_of limits lines = replies_text (after limits [] (calls_in lines))
+
+-- ---- how playing ends: of the lines of what was read, whether the end was found, and what was written
+
+-- a line is over where another follows, or the end was found
+abbrev pub is_over : List (List ℕ) → Bool → Bool
+is_over [] ended = ended
+is_over (l ∷ later) ended = true
+
+-- all lines are answered
+pub record AllAnswered (limits : Ranges) (lines : List (List ℕ)) (ended : Bool) (output : List ℕ) : Type 0 where
+  pub end_found : ended ≡ true
+  pub good : AreGood lines
+  pub written : output ≡ output_of limits lines
+
+-- the line of this number is the first bad one, and those before it are answered
+pub record IsFirstBadLine (limits : Ranges) (lines : List (List ℕ)) (ended : Bool) (output : List ℕ) (number : ℕ) : Type 0 where
+  pub before : List (List ℕ)
+  pub bad : List ℕ
+  pub later : List (List ℕ)
+  pub parts : lines ≡ before ++ bad ∷ later
+  pub good : AreGood before
+  pub refused : is_bad (meaning bad) ≡ true
+  pub bad_number : number ≡ suc (length before)
+  pub over : (is_over later ended ≡ true) ⊎ (4194304 < length bad)
+  pub written : output ≡ output_of limits before
+
+-- all lines that are over are answered, where only further bytes or the end would end the last
+pub record IsUpToDate (limits : Ranges) (lines : List (List ℕ)) (ended : Bool) (output : List ℕ) : Type 0 where
+  pub before : List (List ℕ)
+  pub open_line : List ℕ
+  pub no_end : ended ≡ false
+  pub parts : lines ≡ before ++ open_line ∷ []
+  pub good : AreGood before
+  pub written : output ≡ output_of limits before
+
+-- the lines before one of them are answered
+pub record IsShort (limits : Ranges) (lines : List (List ℕ)) (output : List ℕ) : Type 0 where
+  pub before : List (List ℕ)
+  pub unanswered : List ℕ
+  pub later : List (List ℕ)
+  pub parts : lines ≡ before ++ unanswered ∷ later
+  pub good : AreGood before
+  pub written : output ≡ output_of limits before
+
+-- the lines before one of them are answered, and a beginning of the reply to this one is written
+pub record IsCutOff (limits : Ranges) (lines : List (List ℕ)) (ended : Bool) (output : List ℕ) : Type 0 where
+  pub before : List (List ℕ)
+  pub cut : List ℕ
+  pub later : List (List ℕ)
+  pub part : List ℕ
+  pub rest : List ℕ
+  pub parts : lines ≡ before ++ cut ∷ later
+  pub good : AreGood (before ++ cut ∷ [])
+  pub over : is_over later ended ≡ true
+  pub written : output ≡ output_of limits before ++ part
+  pub reply : output_of limits (before ++ cut ∷ []) ≡ output ++ rest
+
+-- of `play_with`'s result
+abbrev pub Outcome : Ranges → List (List ℕ) → Bool → List ℕ → Result (Unit {0}) PlayFault → Type 0
+Outcome limits lines ended output (Ok u) = AllAnswered limits lines ended output
+Outcome limits lines ended output (Err (fault.Line number)) = IsFirstBadLine limits lines ended output number
+Outcome limits lines ended output (Err fault.Read) = IsUpToDate limits lines ended output
+Outcome limits lines ended output (Err fault.Write) = IsCutOff limits lines ended output
+Outcome limits lines ended output (Err fault.Memory) = IsShort limits lines output
+Outcome limits lines ended output (Err fault.Turns) = IsUpToDate limits lines ended output
+
+-- ---- the devices
+
+-- one more where the condition holds
+abbrev pub one_if : Bool → ℕ → ℕ
+one_if true n = suc n
+one_if false n = n
+
+abbrev pub failed_reads : ℕ → Result (Unit {0}) PlayFault → ℕ
+failed_reads n (Err fault.Read) = suc n
+failed_reads n other = n
+
+abbrev pub failed_writes : ℕ → Result (Unit {0}) PlayFault → ℕ
+failed_writes n (Err fault.Write) = suc n
+failed_writes n other = n
+
+-- how many reads were made of those allowed: all of them where the reader doesn't end
+abbrev pub AreReads : ℕ → ℕ → Result (Unit {0}) PlayFault → Type 0
+AreReads turns reads (Err fault.Turns) = reads ≡ turns
+AreReads turns reads other = reads ≤ turns
+
+-- what was read and written by a call that began where so much had been, and what it answered
+pub record IsPlayed (limits : Ranges) (turns : ℕ) (read : Reading) (written : Writing)
+    (is_read : Reading → Type 0) (is_written : Writing → Type 0) (result : Result (Unit {0}) PlayFault) : Type 0 where
+  pub script : List ℕ
+  pub ended : Bool
+  pub reads : ℕ
+  pub output : List ℕ
+  pub reader : is_read (record { bytes = read.bytes ++ script; reads = read.reads + reads; ends = one_if ended read.ends; failures = failed_reads read.failures result })
+  pub writer : is_written (record { bytes = written.bytes ++ output; failures = failed_writes written.failures result })
+  pub within : AreReads turns reads result
+  pub outcome : Outcome limits (lines_in script) ended output result

@@ -1,0 +1,309 @@
+use crate::scripts::{Line, meaning_of};
+use ck_journal::Call;
+use ck_types::Pin;
+use std::alloc::Global;
+use std::process::Abort;
+use std::test::Fail;
+
+fn assert_meanings(rt: &impl Abort, alloc: Global, meanings: &[(&str, &str)]) -> Result<(), Fail> {
+    for (text, want) in meanings {
+        let line = meaning_of(alloc, text.as_bytes())?;
+        let shown = format!(in alloc; "{line:?}")?;
+        assert_eq!(rt; shown.as_str(), *want, "{text}");
+    }
+    Ok(())
+}
+
+fn assert_all_bad(rt: &impl Abort, alloc: Global, lines: &[&str]) -> Result<(), Fail> {
+    for text in lines {
+        assert!(rt;
+            matches!(meaning_of(alloc, text.as_bytes())?, Line::Bad),
+            "{text}"
+        );
+    }
+    Ok(())
+}
+
+#[test]
+fn lines_have_their_meanings(rt: HostRuntime) -> Result<(), Fail> {
+    assert_meanings(
+        &rt,
+        rt.alloc(),
+        &[
+            ("", "Skipped"),
+            ("#", "Skipped"),
+            ("# 1 OpenSession 6", "Skipped"),
+            (
+                "1 OpenSession 6",
+                "Called { caller: 1, call: OpenSession { flags: 6 } }",
+            ),
+            (
+                "8 OpenSession 0",
+                "Called { caller: 8, call: OpenSession { flags: 0 } }",
+            ),
+            (
+                "1 OpenSession 1a",
+                "Called { caller: 1, call: OpenSession { flags: 26 } }",
+            ),
+            (
+                "1 OpenSession ffffffffffffffff",
+                "Called { caller: 1, call: OpenSession { flags: 18446744073709551615 } }",
+            ),
+            (
+                "1 CloseSession 0",
+                "Called { caller: 1, call: CloseSession { session: 0 } }",
+            ),
+            (
+                "1 CloseSession 10",
+                "Called { caller: 1, call: CloseSession { session: 10 } }",
+            ),
+            (
+                "1 CloseSession 18446744073709551615",
+                "Called { caller: 1, call: CloseSession { session: 18446744073709551615 } }",
+            ),
+            (
+                "1 CloseAllSessions",
+                "Called { caller: 1, call: CloseAllSessions }",
+            ),
+            (
+                "1 Logout 5",
+                "Called { caller: 1, call: Logout { session: 5 } }",
+            ),
+            (
+                "1 GetSessionInfo 5",
+                "Called { caller: 1, call: GetSessionInfo { session: 5 } }",
+            ),
+            ("2 GetTokenInfo", "Called { caller: 2, call: GetTokenInfo }"),
+            (
+                "1 CreateObject 2 -",
+                "Called { caller: 1, call: CreateObject { session: 2, template: Template { items: Sequence { items: [] } } } }",
+            ),
+            (
+                "1 CreateObject 2 3=-",
+                "Called { caller: 1, call: CreateObject { session: 2, template: Template { items: Sequence { items: [Item { kind: 3, value: Sequence { items: [] } }] } } } }",
+            ),
+            (
+                "1 CreateObject 2 10a=6bC0,3=00",
+                "Called { caller: 1, call: CreateObject { session: 2, template: Template { items: Sequence { items: [Item { kind: 266, value: Sequence { items: [107, 192] } }, Item { kind: 3, value: Sequence { items: [0] } }] } } } }",
+            ),
+            (
+                "1 GetAttributeValue 2 3 -",
+                "Called { caller: 1, call: GetAttributeValue { session: 2, object: 3, queries: Sequence { items: [] } } }",
+            ),
+            (
+                "1 GetAttributeValue 2 3 11:?,0:10",
+                "Called { caller: 1, call: GetAttributeValue { session: 2, object: 3, queries: Sequence { items: [AttributeQuery { kind: 17, room: None }, AttributeQuery { kind: 0, room: Some(10) }] } } }",
+            ),
+            (
+                "1 DestroyObject 2 3",
+                "Called { caller: 1, call: DestroyObject { session: 2, object: 3 } }",
+            ),
+        ],
+    )
+}
+
+#[test]
+fn malformed_lines_are_bad(rt: HostRuntime) -> Result<(), Fail> {
+    assert_all_bad(
+        &rt,
+        rt.alloc(),
+        &[
+            "1 OpenSession E",
+            "1 OpenSession 06",
+            "1  OpenSession 6",
+            "1 OpenSession 6 ",
+            "1 OpenSession 6\r",
+            "9 OpenSession 6",
+            "1 CloseSession 18446744073709551616",
+            "1 CreateObject 1 0=",
+            "1 CreateObject 1 3=61,",
+            "1 InitToken 3",
+            // words
+            " ",
+            "\r",
+            "1",
+            "1 ",
+            "-",
+            " 1 OpenSession 6",
+            " #",
+            "1 OpenSession",
+            "1 OpenSession ",
+            "1 OpenSession 6 6",
+            "1\tOpenSession 6",
+            // callers and names
+            "0 OpenSession 6",
+            "01 OpenSession 6",
+            "10 OpenSession 6",
+            "+1 OpenSession 6",
+            "x OpenSession 6",
+            "18446744073709551617 OpenSession 6",
+            "1 openSession 6",
+            "1 OpenSessions 6",
+            "1  6",
+            "1 Open 6",
+            "1 InitPin 1 31323334",
+            "1 SetPin 1 31323334 31323334",
+            "1 CloseAllSession",
+            "1 InitPINInitPIN",
+            // logins, logouts and information
+            "1 InitPIN 1",
+            "1 InitPIN 31323334",
+            "1 InitPIN 1 313",
+            "1 InitPIN x 31323334",
+            "1 InitPIN 1 31323334 31323334",
+            "1 SetPIN 1 31323334",
+            "1 SetPIN 1 31323334 3132333",
+            "1 SetPIN 1 3132333 31323334",
+            "1 SetPIN 01 31323334 31323334",
+            "1 SetPIN 1 31323334 31323334 31323334",
+            "1 Login 1 31323334",
+            "1 Login 1 01 31323334",
+            "1 Login 1 a 31323334",
+            "1 Login 1 1 1",
+            "1 Login 1 1 31323334 1",
+            "1 Logout",
+            "1 Logout 1 1",
+            "1 Logout a",
+            "1 GetSessionInfo",
+            "1 GetSessionInfo 1 1",
+            "1 GetTokenInfo ",
+            "1 GetTokenInfo 1",
+            "1 CloseAllSessions ",
+            "1 CloseAllSessions 1",
+            // numbers and code numbers
+            "1 CloseSession 07",
+            "1 CloseSession 00",
+            "1 CloseSession a",
+            "1 CloseSession +1",
+            "1 CloseSession -1",
+            "1 CloseSession -",
+            "1 CloseSession 1.0",
+            "1 CloseSession 1é",
+            "1 OpenSession 00",
+            "1 OpenSession 0x6",
+            "1 OpenSession +6",
+            "1 OpenSession g",
+            "1 OpenSession 10000000000000000",
+            // bytes
+            "1 InitToken",
+            "1 InitToken ",
+            "1 InitToken 313",
+            "1 InitToken 3g",
+            "1 InitToken --",
+            "1 InitToken ?",
+            "1 InitToken 31 32",
+            "1 InitToken 31323334 -",
+            // templates
+            "1 CreateObject 1",
+            "1 CreateObject 1 ",
+            "1 CreateObject 1 ,",
+            "1 CreateObject 1 3=61,,3=61",
+            "1 CreateObject 1 ,3=61",
+            "1 CreateObject 1 -,3=61",
+            "1 CreateObject 1 3",
+            "1 CreateObject 1 3=6",
+            "1 CreateObject 1 3=616",
+            "1 CreateObject 1 =61",
+            "1 CreateObject 1 03=61",
+            "1 CreateObject 1 10A=61",
+            "1 CreateObject 1 3:61",
+            "1 CreateObject 1 3=61=62",
+            "1 CreateObject 01 -",
+            "1 CreateObject 1 - -",
+            // queries
+            "1 GetAttributeValue 1 1",
+            "1 GetAttributeValue 1 1 11",
+            "1 GetAttributeValue 1 1 11:",
+            "1 GetAttributeValue 1 1 11:-",
+            "1 GetAttributeValue 1 1 11:08",
+            "1 GetAttributeValue 1 1 11:a",
+            "1 GetAttributeValue 1 1 11:??",
+            "1 GetAttributeValue 1 1 :8",
+            "1 GetAttributeValue 1 1 11=8",
+            "1 GetAttributeValue 1 1 11:8,",
+            "1 GetAttributeValue 1 1 11:8:8",
+            "1 GetAttributeValue 1 1 3:8 -",
+            "1 GetAttributeValue 1 1 11:18446744073709551616",
+            "1 GetAttributeValue 1 01 -",
+            "1 DestroyObject 1",
+            "1 DestroyObject 1 1 1",
+            "1 DestroyObject 1 01",
+        ],
+    )
+}
+
+#[test]
+fn a_pin_is_read_as_its_length_and_digest(rt: HostRuntime) -> Result<(), Fail> {
+    // the SHA-256 digests of `abc` and of nothing
+    let pins = [
+        (
+            "3 InitToken 616263",
+            3,
+            "ba7816bf8f01cfea414140de5dae2223b00361a396177a9cb410ff61f20015ad",
+        ),
+        (
+            "3 InitToken -",
+            0,
+            "e3b0c44298fc1c149afbf4c8996fb92427ae41e4649b934ca495991b7852b855",
+        ),
+    ];
+    for (text, len, tag) in pins {
+        let Line::Called {
+            caller: 3,
+            call: Call::InitToken { pin },
+        } = meaning_of(rt.alloc(), text.as_bytes())?
+        else {
+            return Err(Fail::new("no call"));
+        };
+        assert_eq!(rt; pin.len, len);
+        assert_eq!(rt; hex::encode(rt.alloc(), pin.tag)?.as_str(), tag);
+    }
+    Ok(())
+}
+
+#[test]
+fn pins_stand_in_their_order(rt: HostRuntime) -> Result<(), Fail> {
+    let old = Pin::of(b"old PIN");
+    let new = Pin::of(b"newest PIN");
+    let rows = [
+        (
+            "1 InitPIN 2 6f6c642050494e",
+            Call::InitPin {
+                session: 2,
+                pin: old,
+            },
+        ),
+        (
+            "1 SetPIN 2 6f6c642050494e 6e65776573742050494E",
+            Call::SetPin {
+                session: 2,
+                old,
+                new,
+            },
+        ),
+        (
+            "1 Login 2 18446744073709551615 6e65776573742050494e",
+            Call::Login {
+                session: 2,
+                user: u64::MAX,
+                pin: new,
+            },
+        ),
+    ];
+    for (text, call) in rows {
+        let want = Line::Called { caller: 1, call };
+        let line = meaning_of(rt.alloc(), text.as_bytes())?;
+        let shown = format!(in rt.alloc(); "{line:?}")?;
+        assert_eq!(rt; shown, format!(in rt.alloc(); "{want:?}")?, "{text}");
+    }
+    Ok(())
+}
+
+#[test]
+fn the_longest_line_is_of_4194304_bytes(rt: HostRuntime) -> Result<(), Fail> {
+    let mut line = vec![in rt.alloc(); b'#'; 4_194_304]?;
+    assert!(rt; matches!(meaning_of(rt.alloc(), line.as_slice())?, Line::Skipped));
+    line.push(b'#')?;
+    assert!(rt; matches!(meaning_of(rt.alloc(), line.as_slice())?, Line::Bad));
+    Ok(())
+}
