@@ -44,9 +44,17 @@ abbrev pub create_object_in : List (List ℕ) → Option Call
 create_object_in =
     with_two (λ session template. both (λ s items. call.CreateObject s (record { items = items })) (number_in session) (template_in template))
 
+abbrev pub copy_object_in : List (List ℕ) → Option Call
+copy_object_in =
+    with_three (λ session object template. all_three (λ s o items. call.CopyObject s o (record { items = items })) (number_in session) (number_in object) (template_in template))
+
 abbrev pub get_attribute_value_in : List (List ℕ) → Option Call
 get_attribute_value_in =
     with_three (λ session object queries. all_three (λ s o q. call.GetAttributeValue s o q) (number_in session) (number_in object) (queries_in queries))
+
+abbrev pub set_attribute_value_in : List (List ℕ) → Option Call
+set_attribute_value_in =
+    with_three (λ session object template. all_three (λ s o items. call.SetAttributeValue s o (record { items = items })) (number_in session) (number_in object) (template_in template))
 
 abbrev pub destroy_object_in : List (List ℕ) → Option Call
 destroy_object_in = with_two (λ session object. both call.DestroyObject (number_in session) (number_in object))
@@ -55,7 +63,9 @@ destroy_object_in = with_two (λ session object. both call.DestroyObject (number
 abbrev pub object_call_in : List ℕ → List (List ℕ) → Option Call
 object_call_in name arguments =
     if same_bytes name (codes "CreateObject") then create_object_in arguments
+    else if same_bytes name (codes "CopyObject") then copy_object_in arguments
     else if same_bytes name (codes "GetAttributeValue") then get_attribute_value_in arguments
+    else if same_bytes name (codes "SetAttributeValue") then set_attribute_value_in arguments
     else if same_bytes name (codes "DestroyObject") then destroy_object_in arguments
     else None
 

@@ -1,5 +1,5 @@
 ghost use Rattle.std.specs.Prelude.{◌≡◌, IfOk};
-ghost use Rattle.ck_run.specs.Scripts.{init_token_in, init_pin_in, set_pin_in, open_session_in, close_session_in, close_all_sessions_in, login_in, logout_in, get_session_info_in, get_token_info_in, create_object_in, get_attribute_value_in, destroy_object_in, object_call_in, session_call_in, call_in, caller_in, words_meaning, meaning};
+ghost use Rattle.ck_run.specs.Scripts.{init_token_in, init_pin_in, set_pin_in, open_session_in, close_session_in, close_all_sessions_in, login_in, logout_in, get_session_info_in, get_token_info_in, create_object_in, copy_object_in, get_attribute_value_in, set_attribute_value_in, destroy_object_in, object_call_in, session_call_in, call_in, caller_in, words_meaning, meaning};
 
 use crate::arguments::{code_number_in, list_in, number_in, pin_in};
 use crate::parts::Parts;
@@ -134,6 +134,25 @@ fn create_object_in(alloc: Global, arguments: Parts) -> Result<Option<Call>, NoM
     }
 }
 
+fn copy_object_in(alloc: Global, arguments: Parts) -> Result<Option<Call>, NoMemory>
+    ensures { IfOk result (λ call. call ≡ copy_object_in arguments.entry) }
+{
+    let Some((session, object, template)) = arguments.three() else {
+        return Ok(None);
+    };
+    let (Some(session), Some(object)) = (number_in(session), number_in(object)) else {
+        return Ok(None);
+    };
+    match list_in(alloc, template)? {
+        Some(items) => Ok(Some(Call::CopyObject {
+            session,
+            object,
+            template: Template { items },
+        })),
+        None => Ok(None),
+    }
+}
+
 fn get_attribute_value_in(alloc: Global, arguments: Parts) -> Result<Option<Call>, NoMemory>
     ensures { IfOk result (λ call. call ≡ get_attribute_value_in arguments.entry) }
 {
@@ -148,6 +167,25 @@ fn get_attribute_value_in(alloc: Global, arguments: Parts) -> Result<Option<Call
             session,
             object,
             queries,
+        })),
+        None => Ok(None),
+    }
+}
+
+fn set_attribute_value_in(alloc: Global, arguments: Parts) -> Result<Option<Call>, NoMemory>
+    ensures { IfOk result (λ call. call ≡ set_attribute_value_in arguments.entry) }
+{
+    let Some((session, object, template)) = arguments.three() else {
+        return Ok(None);
+    };
+    let (Some(session), Some(object)) = (number_in(session), number_in(object)) else {
+        return Ok(None);
+    };
+    match list_in(alloc, template)? {
+        Some(items) => Ok(Some(Call::SetAttributeValue {
+            session,
+            object,
+            template: Template { items },
         })),
         None => Ok(None),
     }
@@ -168,8 +206,12 @@ fn object_call_in(alloc: Global, name: &[u8], arguments: Parts) -> Result<Option
 {
     if name == b"CreateObject".as_slice() {
         create_object_in(alloc, arguments)
+    } else if name == b"CopyObject".as_slice() {
+        copy_object_in(alloc, arguments)
     } else if name == b"GetAttributeValue".as_slice() {
         get_attribute_value_in(alloc, arguments)
+    } else if name == b"SetAttributeValue".as_slice() {
+        set_attribute_value_in(alloc, arguments)
     } else if name == b"DestroyObject".as_slice() {
         Ok(destroy_object_in(arguments))
     } else {
