@@ -6,6 +6,9 @@ mod calls;
 mod journals;
 mod views;
 
+#[cfg(test)]
+mod tests;
+
 pub use calls::{Answer, AttributeQuery, Body, Call, Entry, Reply};
 pub use journals::Journal;
 pub use views::View;

@@ -4,4 +4,7 @@
 mod rows;
 mod session_table;
 
+#[cfg(test)]
+mod tests;
+
 pub use session_table::{Credential, Session, Sessions};

@@ -5,5 +5,8 @@ mod queries;
 mod runs;
 mod tokens;
 
+#[cfg(test)]
+mod tests;
+
 pub use runs::{Stopped, run};
 pub use tokens::Token;
