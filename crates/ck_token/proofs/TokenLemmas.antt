@@ -31,29 +31,29 @@ use Rattle.ck_token.specs.TokenStates.{TokenState, entry_of}
 module _ (limits : Ranges) (h : History) (s : SessionsState) (o : StoreState) (agree : TokenAgrees limits h s o) where
   -- one more entry, with parts that agree with it
   pub TokenAgrees-entered : (caller : ℕ) (call : Call) (reply : Reply) (entries : History) (s' : SessionsState) (o' : StoreState) → reply ≡ answer limits h call
-    → entries ≡ record { caller = caller; call = call; reply = reply } ∷ h
-    → SessionsAgree (entry_of limits h caller call ∷ h) s' → StoreAgrees (entry_of limits h caller call ∷ h) o' → s'.limit ≡ s.limit → TokenAgrees limits entries s' o'
+      → entries ≡ record { caller = caller; call = call; reply = reply } ∷ h
+      → SessionsAgree (entry_of limits h caller call ∷ h) s' → StoreAgrees (entry_of limits h caller call ∷ h) o' → s'.limit ≡ s.limit → TokenAgrees limits entries s' o'
   TokenAgrees-entered caller call reply entries s' o' answered entered sessions objects limit =
-    let is : entries ≡ entry_of limits h caller call ∷ h = entered ∙ ap (λ r. record { caller = caller; call = call; reply = r } ∷ h) answered in
-    rw is (record { legal = (refl, agree.legal); sessions = sessions; objects = objects; room = limit ∙ agree.room })
+      let is : entries ≡ entry_of limits h caller call ∷ h = entered ∙ ap (λ r. record { caller = caller; call = call; reply = r } ∷ h) answered in
+      rw is (record { legal = (refl, agree.legal); sessions = sessions; objects = objects; room = limit ∙ agree.room })
 
   -- one more entry of a call that is answered OK, with parts that agree with it
   pub TokenAgrees-done : (caller : ℕ) (call : Call) (body : Body) (reply : Reply) (entries : History) (s' : SessionsState) (o' : StoreState) → answer limits h call ≡ ok body
-    → reply ≡ ok body → entries ≡ record { caller = caller; call = call; reply = reply } ∷ h
-    → (done (entry_of limits h caller call) ≡ Some call → SessionsAgree (entry_of limits h caller call ∷ h) s')
-    → (done (entry_of limits h caller call) ≡ Some call → StoreAgrees (entry_of limits h caller call ∷ h) o') → s'.limit ≡ s.limit → TokenAgrees limits entries s' o'
+      → reply ≡ ok body → entries ≡ record { caller = caller; call = call; reply = reply } ∷ h
+      → (done (entry_of limits h caller call) ≡ Some call → SessionsAgree (entry_of limits h caller call ∷ h) s')
+      → (done (entry_of limits h caller call) ≡ Some call → StoreAgrees (entry_of limits h caller call ∷ h) o') → s'.limit ≡ s.limit → TokenAgrees limits entries s' o'
   TokenAgrees-done caller call body reply entries s' o' answered same entered sessions objects limit =
-    let d : done (entry_of limits h caller call) ≡ Some call = ap (λ (r : Reply). cond (is_ok r.rv) (Some call) None) answered in
-    TokenAgrees-entered caller call reply entries s' o' (same ∙ sym answered) entered (sessions d) (objects d) limit
+      let d : done (entry_of limits h caller call) ≡ Some call = ap (λ (r : Reply). cond (is_ok r.rv) (Some call) None) answered in
+      TokenAgrees-entered caller call reply entries s' o' (same ∙ sym answered) entered (sessions d) (objects d) limit
 
   -- one more entry that changes nothing else
   pub TokenAgrees-left : (caller : ℕ) (call : Call) (reply : Reply) (entries : History) → reply ≡ answer limits h call
-    → entries ≡ record { caller = caller; call = call; reply = reply } ∷ h
-    → leaves_sessions (done (entry_of limits h caller call)) ≡ true → leaves_objects (done (entry_of limits h caller call)) ≡ true
-    → ((u : UserType) → is_about u h (wrong_try (entry_of limits h caller call)) ≡ false) → TokenAgrees limits entries s o
+      → entries ≡ record { caller = caller; call = call; reply = reply } ∷ h
+      → leaves_sessions (done (entry_of limits h caller call)) ≡ true → leaves_objects (done (entry_of limits h caller call)) ≡ true
+      → ((u : UserType) → is_about u h (wrong_try (entry_of limits h caller call)) ≡ false) → TokenAgrees limits entries s o
   TokenAgrees-left caller call reply entries answered entered sessions objects tries =
-    TokenAgrees-entered caller call reply entries s o answered entered
-    (SessionsAgree-left h s agree.sessions (entry_of limits h caller call) sessions tries) (StoreAgrees-left h o agree.objects (entry_of limits h caller call) objects) refl
+      TokenAgrees-entered caller call reply entries s o answered entered
+      (SessionsAgree-left h s agree.sessions (entry_of limits h caller call) sessions tries) (StoreAgrees-left h o agree.objects (entry_of limits h caller call) objects) refl
 
 -- ---- refusals
 

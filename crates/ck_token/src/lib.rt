@@ -3,10 +3,9 @@
 
 mod queries;
 mod runs;
-mod tokens;
-
 #[cfg(test)]
 mod tests;
+mod tokens;
 
 pub use runs::{Stopped, run};
 pub use tokens::Token;

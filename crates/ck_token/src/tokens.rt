@@ -12,7 +12,6 @@ use ck_types::{Limits, NoMemory, Record, Rv, UserType};
 use std::alloc::Global;
 use std::marker::Model;
 
-
 mod object_calls;
 mod pin_calls;
 mod session_calls;

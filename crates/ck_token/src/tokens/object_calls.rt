@@ -1,12 +1,11 @@
 ghost use Rattle.std.specs.Prelude.{◌≡◌, ◌<◌, ◌^◌};
 ghost use Rattle.ck_journal.specs.Objects.{handle_with};
 
+use super::{Token, done, is_user_in};
+use crate::queries::queries_reply;
 use ck_journal::{AttributeQuery, Body, Call, Entry, Reply, View};
 use ck_types::{Attribute, NoMemory, Record, Refusal, Rv, Sequence, Template};
 use std::alloc::Global;
-
-use super::{Token, done, is_user_in};
-use crate::queries::queries_reply;
 
 /// How far the handles of private objects move with each login of the user.
 const LOGIN_STEP: u64 = 0x1_0000_0000;
@@ -235,10 +234,8 @@ impl Token {
         object: u64,
         template: &Template,
     ) -> Result<Record, Refusal>
-        ensures {
-            IsMadeOrShort (copy_object_error self.now.limits self.now.history session object template.now.items)
-              (with_given template.now.items (named_attributes self.now.history object)) result
-        }
+        ensures { IsMadeOrShort (copy_object_error self.now.limits self.now.history session object template.now.items)
+            (with_given template.now.items (named_attributes self.now.history object)) result }
     {
         if !self.has_session(session) {
             return Err(Refusal::Code(Rv::SessionHandleInvalid));
@@ -263,12 +260,10 @@ impl Token {
         template: &Template,
     ) -> Result<Record, Refusal>
         requires { is_open self.now.history session ≡ true }
-        ensures {
-            IsMadeOrShort (first_of (copied_error source.now template.now.items
-              ∷ placement_error self.now.history session (with_given template.now.items source.now)
-              ∷ creations_error self.now.limits self.now.history ∷ []))
-              (with_given template.now.items source.now) result
-        }
+        ensures { IsMadeOrShort (first_of (copied_error source.now template.now.items
+            ∷ placement_error self.now.history session (with_given template.now.items source.now)
+            ∷ creations_error self.now.limits self.now.history ∷ []))
+            (with_given template.now.items source.now) result }
     {
         match source.copied(alloc, template) {
             Err(Refusal::Memory) => Err(Refusal::Memory),
@@ -364,10 +359,8 @@ impl Token {
         object: u64,
         template: &Template,
     ) -> Result<Record, Refusal>
-        ensures {
-            IsMade (set_attribute_value_error self.now.history session object template.now.items)
-              (with_given template.now.items (named_attributes self.now.history object)) result
-        }
+        ensures { IsMade (set_attribute_value_error self.now.history session object template.now.items)
+            (with_given template.now.items (named_attributes self.now.history object)) result }
     {
         if !self.has_session(session) {
             return Err(Refusal::Code(Rv::SessionHandleInvalid));
@@ -415,7 +408,12 @@ impl Token {
         Ok(done(Body::Empty))
     }
 
-    pub(super) fn destroy_object(&mut self, caller: u32, session: u64, object: u64) -> Result<Reply, NoMemory>
+    pub(super) fn destroy_object(
+        &mut self,
+        caller: u32,
+        session: u64,
+        object: u64,
+    ) -> Result<Reply, NoMemory>
         ensures answered { IfOk result (λ reply. IsAnswered self.old self.new caller (call.DestroyObject session object) reply) }
         ensures unchanged { OnErr result (IsUnchanged self.old self.new) }
     {

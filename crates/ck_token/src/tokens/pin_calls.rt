@@ -2,10 +2,9 @@ ghost use Rattle.std.specs.Prelude.{◌≡◌};
 ghost use Rattle.ck_journal.specs.Answers.{is_so_state, logged_in_error};
 ghost use Rattle.ck_journal.specs.Pins.{is_pin, pin_owner};
 
+use super::{Token, done};
 use ck_journal::{Body, Call, Entry, Reply};
 use ck_types::{NoMemory, Pin, Rv, SessionState, UserType};
-
-use super::{Token, done};
 
 /// How many wrong tries lock a user.
 const MOST_TRIES: u64 = 3;

@@ -2,10 +2,9 @@ ghost use Rattle.std.specs.Prelude.{◌≡◌};
 ghost use Rattle.ck_types.specs.Users.{session_state};
 ghost use Rattle.ck_journal.specs.Sessions.{has_rw_flag};
 
+use super::{Token, done};
 use ck_journal::{Body, Call, Entry, Reply};
 use ck_types::{NoMemory, Rv, SessionState, TokenFlags, UserType};
-
-use super::{Token, done};
 
 /// CKF_RW_SESSION (PKCS #11 Base 3.0, Session types).
 const RW_SESSION: u64 = 2;
@@ -161,11 +160,7 @@ impl Token {
         }
     }
 
-    pub(super) fn get_session_info(
-        &mut self,
-        caller: u32,
-        session: u64,
-    ) -> Result<Reply, NoMemory>
+    pub(super) fn get_session_info(&mut self, caller: u32, session: u64) -> Result<Reply, NoMemory>
         ensures answered { IfOk result (λ reply. IsAnswered self.old self.new caller (call.GetSessionInfo session) reply) }
         ensures unchanged { OnErr result (IsUnchanged self.old self.new) }
     {

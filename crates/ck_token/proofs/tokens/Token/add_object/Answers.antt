@@ -16,11 +16,11 @@ invariant_of-self-2 c =
     let view = rw (← c.self.view_is) at c.view.ensures.view in
     let count = rw (← c.self.view_is) at c.creations-number.ensures in
     let handle : c.new_handle-handle.result ≡ new_handle h c.args.attributes =
-      c.new_handle-handle.ensures ∙ ap (λ v. handle_with v c.args.attributes (c.creations-number.result + 1)) view
-      ∙ ap (handle_with (view_of h) c.args.attributes) (ap (λ n. n + 1) count ∙ add-one (creations h)) in
+    c.new_handle-handle.ensures ∙ ap (λ v. handle_with v c.args.attributes (c.creations-number.result + 1)) view
+    ∙ ap (handle_with (view_of h) c.args.attributes) (ap (λ n. n + 1) count ∙ add-one (creations h)) in
     TokenAgrees-done c.self.inside.limits h c.self.inside.sessions c.self.inside.objects c.self.invariant
-      c.args.caller c.args.call (body.Handle (new_handle h c.args.attributes)) c.done.result c.push_reserved.new.self.entries _ _ answered
-      (c.done.ensures ∙ ap (λ n. ok (body.Handle n)) handle) (c.push_reserved.ensures.entries ∙ rw c.in_ok-reserve-2.ensures.entries)
-      (λ d. SessionsAgree-done h _ c.self.invariant.sessions _ c.args.call d (leaves_sessions-creation c.args.call c.requires.creation))
-      (λ d. c.create.ensures.agree h _ c.args.call d c.requires.creation c.requires.session attributes objects)
-      refl
+    c.args.caller c.args.call (body.Handle (new_handle h c.args.attributes)) c.done.result c.push_reserved.new.self.entries _ _ answered
+    (c.done.ensures ∙ ap (λ n. ok (body.Handle n)) handle) (c.push_reserved.ensures.entries ∙ rw c.in_ok-reserve-2.ensures.entries)
+    (λ d. SessionsAgree-done h _ c.self.invariant.sessions _ c.args.call d (leaves_sessions-creation c.args.call c.requires.creation))
+    (λ d. c.create.ensures.agree h _ c.args.call d c.requires.creation c.requires.session attributes objects)
+    refl

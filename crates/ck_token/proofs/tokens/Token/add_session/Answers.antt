@@ -12,8 +12,8 @@ invariant_of-self-2 c =
     let h = c.self.inside.journal.entries in
     let error = rw (← c.self.view_is) at c.requires in
     TokenAgrees-done c.self.inside.limits h c.self.inside.sessions c.self.inside.objects c.self.invariant
-      c.args.caller (call.OpenSession c.args.flags) (body.Handle (suc (openings h))) c.done.result c.push_reserved.new.self.entries _ _ (ap (λ e. unless e (ok (body.Handle (suc (openings h))))) error)
-      (c.done.ensures ∙ rw (c.open_session-handle.ensures.handle, c.self.invariant.sessions.openings, add-one)) (c.push_reserved.ensures.entries ∙ rw c.in_ok-reserve.ensures.entries)
-      (λ d. c.open_session-handle.ensures.agree h _ d c.self.invariant.sessions)
-      (λ d. StoreAgrees-done h _ c.self.invariant.objects _ (call.OpenSession c.args.flags) d refl)
-      c.open_session-handle.ensures.limit
+    c.args.caller (call.OpenSession c.args.flags) (body.Handle (suc (openings h))) c.done.result c.push_reserved.new.self.entries _ _ (ap (λ e. unless e (ok (body.Handle (suc (openings h))))) error)
+    (c.done.ensures ∙ rw (c.open_session-handle.ensures.handle, c.self.invariant.sessions.openings, add-one)) (c.push_reserved.ensures.entries ∙ rw c.in_ok-reserve.ensures.entries)
+    (λ d. c.open_session-handle.ensures.agree h _ d c.self.invariant.sessions)
+    (λ d. StoreAgrees-done h _ c.self.invariant.objects _ (call.OpenSession c.args.flags) d refl)
+    c.open_session-handle.ensures.limit

@@ -13,8 +13,8 @@ invariant_of-self-2 c =
     let about_user = subst (λ (t : TokenState). about t.history (Some c.args.call) ≡ Some c.args.user) (sym c.self.view_is) c.requires.about in
     let d = done-wrong c.self.inside.limits h c.args.caller c.args.call answered in
     TokenAgrees-entered c.self.inside.limits h c.self.inside.sessions c.self.inside.objects c.self.invariant
-      c.args.caller c.args.call c.refusal.result c.push_reserved.new.self.entries _ _ (c.refusal.ensures ∙ sym answered)
-      (c.push_reserved.ensures.entries ∙ rw c.in_ok-reserve.ensures.entries)
-      (c.count_wrong_try.ensures.agree h _ d (about-wrong c.self.inside.limits h c.args.caller c.args.call answered c.args.user about_user) c.self.invariant.sessions)
-      (StoreAgrees-left h c.self.inside.objects c.self.invariant.objects (entry_of c.self.inside.limits h c.args.caller c.args.call) (ap leaves_objects d))
-      c.count_wrong_try.ensures.limit
+    c.args.caller c.args.call c.refusal.result c.push_reserved.new.self.entries _ _ (c.refusal.ensures ∙ sym answered)
+    (c.push_reserved.ensures.entries ∙ rw c.in_ok-reserve.ensures.entries)
+    (c.count_wrong_try.ensures.agree h _ d (about-wrong c.self.inside.limits h c.args.caller c.args.call answered c.args.user about_user) c.self.invariant.sessions)
+    (StoreAgrees-left h c.self.inside.objects c.self.invariant.objects (entry_of c.self.inside.limits h c.args.caller c.args.call) (ap leaves_objects d))
+    c.count_wrong_try.ensures.limit

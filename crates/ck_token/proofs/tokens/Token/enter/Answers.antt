@@ -9,5 +9,5 @@ invariant_of-self-2 c =
     let objects = rw (← c.self.view_is) at c.requires.objects in
     let tries = rw (← c.self.view_is) at c.requires.tries in
     TokenAgrees-left c.self.inside.limits c.self.inside.journal.entries c.self.inside.sessions c.self.inside.objects c.self.invariant
-      c.args.caller c.args.call c.args.entered c.push_reserved.new.self.entries (c.requires.same ∙ answered)
-      (c.push_reserved.ensures.entries ∙ rw c.in_ok-reserve.ensures.entries) sessions objects tries
+    c.args.caller c.args.call c.args.entered c.push_reserved.new.self.entries (c.requires.same ∙ answered)
+    (c.push_reserved.ensures.entries ∙ rw c.in_ok-reserve.ensures.entries) sessions objects tries
