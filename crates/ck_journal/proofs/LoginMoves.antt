@@ -53,14 +53,14 @@ module _ (e : Entry) (h : History) where
   -- where the open sessions stay and the call leaves the login, it stays
   pub login-same : open_sessions (e ∷ h) ≡ open_sessions h → login_after (done e) (login h) ≡ login h → login (e ∷ h) ≡ login h
   login-same sessions after =
-    ap (λ s. cond (length s == 0) None (login_after (done e) (login h))) sessions
-    ∙ ap (cond (length (open_sessions h) == 0) None) after
-    ∙ login_test (length (open_sessions h) == 0) (login h) (login-none h)
+      ap (λ s. cond (length s == 0) None (login_after (done e) (login h))) sessions
+      ∙ ap (cond (length (open_sessions h) == 0) None) after
+      ∙ login_test (length (open_sessions h) == 0) (login h) (login-none h)
 
   -- a logout logs out whatever sessions are open
   pub login-logged_out : (session : ℕ) → done e ≡ Some (call.Logout session) → login (e ∷ h) ≡ None
   login-logged_out session d =
-    ap (λ o. cond (length (open_sessions (e ∷ h)) == 0) None (login_after o (login h))) d ∙ none_twice (length (open_sessions (e ∷ h)) == 0)
+      ap (λ o. cond (length (open_sessions (e ∷ h)) == 0) None (login_after o (login h))) d ∙ none_twice (length (open_sessions (e ∷ h)) == 0)
 
   pub user_logins-step : (o : Option Call) → done e ≡ o → user_logins (e ∷ h) ≡ cond (logs_user_in o) (suc (user_logins h)) (user_logins h)
   user_logins-step o d = ap (λ x. cond (logs_user_in x) (suc (user_logins h)) (user_logins h)) d
@@ -76,10 +76,10 @@ module _ (e : Entry) (h : History) where
   -- ---- tries
 
   pub tries-step : (u : UserType) (o w : Option Call) → done e ≡ o → wrong_try e ≡ w
-    → tries u (e ∷ h) ≡ cond (resets u h o) 0 (cond (is_about u h w) (suc (tries u h)) (tries u h))
+      → tries u (e ∷ h) ≡ cond (resets u h o) 0 (cond (is_about u h w) (suc (tries u h)) (tries u h))
   tries-step u o w d x =
-    ap (λ o. cond (resets u h o) 0 (cond (is_about u h (wrong_try e)) (suc (tries u h)) (tries u h))) d
-    ∙ ap (λ w. cond (resets u h o) 0 (cond (is_about u h w) (suc (tries u h)) (tries u h))) x
+      ap (λ o. cond (resets u h o) 0 (cond (is_about u h (wrong_try e)) (suc (tries u h)) (tries u h))) d
+      ∙ ap (λ w. cond (resets u h o) 0 (cond (is_about u h w) (suc (tries u h)) (tries u h))) x
 
   -- after a call that was answered OK
   pub tries-done : (u : UserType) (c : Call) → done e ≡ Some c → tries u (e ∷ h) ≡ cond (resets u h (Some c)) 0 (tries u h)

@@ -108,10 +108,10 @@ module _ (e : Entry) (h : History) where
         ap (λ n. selected (has_object (e ∷ h)) (λ k. row k (session_of (e ∷ h) k) (attributes_of (e ∷ h) k)) n) creations-created
         ∙ selected-suc (has_object (e ∷ h)) (λ k. row k (session_of (e ∷ h) k) (attributes_of (e ∷ h) k)) (creations h)
         ∙ rw (has_object-created, session_of-created, attributes_of-created)
-          (ap (λ rows. rows ++ row (suc (creations h)) (creation_session (done e)) (creation_attributes (done e) (named_attributes h)) ∷ [])
-            (selected-same (has_object (e ∷ h)) (has_object h) (λ k. row k (session_of (e ∷ h) k) (attributes_of (e ∷ h) k))
-              (λ k. row k (session_of h k) (attributes_of h k)) (creations h) has_object-below
-              (λ k below. ap (λ s. row k s (attributes_of (e ∷ h) k)) (session_of-below k below) ∙ ap (λ items. row k (session_of h k) items) (attributes_of-below k below))))
+        (ap (λ rows. rows ++ row (suc (creations h)) (creation_session (done e)) (creation_attributes (done e) (named_attributes h)) ∷ [])
+        (selected-same (has_object (e ∷ h)) (has_object h) (λ k. row k (session_of (e ∷ h) k) (attributes_of (e ∷ h) k))
+        (λ k. row k (session_of h k) (attributes_of h k)) (creations h) has_object-below
+        (λ k below. ap (λ s. row k s (attributes_of (e ∷ h) k)) (session_of-below k below) ∙ ap (λ items. row k (session_of h k) items) (attributes_of-below k below))))
 
   -- ---- an entry that creates nothing
 
@@ -135,14 +135,14 @@ module _ (e : Entry) (h : History) where
     pub object_rows-later : {X : Type 0} (row : ℕ → ℕ → List Item → X) →
         object_rows row (e ∷ h)
         ≡ selected (λ k. has_object h k && not (ends (done e) (attributes_of h k) (session_of h k) (named_at k)))
-          (λ k. row k (session_of h k) (attributes_after (done e) (named_at k) (attributes_of h k))) (creations h)
+        (λ k. row k (session_of h k) (attributes_after (done e) (named_at k) (attributes_of h k))) (creations h)
     object_rows-later row =
         ap (λ n. selected (has_object (e ∷ h)) (λ k. row k (session_of (e ∷ h) k) (attributes_of (e ∷ h) k)) n) creations-same
         ∙ selected-same (has_object (e ∷ h)) (λ k. has_object h k && not (ends (done e) (attributes_of h k) (session_of h k) (named_at k)))
-          (λ k. row k (session_of (e ∷ h) k) (attributes_of (e ∷ h) k))
-          (λ k. row k (session_of h k) (attributes_after (done e) (named_at k) (attributes_of h k))) (creations h)
-          (λ k below. has_object-later k)
-          (λ k below. ap (λ s. row k s (attributes_of (e ∷ h) k)) (session_of-later k) ∙ ap (λ items. row k (session_of h k) items) (attributes_of-later k))
+        (λ k. row k (session_of (e ∷ h) k) (attributes_of (e ∷ h) k))
+        (λ k. row k (session_of h k) (attributes_after (done e) (named_at k) (attributes_of h k))) (creations h)
+        (λ k below. has_object-later k)
+        (λ k below. ap (λ s. row k s (attributes_of (e ∷ h) k)) (session_of-later k) ∙ ap (λ items. row k (session_of h k) items) (attributes_of-later k))
 
 -- an entry that creates, ends and changes nothing
 pub object_rows-same : {X : Type 0} (row : ℕ → ℕ → List Item → X) (e : Entry) (h : History) → creates (done e) ≡ false
@@ -152,9 +152,9 @@ pub object_rows-same : {X : Type 0} (row : ℕ → ℕ → List Item → X) (e :
 object_rows-same row e h no_creation no_end no_change =
     object_rows-later e h no_creation row
     ∙ selected-same (λ k. has_object h k && not (ends (done e) (attributes_of h k) (session_of h k) (λ handle. names h handle k))) (has_object h)
-      (λ k. row k (session_of h k) (attributes_after (done e) (λ handle. names h handle k) (attributes_of h k))) (λ k. row k (session_of h k) (attributes_of h k)) (creations h)
-      (λ k below. ap (λ t. has_object h k && not t) (no_end (attributes_of h k) (session_of h k) (λ handle. names h handle k)) ∙ and-true (has_object h k))
-      (λ k below. ap (row k (session_of h k)) (no_change (λ handle. names h handle k) (attributes_of h k)))
+    (λ k. row k (session_of h k) (attributes_after (done e) (λ handle. names h handle k) (attributes_of h k))) (λ k. row k (session_of h k) (attributes_of h k)) (creations h)
+    (λ k below. ap (λ t. has_object h k && not t) (no_end (attributes_of h k) (session_of h k) (λ handle. names h handle k)) ∙ and-true (has_object h k))
+    (λ k below. ap (row k (session_of h k)) (no_change (λ handle. names h handle k) (attributes_of h k)))
 
 -- the object that a handle names, among those that haven't ended
 pub object_named-among : (h : History) (handle : ℕ) → object_named h handle ≡ find (λ n. names_with (view_of h) true (attributes_of h n) handle n) (objects h)
@@ -187,7 +187,7 @@ module _ (e : Entry) (h : History) (l : leaves_objects (done e) ≡ true) where
 
   pub object_rows-left : {X : Type 0} (row : ℕ → ℕ → List Item → X) → object_rows row (e ∷ h) ≡ object_rows row h
   object_rows-left row =
-    object_rows-same row e h (creates-left (done e) l) (λ attributes creator is_named. ends-left (done e) attributes creator is_named l)
+      object_rows-same row e h (creates-left (done e) l) (λ attributes creator is_named. ends-left (done e) attributes creator is_named l)
       (λ is_named attributes. attributes_after-left (done e) is_named attributes l)
 
 -- ---- an object that is there is one of those created
@@ -206,4 +206,4 @@ pub has_object-within : (h : History) (n : ℕ) → has_object h n ≡ true → 
 has_object-within [] n t = cc
 has_object-within (e ∷ h) n t =
     within_step (creates (done e)) (has_object h n) (n == suc (creations h)) n (creations h) refl (has_object-within h n)
-      (ends (done e) (attributes_of h n) (session_of h n) (λ handle. names h handle n)) t
+    (ends (done e) (attributes_of h n) (session_of h n) (λ handle. names h handle n)) t

@@ -190,7 +190,7 @@ is_refusal-template_error p items =
     is_refusal-or_else (first_error form_error items) _ (is_refusal-first_error form_error (λ item. is_refusal-value_error (attribute_of item.kind) item.value) items)
     (is_refusal-or_else (error_if (has_conflict items) rv.TemplateInconsistent) _ (is_refusal-error_if (has_conflict items) rv.TemplateInconsistent refl)
     (is_refusal-or_else (first_error (class_error class.Data p) items) None
-      (is_refusal-first_error (class_error class.Data p) (λ item. is_refusal-known class.Data p (attribute_of item.kind)) items) refl))
+    (is_refusal-first_error (class_error class.Data p) (λ item. is_refusal-known class.Data p (attribute_of item.kind)) items) refl))
 
 is_refusal-copied_error : (items template : List Item) → is_refusal (copied_error items template) ≡ true
 is_refusal-copied_error items template = search (is_refusal-or_else, is_refusal-error_if, is_refusal-template_error) depth 12
@@ -227,8 +227,8 @@ pub creations-copied : (limits : Ranges) (h : History) (session object : ℕ) (t
     → creations h < limits.creations
 creations-copied limits h session object template e =
     leb-false limits.creations (creations h)
-      (free_creation (nat_le limits.creations (creations h)) rv.DeviceMemory
-        (last_none (placement_error h session (with_given template (named_attributes h object))) _
-        (last_none (copied_error (named_attributes h object) template) _
-        (last_none (error_if (not (is_set (named_attributes h object) attribute.Copyable)) rv.ActionProhibited) _
-        (last_none (object_error h object) _ (last_none (session_error h session) _ e))))))
+    (free_creation (nat_le limits.creations (creations h)) rv.DeviceMemory
+    (last_none (placement_error h session (with_given template (named_attributes h object))) _
+    (last_none (copied_error (named_attributes h object) template) _
+    (last_none (error_if (not (is_set (named_attributes h object) attribute.Copyable)) rv.ActionProhibited) _
+    (last_none (object_error h object) _ (last_none (session_error h session) _ e))))))

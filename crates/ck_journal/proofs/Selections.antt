@@ -172,10 +172,10 @@ module _ {X : Type 0} where
   pub selected-rows_same : (test : ℕ → Bool) (row row' : ℕ → X) (n : ℕ) → ((k : ℕ) → k ≤ n → test k ≡ true → row k ≡ row' k) → selected test row n ≡ selected test row' n
   selected-rows_same test row row' zero same = refl
   selected-rows_same test row row' (suc n) same =
-    selected-suc test row n
-    ∙ ap (λ xs. xs ++ last_row (test (suc n)) (row (suc n))) (selected-rows_same test row row' n (λ k h. same k (omega arith)))
-    ∙ ap (λ xs. selected test row' n ++ xs) (last_row-same (test (suc n)) (row (suc n)) (row' (suc n)) (same (suc n) (omega arith)))
-    ∙ sym (selected-suc test row' n)
+      selected-suc test row n
+      ∙ ap (λ xs. xs ++ last_row (test (suc n)) (row (suc n))) (selected-rows_same test row row' n (λ k h. same k (omega arith)))
+      ∙ ap (λ xs. selected test row' n ++ xs) (last_row-same (test (suc n)) (row (suc n)) (row' (suc n)) (same (suc n) (omega arith)))
+      ∙ sym (selected-suc test row' n)
 
 -- ---- what is found
 

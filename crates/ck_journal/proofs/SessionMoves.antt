@@ -95,14 +95,14 @@ module _ (e : Entry) (h : History) where
     session_rows-later row =
         ap (λ n. selected (is_open (e ∷ h)) (λ s. row s (flags_of (e ∷ h) s)) n) openings-later
         ∙ selected-same (is_open (e ∷ h)) (λ k. is_open h k && not (closes (done e) k)) (λ s. row s (flags_of (e ∷ h) s)) (λ s. row s (flags_of h s)) (openings h)
-          (λ k below. is_open-later k) (λ k below. ap (row k) (flags_of-later k))
+        (λ k below. is_open-later k) (λ k below. ap (row k) (flags_of-later k))
 
     -- where it closes nothing either all stay
     pub session_rows-same : {X : Type 0} (row : ℕ → ℕ → X) → ((s : ℕ) → closes (done e) s ≡ false) → session_rows row (e ∷ h) ≡ session_rows row h
     session_rows-same row no_closing =
         session_rows-later row
         ∙ selected-same (λ k. is_open h k && not (closes (done e) k)) (is_open h) (λ s. row s (flags_of h s)) (λ s. row s (flags_of h s)) (openings h)
-          (λ k below. ap (λ t. is_open h k && not t) (no_closing k) ∙ and-true (is_open h k)) (λ k below. refl)
+        (λ k below. ap (λ t. is_open h k && not t) (no_closing k) ∙ and-true (is_open h k)) (λ k below. refl)
 
 -- ---- an open session is one of those opened
 

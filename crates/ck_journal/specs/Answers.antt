@@ -80,13 +80,13 @@ abbrev pub set_pin_error : History → ℕ → Pin → Pin → Option Rv
 set_pin_error h session old new =
     let owner = pin_owner (state_of h session) in
     first_of (
-      session_error h session
-      ∷ error_if (not (is_read_write h session)) rv.SessionReadOnly
-      ∷ error_if (is_none (present_pin owner h)) rv.UserPinNotInitialized
-      ∷ error_if (is_locked owner h) rv.PinLocked
-      ∷ error_if (not (fits_a_pin new)) rv.PinLenRange
-      ∷ error_if (not (is_pin (present_pin owner h) old)) rv.PinIncorrect
-      ∷ [])
+    session_error h session
+    ∷ error_if (not (is_read_write h session)) rv.SessionReadOnly
+    ∷ error_if (is_none (present_pin owner h)) rv.UserPinNotInitialized
+    ∷ error_if (is_locked owner h) rv.PinLocked
+    ∷ error_if (not (fits_a_pin new)) rv.PinLenRange
+    ∷ error_if (not (is_pin (present_pin owner h) old)) rv.PinIncorrect
+    ∷ [])
 
 -- CKF_SERIAL_SESSION is 4, CKF_RW_SESSION is 2
 abbrev pub open_session_error : Ranges → History → ℕ → Option Rv
@@ -222,7 +222,7 @@ answer limits h (call.CreateObject session template) =
     unless (create_object_error limits h session template.items) (ok (body.Handle (new_handle h (created_items template.items))))
 answer limits h (call.CopyObject session object template) =
     unless (copy_object_error limits h session object template.items)
-      (ok (body.Handle (new_handle h (with_given template.items (named_attributes h object)))))
+    (ok (body.Handle (new_handle h (with_given template.items (named_attributes h object)))))
 answer limits h (call.SetAttributeValue session object template) =
     unless (set_attribute_value_error h session object template.items) (ok body.Empty)
 answer limits h (call.GetAttributeValue session object queries) =

@@ -84,18 +84,18 @@ abbrev mutual
   pub has_object : History → ℕ → Bool
   has_object [] n = false
   has_object (e ∷ h) n =
-    if creates (done e) && n == suc (creations h) then true
-    else if ends (done e) (attributes_of h n) (session_of h n) (λ handle. names_with (view_of h) (has_object h n) (attributes_of h n) handle n) then false
-    else has_object h n
+      if creates (done e) && n == suc (creations h) then true
+      else if ends (done e) (attributes_of h n) (session_of h n) (λ handle. names_with (view_of h) (has_object h n) (attributes_of h n) handle n) then false
+      else has_object h n
 
   -- the object's attributes
   pub attributes_of : History → ℕ → List Item
   attributes_of [] n = []
   attributes_of (e ∷ h) n =
-    if creates (done e) && n == suc (creations h)
-    then creation_attributes (done e) (λ handle. unwrap_or (option_map (λ k. attributes_of h k)
+      if creates (done e) && n == suc (creations h)
+      then creation_attributes (done e) (λ handle. unwrap_or (option_map (λ k. attributes_of h k)
       (find (λ k. names_with (view_of h) (has_object h k) (attributes_of h k) handle k) (filter (λ k. has_object h k) (numbers (creations h))))) [])
-    else attributes_after (done e) (λ handle. names_with (view_of h) (has_object h n) (attributes_of h n) handle n) (attributes_of h n)
+      else attributes_after (done e) (λ handle. names_with (view_of h) (has_object h n) (attributes_of h n) handle n) (attributes_of h n)
 
 -- the objects that haven't ended, in the order of their creations
 abbrev pub objects : History → List ℕ

@@ -4,10 +4,9 @@
 
 mod calls;
 mod journals;
-mod views;
-
 #[cfg(test)]
 mod tests;
+mod views;
 
 pub use calls::{Answer, AttributeQuery, Body, Call, Entry, Reply};
 pub use journals::Journal;

@@ -220,6 +220,65 @@ fn wrong_pins_are_counted_whoever_tries(rt: HostRuntime) -> Result<(), Fail> {
 }
 
 #[test]
+fn objects_are_copied_and_changed(rt: HostRuntime) -> Result<(), Fail> {
+    let cases: [(&str, &str); 3] = [
+        (
+            USER_LOGGED_IN,
+            "
+                1 CreateObject 1 0=0000000000000000,170=00,3=61 -> 0 1
+                1 SetAttributeValue 1 1 3=62 -> 1b
+                1 CopyObject 1 1 170=01 -> 0 2
+                1 SetAttributeValue 1 2 3=62 -> 0
+                1 GetAttributeValue 1 1 3:8 -> 0 =61
+                1 GetAttributeValue 1 2 3:8,170:1 -> 0 =62,=01
+                1 SetAttributeValue 1 2 1=01 -> 10
+                1 CopyObject 1 2 0=0000000000000000 -> 10
+                1 CopyObject 1 2 2=01,1=01,171=00 -> 0 4294967299
+                1 CopyObject 1 4294967299 2=00 -> 1b
+                1 CopyObject 1 2 2=01 -> 0 4294967300
+                1 CopyObject 1 4294967300 2=00 -> d1
+                1 Logout 1 -> 0
+                1 GetAttributeValue 1 4294967299 3:8 -> 82
+                1 GetAttributeValue 1 2 3:8 -> 0 =62
+                1 CloseSession 1 -> 0
+                1 OpenSession 4 -> 0 2
+                1 Login 2 1 75736572 -> 0
+                1 GetAttributeValue 2 8589934595 3:8 -> 0 =62
+                1 DestroyObject 2 8589934595 -> b5
+            ",
+        ),
+        (
+            USER_LOGGED_IN,
+            "
+                1 CreateObject 1 0=0000000000000000,1=01,2=01,3=61 -> 0 4294967297
+                1 Logout 1 -> 0
+                1 Login 1 1 75736572 -> 0
+                1 GetAttributeValue 1 4294967297 3:8 -> 82
+                1 GetAttributeValue 1 8589934593 3:8 -> 0 =61
+            ",
+        ),
+        (
+            NEW,
+            "
+                1 InitToken 31323334 -> 0
+                1 OpenSession 6 -> 0 1
+                1 OpenSession 4 -> 0 2
+                2 CreateObject 2 0=0000000000000000,3=61 -> 0 1
+                1 GetAttributeValue 1 1 3:? -> 0 :1
+                2 CreateObject 2 0=0000000000000000,1=01 -> b5
+                2 CreateObject 2 0=0000000000000000,2=01 -> 101
+                2 CloseSession 2 -> 0
+                1 GetAttributeValue 1 1 3:8 -> 82
+            ",
+        ),
+    ];
+    for (start, case) in cases {
+        assert_replies(&rt, rt.alloc(), Limits::largest(), start, case)?;
+    }
+    Ok(())
+}
+
+#[test]
 fn objects_are_created_read_and_destroyed(rt: HostRuntime) -> Result<(), Fail> {
     let cases: [(&str, &str); 4] = [
         (

@@ -71,14 +71,14 @@ module _ (h : History) (old : SessionsState) (agree : SessionsAgree h old) (e : 
 
   -- a credential that a call leaves
   so-stays : (c : Call) → done e ≡ Some c → ((owner : UserType) (before : Option Pin) → so_pin_after (Some c) (named_owner h (Some c)) before ≡ before)
-    → resets user.So h (Some c) ≡ false → CredentialAgrees user.So (e ∷ h) old.so
+      → resets user.So h (Some c) ≡ false → CredentialAgrees user.So (e ∷ h) old.so
   so-stays c d pin r = record {
     pin = agree.so.pin ∙ sym (so_pin-step e h (Some c) d ∙ pin user.So (so_pin h));
     tries = agree.so.tries ∙ sym (tries-done e h user.So c d ∙ ap (λ t. cond t 0 (tries user.So h)) r);
   }
 
   user-stays : (c : Call) → done e ≡ Some c → ((owner : UserType) (before : Option Pin) → user_pin_after (Some c) (named_owner h (Some c)) before ≡ before)
-    → resets user.User h (Some c) ≡ false → CredentialAgrees user.User (e ∷ h) old.user
+      → resets user.User h (Some c) ≡ false → CredentialAgrees user.User (e ∷ h) old.user
   user-stays c d pin r = record {
     pin = agree.user.pin ∙ sym (user_pin-step e h (Some c) d ∙ pin user.User (user_pin h));
     tries = agree.user.tries ∙ sym (tries-done e h user.User c d ∙ ap (λ t. cond t 0 (tries user.User h)) r);
@@ -104,131 +104,131 @@ module _ (h : History) (old : SessionsState) (agree : SessionsAgree h old) (e : 
 
   tries-wrong : (u v : UserType) → done e ≡ None → about h (wrong_try e) ≡ Some u → tries v (e ∷ h) ≡ cond (same_user v u) (suc (tries v h)) (tries v h)
   tries-wrong u v d a =
-    tries-step e h v None (wrong_try e) d refl ∙ ap (λ t. cond t (suc (tries v h)) (tries v h)) (other_user u v (about h (wrong_try e)) a)
+      tries-step e h v None (wrong_try e) d refl ∙ ap (λ t. cond t (suc (tries v h)) (tries v h)) (other_user u v (about h (wrong_try e)) a)
 
   pub SessionsAgree-wrong : (u : UserType) (new : SessionsState) → done e ≡ None → about h (wrong_try e) ≡ Some u
-    → new.rows ≡ old.rows → new.openings ≡ old.openings → new.login ≡ old.login → new.logins ≡ old.logins → new.so.pin ≡ old.so.pin → new.user.pin ≡ old.user.pin
-    → new.so.tries ≡ cond (same_user user.So u) (suc old.so.tries) old.so.tries → new.user.tries ≡ cond (same_user user.User u) (suc old.user.tries) old.user.tries
-    → SessionsAgree (e ∷ h) new
+      → new.rows ≡ old.rows → new.openings ≡ old.openings → new.login ≡ old.login → new.logins ≡ old.logins → new.so.pin ≡ old.so.pin → new.user.pin ≡ old.user.pin
+      → new.so.tries ≡ cond (same_user user.So u) (suc old.so.tries) old.so.tries → new.user.tries ≡ cond (same_user user.User u) (suc old.user.tries) old.user.tries
+      → SessionsAgree (e ∷ h) new
   SessionsAgree-wrong u new d a rows count login logins so_pin user_pin so_tries user_tries =
-    let l : leaves_sessions (done e) ≡ true = ap leaves_sessions d in
-    record {
-      rows = rows ∙ agree.rows ∙ sym (session_rows-left e h l session_row);
-      openings = count ∙ agree.openings ∙ sym (openings-left e h l);
-      login = login ∙ agree.login ∙ sym (login-left e h l);
-      logins = logins ∙ agree.logins ∙ sym (user_logins-left e h l);
-      so = record { pin = so_pin ∙ agree.so.pin ∙ sym (so_pin-left e h l); tries = so_tries ∙ rw agree.so.tries (sym (tries-wrong u user.So d a)) };
-      user = record { pin = user_pin ∙ agree.user.pin ∙ sym (user_pin-left e h l); tries = user_tries ∙ rw agree.user.tries (sym (tries-wrong u user.User d a)) };
-      initialized = ap is_some so_pin ∙ agree.initialized ∙ sym (is_initialized-left e h l);
-    }
+      let l : leaves_sessions (done e) ≡ true = ap leaves_sessions d in
+      record {
+        rows = rows ∙ agree.rows ∙ sym (session_rows-left e h l session_row);
+        openings = count ∙ agree.openings ∙ sym (openings-left e h l);
+        login = login ∙ agree.login ∙ sym (login-left e h l);
+        logins = logins ∙ agree.logins ∙ sym (user_logins-left e h l);
+        so = record { pin = so_pin ∙ agree.so.pin ∙ sym (so_pin-left e h l); tries = so_tries ∙ rw agree.so.tries (sym (tries-wrong u user.So d a)) };
+        user = record { pin = user_pin ∙ agree.user.pin ∙ sym (user_pin-left e h l); tries = user_tries ∙ rw agree.user.tries (sym (tries-wrong u user.User d a)) };
+        initialized = ap is_some so_pin ∙ agree.initialized ∙ sym (is_initialized-left e h l);
+      }
 
   -- ---- openings and closings
 
   pub SessionsAgree-opened : (flags : ℕ) (new : SessionsState) → done e ≡ Some (call.OpenSession flags) → new.rows ≡ old.rows ++ session_row (old.openings + 1) flags ∷ []
-    → new.openings ≡ old.openings + 1 → new.login ≡ old.login → new.logins ≡ old.logins → new.so ≡ old.so → new.user ≡ old.user → SessionsAgree (e ∷ h) new
+      → new.openings ≡ old.openings + 1 → new.login ≡ old.login → new.logins ≡ old.logins → new.so ≡ old.so → new.user ≡ old.user → SessionsAgree (e ∷ h) new
   SessionsAgree-opened flags new d rows count log logs so us =
-    let c = call.OpenSession flags in
-    let all : session_rows session_row (e ∷ h) ≡ session_rows session_row h ++ session_row (suc (openings h)) flags ∷ [] = session_rows-opened e h flags d session_row in
-    let some : length (open_sessions (e ∷ h)) == 0 ≡ false =
+      let c = call.OpenSession flags in
+      let all : session_rows session_row (e ∷ h) ≡ session_rows session_row h ++ session_row (suc (openings h)) flags ∷ [] = session_rows-opened e h flags d session_row in
+      let some : length (open_sessions (e ∷ h)) == 0 ≡ false =
       ne_eqb (length (open_sessions (e ∷ h))) 0 (λ z. more (session_rows session_row h) (session_row (suc (openings h)) flags)
-        (sym (ap length all) ∙ length-session_rows session_row (e ∷ h) ∙ z)) in
-    record {
-      rows = rows ∙ rw (agree.rows, agree.openings, add-one) (sym all);
-      openings = count ∙ rw (agree.openings, add-one) (sym (openings-opened e h flags d));
-      login = log ∙ agree.login ∙ sym (login-open e h (Some c) d some);
-      logins = logs ∙ logins-stay c d refl;
-      so = rw so (so-stays c d (λ owner before. refl) refl);
-      user = rw us (user-stays c d (λ owner before. refl) refl);
-      initialized = ap (λ (s : Credential). is_some s.pin) so ∙ initialized-stays c d refl;
-    }
+      (sym (ap length all) ∙ length-session_rows session_row (e ∷ h) ∙ z)) in
+      record {
+        rows = rows ∙ rw (agree.rows, agree.openings, add-one) (sym all);
+        openings = count ∙ rw (agree.openings, add-one) (sym (openings-opened e h flags d));
+        login = log ∙ agree.login ∙ sym (login-open e h (Some c) d some);
+        logins = logs ∙ logins-stay c d refl;
+        so = rw so (so-stays c d (λ owner before. refl) refl);
+        user = rw us (user-stays c d (λ owner before. refl) refl);
+        initialized = ap (λ (s : Credential). is_some s.pin) so ∙ initialized-stays c d refl;
+      }
 
   -- a call that opens nothing, closes some sessions and leaves the rest
   closed : (c : Call) (new : SessionsState) → done e ≡ Some c → opens (Some c) ≡ false → ((before : Option UserType) → login_after (Some c) before ≡ before)
-    → new.rows ≡ session_rows session_row (e ∷ h) → new.openings ≡ old.openings → new.login ≡ cond (length new.rows == 0) None old.login
-    → new.login ≡ login (e ∷ h)
+      → new.rows ≡ session_rows session_row (e ∷ h) → new.openings ≡ old.openings → new.login ≡ cond (length new.rows == 0) None old.login
+      → new.login ≡ login (e ∷ h)
   closed c new d o left rows count log =
-    log ∙ ap (λ rs. cond (length rs == 0) None old.login) rows
-    ∙ ap (λ n. cond (n == 0) None old.login) (length-session_rows session_row (e ∷ h))
-    ∙ ap (cond (length (open_sessions (e ∷ h)) == 0) None) (agree.login ∙ sym (ap (λ x. login_after x (login h)) d ∙ left (login h)))
+      log ∙ ap (λ rs. cond (length rs == 0) None old.login) rows
+      ∙ ap (λ n. cond (n == 0) None old.login) (length-session_rows session_row (e ∷ h))
+      ∙ ap (cond (length (open_sessions (e ∷ h)) == 0) None) (agree.login ∙ sym (ap (λ x. login_after x (login h)) d ∙ left (login h)))
 
   pub SessionsAgree-closed : (session : ℕ) (new : SessionsState) → done e ≡ Some (call.CloseSession session)
-    → new.rows ≡ filter (λ (row : Session). not (session == row.handle)) old.rows → new.openings ≡ old.openings → new.login ≡ cond (length new.rows == 0) None old.login
-    → new.logins ≡ old.logins → new.so ≡ old.so → new.user ≡ old.user → SessionsAgree (e ∷ h) new
+      → new.rows ≡ filter (λ (row : Session). not (session == row.handle)) old.rows → new.openings ≡ old.openings → new.login ≡ cond (length new.rows == 0) None old.login
+      → new.logins ≡ old.logins → new.so ≡ old.so → new.user ≡ old.user → SessionsAgree (e ∷ h) new
   SessionsAgree-closed session new d rows count log logs so us =
-    let c = call.CloseSession session in
-    let all : new.rows ≡ session_rows session_row (e ∷ h) =
+      let c = call.CloseSession session in
+      let all : new.rows ≡ session_rows session_row (e ∷ h) =
       rows ∙ ap (filter (λ (row : Session). not (session == row.handle))) agree.rows
       ∙ filter-selected (λ (row : Session). not (session == row.handle)) (is_open h) (λ n. session_row n (flags_of h n)) (openings h)
       ∙ ap (λ x. selected (λ k. is_open h k && not (closes x k)) (λ n. session_row n (flags_of h n)) (openings h)) (sym d)
       ∙ sym (session_rows-later e h (ap opens d) session_row) in
-    record {
-      rows = all;
-      openings = count ∙ openings-stay c d refl;
-      login = closed c new d refl (λ before. refl) all count log;
-      logins = logs ∙ logins-stay c d refl;
-      so = rw so (so-stays c d (λ owner before. refl) refl);
-      user = rw us (user-stays c d (λ owner before. refl) refl);
-      initialized = ap (λ (s : Credential). is_some s.pin) so ∙ initialized-stays c d refl;
-    }
+      record {
+        rows = all;
+        openings = count ∙ openings-stay c d refl;
+        login = closed c new d refl (λ before. refl) all count log;
+        logins = logs ∙ logins-stay c d refl;
+        so = rw so (so-stays c d (λ owner before. refl) refl);
+        user = rw us (user-stays c d (λ owner before. refl) refl);
+        initialized = ap (λ (s : Credential). is_some s.pin) so ∙ initialized-stays c d refl;
+      }
 
   pub SessionsAgree-all_closed : (new : SessionsState) → done e ≡ Some call.CloseAllSessions → new.rows ≡ [] → new.openings ≡ old.openings → new.login ≡ None
-    → new.logins ≡ old.logins → new.so ≡ old.so → new.user ≡ old.user → SessionsAgree (e ∷ h) new
+      → new.logins ≡ old.logins → new.so ≡ old.so → new.user ≡ old.user → SessionsAgree (e ∷ h) new
   SessionsAgree-all_closed new d rows count log logs so us =
-    let c = call.CloseAllSessions in
-    let all : session_rows session_row (e ∷ h) ≡ [] =
+      let c = call.CloseAllSessions in
+      let all : session_rows session_row (e ∷ h) ≡ [] =
       session_rows-later e h (ap opens d) session_row
       ∙ selected-none (λ k. is_open h k && not (closes (done e) k)) (λ n. session_row n (flags_of h n)) (openings h)
-        (λ k below. ap (λ x. is_open h k && not (closes x k)) d ∙ and-false (is_open h k)) in
-    let none : length (open_sessions (e ∷ h)) == 0 ≡ true = rw (sym (length-session_rows session_row (e ∷ h)), all) in
-    record {
-      rows = rows ∙ sym all;
-      openings = count ∙ openings-stay c d refl;
-      login = log ∙ sym (login-none (e ∷ h) none);
-      logins = logs ∙ logins-stay c d refl;
-      so = rw so (so-stays c d (λ owner before. refl) refl);
-      user = rw us (user-stays c d (λ owner before. refl) refl);
-      initialized = ap (λ (s : Credential). is_some s.pin) so ∙ initialized-stays c d refl;
-    }
+      (λ k below. ap (λ x. is_open h k && not (closes x k)) d ∙ and-false (is_open h k)) in
+      let none : length (open_sessions (e ∷ h)) == 0 ≡ true = rw (sym (length-session_rows session_row (e ∷ h)), all) in
+      record {
+        rows = rows ∙ sym all;
+        openings = count ∙ openings-stay c d refl;
+        login = log ∙ sym (login-none (e ∷ h) none);
+        logins = logs ∙ logins-stay c d refl;
+        so = rw so (so-stays c d (λ owner before. refl) refl);
+        user = rw us (user-stays c d (λ owner before. refl) refl);
+        initialized = ap (λ (s : Credential). is_some s.pin) so ∙ initialized-stays c d refl;
+      }
 
   -- ---- PINs
 
   pub SessionsAgree-initialized : (pin : Pin) (new : SessionsState) → done e ≡ Some (call.InitToken pin) → new.rows ≡ old.rows → new.openings ≡ old.openings
-    → new.login ≡ old.login → new.logins ≡ old.logins → new.so.pin ≡ so_pin_after (Some (call.InitToken pin)) user.User old.so.pin → new.so.tries ≡ 0
-    → new.user.pin ≡ None → new.user.tries ≡ 0 → SessionsAgree (e ∷ h) new
+      → new.login ≡ old.login → new.logins ≡ old.logins → new.so.pin ≡ so_pin_after (Some (call.InitToken pin)) user.User old.so.pin → new.so.tries ≡ 0
+      → new.user.pin ≡ None → new.user.tries ≡ 0 → SessionsAgree (e ∷ h) new
   SessionsAgree-initialized pin new d rows count log logs so_pin so_tries user_pin user_tries =
-    let c = call.InitToken pin in
-    record {
-      rows = rows ∙ rows-stay c d refl (λ s. refl);
-      openings = count ∙ openings-stay c d refl;
-      login = log ∙ login-stays c d refl (λ s. refl) (λ before. refl);
-      logins = logs ∙ logins-stay c d refl;
-      so = record { pin = so_pin ∙ rw agree.so.pin (sym (so_pin-step e h (Some c) d)); tries = so_tries ∙ sym (tries-done e h user.So c d) };
-      user = record { pin = user_pin ∙ sym (user_pin-step e h (Some c) d); tries = user_tries ∙ sym (tries-done e h user.User c d) };
-      initialized = ap is_some so_pin ∙ some_after pin old.so.pin ∙ sym (ap (λ x. initializes x || is_initialized h) d);
-    }
+      let c = call.InitToken pin in
+      record {
+        rows = rows ∙ rows-stay c d refl (λ s. refl);
+        openings = count ∙ openings-stay c d refl;
+        login = log ∙ login-stays c d refl (λ s. refl) (λ before. refl);
+        logins = logs ∙ logins-stay c d refl;
+        so = record { pin = so_pin ∙ rw agree.so.pin (sym (so_pin-step e h (Some c) d)); tries = so_tries ∙ sym (tries-done e h user.So c d) };
+        user = record { pin = user_pin ∙ sym (user_pin-step e h (Some c) d); tries = user_tries ∙ sym (tries-done e h user.User c d) };
+        initialized = ap is_some so_pin ∙ some_after pin old.so.pin ∙ sym (ap (λ x. initializes x || is_initialized h) d);
+      }
 
   pub SessionsAgree-pin_initialized : (session : ℕ) (pin : Pin) (new : SessionsState) → done e ≡ Some (call.InitPin session pin) → new.rows ≡ old.rows
-    → new.openings ≡ old.openings → new.login ≡ old.login → new.logins ≡ old.logins → new.so ≡ old.so → new.user.pin ≡ Some pin → new.user.tries ≡ 0 → SessionsAgree (e ∷ h) new
+      → new.openings ≡ old.openings → new.login ≡ old.login → new.logins ≡ old.logins → new.so ≡ old.so → new.user.pin ≡ Some pin → new.user.tries ≡ 0 → SessionsAgree (e ∷ h) new
   SessionsAgree-pin_initialized session pin new d rows count log logs so user_pin user_tries =
-    let c = call.InitPin session pin in
-    record {
-      rows = rows ∙ rows-stay c d refl (λ s. refl);
-      openings = count ∙ openings-stay c d refl;
-      login = log ∙ login-stays c d refl (λ s. refl) (λ before. refl);
-      logins = logs ∙ logins-stay c d refl;
-      so = rw so (so-stays c d (λ owner before. refl) refl);
-      user = record { pin = user_pin ∙ sym (user_pin-step e h (Some c) d); tries = user_tries ∙ sym (tries-done e h user.User c d) };
-      initialized = ap (λ (s : Credential). is_some s.pin) so ∙ initialized-stays c d refl;
-    }
+      let c = call.InitPin session pin in
+      record {
+        rows = rows ∙ rows-stay c d refl (λ s. refl);
+        openings = count ∙ openings-stay c d refl;
+        login = log ∙ login-stays c d refl (λ s. refl) (λ before. refl);
+        logins = logs ∙ logins-stay c d refl;
+        so = rw so (so-stays c d (λ owner before. refl) refl);
+        user = record { pin = user_pin ∙ sym (user_pin-step e h (Some c) d); tries = user_tries ∙ sym (tries-done e h user.User c d) };
+        initialized = ap (λ (s : Credential). is_some s.pin) so ∙ initialized-stays c d refl;
+      }
 
   -- the owner of the session's PIN sets it
   module _ (session : ℕ) (before pin : Pin) (new : SessionsState) (d : done e ≡ Some (call.SetPin session before pin)) (rows : new.rows ≡ old.rows)
-    (count : new.openings ≡ old.openings) (log : new.login ≡ old.login) (logs : new.logins ≡ old.logins) where
+      (count : new.openings ≡ old.openings) (log : new.login ≡ old.login) (logs : new.logins ≡ old.logins) where
     abbrev c : Call
     c = call.SetPin session before pin
 
     pub SessionsAgree-so_pin_set : pin_owner (state_of h session) ≡ user.So → is_some old.so.pin ≡ true → new.so.pin ≡ Some pin → new.so.tries ≡ 0 → new.user ≡ old.user
-      → SessionsAgree (e ∷ h) new
+        → SessionsAgree (e ∷ h) new
     SessionsAgree-so_pin_set owner had so_pin so_tries us = record {
       rows = rows ∙ rows-stay c d refl (λ s. refl);
       openings = count ∙ openings-stay c d refl;

@@ -40,9 +40,9 @@ module _ (h : History) (s : SessionsState) (agree : SessionsAgree h s) where
 
   pub list_any-rows : (session : ℕ) → list_any (is_session session) s.rows ≡ is_open h session
   list_any-rows session =
-    ap (list_any (is_session session)) agree.rows
-    ∙ list_any-selected (is_session session) (is_open h) row_of (openings h)
-    ∙ list_any-at (is_open h) session (openings h) (is_open-within h session)
+      ap (list_any (is_session session)) agree.rows
+      ∙ list_any-selected (is_session session) (is_open h) row_of (openings h)
+      ∙ list_any-at (is_open h) session (openings h) (is_open-within h session)
 
   pub rw-rows : length (filter is_rw_row s.rows) ≡ length (rw_sessions h)
   rw-rows = ap (λ rows. length (filter is_rw_row rows)) agree.rows ∙ length-map_filter (is_read_write h) row_of is_rw_row (λ k. refl) (open_sessions h)
@@ -75,9 +75,9 @@ module _ (h : History) (s : SessionsState) (agree : SessionsAgree h s) where
   flags_of-found session row e = flags-at session row (find (λ k. k == session) (open_sessions h)) refl (e ∙ row-found session)
     where
       flags-at : (session : ℕ) (row : Session) (found : Option ℕ) → find (λ k. k == session) (open_sessions h) ≡ found → Some row ≡ option_map row_of found
-        → row.flags ≡ flags_of h session
+          → row.flags ≡ flags_of h session
       flags-at session row None f e = cc
       flags-at session row (Some k) f e =
-        let same : k ≡ session = eqb-true k session (find-passes (λ j. j == session) (open_sessions h) k f) in
-        let r : row ≡ row_of k = same_Some row (row_of k) e in
-        ap (λ (x : Session). x.flags) r ∙ ap (flags_of h) same
+          let same : k ≡ session = eqb-true k session (find-passes (λ j. j == session) (open_sessions h) k f) in
+          let r : row ≡ row_of k = same_Some row (row_of k) e in
+          ap (λ (x : Session). x.flags) r ∙ ap (flags_of h) same

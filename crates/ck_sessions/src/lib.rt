@@ -3,7 +3,6 @@
 
 mod rows;
 mod session_table;
-
 #[cfg(test)]
 mod tests;
 

@@ -1,8 +1,7 @@
+use crate::rows::{count_read_write, find_session, has_read_only, has_session, remove_session};
 use ck_types::{Limits, NoMemory, Pin, UserType};
 use std::alloc::Global;
 use std::marker::Model;
-
-use crate::rows::{count_read_write, find_session, has_read_only, has_session, remove_session};
 
 /// An open session.
 #[derive(Clone, Copy, Debug, PartialEq, Eq)]
@@ -179,9 +178,7 @@ impl Sessions {
 
     /// Sets the user's PIN for the security officer.
     pub fn init_pin(&mut self, pin: Pin)
-        ensures agree {
-            (h : History) (e : Entry) (session : ℕ) → done e ≡ Some (call.InitPin session pin) → SessionsAgree h self.old → SessionsAgree (e ∷ h) self.new
-        }
+        ensures agree { (h : History) (e : Entry) (session : ℕ) → done e ≡ Some (call.InitPin session pin) → SessionsAgree h self.old → SessionsAgree (e ∷ h) self.new }
         ensures limit { self.new.limit ≡ self.old.limit }
     {
         self.user = Credential {
@@ -193,10 +190,8 @@ impl Sessions {
     /// Sets the PIN of its owner.
     pub fn set_pin(&mut self, owner: UserType, pin: Pin)
         requires { is_some (credential_of owner self.old).pin ≡ true }
-        ensures agree {
-            (h : History) (e : Entry) (session : ℕ) (before : Pin) → done e ≡ Some (call.SetPin session before pin) → pin_owner (state_of h session) ≡ owner
-            → SessionsAgree h self.old → SessionsAgree (e ∷ h) self.new
-        }
+        ensures agree { (h : History) (e : Entry) (session : ℕ) (before : Pin) → done e ≡ Some (call.SetPin session before pin) → pin_owner (state_of h session) ≡ owner
+            → SessionsAgree h self.old → SessionsAgree (e ∷ h) self.new }
         ensures limit { self.new.limit ≡ self.old.limit }
     {
         let credential = Credential {
@@ -247,10 +242,8 @@ impl Sessions {
     pub fn log_in(&mut self, user_type: UserType)
         requires open { 0 < length self.old.rows }
         requires logins { user_type ≡ user.User → self.old.logins + 1 < 2 ^ 31 }
-        ensures agree {
-            (h : History) (e : Entry) (session number : ℕ) (pin : Pin) → done e ≡ Some (call.Login session number pin) → user_of number ≡ Some user_type
-            → SessionsAgree h self.old → SessionsAgree (e ∷ h) self.new
-        }
+        ensures agree { (h : History) (e : Entry) (session number : ℕ) (pin : Pin) → done e ≡ Some (call.Login session number pin) → user_of number ≡ Some user_type
+            → SessionsAgree h self.old → SessionsAgree (e ∷ h) self.new }
         ensures limit { self.new.limit ≡ self.old.limit }
     {
         self.login = Some(user_type);
@@ -273,9 +266,7 @@ impl Sessions {
     /// Counts a wrong try of a user's PIN.
     pub fn count_wrong_try(&mut self, user: UserType)
         requires { (credential_of user self.old).tries ≢ 3 }
-        ensures agree {
-            (h : History) (e : Entry) → done e ≡ None → about h (wrong_try e) ≡ Some user → SessionsAgree h self.old → SessionsAgree (e ∷ h) self.new
-        }
+        ensures agree { (h : History) (e : Entry) → done e ≡ None → about h (wrong_try e) ≡ Some user → SessionsAgree h self.old → SessionsAgree (e ∷ h) self.new }
         ensures limit { self.new.limit ≡ self.old.limit }
     {
         match user {

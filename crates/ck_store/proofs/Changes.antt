@@ -9,8 +9,8 @@ use Rattle.ck_store.specs.Rows.{change_first}
 
 module _ {X : Type 0} (test : X → Bool) (change : X → X) where
   change_first-append_step : (t : Bool) (x : X) (xs ys : List X) → test x ≡ t
-    → change_first test change (xs ++ ys) ≡ change_first test change xs ++ cond (list_any test xs) ys (change_first test change ys)
-    → cond t (change x ∷ (xs ++ ys)) (x ∷ change_first test change (xs ++ ys))
+      → change_first test change (xs ++ ys) ≡ change_first test change xs ++ cond (list_any test xs) ys (change_first test change ys)
+      → cond t (change x ∷ (xs ++ ys)) (x ∷ change_first test change (xs ++ ys))
       ≡ cond t (change x ∷ xs) (x ∷ change_first test change xs) ++ cond (t || list_any test xs) ys (change_first test change ys)
   change_first-append_step true x xs ys e later = refl
   change_first-append_step false x xs ys e later = ap (λ rest. x ∷ rest) later
@@ -26,9 +26,9 @@ module _ {X : Type 0} (test : X → Bool) (change : X → X) where
   list_any-none : (passes : ℕ → Bool) (row : ℕ → X) (n : ℕ) → ((k : ℕ) → k ≤ n → test (row k) ≡ false) → list_any test (selected passes row n) ≡ false
   list_any-none passes row zero fails = refl
   list_any-none passes row (suc n) fails =
-    ap (list_any test) (selected-suc passes row n)
-    ∙ list_any-append test (selected passes row n) (last_row (passes (suc n)) (row (suc n)))
-    ∙ rw (list_any-none passes row n (λ k h. fails k (omega arith))) (list_any-last_row (passes (suc n)) (row (suc n)) (fails (suc n) (omega arith)))
+      ap (list_any test) (selected-suc passes row n)
+      ∙ list_any-append test (selected passes row n) (last_row (passes (suc n)) (row (suc n)))
+      ∙ rw (list_any-none passes row n (λ k h. fails k (omega arith))) (list_any-last_row (passes (suc n)) (row (suc n)) (fails (suc n) (omega arith)))
 
   module _ (passes : ℕ → Bool) (row row' : ℕ → X) where
     last_step : (p t any : Bool) (k : ℕ) → test (row k) ≡ t → (any ≡ true → t ≡ false) → (p ≡ true → t ≡ true → row' k ≡ change (row k)) → (t ≡ false → row' k ≡ row k)
@@ -62,19 +62,19 @@ module _ {X : Type 0} (test : X → Bool) (change : X → X) where
         ap (change_first test change) (selected-suc passes row n)
         ∙ change_first-append (selected passes row n) (last_row (passes (suc n)) (row (suc n)))
         ∙ ap (λ xs. xs ++ cond (list_any test (selected passes row n)) (last_row (passes (suc n)) (row (suc n))) (change_first test change (last_row (passes (suc n)) (row (suc n)))))
-          (selected-replaced n (λ j k a b. unique j k (omega arith) (omega arith)) (λ k a. replaced k (omega arith)) (λ k a. same k (omega arith)))
+        (selected-replaced n (λ j k a b. unique j k (omega arith) (omega arith)) (λ k a. replaced k (omega arith)) (λ k a. same k (omega arith)))
         ∙ ap (λ ys. selected passes row' n ++ ys)
-          (last_step (passes (suc n)) (test (row (suc n))) (list_any test (selected passes row n)) (suc n) refl
-            (fails_after n (test (row (suc n))) unique refl) (replaced (suc n) (omega arith)) (same (suc n) (omega arith)))
+        (last_step (passes (suc n)) (test (row (suc n))) (list_any test (selected passes row n)) (suc n) refl
+        (fails_after n (test (row (suc n))) unique refl) (replaced (suc n) (omega arith)) (same (suc n) (omega arith)))
         ∙ sym (selected-suc passes row' n)
 
 -- ---- the place of the first that passes
 
 module _ {X : Type 0} (test : X → Bool) (change : X → X) where
   at_step : (t : Bool) (x : X) (xs : List X) (d : X)
-    → (position_or_len test xs < length xs → set xs (position_or_len test xs) (change (get_or xs (position_or_len test xs) d)) ≡ change_first test change xs)
-    → cond (not t) (suc (position_or_len test xs)) 0 < suc (length xs)
-    → set (x ∷ xs) (cond (not t) (suc (position_or_len test xs)) 0) (change (get_or (x ∷ xs) (cond (not t) (suc (position_or_len test xs)) 0) d))
+      → (position_or_len test xs < length xs → set xs (position_or_len test xs) (change (get_or xs (position_or_len test xs) d)) ≡ change_first test change xs)
+      → cond (not t) (suc (position_or_len test xs)) 0 < suc (length xs)
+      → set (x ∷ xs) (cond (not t) (suc (position_or_len test xs)) 0) (change (get_or (x ∷ xs) (cond (not t) (suc (position_or_len test xs)) 0) d))
       ≡ cond t (change x ∷ xs) (x ∷ change_first test change xs)
   at_step true x xs d later within = refl
   at_step false x xs d later within = ap (λ rest. x ∷ rest) (later (omega arith))
@@ -83,14 +83,14 @@ module _ {X : Type 0} (test : X → Bool) (change : X → X) where
   place-cons x xs = let e : 1 + position_or_len test xs ≡ suc (position_or_len test xs) = omega arith in ap (λ n. cond (not (test x)) n 0) e
 
   change_first-at : (xs : List X) (d : X) → position_or_len test xs < length xs
-    → set xs (position_or_len test xs) (change (get_or xs (position_or_len test xs) d)) ≡ change_first test change xs
+      → set xs (position_or_len test xs) (change (get_or xs (position_or_len test xs) d)) ≡ change_first test change xs
   change_first-at [] d within = absurd (omega arith)
   change_first-at (x ∷ xs) d within =
-    ap (λ n. set (x ∷ xs) n (change (get_or (x ∷ xs) n d))) (place-cons x xs)
-    ∙ at_step (test x) x xs d (change_first-at xs d) (subst (λ n. n < suc (length xs)) (place-cons x xs) within)
+      ap (λ n. set (x ∷ xs) n (change (get_or (x ∷ xs) n d))) (place-cons x xs)
+      ∙ at_step (test x) x xs d (change_first-at xs d) (subst (λ n. n < suc (length xs)) (place-cons x xs) within)
 
   past_step : (t : Bool) (x : X) (xs : List X) → (length xs ≤ position_or_len test xs → xs ≡ change_first test change xs)
-    → suc (length xs) ≤ cond (not t) (suc (position_or_len test xs)) 0 → x ∷ xs ≡ cond t (change x ∷ xs) (x ∷ change_first test change xs)
+      → suc (length xs) ≤ cond (not t) (suc (position_or_len test xs)) 0 → x ∷ xs ≡ cond t (change x ∷ xs) (x ∷ change_first test change xs)
   past_step true x xs later past = absurd (omega arith)
   past_step false x xs later past = ap (λ rest. x ∷ rest) (later (omega arith))
 
@@ -109,11 +109,11 @@ module _ {X : Type 0} (test : X → Bool) (change : X → X) where
   -- the item at the place of the first that passes
   pub change_first-place : (xs : List X) (place : ℕ) (x : X) → Some place ≡ position test xs → x ≡ get_or xs place x → set xs place (change x) ≡ change_first test change xs
   change_first-place xs place x found item =
-    let p = place_cases (ltb (position_or_len test xs) (length xs)) place (position_or_len test xs) (sym found) in
-    let within : position_or_len test xs < length xs = ltb-true _ _ p.0 in
-    ap (λ y. set xs place (change y)) item ∙ ap (λ n. set xs n (change (get_or xs n x))) (sym p.1) ∙ change_first-at xs x within
+      let p = place_cases (ltb (position_or_len test xs) (length xs)) place (position_or_len test xs) (sym found) in
+      let within : position_or_len test xs < length xs = ltb-true _ _ p.0 in
+      ap (λ y. set xs place (change y)) item ∙ ap (λ n. set xs n (change (get_or xs n x))) (sym p.1) ∙ change_first-at xs x within
 
   -- none passes
   pub change_first-no_place : (xs : List X) → None ≡ position test xs → xs ≡ change_first test change xs
   change_first-no_place xs none =
-    change_first-past xs (ltb-false _ _ (none_cases (ltb (position_or_len test xs) (length xs)) (position_or_len test xs) (sym none)))
+      change_first-past xs (ltb-false _ _ (none_cases (ltb (position_or_len test xs) (length xs)) (position_or_len test xs) (sym none)))

@@ -46,12 +46,12 @@ module _ (h : History) (old : StoreState) (agree : StoreAgrees h old) where
   -- ---- readings
 
   pub find-agree : (handle : ℕ) →
-    option_map (λ (row : StoredObject). row.attributes) (find (is_named (view_of h) handle) old.rows) ≡ option_map (attributes_of h) (object_named h handle)
+      option_map (λ (row : StoredObject). row.attributes) (find (is_named (view_of h) handle) old.rows) ≡ option_map (attributes_of h) (object_named h handle)
   find-agree handle =
-    ap (λ rows. option_map (λ (row : StoredObject). row.attributes) (find (is_named (view_of h) handle) rows)) agree.rows
-    ∙ ap (option_map (λ (row : StoredObject). row.attributes)) (find-map (is_named (view_of h) handle) row_of (objects h))
-    ∙ option_map-map h (find (λ n. is_named (view_of h) handle (row_of n)) (objects h))
-    ∙ ap (option_map (attributes_of h)) (sym (object_named-among h handle))
+      ap (λ rows. option_map (λ (row : StoredObject). row.attributes) (find (is_named (view_of h) handle) rows)) agree.rows
+      ∙ ap (option_map (λ (row : StoredObject). row.attributes)) (find-map (is_named (view_of h) handle) row_of (objects h))
+      ∙ option_map-map h (find (λ n. is_named (view_of h) handle (row_of n)) (objects h))
+      ∙ ap (option_map (attributes_of h)) (sym (object_named-among h handle))
 
   -- ---- moves
 
@@ -60,20 +60,20 @@ module _ (h : History) (old : StoreState) (agree : StoreAgrees h old) where
         → attributes ≡ creation_attributes (Some c) (named_attributes h) → new.rows ≡ old.rows ++ object_row (old.creations + 1) session attributes ∷ []
         → new.creations ≡ old.creations + 1 → StoreAgrees (e ∷ h) new
     StoreAgrees-created c session attributes d creation by items rows count =
-      let t : creates (done e) ≡ true = ap creates d ∙ creation in
-      record {
-        rows =
-          rows ∙ rw (by, items, agree.rows, agree.creations, add-one)
-            (ap (λ x. object_rows object_row h ++ object_row (suc (creations h)) (creation_session x) (creation_attributes x (named_attributes h)) ∷ []) (sym d))
-          ∙ sym (object_rows-created e h t object_row);
-        creations = count ∙ rw (agree.creations, add-one) (sym (creations-created e h t));
-      }
+        let t : creates (done e) ≡ true = ap creates d ∙ creation in
+        record {
+          rows =
+              rows ∙ rw (by, items, agree.rows, agree.creations, add-one)
+              (ap (λ x. object_rows object_row h ++ object_row (suc (creations h)) (creation_session x) (creation_attributes x (named_attributes h)) ∷ []) (sym d))
+              ∙ sym (object_rows-created e h t object_row);
+          creations = count ∙ rw (agree.creations, add-one) (sym (creations-created e h t));
+        }
 
     pub StoreAgrees-cleared : (pin : Pin) → done e ≡ Some (call.InitToken pin) → new.rows ≡ [] → new.creations ≡ old.creations → StoreAgrees (e ∷ h) new
     StoreAgrees-cleared pin d rows count = record {
       rows =
-        rows ∙ sym (object_rows-later e h (ap creates d) object_row
-        ∙ selected-none (λ k. has_object h k && not (ends (done e) (attributes_of h k) (session_of h k) (λ handle. names h handle k)))
+          rows ∙ sym (object_rows-later e h (ap creates d) object_row
+          ∙ selected-none (λ k. has_object h k && not (ends (done e) (attributes_of h k) (session_of h k) (λ handle. names h handle k)))
           (λ k. object_row k (session_of h k) (attributes_after (done e) (λ handle. names h handle k) (attributes_of h k))) (creations h)
           (λ k below. ap (λ o. has_object h k && not (ends o (attributes_of h k) (session_of h k) (λ handle. names h handle k))) d ∙ and-false (has_object h k)));
       creations = count ∙ agree.creations ∙ sym (creations-same e h (ap creates d));
@@ -86,15 +86,15 @@ module _ (h : History) (old : StoreState) (agree : StoreAgrees h old) where
         → new.rows ≡ filter (λ row. not (test row)) old.rows → new.creations ≡ old.creations → StoreAgrees (e ∷ h) new
     StoreAgrees-ended c test d no_creation no_change same rows count = record {
       rows =
-        rows ∙ ap (filter (λ row. not (test row))) agree.rows
-        ∙ filter-selected (λ row. not (test row)) (has_object h) row_of (creations h)
-        ∙ selected-same (λ k. has_object h k && not (test (row_of k)))
+          rows ∙ ap (filter (λ row. not (test row))) agree.rows
+          ∙ filter-selected (λ row. not (test row)) (has_object h) row_of (creations h)
+          ∙ selected-same (λ k. has_object h k && not (test (row_of k)))
           (λ k. has_object h k && not (ends (done e) (attributes_of h k) (session_of h k) (λ handle. names h handle k))) row_of
           (λ k. object_row k (session_of h k) (attributes_after (done e) (λ handle. names h handle k) (attributes_of h k))) (creations h)
           (λ k below. same k ∙ sym (ap (λ o. has_object h k && not (ends o (attributes_of h k) (session_of h k) (λ handle. names h handle k))) d))
           (λ k below. ap (object_row k (session_of h k))
-            (sym (ap (λ o. attributes_after o (λ handle. names h handle k) (attributes_of h k)) d ∙ no_change (λ handle. names h handle k) (attributes_of h k))))
-        ∙ sym (object_rows-later e h (ap creates d ∙ no_creation) object_row);
+          (sym (ap (λ o. attributes_after o (λ handle. names h handle k) (attributes_of h k)) d ∙ no_change (λ handle. names h handle k) (attributes_of h k))))
+          ∙ sym (object_rows-later e h (ap creates d ∙ no_creation) object_row);
       creations = count ∙ agree.creations ∙ sym (creations-same e h (ap creates d ∙ no_creation));
     }
 
@@ -113,8 +113,8 @@ module _ (h : History) (old : StoreState) (agree : StoreAgrees h old) where
     pub StoreAgrees-destroyed : (session handle : ℕ) → done e ≡ Some (call.DestroyObject session handle)
         → new.rows ≡ filter (λ row. not (is_named (view_of h) handle row)) old.rows → new.creations ≡ old.creations → StoreAgrees (e ∷ h) new
     StoreAgrees-destroyed session handle d rows count =
-      StoreAgrees-ended (call.DestroyObject session handle) (is_named (view_of h) handle) d refl (λ n a. refl)
-      (λ k. there_test (has_object h k) (not (is_set (attributes_of h k) attribute.Private) || (view_of h).user) (handle_with (view_of h) (attributes_of h k) k == handle)) rows count
+        StoreAgrees-ended (call.DestroyObject session handle) (is_named (view_of h) handle) d refl (λ n a. refl)
+        (λ k. there_test (has_object h k) (not (is_set (attributes_of h k) attribute.Private) || (view_of h).user) (handle_with (view_of h) (attributes_of h k) k == handle)) rows count
 
   -- an entry that leaves objects as they are
   pub StoreAgrees-left : (e : Entry) → leaves_objects (done e) ≡ true → StoreAgrees (e ∷ h) old
@@ -145,9 +145,9 @@ named_handle view a handle n e = eqb-true (handle_with view a n) handle (and_par
 module _ (h : History) (handle : ℕ) (bound : creations h < 2 ^ 32) where
   -- the object that a handle names is the only one
   named_once : (j k : ℕ) → j ≤ creations h → k ≤ creations h → names_with (view_of h) true (attributes_of h j) handle j ≡ true
-    → names_with (view_of h) true (attributes_of h k) handle k ≡ true → j ≡ k
+      → names_with (view_of h) true (attributes_of h k) handle k ≡ true → j ≡ k
   named_once j k below_j below_k nj nk =
-    one_handle (view_of h) (attributes_of h j) (attributes_of h k) handle j k (omega arith) (omega arith)
+      one_handle (view_of h) (attributes_of h j) (attributes_of h k) handle j k (omega arith) (omega arith)
       (named_handle (view_of h) (attributes_of h j) handle j nj) (named_handle (view_of h) (attributes_of h k) handle k nk)
 
   there : (k : ℕ) → has_object h k ≡ true → names h handle k ≡ names_with (view_of h) true (attributes_of h k) handle k
@@ -158,18 +158,18 @@ module _ (h : History) (handle : ℕ) (bound : creations h < 2 ^ 32) where
 
   some_found : (k : ℕ) → has_object h k ≡ true → names h handle k ≡ true → is_some (object_named h handle) ≡ true
   some_found k has n =
-    is_some-find (names h handle) (objects h)
-    ∙ list_any-passing (names h handle) (has_object h) (numbers (creations h))
-    ∙ list_any-member (λ j. has_object h j && names h handle j) k (creations h) (has_object-within h k has).0 (has_object-within h k has).1 (and_from _ _ has n)
+      is_some-find (names h handle) (objects h)
+      ∙ list_any-passing (names h handle) (has_object h) (numbers (creations h))
+      ∙ list_any-member (λ j. has_object h j && names h handle j) k (creations h) (has_object-within h k has).0 (has_object-within h k has).1 (and_from _ _ has n)
 
   found_case : (k : ℕ) → has_object h k ≡ true → names h handle k ≡ true → (found : Option ℕ) → object_named h handle ≡ found → is_some found ≡ true
-    → unwrap_or (option_map (attributes_of h) found) [] ≡ attributes_of h k
+      → unwrap_or (option_map (attributes_of h) found) [] ≡ attributes_of h k
   found_case k has n None e some = cc
   found_case k has n (Some j) e some =
-    let nj = find-passes (names h handle) (objects h) j e in
-    let hj = has-named j nj in
-    let same : j ≡ k = named_once j k (has_object-within h j hj).1 (has_object-within h k has).1 (sym (there j hj) ∙ nj) (sym (there k has) ∙ n) in
-    ap (attributes_of h) same
+      let nj = find-passes (names h handle) (objects h) j e in
+      let hj = has-named j nj in
+      let same : j ≡ k = named_once j k (has_object-within h j hj).1 (has_object-within h k has).1 (sym (there j hj) ∙ nj) (sym (there k has) ∙ n) in
+      ap (attributes_of h) same
 
   -- its attributes
   named_attributes-at : (k : ℕ) → has_object h k ≡ true → names h handle k ≡ true → named_attributes h handle ≡ attributes_of h k
@@ -192,32 +192,32 @@ module _ (h : History) (old new : StoreState) (agree : StoreAgrees h old) (e : E
   changed_row n = object_row n (session_of h n) (cond (is_wanted (row_at n)) attributes (attributes_of h n))
 
   after_case : creations h < 2 ^ 32 → attributes ≡ with_given template.items (named_attributes h handle) → (k : ℕ) → has_object h k ≡ true → (t : Bool) → is_wanted (row_at k) ≡ t
-    → cond t attributes (attributes_of h k) ≡ cond t (with_given template.items (attributes_of h k)) (attributes_of h k)
+      → cond t attributes (attributes_of h k) ≡ cond t (with_given template.items (attributes_of h k)) (attributes_of h k)
   after_case bound items k has true w =
-    items ∙ ap (with_given template.items) (named_attributes-at h handle bound k has (there h handle bound k has ∙ w))
+      items ∙ ap (with_given template.items) (named_attributes-at h handle bound k has (there h handle bound k has ∙ w))
   after_case bound items k has false w = refl
 
   pub StoreAgrees-set : done e ≡ Some set_call → old.creations < 2 ^ 32 → attributes ≡ with_given template.items (named_attributes h handle)
       → new.rows ≡ change_first is_wanted change old.rows → new.creations ≡ old.creations → StoreAgrees (e ∷ h) new
   StoreAgrees-set d small items rows count =
-    let bound : creations h < 2 ^ 32 = subst (λ n. n < 2 ^ 32) agree.creations small in
-    record {
-      rows =
-        rows ∙ ap (change_first is_wanted change) agree.rows
-        ∙ selected-replaced is_wanted change (has_object h) row_at changed_row (creations h)
-          (λ j k bj bk nj nk. named_once h handle bound j k bj bk nj nk)
-          (λ k b has w. ap (λ t. object_row k (session_of h k) (cond t attributes (attributes_of h k))) w)
-          (λ k b w. ap (λ t. object_row k (session_of h k) (cond t attributes (attributes_of h k))) w)
-        ∙ selected-rows_same (has_object h) changed_row
-          (λ k. object_row k (session_of h k) (attributes_after (done e) (λ n. names h n k) (attributes_of h k))) (creations h)
-          (λ k b has. ap (object_row k (session_of h k))
+      let bound : creations h < 2 ^ 32 = subst (λ n. n < 2 ^ 32) agree.creations small in
+      record {
+        rows =
+            rows ∙ ap (change_first is_wanted change) agree.rows
+            ∙ selected-replaced is_wanted change (has_object h) row_at changed_row (creations h)
+            (λ j k bj bk nj nk. named_once h handle bound j k bj bk nj nk)
+            (λ k b has w. ap (λ t. object_row k (session_of h k) (cond t attributes (attributes_of h k))) w)
+            (λ k b w. ap (λ t. object_row k (session_of h k) (cond t attributes (attributes_of h k))) w)
+            ∙ selected-rows_same (has_object h) changed_row
+            (λ k. object_row k (session_of h k) (attributes_after (done e) (λ n. names h n k) (attributes_of h k))) (creations h)
+            (λ k b has. ap (object_row k (session_of h k))
             (after_case bound items k has (is_wanted (row_at k)) refl
             ∙ ap (λ t. cond t (with_given template.items (attributes_of h k)) (attributes_of h k)) (sym (there h handle bound k has))
             ∙ sym (ap (λ o. attributes_after o (λ n. names h n k) (attributes_of h k)) d)))
-        ∙ selected-same (has_object h) (λ k. has_object h k && not (ends (done e) (attributes_of h k) (session_of h k) (λ n. names h n k)))
-          (λ k. object_row k (session_of h k) (attributes_after (done e) (λ n. names h n k) (attributes_of h k)))
-          (λ k. object_row k (session_of h k) (attributes_after (done e) (λ n. names h n k) (attributes_of h k))) (creations h)
-          (λ k b. sym (ap (λ o. has_object h k && not (ends o (attributes_of h k) (session_of h k) (λ n. names h n k))) d ∙ and-true (has_object h k))) (λ k b. refl)
-        ∙ sym (object_rows-later e h (ap creates d) object_row);
-      creations = count ∙ agree.creations ∙ sym (creations-same e h (ap creates d));
-    }
+            ∙ selected-same (has_object h) (λ k. has_object h k && not (ends (done e) (attributes_of h k) (session_of h k) (λ n. names h n k)))
+            (λ k. object_row k (session_of h k) (attributes_after (done e) (λ n. names h n k) (attributes_of h k)))
+            (λ k. object_row k (session_of h k) (attributes_after (done e) (λ n. names h n k) (attributes_of h k))) (creations h)
+            (λ k b. sym (ap (λ o. has_object h k && not (ends o (attributes_of h k) (session_of h k) (λ n. names h n k))) d ∙ and-true (has_object h k))) (λ k b. refl)
+            ∙ sym (object_rows-later e h (ap creates d) object_row);
+        creations = count ∙ agree.creations ∙ sym (creations-same e h (ap creates d));
+      }

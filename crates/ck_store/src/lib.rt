@@ -3,5 +3,7 @@
 
 mod rows;
 mod stores;
+#[cfg(test)]
+mod tests;
 
 pub use stores::{Store, StoredObject};

@@ -3,10 +3,9 @@ ghost use Rattle.std.specs.Option.{option_copied};
 ghost use Rattle.ck_store.specs.Rows.{is_named, ends_with, is_session_object, is_private_session_object, change_first};
 ghost use Rattle.ck_store.specs.declared.stores.StoredObject.{StoredObject};
 
+use crate::stores::StoredObject;
 use ck_journal::View;
 use ck_types::{Attribute, Record};
-
-use crate::stores::StoredObject;
 
 /// How far the handles of private objects move with each login of the user.
 const LOGIN_STEP: u64 = 0x1_0000_0000;

@@ -1,9 +1,11 @@
+use crate::rows::{
+    find_named, remove_named, remove_of_session, remove_private_session_objects,
+    remove_session_objects, replace_named,
+};
 use ck_journal::View;
 use ck_types::{NoMemory, Record};
 use std::alloc::Global;
 use std::marker::Model;
-
-use crate::rows::{find_named, remove_named, remove_of_session, remove_private_session_objects, remove_session_objects, replace_named};
 
 /// An object that hasn't ended.
 #[derive(Debug, Drop)]
@@ -68,9 +70,7 @@ impl Store {
     /// The attributes of the object that a handle names.
     pub fn get(&self, view: View, handle: u64) -> Option<&Record>
         requires logins { view.logins < 2 ^ 31 }
-        ensures {
-            (h : History) → StoreAgrees h self.now → view ≡ view_of h → option_copied result ≡ option_map (attributes_of h) (object_named h handle)
-        }
+        ensures { (h : History) → StoreAgrees h self.now → view ≡ view_of h → option_copied result ≡ option_map (attributes_of h) (object_named h handle) }
     {
         match find_named(self.rows.as_slice(), view, handle) {
             None => None,
@@ -95,10 +95,8 @@ impl Store {
         requires room { 0 < self.old.spare }
         requires numbers { self.old.creations + 1 < 2 ^ 32 }
         ensures number { result ≡ self.old.creations + 1 }
-        ensures agree {
-            (h : History) (e : Entry) (c : Call) → done e ≡ Some c → creates (Some c) ≡ true → session ≡ creation_session (Some c)
-            → attributes ≡ creation_attributes (Some c) (named_attributes h) → StoreAgrees h self.old → StoreAgrees (e ∷ h) self.new
-        }
+        ensures agree { (h : History) (e : Entry) (c : Call) → done e ≡ Some c → creates (Some c) ≡ true → session ≡ creation_session (Some c)
+            → attributes ≡ creation_attributes (Some c) (named_attributes h) → StoreAgrees h self.old → StoreAgrees (e ∷ h) self.new }
     {
         self.creations += 1;
         let number = self.creations;
@@ -114,10 +112,8 @@ impl Store {
     /// Gives the object that a handle names these attributes.
     pub fn set(&mut self, view: View, handle: u64, attributes: Record)
         requires logins { view.logins < 2 ^ 31 }
-        ensures {
-            (h : History) (e : Entry) (session : ℕ) (template : Template) → done e ≡ Some (call.SetAttributeValue session handle template) → view ≡ view_of h
-            → attributes ≡ with_given template.items (named_attributes h handle) → StoreAgrees h self.old → StoreAgrees (e ∷ h) self.new
-        }
+        ensures { (h : History) (e : Entry) (session : ℕ) (template : Template) → done e ≡ Some (call.SetAttributeValue session handle template) → view ≡ view_of h
+            → attributes ≡ with_given template.items (named_attributes h handle) → StoreAgrees h self.old → StoreAgrees (e ∷ h) self.new }
     {
         replace_named(&mut self.rows, view, handle, attributes);
     }
@@ -153,10 +149,8 @@ impl Store {
     /// Ends the object that a handle names.
     pub fn destroy(&mut self, view: View, handle: u64)
         requires logins { view.logins < 2 ^ 31 }
-        ensures {
-            (h : History) (e : Entry) (session : ℕ) → done e ≡ Some (call.DestroyObject session handle) → view ≡ view_of h
-            → StoreAgrees h self.old → StoreAgrees (e ∷ h) self.new
-        }
+        ensures { (h : History) (e : Entry) (session : ℕ) → done e ≡ Some (call.DestroyObject session handle) → view ≡ view_of h
+            → StoreAgrees h self.old → StoreAgrees (e ∷ h) self.new }
     {
         remove_named(&mut self.rows, view, handle);
     }

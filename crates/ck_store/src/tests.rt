@@ -1,0 +1,112 @@
+ghost use Rattle.std.specs.Prelude.{◌≡◌};
+
+use crate::Store;
+use ck_journal::View;
+use ck_types::{Bytes, Item, NoMemory, Record, Sequence, Template};
+use std::alloc::Global;
+use std::process::Abort;
+use std::test::Fail;
+
+const DATA: &[u8] = &[0; 8];
+
+/// No handle of these tests depends on another count of logins.
+const LOGGED_IN: View = View {
+    user: true,
+    logins: 1,
+};
+
+const PUBLIC: View = View {
+    user: false,
+    logins: 1,
+};
+
+fn record_of(alloc: Global, items: &[(u64, &[u8])]) -> Result<Record, Fail> {
+    let mut list = Vec::new(alloc);
+    for (kind, value) in items {
+        let value = Bytes::from_slice(alloc, value)?;
+        list.push(Item { kind: *kind, value })?;
+    }
+    let items = Sequence::from_vec(list);
+    Ok(Record::created(alloc, &Template { items })?)
+}
+
+fn created(
+    rt: &impl Abort,
+    store: &mut Store,
+    session: u64,
+    attributes: Record,
+) -> Result<u64, NoMemory> {
+    assert!(rt; store.creations() < 0xffff_fffe);
+    store.reserve()?;
+    Ok(store.create(session, attributes))
+}
+
+/// The length of the label of the object that a handle names.
+fn label(store: &Store, view: View, handle: u64) -> Option<u64> {
+    store.get(view, handle)?.length(0x3)
+}
+
+/// Two session objects of session 1, the second private, a private token object, and a session object of session 2;
+/// their labels have 1 to 4 bytes.
+fn filled(rt: &impl Abort, alloc: Global) -> Result<Store, Fail> {
+    let mut store = Store::new(alloc);
+    for (number, session, items) in [
+        (1, 1, [(0, DATA), (0x3, &[9; 1]), (0x1, &[0])]),
+        (2, 1, [(0, DATA), (0x3, &[9; 2]), (0x2, &[1])]),
+        (4, 2, [(0, DATA), (0x3, &[9; 4]), (0x1, &[0])]),
+    ] {
+        if number == 4 {
+            let token = record_of(
+                alloc,
+                &[(0, DATA), (0x1, &[1]), (0x2, &[1]), (0x3, &[9; 3])],
+            )?;
+            assert_eq!(rt; created(rt, &mut store, 1, token)?, 3);
+        }
+        let record = record_of(alloc, &items)?;
+        assert_eq!(rt; created(rt, &mut store, session, record)?, number);
+    }
+    Ok(store)
+}
+
+/// The lengths of the labels that the handles of all four objects find.
+fn labels(store: &Store) -> [Option<u64>; 4] {
+    let private = 0x1_0000_0000;
+    [
+        label(store, LOGGED_IN, 1),
+        label(store, LOGGED_IN, private + 2),
+        label(store, LOGGED_IN, private + 3),
+        label(store, LOGGED_IN, 4),
+    ]
+}
+
+#[test]
+fn objects(rt: HostRuntime) -> Result<(), Fail> {
+    let mut store = filled(&rt, rt.alloc())?;
+    assert_eq!(rt; store.creations(), 4);
+    assert_eq!(rt; labels(&store), [Some(1), Some(2), Some(3), Some(4)]);
+    assert_eq!(rt; label(&store, PUBLIC, 1), Some(1));
+    for handle in [0, 2, 3, 5, 0x1_0000_0001, 0x1_0000_0002, 0x2_0000_0003] {
+        assert_eq!(rt; label(&store, PUBLIC, handle), None, "{handle}");
+    }
+    let longer = record_of(rt.alloc(), &[(0, DATA), (0x3, &[9; 5])])?;
+    store.set(LOGGED_IN, 4, longer);
+    assert_eq!(rt; labels(&store), [Some(1), Some(2), Some(3), Some(5)]);
+    store.destroy(LOGGED_IN, 4);
+    assert_eq!(rt; labels(&store), [Some(1), Some(2), Some(3), None]);
+    store.clear();
+    assert_eq!(rt; labels(&store), [None; 4]);
+    assert_eq!(rt; store.creations(), 4);
+    Ok(())
+}
+
+#[test]
+fn ends_of_sessions_and_logins(rt: HostRuntime) -> Result<(), Fail> {
+    let mut store = filled(&rt, rt.alloc())?;
+    store.end_session(2);
+    assert_eq!(rt; labels(&store), [Some(1), Some(2), Some(3), None]);
+    store.end_private();
+    assert_eq!(rt; labels(&store), [Some(1), None, Some(3), None]);
+    store.end_all_sessions();
+    assert_eq!(rt; labels(&store), [None, None, Some(3), None]);
+    Ok(())
+}
