@@ -7,7 +7,7 @@ use Rattle.ck_types.proofs.GivenLemmas.{or_else-none, error_if-none}
 use Rattle.ck_types.specs.Records.{with_given, is_set, copied_error}
 use Rattle.ck_types.specs.declared.attributes.Attribute.TheVariants as attribute
 use Rattle.ck_journal.specs.Objects.{creations, named_attributes}
-use Rattle.ck_types.specs.Templates.{template_error, error_if, or_else, first_error, form_error, value_error, class_error, known_standing_error, standing_error, created_error, has_conflict}
+use Rattle.ck_types.specs.Templates.{template_error, error_if, or_else, first_error, form_error, value_error, is_secret_key, creation_error, class_error, known_standing_error, standing_error, created_error, has_conflict}
 use Rattle.ck_types.specs.declared.attributes.Attribute.{Attribute}
 use Rattle.ck_types.specs.declared.attributes.Class.{Class}
 use Rattle.ck_types.specs.declared.attributes.Class.TheVariants as class
@@ -48,6 +48,10 @@ is_refusal-value_error : (a : Option Attribute) (value : List ℕ) → is_refusa
 is_refusal-value_error None value = refl
 is_refusal-value_error (Some a) value = is_refusal-error_if _ rv.AttributeValueInvalid refl
 
+is_refusal-creation_error : (item : Item) → is_refusal (creation_error item) ≡ true
+is_refusal-creation_error item =
+    is_refusal-or_else (form_error item) _ (is_refusal-value_error (attribute_of item.kind) item.value) (is_refusal-error_if (is_secret_key item) rv.AttributeValueInvalid refl)
+
 is_refusal-standing_error : (stands : Option Bool) → is_refusal (standing_error stands) ≡ true
 is_refusal-standing_error None = refl
 is_refusal-standing_error (Some true) = refl
@@ -59,7 +63,7 @@ is_refusal-known c p (Some a) = is_refusal-standing_error (standing c p a)
 
 pub is_refusal-created_error : (items : List Item) → is_refusal (created_error items) ≡ true
 is_refusal-created_error items =
-    is_refusal-or_else (first_error form_error items) _ (is_refusal-first_error form_error (λ item. is_refusal-value_error (attribute_of item.kind) item.value) items)
+    is_refusal-or_else (first_error creation_error items) _ (is_refusal-first_error creation_error is_refusal-creation_error items)
     (is_refusal-or_else _ _ (is_refusal-error_if (has_conflict items) rv.TemplateInconsistent refl)
     (is_refusal-or_else _ _ (is_refusal-error_if _ rv.TemplateIncomplete refl)
     (is_refusal-or_else _ _ (is_refusal-first_error (class_error class.Data purpose.Create) (λ item. is_refusal-known class.Data purpose.Create (attribute_of item.kind)) items) refl)))

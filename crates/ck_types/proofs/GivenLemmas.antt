@@ -1,13 +1,15 @@
 -- What items with no fault in form give
-use Rattle.std.proofs.Common.{◌≡◌, ℕ, Bool, true, false, cond, List, [], ◌∷◌, Option, Some, None, not, ◌||◌, refl, inl, inr, sym, ap, ◌∙◌, subst}
+use Rattle.std.proofs.Common.{◌≡◌, ℕ, Bool, true, false, cond, List, [], ◌∷◌, Option, Some, None, not, ◌||◌, refl, inl, inr, sym, subst}
 use Rattle.std.specs.Prelude.{◌==◌, find, option_map, unwrap_or}
 use Rattle.std.specs.Cmp.Lexicographic.{bytes_decides}
 use Rattle.std.proofs.lemmas.Bool.{eqb-true, or_cases, true≢false}
-use Rattle.ck_types.specs.Attributes.{type_of, form_of, is_of_form, attribute_of, same_bytes, flag_bytes, number_bytes}
-use Rattle.ck_types.specs.Templates.{given, given_or, first_error, form_error, value_error, or_else, error_if, is_unsupported, created_error}
+use Rattle.ck_types.specs.Attributes.{type_of, form_of, is_of_form, standing, attribute_of, same_bytes, flag_bytes, number_bytes}
+use Rattle.ck_types.specs.Templates.{given, given_or, first_error, form_error, value_error, creation_error, class_error, standing_error, template_error, has_conflict, or_else, error_if, created_error}
 use Rattle.ck_types.specs.declared.attributes.Attribute.{Attribute}
 use Rattle.ck_types.specs.declared.attributes.Attribute.TheVariants as attribute
+use Rattle.ck_types.specs.declared.attributes.Class.TheVariants as class
 use Rattle.ck_types.specs.declared.attributes.Form.TheVariants as form
+use Rattle.ck_types.specs.declared.attributes.Purpose.{Purpose}
 use Rattle.ck_types.specs.declared.return_codes.Rv.{Rv}
 use Rattle.ck_types.specs.declared.return_codes.Rv.TheVariants as rv
 use Rattle.ck_types.specs.declared.templates.Item.{Item}
@@ -51,55 +53,39 @@ pub error_if-none : (test : Bool) (code : Rv) → error_if test code ≡ None �
 error_if-none false code e = refl
 error_if-none true code e = cc
 
-form_holds : (fits unsupported : Bool) → (not fits || unsupported) ≡ false → fits ≡ true
-form_holds true unsupported e = refl
-form_holds false unsupported e = cc
+form_holds : (fits : Bool) → not fits ≡ false → fits ≡ true
+form_holds true e = refl
+form_holds false e = cc
 
 -- a value with no fault in form is of its attribute's form
 is_of_form-value : (a : Attribute) (value : List ℕ) → value_error (Some a) value ≡ None → is_of_form (form_of a) value ≡ true
-is_of_form-value a value e = form_holds (is_of_form (form_of a) value) (is_unsupported a value) (error_if-none _ _ e)
+is_of_form-value a value e = form_holds (is_of_form (form_of a) value) (error_if-none _ _ e)
 
-module _ (a : Attribute) (value : List ℕ) where
-  value_error-first : (test : Bool) (item : Item) (items : List Item)
-      → (first_error form_error items ≡ None → given items (type_of a) ≡ Some value → value_error (Some a) value ≡ None)
-      → (item.kind == type_of a) ≡ test
-      → first_error form_error (item ∷ items) ≡ None
-      → option_map (λ (i : Item). i.value) (cond test (Some item) (find (λ i. i.kind == type_of a) items)) ≡ Some value
-      → value_error (Some a) value ≡ None
-  value_error-first true item items later t fine e =
-      let here = (or_else-none (form_error item) (first_error form_error items) fine).0 in
-      let known : attribute_of item.kind ≡ Some a = ap attribute_of (eqb-true item.kind (type_of a) t) ∙ attribute_of-type_of a in
+module _ (check : Item → Option Rv) (kind : ℕ) (value : List ℕ) where
+  none-first : (test : Bool) (item : Item) (items : List Item)
+      → (first_error check items ≡ None → given items kind ≡ Some value → check (record { kind = kind; value = value }) ≡ None)
+      → (item.kind == kind) ≡ test
+      → first_error check (item ∷ items) ≡ None
+      → option_map (λ (i : Item). i.value) (cond test (Some item) (find (λ i. i.kind == kind) items)) ≡ Some value
+      → check (record { kind = kind; value = value }) ≡ None
+  none-first true item items later t fine e =
+      let here = (or_else-none (check item) (first_error check items) fine).0 in
       let same : item.value ≡ value = cc in
-      subst (λ v. value_error (Some a) v ≡ None) same (subst (λ o. value_error o item.value ≡ None) known here)
-  value_error-first false item items later t fine e =
-      later (or_else-none (form_error item) (first_error form_error items) fine).1 e
+      subst (λ v. check (record { kind = kind; value = v }) ≡ None) same
+      (subst (λ n. check (record { kind = n; value = item.value }) ≡ None) (eqb-true item.kind kind t) here)
+  none-first false item items later t fine e =
+      later (or_else-none (check item) (first_error check items) fine).1 e
 
-  -- what items with no fault in form give an attribute has none
-  pub value_error-given : (items : List Item) → first_error form_error items ≡ None → given items (type_of a) ≡ Some value → value_error (Some a) value ≡ None
-  value_error-given [] fine e = cc
-  value_error-given (item ∷ items) fine e =
-      value_error-first (item.kind == type_of a) item items (value_error-given items) refl fine e
+  -- a check that refuses no item doesn't refuse what the items give
+  none-given : (items : List Item) → first_error check items ≡ None → given items kind ≡ Some value → check (record { kind = kind; value = value }) ≡ None
+  none-given [] fine e = cc
+  none-given (item ∷ items) fine e =
+      none-first (item.kind == kind) item items (none-given items) refl fine e
 
--- a value with no fault is that of a data object's class
-class-value : (value : List ℕ) → value_error (Some attribute.Class) value ≡ None → value ≡ number_bytes 0
-class-value value e =
-    let fine = error_if-none (not (is_of_form form.Class value) || is_unsupported attribute.Class value) rv.AttributeValueInvalid e in
-    class-test (same_bytes value (number_bytes 0)) (same_bytes value (number_bytes 4)) (λ t. (bytes_decides value (number_bytes 0)).0 t) fine
-  where
-    class-test : (data_class key_class : Bool) → (data_class ≡ true → value ≡ number_bytes 0)
-        → (not (data_class || key_class) || key_class) ≡ false → value ≡ number_bytes 0
-    class-test true key_class h fine = h refl
-    class-test false true h fine = cc
-    class-test false false h fine = cc
-
-or-default : (o : Option (List ℕ)) (other : List ℕ) → ((value : List ℕ) → o ≡ Some value → value ≡ other) → unwrap_or o other ≡ other
-or-default None other h = refl
-or-default (Some value) other h = h value refl
-
--- items with no fault in form give no class but that of data objects
-pub given_or-class : (items : List Item) → first_error form_error items ≡ None → given_or items (type_of attribute.Class) (number_bytes 0) ≡ number_bytes 0
-given_or-class items fine =
-    or-default (given items (type_of attribute.Class)) (number_bytes 0) (λ value e. class-value value (value_error-given attribute.Class value items fine e))
+-- what items with no fault in form give an attribute has none
+value_error-given : (a : Attribute) (value : List ℕ) (items : List Item) → first_error form_error items ≡ None → given items (type_of a) ≡ Some value → value_error (Some a) value ≡ None
+value_error-given a value items fine e =
+    subst (λ o. value_error o value ≡ None) (attribute_of-type_of a) (none-given form_error (type_of a) value items fine e)
 
 flag_bytes-test : (test : Bool) (value : List ℕ) → same_bytes value (flag_bytes true) ≡ test → (same_bytes value (flag_bytes false) || test) ≡ true → flag_bytes test ≡ value
 flag_bytes-test true value t h = sym ((bytes_decides value (flag_bytes true)).0 t)
@@ -123,7 +109,56 @@ flag_bytes-given_or items a kind value other test flag fine e k t =
     let here : given items (type_of a) ≡ Some value = subst (λ n. given items n ≡ Some value) k (sym e) in
     rw (t, here) (flag_bytes-given items a value flag fine here)
 
--- ---- a template that passes the checks
+-- ---- a template that passes the checks of a creation
+
+-- its items have no fault in form
+pub form-creation : (items : List Item) → first_error creation_error items ≡ None → first_error form_error items ≡ None
+form-creation [] fine = refl
+form-creation (item ∷ items) fine =
+    let parts = or_else-none (creation_error item) (first_error creation_error items) fine in
+    rw ((or_else-none (form_error item) _ parts.0).0, form-creation items parts.1) refl
 
 pub form-created : (items : List Item) → created_error items ≡ None → first_error form_error items ≡ None
-form-created items fine = (or_else-none (first_error form_error items) _ fine).0
+form-created items fine = form-creation items (or_else-none (first_error creation_error items) _ fine).0
+
+-- a class that it gives is that of data objects
+class-value : (value : List ℕ) → creation_error (record { kind = type_of attribute.Class; value = value }) ≡ None → value ≡ number_bytes 0
+class-value value e =
+    let parts = or_else-none (value_error (Some attribute.Class) value) _ e in
+    class-test (same_bytes value (number_bytes 0)) (same_bytes value (number_bytes 4)) (λ t. (bytes_decides value (number_bytes 0)).0 t)
+    (is_of_form-value attribute.Class value parts.0) (error_if-none _ _ parts.1)
+  where
+    class-test : (data_class key_class : Bool) → (data_class ≡ true → value ≡ number_bytes 0)
+        → (data_class || key_class) ≡ true → key_class ≡ false → value ≡ number_bytes 0
+    class-test true key_class h fits supported = h refl
+    class-test false key_class h fits supported = cc
+
+or-default : (o : Option (List ℕ)) (other : List ℕ) → ((value : List ℕ) → o ≡ Some value → value ≡ other) → unwrap_or o other ≡ other
+or-default None other h = refl
+or-default (Some value) other h = h value refl
+
+pub given_or-class : (items : List Item) → created_error items ≡ None → given_or items (type_of attribute.Class) (number_bytes 0) ≡ number_bytes 0
+given_or-class items fine =
+    or-default (given items (type_of attribute.Class)) (number_bytes 0)
+    (λ value e. class-value value (none-given creation_error (type_of attribute.Class) value items (or_else-none (first_error creation_error items) _ fine).0 e))
+
+-- ---- a template that passes the checks of a copy or a change
+
+-- it doesn't give the class
+no-class : (p : Purpose) (items : List Item) → standing class.Data p attribute.Class ≡ Some false
+    → first_error (class_error class.Data p) items ≡ None → given items (type_of attribute.Class) ≡ None
+no-class p items read_only fine = no-value (given items (type_of attribute.Class)) refl
+  where
+    no-value : (o : Option (List ℕ)) → given items (type_of attribute.Class) ≡ o → o ≡ None
+    no-value None e = refl
+    no-value (Some value) e =
+        let passes = none-given (class_error class.Data p) (type_of attribute.Class) value items fine e in
+        let refused : standing_error (Some false) ≡ None = subst (λ o. standing_error o ≡ None) read_only passes in
+        cc
+
+pub given-class : (p : Purpose) (items : List Item) → standing class.Data p attribute.Class ≡ Some false
+    → template_error p items ≡ None → given items (type_of attribute.Class) ≡ None
+given-class p items read_only fine =
+    let unlike = (or_else-none (first_error form_error items) _ fine).1 in
+    let rest = (or_else-none (error_if (has_conflict items) rv.TemplateInconsistent) _ unlike).1 in
+    no-class p items read_only (or_else-none (first_error (class_error class.Data p) items) None rest).0

@@ -5,7 +5,6 @@ use Rattle.std.specs.List.{flat_map}
 use Rattle.ck_types.specs.Templates.{given, given_or, error_if, first_of, template_error}
 use Rattle.ck_types.specs.declared.attributes.Attribute.{Attribute}
 use Rattle.ck_types.specs.declared.attributes.Attribute.TheVariants as attribute
-use Rattle.ck_types.specs.declared.attributes.Class.{Class}
 use Rattle.ck_types.specs.declared.attributes.Class.TheVariants as class
 use Rattle.ck_types.specs.declared.attributes.Form.{Form}
 use Rattle.ck_types.specs.declared.attributes.Form.TheVariants as form

@@ -1,7 +1,7 @@
 -- Templates and the checks that one must pass
-use Rattle.std.specs.Prelude.{ℕ, Bool, true, false, List, [], ◌∷◌, Option, Some, None, ◌==◌, ◌||◌, ◌&&◌, not, find, option_map, unwrap_or, is_none}
+use Rattle.std.specs.Prelude.{ℕ, Bool, true, false, List, [], ◌∷◌, Option, Some, None, ◌==◌, ◌&&◌, not, find, option_map, unwrap_or, is_none}
 use Rattle.std.specs.List.{list_any}
-use Rattle.ck_types.specs.Attributes.{flag_bytes, number_bytes, same_bytes, is_of_form, type_of, form_of, standing, attribute_of}
+use Rattle.ck_types.specs.Attributes.{number_bytes, same_bytes, is_of_form, type_of, form_of, standing, attribute_of}
 use Rattle.ck_types.specs.declared.attributes.Attribute.{Attribute}
 use Rattle.ck_types.specs.declared.attributes.Attribute.TheVariants as attribute
 use Rattle.ck_types.specs.declared.attributes.Class.{Class}
@@ -46,18 +46,21 @@ given_or items kind other = unwrap_or (given items kind) other
 
 -- ---- the checks
 
--- What isn't supported yet: secret keys
-abbrev pub is_unsupported : Attribute → List ℕ → Bool
-is_unsupported attribute.Class value = same_bytes value (number_bytes 4)
-is_unsupported other value = false
-
 -- the type is known, and the value is of its form
 abbrev pub value_error : Option Attribute → List ℕ → Option Rv
 value_error None value = Some rv.AttributeTypeInvalid
-value_error (Some a) value = error_if (not (is_of_form (form_of a) value) || is_unsupported a value) rv.AttributeValueInvalid
+value_error (Some a) value = error_if (not (is_of_form (form_of a) value)) rv.AttributeValueInvalid
 
 abbrev pub form_error : Item → Option Rv
 form_error item = value_error (attribute_of item.kind) item.value
+
+-- the item is the class of secret keys (CKO_SECRET_KEY)
+abbrev pub is_secret_key : Item → Bool
+is_secret_key item = (item.kind == type_of attribute.Class) && same_bytes item.value (number_bytes 4)
+
+-- an item of a creation is well formed, and isn't the class of secret keys, which can't be created yet
+abbrev pub creation_error : Item → Option Rv
+creation_error item = or_else (form_error item) (error_if (is_secret_key item) rv.AttributeValueInvalid)
 
 -- two items of one type have different values: an item's value isn't that of the first of its type
 abbrev pub has_conflict : List Item → Bool
@@ -83,7 +86,7 @@ class_error class purpose item = known_standing_error class purpose (attribute_o
 -- the error of a template that creates an object, by the first check that fails
 abbrev pub created_error : List Item → Option Rv
 created_error items = first_of (
-    first_error form_error items
+    first_error creation_error items
     ∷ error_if (has_conflict items) rv.TemplateInconsistent
     ∷ error_if (is_none (given items (type_of attribute.Class))) rv.TemplateIncomplete
     ∷ first_error (class_error class.Data purpose.Create) items

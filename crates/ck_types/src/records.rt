@@ -191,17 +191,20 @@ impl Data {
 }
 
 impl Record {
-    ghost use Rattle.std.specs.Prelude.{◌≡◌, IfOk, option_map, length};
+    ghost use Rattle.std.specs.Prelude.{◌≡◌, None, IfOk, option_map, length};
+    ghost use Rattle.ck_types.specs.Attributes.{type_of};
     ghost use Rattle.ck_types.specs.Templates.{given};
     ghost use Rattle.ck_types.specs.Templates.{created_error, first_error, form_error};
+    ghost use Rattle.ck_types.specs.declared.attributes.Attribute.TheVariants as attribute;
     ghost use Rattle.ck_types.specs.Records.{IsMade, created_items, copied_error, changed_error, with_given, flag_in, is_set};
     ghost use Rattle.ck_types.specs.Fields.{field_bytes, flag_field};
 
     /// The object that a template of C_CreateObject makes (PKCS #11 Base 3.0, Object management functions). It is
     /// refused with the code of the first check that fails: a type that the token doesn't know
-    /// (CKR_ATTRIBUTE_TYPE_INVALID) or a value that isn't of its form (CKR_ATTRIBUTE_VALUE_INVALID), item by item;
-    /// two values of one type (CKR_TEMPLATE_INCONSISTENT); no class (CKR_TEMPLATE_INCOMPLETE); an attribute that the
-    /// class doesn't have (CKR_ATTRIBUTE_TYPE_INVALID) or that may not be given (CKR_ATTRIBUTE_READ_ONLY), item by item.
+    /// (CKR_ATTRIBUTE_TYPE_INVALID) or a value that isn't of its form or, for now, is the class of secret keys
+    /// (CKR_ATTRIBUTE_VALUE_INVALID), item by item; two values of one type (CKR_TEMPLATE_INCONSISTENT); no class
+    /// (CKR_TEMPLATE_INCOMPLETE); an attribute that the class doesn't have (CKR_ATTRIBUTE_TYPE_INVALID) or that may not
+    /// be given (CKR_ATTRIBUTE_READ_ONLY), item by item.
     #[tactic(auto, unfolding(crate::specs::Records::created_items))]
     pub fn created(alloc: Global, template: &Template) -> Result<Record, Refusal>
         ensures { IsMade (created_error template.now.items) (created_items template.now.items) result }
@@ -266,6 +269,7 @@ impl Record {
 
     fn with(&self, alloc: Global, items: &[Item]) -> Result<Record, NoMemory>
         requires well_formed { first_error form_error items.now ≡ None }
+        requires class { given items.now (type_of attribute.Class) ≡ None }
         ensures { IfOk result (λ made. made ≡ with_given items.now self.now) }
     {
         let Object::Data(data) = &self.object;

@@ -2,7 +2,7 @@ ghost use Rattle.std.specs.Prelude.{◌≡◌, ◌==◌, ◌&&◌, None, Some, n
 ghost use Rattle.std.specs.List.{list_any};
 ghost use Rattle.std.specs.Option.{option_copied};
 ghost use Rattle.ck_types.specs.Attributes.{type_of, same_bytes};
-ghost use Rattle.ck_types.specs.Templates.{given, given_or, is_unsupported, form_error, first_error, has_two_values, has_conflict, class_error, created_error, template_error};
+ghost use Rattle.ck_types.specs.Templates.{given, given_or, is_secret_key, form_error, creation_error, first_error, has_two_values, has_conflict, class_error, created_error, template_error};
 
 use crate::attributes::{Attribute, Class, Purpose};
 use crate::return_codes::Rv;
@@ -35,16 +35,6 @@ pub(crate) fn given(items: &[Item], kind: u64) -> Option<&Bytes>
     None
 }
 
-/// What isn't supported yet: secret keys.
-fn is_unsupported(attribute: Attribute, value: &[u8]) -> bool
-    ensures { result ≡ is_unsupported attribute value.now }
-{
-    match attribute {
-        Attribute::Class => value == 4u64.to_le_bytes().as_slice(),
-        _ => false,
-    }
-}
-
 /// CKR_ATTRIBUTE_TYPE_INVALID for a type that the token doesn't know, CKR_ATTRIBUTE_VALUE_INVALID for a value
 /// that isn't of the type's form.
 fn item_form_error(item: &Item) -> Option<Rv>
@@ -53,8 +43,7 @@ fn item_form_error(item: &Item) -> Option<Rv>
     match Attribute::of(item.kind) {
         None => Some(Rv::AttributeTypeInvalid),
         Some(attribute) => {
-            let value = item.value.as_slice();
-            if !attribute.form().admits(value) || is_unsupported(attribute, value) {
+            if !attribute.form().admits(item.value.as_slice()) {
                 Some(Rv::AttributeValueInvalid)
             } else {
                 None
@@ -68,6 +57,37 @@ fn first_form_error(items: &[Item]) -> Option<Rv>
 {
     for item in items {
         let error = item_form_error(item);
+        if error.is_some() {
+            return error;
+        }
+    }
+    None
+}
+
+/// Whether the item is the class of secret keys (CKO_SECRET_KEY).
+fn is_secret_key(item: &Item) -> bool
+    ensures { result ≡ is_secret_key item.now }
+{
+    item.kind == Attribute::Class.number() && item.value.as_slice() == 4u64.to_le_bytes().as_slice()
+}
+
+/// The code of an item that isn't well formed, and CKR_ATTRIBUTE_VALUE_INVALID for the class of secret keys, which
+/// can't be created yet.
+fn item_creation_error(item: &Item) -> Option<Rv>
+    ensures { result ≡ creation_error item.now }
+{
+    let error = item_form_error(item);
+    if error.is_none() && is_secret_key(item) {
+        return Some(Rv::AttributeValueInvalid);
+    }
+    error
+}
+
+fn first_creation_error(items: &[Item]) -> Option<Rv>
+    ensures { result ≡ first_error creation_error items.now }
+{
+    for item in items {
+        let error = item_creation_error(item);
         if error.is_some() {
             return error;
         }
@@ -142,7 +162,7 @@ fn has_conflict(items: &[Item]) -> bool
 pub(crate) fn created_error(items: &[Item]) -> Option<Rv>
     ensures { result ≡ created_error items.now }
 {
-    let error = first_form_error(items);
+    let error = first_creation_error(items);
     if error.is_some() {
         return error;
     }
