@@ -22,7 +22,7 @@ fn log_in(rt: &impl Abort, sessions: &mut Sessions, user: UserType)
     ensures { sessions.new.limit ≡ 64 }
 {
     assert!(rt; sessions.count() > 0);
-    assert!(rt; sessions.logins() <= 0xffff_ffff);
+    assert!(rt; sessions.logins() < 0x7fff_ffff);
     sessions.log_in(user);
 }
 
