@@ -15,10 +15,10 @@ use Rattle.ck_journal.specs.Histories.{History, done, leaves_objects}
 use Rattle.ck_journal.specs.Objects.{creates, creations, creation_session, session_of, creation_attributes, attributes_after, attributes_of, ends, has_object, objects, names, names_with, is_visible_with, handle_with, view_of, named_attributes, object_named}
 use Rattle.ck_journal.specs.Sessions.{numbers}
 use Rattle.ck_journal.proofs.ObjectMoves.{object_rows, creations-created, object_rows-created, creations-same, object_rows-later, object_named-among, creations-left, object_rows-left, has_object-within}
-use Rattle.ck_journal.proofs.Selections.{selected, selected-none, selected-same, filter-selected, find-map, selected-rows_same, is_some-find, find-passes, list_any-passing, list_any-member}
+use Rattle.ck_journal.proofs.Selections.{selected, selected-none, selected-same, filter-selected, find-map, selected-rows_same, is_some-find, find-passes, list_any-passing, list_any-member, list_any-at}
 use Rattle.ck_store.proofs.Changes.{selected-replaced}
-use Rattle.ck_store.specs.Agreement.{StoreState, StoreAgrees, object_row}
-use Rattle.ck_store.specs.Rows.{is_named, ends_with, is_session_object, is_private_session_object, change_first}
+use Rattle.ck_store.specs.Agreement.{StoreState, StoreAgrees, object_row, attributes_at, handle_at}
+use Rattle.ck_store.specs.Rows.{is_named, ends_with, is_session_object, is_private_session_object, change_first, has_number, visible_handle}
 use Rattle.ck_store.specs.declared.stores.StoredObject.{StoredObject}
 
 and-false : (b : Bool) → (b && false) ≡ false
@@ -28,6 +28,30 @@ and-false false = refl
 and-true : (b : Bool) → (b && true) ≡ b
 and-true true = refl
 and-true false = refl
+
+-- an object that isn't there has no handle
+pub handle-none : (h : History) (number : ℕ) → None ≡ attributes_at h number → None ≡ handle_at h number
+handle-none h number e = none_step (has_object h number) refl
+  where
+    none_step : (there : Bool) → has_object h number ≡ there → None ≡ handle_at h number
+    none_step true t =
+        let wrong : None ≡ Some (attributes_of h number) = rw t at e in
+        cc
+    none_step false t = rw t refl
+
+-- the handle of one that is there is that of its attributes
+pub handle-some : (h : History) (number : ℕ) (attributes : List Item) → Some attributes ≡ attributes_at h number
+    → visible_handle (view_of h) attributes number ≡ handle_at h number
+handle-some h number attributes e = some_step (has_object h number) refl
+  where
+    some_step : (there : Bool) → has_object h number ≡ there → visible_handle (view_of h) attributes number ≡ handle_at h number
+    some_step true t =
+        let same : Some attributes ≡ Some (attributes_of h number) = rw t at e in
+        let here : attributes ≡ attributes_of h number = cc in
+        rw (t, here) refl
+    some_step false t =
+        let wrong : Some attributes ≡ None = rw t at e in
+        cc
 
 -- a test of a stored object, which is there
 there_test : (was_there visible same : Bool) → (was_there && not (visible && same)) ≡ was_there && not ((was_there && visible) && same)
@@ -52,6 +76,45 @@ module _ (h : History) (old : StoreState) (agree : StoreAgrees h old) where
       ∙ ap (option_map (λ (row : StoredObject). row.attributes)) (find-map (is_named (view_of h) handle) row_of (objects h))
       ∙ option_map-map h (find (λ n. is_named (view_of h) handle (row_of n)) (objects h))
       ∙ ap (option_map (attributes_of h)) (sym (object_named-among h handle))
+
+  found_numbered : (number : ℕ) (found : Option ℕ) (there : Bool) → find (λ k. k == number) (objects h) ≡ found → is_some found ≡ there
+      → found ≡ cond there (Some number) None
+  found_numbered number None there e some = subst (λ t. None ≡ cond t (Some number) None) some refl
+  found_numbered number (Some k) there e some =
+      let same = eqb-true k number (find-passes (λ j. j == number) (objects h) k e) in
+      subst (λ t. Some k ≡ cond t (Some number) None) some (ap Some same)
+
+  -- the object of a number is found where it hasn't ended
+  pub find-numbered : (number : ℕ) → find (has_number number) old.rows ≡ cond (has_object h number) (Some (row_of number)) None
+  find-numbered number =
+      ap (find (has_number number)) agree.rows
+      ∙ find-map (has_number number) row_of (objects h)
+      ∙ ap (option_map row_of) (found_numbered number (find (λ k. k == number) (objects h)) (has_object h number) refl
+      (is_some-find (λ k. k == number) (objects h) ∙ list_any-passing (λ k. k == number) (has_object h) (numbers (creations h))
+      ∙ list_any-at (has_object h) number (creations h) (has_object-within h number)))
+      ∙ map_step (has_object h number)
+    where
+      map_step : (there : Bool) → option_map row_of (cond there (Some number) None) ≡ cond there (Some (row_of number)) None
+      map_step true = refl
+      map_step false = refl
+
+  pub at-agree : (number : ℕ) → option_map (λ (row : StoredObject). row.attributes) (find (has_number number) old.rows) ≡ attributes_at h number
+  at-agree number = ap (option_map (λ (row : StoredObject). row.attributes)) (find-numbered number) ∙ at_step (has_object h number)
+    where
+      at_step : (there : Bool) → option_map (λ (row : StoredObject). row.attributes) (cond there (Some (row_of number)) None) ≡ cond there (Some (attributes_of h number)) None
+      at_step true = refl
+      at_step false = refl
+
+  -- no object has a number above those of all creations
+  pub handle-beyond : (number : ℕ) → old.creations < number → None ≡ handle_at h number
+  handle-beyond number high = beyond_step (has_object h number) refl
+    where
+      beyond_step : (there : Bool) → has_object h number ≡ there → None ≡ handle_at h number
+      beyond_step true t =
+          let within = (has_object-within h number t).1 in
+          let low : number ≤ old.creations = rw agree.creations within in
+          absurd (omega arith)
+      beyond_step false t = rw t refl
 
   -- ---- moves
 

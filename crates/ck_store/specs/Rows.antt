@@ -1,8 +1,9 @@
 -- An object as the token stores it
-use Rattle.std.specs.Prelude.{ℕ, Bool, true, List, [], ◌∷◌, ◌==◌, ◌&&◌, not, if◌then◌else◌}
+use Rattle.std.specs.Prelude.{ℕ, Bool, true, List, [], ◌∷◌, Option, Some, None, ◌==◌, ◌&&◌, not, if◌then◌else◌}
 use Rattle.ck_types.specs.Records.{is_set}
 use Rattle.ck_types.specs.declared.attributes.Attribute.TheVariants as attribute
-use Rattle.ck_journal.specs.Objects.{names_with}
+use Rattle.ck_types.specs.declared.templates.Item.{Item}
+use Rattle.ck_journal.specs.Objects.{names_with, is_visible_with, handle_with}
 use Rattle.ck_journal.specs.declared.views.View.{View}
 use Rattle.ck_store.specs.declared.stores.StoredObject.{StoredObject}
 
@@ -26,3 +27,11 @@ is_private_session_object row = not (is_set row.attributes attribute.Token) && i
 abbrev pub change_first : {X : Type 0} → (X → Bool) → (X → X) → List X → List X
 change_first test change [] = []
 change_first test change (row ∷ rows) = if test row then change row ∷ rows else row ∷ change_first test change rows
+
+-- the object has this number
+abbrev pub has_number : ℕ → StoredObject → Bool
+has_number number row = row.number == number
+
+-- the handle of an object with these attributes and this number, where it is visible
+abbrev pub visible_handle : View → List Item → ℕ → Option ℕ
+visible_handle view attributes number = if is_visible_with view true attributes then Some (handle_with view attributes number) else None

@@ -1,6 +1,6 @@
 ghost use Rattle.std.specs.Prelude.{◌≡◌, ◌<◌, ◌^◌, not, filter, find, position};
 ghost use Rattle.std.specs.Option.{option_copied};
-ghost use Rattle.ck_store.specs.Rows.{is_named, ends_with, is_session_object, is_private_session_object, change_first};
+ghost use Rattle.ck_store.specs.Rows.{is_named, ends_with, is_session_object, is_private_session_object, change_first, has_number, visible_handle};
 ghost use Rattle.ck_store.specs.declared.stores.StoredObject.{StoredObject};
 
 use crate::stores::StoredObject;
@@ -62,6 +62,21 @@ impl StoredObject {
     }
 }
 
+/// The handle of an object with these attributes and this number, where it is visible.
+pub(crate) fn visible_handle(view: View, attributes: &Record, number: u64) -> Option<u64>
+    requires number { number < 2 ^ 32 }
+    requires logins { view.logins < 2 ^ 31 }
+    ensures { result ≡ visible_handle view attributes.now number }
+{
+    if !attributes.is_set(Attribute::Private) {
+        Some(number)
+    } else if view.user {
+        Some(number + LOGIN_STEP * view.logins)
+    } else {
+        None
+    }
+}
+
 /// The first object that the handle names.
 pub(crate) fn find_named(rows: &[StoredObject], view: View, handle: u64) -> Option<&StoredObject>
     requires { view.logins < 2 ^ 31 }
@@ -69,6 +84,18 @@ pub(crate) fn find_named(rows: &[StoredObject], view: View, handle: u64) -> Opti
 {
     for row in rows {
         if row.is_named(view, handle) {
+            return Some(row);
+        }
+    }
+    None
+}
+
+/// The first object that has the number.
+pub(crate) fn find_numbered(rows: &[StoredObject], number: u64) -> Option<&StoredObject>
+    ensures { option_copied result ≡ find (has_number number) rows.now }
+{
+    for row in rows {
+        if row.number == number {
             return Some(row);
         }
     }

@@ -1,6 +1,6 @@
 use crate::rows::{
-    find_named, remove_named, remove_of_session, remove_private_session_objects,
-    remove_session_objects, replace_named,
+    find_named, find_numbered, remove_named, remove_of_session, remove_private_session_objects,
+    remove_session_objects, replace_named, visible_handle,
 };
 use ck_journal::View;
 use ck_types::{NoMemory, Record};
@@ -45,7 +45,7 @@ impl Store {
     ghost use Rattle.ck_journal.specs.declared.calls.Call.{Call};
     ghost use Rattle.ck_journal.specs.declared.calls.Call.TheVariants as call;
     ghost use Rattle.ck_journal.specs.declared.calls.Entry.{Entry};
-    ghost use Rattle.ck_store.specs.Agreement.{StoreAgrees};
+    ghost use Rattle.ck_store.specs.Agreement.{StoreAgrees, attributes_at, handle_at};
 
     /// No objects, which take no memory.
     pub fn new(alloc: Global) -> Store
@@ -75,6 +75,30 @@ impl Store {
         match find_named(self.rows.as_slice(), view, handle) {
             None => None,
             Some(row) => Some(&row.attributes),
+        }
+    }
+
+    /// The attributes of the object that has the number, where it hasn't ended.
+    pub fn at(&self, number: u64) -> Option<&Record>
+        ensures { (h : History) → StoreAgrees h self.now → option_copied result ≡ attributes_at h number }
+    {
+        match find_numbered(self.rows.as_slice(), number) {
+            None => None,
+            Some(row) => Some(&row.attributes),
+        }
+    }
+
+    /// The handle of the object that has the number, where it is visible.
+    pub fn handle(&self, view: View, number: u64) -> Option<u64>
+        requires logins { view.logins < 2 ^ 31 }
+        ensures { (h : History) → StoreAgrees h self.now → view ≡ view_of h → result ≡ handle_at h number }
+    {
+        if number > self.creations {
+            return None;
+        }
+        match self.at(number) {
+            None => None,
+            Some(attributes) => visible_handle(view, attributes, number),
         }
     }
 

@@ -1,4 +1,4 @@
-ghost use Rattle.std.specs.Prelude.{◌≡◌};
+ghost use Rattle.std.specs.Prelude.{◌≡◌, true, false};
 
 use crate::Store;
 use ck_journal::View;
@@ -9,16 +9,25 @@ use std::test::Fail;
 
 const DATA: &[u8] = &[0; 8];
 
-/// No handle of these tests depends on another count of logins.
-const LOGGED_IN: View = View {
-    user: true,
-    logins: 1,
-};
+/// The user is logged in, for the first time.
+fn logged_in() -> View
+    ensures { result ≡ record { user = true; logins = 1 } }
+{
+    View {
+        user: true,
+        logins: 1,
+    }
+}
 
-const PUBLIC: View = View {
-    user: false,
-    logins: 1,
-};
+/// Nobody is logged in; the user was, once.
+fn public() -> View
+    ensures { result ≡ record { user = false; logins = 1 } }
+{
+    View {
+        user: false,
+        logins: 1,
+    }
+}
 
 fn record_of(alloc: Global, items: &[(u64, &[u8])]) -> Result<Record, Fail> {
     let mut list = Vec::new(alloc);
@@ -42,7 +51,9 @@ fn created(
 }
 
 /// The length of the label of the object that a handle names.
-fn label(store: &Store, view: View, handle: u64) -> Option<u64> {
+fn label(store: &Store, view: View, handle: u64) -> Option<u64>
+    requires { view.logins ≡ 1 }
+{
     store.get(view, handle)?.length(0x3)
 }
 
@@ -72,10 +83,10 @@ fn filled(rt: &impl Abort, alloc: Global) -> Result<Store, Fail> {
 fn labels(store: &Store) -> [Option<u64>; 4] {
     let private = 0x1_0000_0000;
     [
-        label(store, LOGGED_IN, 1),
-        label(store, LOGGED_IN, private + 2),
-        label(store, LOGGED_IN, private + 3),
-        label(store, LOGGED_IN, 4),
+        label(store, logged_in(), 1),
+        label(store, logged_in(), private + 2),
+        label(store, logged_in(), private + 3),
+        label(store, logged_in(), 4),
     ]
 }
 
@@ -84,14 +95,28 @@ fn objects(rt: HostRuntime) -> Result<(), Fail> {
     let mut store = filled(&rt, rt.alloc())?;
     assert_eq!(rt; store.creations(), 4);
     assert_eq!(rt; labels(&store), [Some(1), Some(2), Some(3), Some(4)]);
-    assert_eq!(rt; label(&store, PUBLIC, 1), Some(1));
+    assert_eq!(rt; label(&store, public(), 1), Some(1));
     for handle in [0, 2, 3, 5, 0x1_0000_0001, 0x1_0000_0002, 0x2_0000_0003] {
-        assert_eq!(rt; label(&store, PUBLIC, handle), None, "{handle}");
+        assert_eq!(rt; label(&store, public(), handle), None, "{handle}");
     }
+    for (number, length, handle) in [
+        (0, None, None),
+        (1, Some(1), Some(1)),
+        (2, Some(2), Some(0x1_0000_0002)),
+        (3, Some(3), Some(0x1_0000_0003)),
+        (4, Some(4), Some(4)),
+        (5, None, None),
+    ] {
+        let found = store.at(number).and_then(|record| record.length(0x3));
+        assert_eq!(rt; found, length, "{number}");
+        assert_eq!(rt; store.handle(logged_in(), number), handle, "{number}");
+    }
+    assert_eq!(rt; store.handle(public(), 1), Some(1));
+    assert_eq!(rt; store.handle(public(), 2), None);
     let longer = record_of(rt.alloc(), &[(0, DATA), (0x3, &[9; 5])])?;
-    store.set(LOGGED_IN, 4, longer);
+    store.set(logged_in(), 4, longer);
     assert_eq!(rt; labels(&store), [Some(1), Some(2), Some(3), Some(5)]);
-    store.destroy(LOGGED_IN, 4);
+    store.destroy(logged_in(), 4);
     assert_eq!(rt; labels(&store), [Some(1), Some(2), Some(3), None]);
     store.clear();
     assert_eq!(rt; labels(&store), [None; 4]);
