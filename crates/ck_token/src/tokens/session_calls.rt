@@ -34,7 +34,7 @@ pub(super) fn session_state(login: Option<UserType>, is_read_write: bool) -> Ses
     }
 }
 
-/// Opening and closing sessions, and what is told of them and the token.
+/// Opening and closing sessions, and what is read of them and of the token.
 impl Token {
     ghost use Rattle.std.specs.Prelude.{◌≡◌, None, IfOk, IfSome, OnErr, is_some};
     ghost use Rattle.ck_journal.specs.Answers.{answer, session_error, open_session_error};
