@@ -1,6 +1,6 @@
 -- What each call answers, read off the history just before it: a list of checks, of which the first that fails gives
 -- the code, and the body where none does. Who calls makes no difference.
-use Rattle.std.specs.Prelude.{◌≡◌, ℕ, suc, List, [], ◌∷◌, Option, Some, None, ◌==◌, ◌&&◌, not, is_none, nat_le, length, bit_and, option_map, unwrap_or, if◌then◌else◌, Bool, true, false, is_some}
+use Rattle.std.specs.Prelude.{◌≡◌, ℕ, suc, List, [], ◌∷◌, Option, Some, None, ◌==◌, ◌&&◌, not, is_none, nat_le, length, map, take, bit_and, option_map, unwrap_or, if◌then◌else◌, Bool, true, false, is_some}
 use Rattle.std.specs.List.{list_any}
 use Rattle.ck_types.specs.Pins.{fits_a_pin}
 use Rattle.ck_types.specs.Records.{created_items, with_given, is_set, copied_error, changed_error}
@@ -24,9 +24,10 @@ use Rattle.ck_journal.specs.declared.calls.Call.{Call}
 use Rattle.ck_journal.specs.declared.calls.Call.TheVariants as call
 use Rattle.ck_journal.specs.declared.calls.Reply.{Reply}
 use Rattle.ck_journal.specs.Histories.{History}
-use Rattle.ck_journal.specs.Objects.{creations, view_of, is_user_in, handle_with, object_named, named_attributes}
+use Rattle.ck_journal.specs.Objects.{creations, view_of, is_user_in, handle_with, handle_of, object_named, named_attributes}
 use Rattle.ck_journal.specs.Pins.{is_initialized, is_pin, pin_owner, present_pin, user_pin, tries, is_locked}
 use Rattle.ck_journal.specs.Queries.{queries_reply}
+use Rattle.ck_journal.specs.Searches.{is_searching, search_rest}
 use Rattle.ck_journal.specs.Sessions.{openings, is_open, flags_of, open_sessions, has_rw_flag, is_read_write, rw_sessions, login, user_logins, state_of}
 
 -- ---- replies
@@ -197,6 +198,19 @@ destroy_object_error h session object = first_of (
     ∷ error_if (not (is_set (named_attributes h object) attribute.Destroyable)) rv.ActionProhibited
     ∷ [])
 
+abbrev pub find_objects_init_error : History → ℕ → Option Rv
+find_objects_init_error h session = first_of (
+    session_error h session
+    ∷ error_if (is_searching h session) rv.OperationActive
+    ∷ [])
+
+-- the error of a call that goes on with a session's search
+abbrev pub search_error : History → ℕ → Option Rv
+search_error h session = first_of (
+    session_error h session
+    ∷ error_if (not (is_searching h session)) rv.OperationNotInitialized
+    ∷ [])
+
 -- ---- the answer
 
 -- the handle of a new object with these attributes
@@ -228,6 +242,9 @@ answer limits h (call.SetAttributeValue session object template) =
 answer limits h (call.GetAttributeValue session object queries) =
     unless (get_attribute_value_error h session object) (queries_reply (named_attributes h object) queries)
 answer limits h (call.DestroyObject session object) = unless (destroy_object_error h session object) (ok body.Empty)
+answer limits h (call.FindObjectsInit session template) = unless (find_objects_init_error h session) (ok body.Empty)
+answer limits h (call.FindObjects session max) = unless (search_error h session) (ok (body.Handles (map (handle_of h) (take max (search_rest h session)))))
+answer limits h (call.FindObjectsFinal session) = unless (search_error h session) (ok body.Empty)
 
 -- every reply is the answer at the front just before it
 abbrev pub IsLegal : Ranges → History → Type 0

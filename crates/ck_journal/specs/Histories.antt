@@ -38,8 +38,8 @@ wrong_try e = if is_wrong_pin e.reply.rv then Some e.call else None
 
 -- ---- what a call leaves as it is
 
--- nothing was done, or a call that leaves sessions, the login and PINs as they are. A refusal may still count as a wrong
--- try of a PIN.
+-- nothing was done, or a call that leaves the list of sessions, the login and PINs as they are. A refusal may still count
+-- as a wrong try of a PIN.
 abbrev pub leaves_sessions : Option Call → Bool
 leaves_sessions None = true
 leaves_sessions (Some (call.GetSessionInfo session)) = true
@@ -49,6 +49,9 @@ leaves_sessions (Some (call.CopyObject session object template)) = true
 leaves_sessions (Some (call.GetAttributeValue session object queries)) = true
 leaves_sessions (Some (call.SetAttributeValue session object template)) = true
 leaves_sessions (Some (call.DestroyObject session object)) = true
+leaves_sessions (Some (call.FindObjectsInit session template)) = true
+leaves_sessions (Some (call.FindObjects session max)) = true
+leaves_sessions (Some (call.FindObjectsFinal session)) = true
 leaves_sessions other = false
 
 -- nothing was done, or a call that leaves objects as they are
@@ -61,4 +64,17 @@ leaves_objects (Some (call.Login session user pin)) = true
 leaves_objects (Some (call.GetSessionInfo session)) = true
 leaves_objects (Some call.GetTokenInfo) = true
 leaves_objects (Some (call.GetAttributeValue session object queries)) = true
+leaves_objects (Some (call.FindObjectsInit session template)) = true
+leaves_objects (Some (call.FindObjects session max)) = true
+leaves_objects (Some (call.FindObjectsFinal session)) = true
 leaves_objects other = false
+
+-- nothing was done, or a call that leaves the searches of all sessions as they are
+abbrev pub leaves_searches : Option Call → Bool
+leaves_searches (Some (call.CloseSession session)) = false
+leaves_searches (Some call.CloseAllSessions) = false
+leaves_searches (Some (call.Logout session)) = false
+leaves_searches (Some (call.FindObjectsInit session template)) = false
+leaves_searches (Some (call.FindObjects session max)) = false
+leaves_searches (Some (call.FindObjectsFinal session)) = false
+leaves_searches other = true

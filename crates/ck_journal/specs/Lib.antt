@@ -3,4 +3,5 @@ pub mod Histories
 pub mod Objects
 pub mod Pins
 pub mod Queries
+pub mod Searches
 pub mod Sessions

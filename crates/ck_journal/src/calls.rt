@@ -66,6 +66,18 @@ pub enum Call {
         session: u64,
         object: u64,
     },
+    FindObjectsInit {
+        session: u64,
+        template: Template,
+    },
+    FindObjects {
+        session: u64,
+        /// The most handles that the reply may have (ulMaxObjectCount).
+        max: u64,
+    },
+    FindObjectsFinal {
+        session: u64,
+    },
 }
 
 /// What one query of an attribute is answered.
@@ -100,6 +112,8 @@ pub enum Body {
     },
     /// One answer for each query, in their order.
     Attributes(Sequence<Answer>),
+    /// The handles of the objects that a search hands out, in the order of their creations.
+    Handles(Sequence<u64>),
 }
 
 /// What a call is answered.

@@ -1,7 +1,31 @@
+ghost use Rattle.std.specs.Prelude.{◌≡◌, ◌<◌, ◌^◌};
+ghost use Rattle.ck_journal.specs.Objects.{handle_with};
+
+use ck_types::{Attribute, Record};
+
+/// How far the handles of private objects move with each login of the user.
+const LOGIN_STEP: u64 = 0x1_0000_0000;
+
 /// What the handles of objects depend on beside the objects: whether the normal user is logged in, and how many times the
 /// user has logged in so far.
 #[derive(Clone, Copy, Debug, PartialEq, Eq)]
 pub struct View {
     pub user: bool,
     pub logins: u64,
+}
+
+impl View {
+    /// The handle of an object with these attributes and this number: its number, and for a private object 2^32 more for
+    /// each login of the user.
+    pub fn handle(self, attributes: &Record, number: u64) -> u64
+        requires number { number < 2 ^ 32 }
+        requires logins { self.logins < 2 ^ 31 }
+        ensures { result ≡ handle_with self attributes.now number }
+    {
+        if attributes.is_set(Attribute::Private) {
+            number + LOGIN_STEP * self.logins
+        } else {
+            number
+        }
+    }
 }

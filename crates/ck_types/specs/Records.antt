@@ -1,7 +1,7 @@
 -- The attributes of an object, in the order of the table
-use Rattle.std.specs.Prelude.{◌≡◌, ℕ, Bool, true, List, [], ◌∷◌, Option, Some, None, Result, Ok, Err, map, option_and_then, not, ◌&&◌, unwrap_or, false}
+use Rattle.std.specs.Prelude.{◌≡◌, ℕ, Bool, true, List, [], ◌∷◌, Option, Some, None, Result, Ok, Err, map, option_and_then, option_map, not, ◌&&◌, unwrap_or, false}
 use Rattle.ck_types.specs.Attributes.{Default, preset, Column, flag_bytes, number_bytes, same_bytes, type_of, form_of, column_of, attribute_of, attributes}
-use Rattle.std.specs.List.{flat_map}
+use Rattle.std.specs.List.{flat_map, list_all}
 use Rattle.ck_types.specs.Templates.{given, given_or, error_if, first_of, template_error}
 use Rattle.ck_types.specs.declared.attributes.Attribute.{Attribute}
 use Rattle.ck_types.specs.declared.attributes.Attribute.TheVariants as attribute
@@ -104,3 +104,14 @@ abbrev pub IsMade : Option Rv → List Item → Result (List Item) Refusal → T
 IsMade error items (Ok object) = (error ≡ None) × (object ≡ items)
 IsMade error items (Err (refusal.Code code)) = error ≡ Some code
 IsMade error items (Err refusal.Memory) = error ≡ None
+
+-- ---- search templates
+
+-- the items have this item's attribute with equal bytes
+abbrev pub has_item : List Item → Item → Bool
+has_item items item = unwrap_or (option_map (same_bytes item.value) (given items item.kind)) false
+
+-- an object with these attributes matches a search template: it has each attribute of the template with equal bytes. The
+-- template isn't checked, so a type that the object doesn't have, or two values of one type, match nothing.
+abbrev pub matches : List Item → List Item → Bool
+matches items template = list_all (has_item items) template

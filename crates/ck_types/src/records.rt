@@ -68,6 +68,7 @@ enum Field<'a> {
 
 impl<'a> Field<'a> {
     ghost use Rattle.std.specs.Prelude.{◌≡◌, IfOk, length};
+    ghost use Rattle.ck_types.specs.Attributes.{same_bytes};
     ghost use Rattle.ck_types.specs.Fields.{field_bytes, flag_field};
 
     /// How many bytes the value has.
@@ -78,6 +79,16 @@ impl<'a> Field<'a> {
             Field::Flag(_) => 1,
             Field::Number(_) => 8,
             Field::Bytes(bytes) => bytes.as_slice().len() as u64,
+        }
+    }
+
+    fn has_bytes(&self, bytes: &[u8]) -> bool
+        ensures { result ≡ same_bytes bytes.now (field_bytes self.now) }
+    {
+        match self {
+            Field::Flag(flag) => bytes == [u8::from(*flag)].as_slice(),
+            Field::Number(number) => bytes == number.to_le_bytes().as_slice(),
+            Field::Bytes(value) => bytes == value.as_slice(),
         }
     }
 
@@ -196,7 +207,7 @@ impl Record {
     ghost use Rattle.ck_types.specs.Templates.{given};
     ghost use Rattle.ck_types.specs.Templates.{created_error, first_error, form_error};
     ghost use Rattle.ck_types.specs.declared.attributes.Attribute.TheVariants as attribute;
-    ghost use Rattle.ck_types.specs.Records.{IsMade, created_items, copied_error, changed_error, with_given, flag_in, is_set};
+    ghost use Rattle.ck_types.specs.Records.{IsMade, created_items, copied_error, changed_error, with_given, flag_in, is_set, has_item, matches};
     ghost use Rattle.ck_types.specs.Fields.{field_bytes, flag_field};
 
     /// The object that a template of C_CreateObject makes (PKCS #11 Base 3.0, Object management functions). It is
@@ -277,6 +288,25 @@ impl Record {
         Ok(Record {
             object: Object::Data(data),
         })
+    }
+
+    /// Whether the object matches a template of C_FindObjectsInit (PKCS #11 Base 3.0, Object management functions): it
+    /// has each attribute of the template with equal bytes. The template isn't checked: one without items matches every
+    /// object, and a type that the object doesn't have, or two values of one type, match none.
+    pub fn matches(&self, template: &Template) -> bool
+        ensures { result ≡ matches self.now template.now.items }
+    {
+        template.items.as_slice().iter().all(|item| self.has(item))
+    }
+
+    /// Whether the object has the item's attribute with equal bytes.
+    fn has(&self, item: &Item) -> bool
+        ensures { result ≡ has_item self.now item.now }
+    {
+        match self.field(item.kind) {
+            None => false,
+            Some(field) => field.has_bytes(item.value.as_slice()),
+        }
     }
 
     /// Whether the object has the flag and it is true.

@@ -1,0 +1,90 @@
+-- Searches for objects (PKCS #11 Base 3.0, Object management functions)
+use Rattle.std.specs.Prelude.{ℕ, ◌^◌, ◌%◌, Bool, true, false, List, [], ◌∷◌, Option, Some, None, ◌==◌, ◌&&◌, nat_lt, filter, map, if◌then◌else◌}
+use Rattle.ck_types.specs.Records.{matches}
+use Rattle.ck_types.specs.declared.templates.Item.{Item}
+use Rattle.ck_journal.specs.declared.calls.Body.{Body}
+use Rattle.ck_journal.specs.declared.calls.Body.TheVariants as body
+use Rattle.ck_journal.specs.declared.calls.Call.{Call}
+use Rattle.ck_journal.specs.declared.calls.Call.TheVariants as call
+use Rattle.ck_journal.specs.declared.calls.Entry.{Entry}
+use Rattle.ck_journal.specs.Histories.{History, done}
+use Rattle.ck_journal.specs.Objects.{objects, attributes_of, is_visible}
+
+-- ---- a session's search
+
+-- the call starts a search in the session
+abbrev pub starts_search : Option Call → ℕ → Bool
+starts_search (Some (call.FindObjectsInit session template)) s = session == s
+starts_search other s = false
+
+-- the call ends the session's search: its last call, the closing of the session or of all sessions, and any logout
+abbrev pub ends_search : Option Call → ℕ → Bool
+ends_search (Some (call.FindObjectsFinal session)) s = session == s
+ends_search (Some (call.CloseSession session)) s = session == s
+ends_search (Some call.CloseAllSessions) s = true
+ends_search (Some (call.Logout session)) s = true
+ends_search other s = false
+
+-- a search is active in the session: one was started, and no later call ended it
+abbrev pub is_searching : History → ℕ → Bool
+is_searching [] s = false
+is_searching (e ∷ h) s =
+    if starts_search (done e) s then true
+    else if ends_search (done e) s then false
+    else is_searching h s
+
+-- ---- what it found
+
+-- the objects that are visible and match the template, in the order of their creations
+abbrev pub matching_objects : History → List Item → List ℕ
+matching_objects h template = filter (λ n. is_visible h n && matches (attributes_of h n) template) (objects h)
+
+abbrev pub search_template : Option Call → List Item
+search_template (Some (call.FindObjectsInit session template)) = template.items
+search_template other = []
+
+-- what the session's last search found when it started
+abbrev pub found_objects : History → ℕ → List ℕ
+found_objects [] s = []
+found_objects (e ∷ h) s = if starts_search (done e) s then matching_objects (e ∷ h) (search_template (done e)) else found_objects h s
+
+-- ---- what it has handed out
+
+-- the number of the object that a handle is of
+abbrev pub number_of_handle : ℕ → ℕ
+number_of_handle handle = handle % 2 ^ 32
+
+-- the call asks the session's search for objects
+abbrev pub asks_search : Option Call → ℕ → Bool
+asks_search (Some (call.FindObjects session max)) s = session == s
+asks_search other s = false
+
+abbrev pub handles_in : Body → List ℕ
+handles_in (body.Handles handles) = handles
+handles_in other = []
+
+-- the handles that an entry hands out from the session's search
+abbrev pub handed_out : Entry → ℕ → List ℕ
+handed_out e s = if asks_search (done e) s then handles_in e.reply.body else []
+
+-- the last of these numbers, or this one where there is none
+abbrev pub last_or : ℕ → List ℕ → ℕ
+last_or before [] = before
+last_or before (n ∷ ns) = last_or n ns
+
+-- the number of the object that the session's last search handed out last; 0, which is no object's, where none
+abbrev pub last_number : History → ℕ → ℕ
+last_number [] s = 0
+last_number (e ∷ h) s =
+    if starts_search (done e) s then 0
+    else last_or (last_number h s) (map number_of_handle (handed_out e s))
+
+-- ---- what it has left
+
+-- what was found and stands after what was handed out
+abbrev pub remaining_objects : History → ℕ → List ℕ
+remaining_objects h s = filter (λ n. nat_lt (last_number h s) n) (found_objects h s)
+
+-- of these, the objects that are visible now
+abbrev pub search_rest : History → ℕ → List ℕ
+search_rest h s = filter (is_visible h) (remaining_objects h s)
