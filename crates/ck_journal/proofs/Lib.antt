@@ -1,6 +1,10 @@
+pub mod Changes
 pub mod EntryLemmas
+pub mod LegalLemmas
 pub mod LoginMoves
 pub mod ObjectMoves
 pub mod RefusalLemmas
+pub mod RisingLemmas
+pub mod SearchMoves
 pub mod Selections
 pub mod SessionMoves

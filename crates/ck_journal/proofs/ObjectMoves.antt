@@ -185,6 +185,15 @@ module _ (e : Entry) (h : History) (l : leaves_objects (done e) ≡ true) where
   pub creations-left : creations (e ∷ h) ≡ creations h
   creations-left = creations-same e h (creates-left (done e) l)
 
+  pub has_object-left : (k : ℕ) → has_object (e ∷ h) k ≡ has_object h k
+  has_object-left k =
+      has_object-later e h (creates-left (done e) l) k
+      ∙ ap (λ t. has_object h k && not t) (ends-left (done e) (attributes_of h k) (session_of h k) (λ handle. names h handle k) l)
+      ∙ and-true (has_object h k)
+
+  pub attributes_of-left : (k : ℕ) → attributes_of (e ∷ h) k ≡ attributes_of h k
+  attributes_of-left k = attributes_of-later e h (creates-left (done e) l) k ∙ attributes_after-left (done e) (λ handle. names h handle k) (attributes_of h k) l
+
   pub object_rows-left : {X : Type 0} (row : ℕ → ℕ → List Item → X) → object_rows row (e ∷ h) ≡ object_rows row h
   object_rows-left row =
       object_rows-same row e h (creates-left (done e) l) (λ attributes creator is_named. ends-left (done e) attributes creator is_named l)

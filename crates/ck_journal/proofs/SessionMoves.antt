@@ -7,7 +7,7 @@ use Rattle.ck_journal.specs.declared.calls.Call.TheVariants as call
 use Rattle.ck_journal.specs.declared.calls.Entry.{Entry}
 use Rattle.ck_journal.specs.Histories.{History, done}
 use Rattle.ck_journal.specs.Sessions.{opens, openings, closes, is_open, opening_flags, flags_of, open_sessions}
-use Rattle.ck_journal.proofs.Selections.{selected, selected-suc, selected-same, length-selected}
+use Rattle.ck_journal.proofs.Selections.{selected, selected-suc, selected-same, selected-rows_same, length-selected}
 
 -- ---- steps, over what was done
 
@@ -20,9 +20,9 @@ is_open_step done count s was_open = cond (opens done && s == suc count) true (c
 abbrev flags_step : Option Call → ℕ → ℕ → ℕ → ℕ
 flags_step done count s flags = cond (opens done && s == suc count) (opening_flags done) flags
 
--- the rows of the open sessions
-abbrev pub session_rows : {X : Type 0} → (ℕ → ℕ → X) → History → List X
-session_rows row h = selected (is_open h) (λ s. row s (flags_of h s)) (openings h)
+-- the rows of the open sessions, each as the history has it
+abbrev pub session_rows : {X : Type 0} → (History → ℕ → X) → History → List X
+session_rows row h = selected (is_open h) (row h) (openings h)
 
 below_suc : (k n : ℕ) → k ≤ n → k == suc n ≡ false
 below_suc k n h = ne_eqb k (suc n) (λ e. omega arith)
@@ -51,7 +51,7 @@ module _ (e : Entry) (h : History) where
     is_open-below k below =
         ap (λ o. is_open_step o (openings h) k (is_open h k)) d ∙ ap (λ t. cond t true (is_open h k)) (below_suc k (openings h) below)
 
-    flags_of-below : (k : ℕ) → k ≤ openings h → flags_of (e ∷ h) k ≡ flags_of h k
+    pub flags_of-below : (k : ℕ) → k ≤ openings h → flags_of (e ∷ h) k ≡ flags_of h k
     flags_of-below k below =
         ap (λ o. flags_step o (openings h) k (flags_of h k)) d ∙ ap (λ t. cond t flags (flags_of h k)) (below_suc k (openings h) below)
 
@@ -60,20 +60,19 @@ module _ (e : Entry) (h : History) where
         ap (λ o. is_open_step o (openings h) (suc (openings h)) (is_open h (suc (openings h)))) d
         ∙ ap (λ t. cond t true (is_open h (suc (openings h)))) (same_number (suc (openings h)))
 
-    flags_of-opened : flags_of (e ∷ h) (suc (openings h)) ≡ flags
+    pub flags_of-opened : flags_of (e ∷ h) (suc (openings h)) ≡ flags
     flags_of-opened =
         ap (λ o. flags_step o (openings h) (suc (openings h)) (flags_of h (suc (openings h)))) d
         ∙ ap (λ t. cond t flags (flags_of h (suc (openings h)))) (same_number (suc (openings h)))
 
     -- the new session's row stands last
-    pub session_rows-opened : {X : Type 0} (row : ℕ → ℕ → X) → session_rows row (e ∷ h) ≡ session_rows row h ++ row (suc (openings h)) flags ∷ []
-    session_rows-opened row =
-        ap (λ n. selected (is_open (e ∷ h)) (λ s. row s (flags_of (e ∷ h) s)) n) openings-opened
-        ∙ selected-suc (is_open (e ∷ h)) (λ s. row s (flags_of (e ∷ h) s)) (openings h)
-        ∙ rw (is_open-opened, flags_of-opened)
-        (ap (λ rows. rows ++ row (suc (openings h)) flags ∷ [])
-        (selected-same (is_open (e ∷ h)) (is_open h) (λ s. row s (flags_of (e ∷ h) s)) (λ s. row s (flags_of h s)) (openings h) is_open-below
-        (λ k below. ap (row k) (flags_of-below k below))))
+    pub session_rows-opened : {X : Type 0} (row : History → ℕ → X) → ((k : ℕ) → k ≤ openings h → row (e ∷ h) k ≡ row h k)
+        → session_rows row (e ∷ h) ≡ session_rows row h ++ row (e ∷ h) (suc (openings h)) ∷ []
+    session_rows-opened row same =
+        ap (λ n. selected (is_open (e ∷ h)) (row (e ∷ h)) n) openings-opened
+        ∙ selected-suc (is_open (e ∷ h)) (row (e ∷ h)) (openings h)
+        ∙ rw is_open-opened
+        (ap (λ rows. rows ++ row (e ∷ h) (suc (openings h)) ∷ []) (selected-same (is_open (e ∷ h)) (is_open h) (row (e ∷ h)) (row h) (openings h) is_open-below same))
 
   -- ---- an entry that opens nothing
 
@@ -86,23 +85,29 @@ module _ (e : Entry) (h : History) where
         ap (λ t. cond (t && k == suc (openings h)) true (cond (closes (done e) k) false (is_open h k))) no_opening
         ∙ closed_test (closes (done e) k) (is_open h k)
 
-    flags_of-later : (k : ℕ) → flags_of (e ∷ h) k ≡ flags_of h k
+    pub flags_of-later : (k : ℕ) → flags_of (e ∷ h) k ≡ flags_of h k
     flags_of-later k = ap (λ t. cond (t && k == suc (openings h)) (opening_flags (done e)) (flags_of h k)) no_opening
 
     -- the rows of the sessions that it doesn't close stay
-    pub session_rows-later : {X : Type 0} (row : ℕ → ℕ → X) →
-        session_rows row (e ∷ h) ≡ selected (λ k. is_open h k && not (closes (done e) k)) (λ s. row s (flags_of h s)) (openings h)
-    session_rows-later row =
-        ap (λ n. selected (is_open (e ∷ h)) (λ s. row s (flags_of (e ∷ h) s)) n) openings-later
-        ∙ selected-same (is_open (e ∷ h)) (λ k. is_open h k && not (closes (done e) k)) (λ s. row s (flags_of (e ∷ h) s)) (λ s. row s (flags_of h s)) (openings h)
-        (λ k below. is_open-later k) (λ k below. ap (row k) (flags_of-later k))
+    pub session_rows-later : {X : Type 0} (row : History → ℕ → X) → ((k : ℕ) → k ≤ openings h → (is_open h k && not (closes (done e) k)) ≡ true → row (e ∷ h) k ≡ row h k)
+        → session_rows row (e ∷ h) ≡ selected (λ k. is_open h k && not (closes (done e) k)) (row h) (openings h)
+    session_rows-later row same =
+        ap (λ n. selected (is_open (e ∷ h)) (row (e ∷ h)) n) openings-later
+        ∙ selected-same (is_open (e ∷ h)) (λ k. is_open h k && not (closes (done e) k)) (row (e ∷ h)) (row (e ∷ h)) (openings h) (λ k below. is_open-later k) (λ k below. refl)
+        ∙ selected-rows_same (λ k. is_open h k && not (closes (done e) k)) (row (e ∷ h)) (row h) (openings h) same
 
-    -- where it closes nothing either all stay
-    pub session_rows-same : {X : Type 0} (row : ℕ → ℕ → X) → ((s : ℕ) → closes (done e) s ≡ false) → session_rows row (e ∷ h) ≡ session_rows row h
-    session_rows-same row no_closing =
-        session_rows-later row
-        ∙ selected-same (λ k. is_open h k && not (closes (done e) k)) (is_open h) (λ s. row s (flags_of h s)) (λ s. row s (flags_of h s)) (openings h)
-        (λ k below. ap (λ t. is_open h k && not t) (no_closing k) ∙ and-true (is_open h k)) (λ k below. refl)
+    -- where it closes nothing either all stay, with what it makes of their rows
+    pub session_rows-changed : {X : Type 0} (row : History → ℕ → X) → ((s : ℕ) → closes (done e) s ≡ false)
+        → session_rows row (e ∷ h) ≡ selected (is_open h) (row (e ∷ h)) (openings h)
+    session_rows-changed row no_closing =
+        ap (λ n. selected (is_open (e ∷ h)) (row (e ∷ h)) n) openings-later
+        ∙ selected-same (is_open (e ∷ h)) (is_open h) (row (e ∷ h)) (row (e ∷ h)) (openings h)
+        (λ k below. is_open-later k ∙ ap (λ t. is_open h k && not t) (no_closing k) ∙ and-true (is_open h k)) (λ k below. refl)
+
+    pub session_rows-same : {X : Type 0} (row : History → ℕ → X) → ((k : ℕ) → row (e ∷ h) k ≡ row h k) → ((s : ℕ) → closes (done e) s ≡ false)
+        → session_rows row (e ∷ h) ≡ session_rows row h
+    session_rows-same row same no_closing =
+        session_rows-changed row no_closing ∙ selected-rows_same (is_open h) (row (e ∷ h)) (row h) (openings h) (λ k below passes. same k)
 
 -- ---- an open session is one of those opened
 
@@ -127,9 +132,9 @@ map-same [] = refl
 map-same (k ∷ ks) = ap (λ js. k ∷ js) (map-same ks)
 
 -- the handles in the rows are the open sessions
-pub open_sessions-rows : (h : History) → session_rows (λ s flags. s) h ≡ open_sessions h
+pub open_sessions-rows : (h : History) → session_rows (λ h s. s) h ≡ open_sessions h
 open_sessions-rows h = map-same (open_sessions h)
 
 -- as many rows as open sessions
-pub length-session_rows : {X : Type 0} (row : ℕ → ℕ → X) (h : History) → length (session_rows row h) ≡ length (open_sessions h)
-length-session_rows row h = length-selected (is_open h) (λ s. row s (flags_of h s)) (openings h)
+pub length-session_rows : {X : Type 0} (row : History → ℕ → X) (h : History) → length (session_rows row h) ≡ length (open_sessions h)
+length-session_rows row h = length-selected (is_open h) (row h) (openings h)

@@ -1,5 +1,6 @@
 pub mod Answers
 pub mod Histories
+pub mod Lists
 pub mod Objects
 pub mod Pins
 pub mod Queries

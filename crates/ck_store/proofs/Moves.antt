@@ -16,9 +16,10 @@ use Rattle.ck_journal.specs.Objects.{creates, creations, creation_session, sessi
 use Rattle.ck_journal.specs.Sessions.{numbers}
 use Rattle.ck_journal.proofs.ObjectMoves.{object_rows, creations-created, object_rows-created, creations-same, object_rows-later, object_named-among, creations-left, object_rows-left, has_object-within}
 use Rattle.ck_journal.proofs.Selections.{selected, selected-none, selected-same, filter-selected, find-map, selected-rows_same, is_some-find, find-passes, list_any-passing, list_any-member, list_any-at}
-use Rattle.ck_store.proofs.Changes.{selected-replaced}
+use Rattle.ck_journal.specs.Lists.{change_first}
+use Rattle.ck_journal.proofs.Changes.{selected-replaced}
 use Rattle.ck_store.specs.Agreement.{StoreState, StoreAgrees, object_row, attributes_at, handle_at}
-use Rattle.ck_store.specs.Rows.{is_named, ends_with, is_session_object, is_private_session_object, change_first, has_number, visible_handle}
+use Rattle.ck_store.specs.Rows.{is_named, ends_with, is_session_object, is_private_session_object, has_number, visible_handle}
 use Rattle.ck_store.specs.declared.stores.StoredObject.{StoredObject}
 
 and-false : (b : Bool) → (b && false) ≡ false

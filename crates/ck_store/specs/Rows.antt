@@ -1,5 +1,5 @@
 -- An object as the token stores it
-use Rattle.std.specs.Prelude.{ℕ, Bool, true, List, [], ◌∷◌, Option, Some, None, ◌==◌, ◌&&◌, not, if◌then◌else◌}
+use Rattle.std.specs.Prelude.{ℕ, Bool, true, List, Option, Some, None, ◌==◌, ◌&&◌, not, if◌then◌else◌}
 use Rattle.ck_types.specs.Records.{is_set}
 use Rattle.ck_types.specs.declared.attributes.Attribute.TheVariants as attribute
 use Rattle.ck_types.specs.declared.templates.Item.{Item}
@@ -22,11 +22,6 @@ is_session_object row = not (is_set row.attributes attribute.Token)
 -- the object ends where its user logs out
 abbrev pub is_private_session_object : StoredObject → Bool
 is_private_session_object row = not (is_set row.attributes attribute.Token) && is_set row.attributes attribute.Private
-
--- the rows with the first one that passes changed
-abbrev pub change_first : {X : Type 0} → (X → Bool) → (X → X) → List X → List X
-change_first test change [] = []
-change_first test change (row ∷ rows) = if test row then change row ∷ rows else row ∷ change_first test change rows
 
 -- the object has this number
 abbrev pub has_number : ℕ → StoredObject → Bool

@@ -1,7 +1,7 @@
 use Rattle.std.proofs.Common.{◌≡◌}
 use Rattle.ck_store.specs.Rows.{is_named}
 use Rattle.ck_store.specs.declared.stores.StoredObject.{StoredObject}
-use Rattle.ck_store.proofs.Changes.{change_first-place, change_first-no_place}
+use Rattle.ck_journal.proofs.Changes.{change_first-place, change_first-no_place}
 use Rattle.ck_store.proofs.rows.replace_named.Goals as goal
 
 pub returns-in-Some : goal.returns-in-Some

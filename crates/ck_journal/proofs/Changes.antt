@@ -5,7 +5,7 @@ use Rattle.std.proofs.Math.ListN.{set}
 use Rattle.std.proofs.lemmas.Bool.{false≢true, ltb-true, ltb-false}
 use Rattle.std.proofs.lemmas.Option.{same_Some}
 use Rattle.ck_journal.proofs.Selections.{selected, last_row, selected-suc, list_any-append}
-use Rattle.ck_store.specs.Rows.{change_first}
+use Rattle.ck_journal.specs.Lists.{change_first}
 
 module _ {X : Type 0} (test : X → Bool) (change : X → X) where
   change_first-append_step : (t : Bool) (x : X) (xs ys : List X) → test x ≡ t

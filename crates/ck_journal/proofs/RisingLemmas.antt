@@ -1,0 +1,63 @@
+-- Numbers that rise
+use Rattle.std.proofs.Common.{◌≡◌, ℕ, zero, suc, ◌+◌, ◌-◌, ◌<◌, ◌≤◌, Bool, true, false, cond, List, [], ◌∷◌, ◌++◌, length, drop, get_or, refl, sym, ap, ◌∙◌, subst, arith}
+use Rattle.std.specs.Prelude.{filter, map, nat_lt, nat_le}
+use Rattle.std.specs.List.{All, AllWithin}
+use Rattle.std.specs.List.Sorted.{IsNonDecreasingBy, IsPartitionPoint}
+use Rattle.std.proofs.lemmas.Bool.{leb-true, leb-false, le-ltb, lt-ltb}
+use Rattle.std.proofs.lemmas.List.Elements.{All-push}
+use Rattle.std.proofs.lemmas.List.Kept.{IsNonDecreasingBy-filter}
+use Rattle.std.proofs.lemmas.List.Sorted.{IsNonDecreasingBy-short, IsNonDecreasingBy-push}
+use Rattle.ck_journal.specs.declared.calls.Entry.{Entry}
+use Rattle.ck_journal.specs.Histories.{History, done}
+use Rattle.ck_journal.specs.Objects.{objects, has_object, creations}
+use Rattle.ck_journal.specs.Searches.{starts_search, matching_objects, search_template, found_objects}
+use Rattle.ck_journal.specs.Sessions.{numbers}
+
+-- none is above the last
+numbers-bound : (n : ℕ) → All (λ k. k ≤ n) (numbers n)
+numbers-bound zero = λ k d below. absurd (omega arith)
+numbers-bound (suc n) =
+    let earlier = numbers-bound n in
+    All-push (λ k. k ≤ suc n) (numbers n) (suc n) (λ k d below. let b = earlier k d below in omega arith) (omega arith)
+
+pub numbers-rise : (n : ℕ) → IsNonDecreasingBy (λ k. k) (numbers n)
+numbers-rise zero = IsNonDecreasingBy-short (λ k. k) [] (omega arith)
+numbers-rise (suc n) =
+    IsNonDecreasingBy-push (λ k. k) (numbers n) (suc n) (numbers-rise n)
+    (λ d some. let last = numbers-bound n (length (numbers n) - 1) d (omega arith) in omega arith)
+
+pub objects-rise : (h : History) → IsNonDecreasingBy (λ k. k) (objects h)
+objects-rise h = IsNonDecreasingBy-filter (λ k. k) (has_object h) (numbers (creations h)) (numbers-rise (creations h))
+
+found_step : (t : Bool) (fresh before : List ℕ) → IsNonDecreasingBy (λ k. k) fresh → IsNonDecreasingBy (λ k. k) before → IsNonDecreasingBy (λ k. k) (cond t fresh before)
+found_step true fresh before f b = f
+found_step false fresh before f b = b
+
+-- what a search found rises
+pub found_objects-rise : (h : History) (s : ℕ) → IsNonDecreasingBy (λ k. k) (found_objects h s)
+found_objects-rise [] s = IsNonDecreasingBy-short (λ k. k) [] (omega arith)
+found_objects-rise (e ∷ h) s =
+    found_step (starts_search (done e) s) (matching_objects (e ∷ h) (search_template (done e))) (found_objects h s)
+    (IsNonDecreasingBy-filter (λ k. k) _ (objects (e ∷ h)) (objects-rise (e ∷ h))) (found_objects-rise h s)
+
+-- ---- what stands after a place
+
+module _ (last : ℕ) where
+  all_after : (ks : List ℕ) → AllWithin (λ k. nat_le k last ≡ false) ks 0 (length ks) → filter (λ k. nat_lt last k) ks ≡ ks
+  all_after [] after = refl
+  all_after (k ∷ ks) after =
+      ap (λ t. cond t (k ∷ filter (λ j. nat_lt last j) ks) (filter (λ j. nat_lt last j) ks)) (lt-ltb last k (leb-false k last (after 0 0 (omega arith) (omega arith))))
+      ∙ ap (λ rest. k ∷ rest) (all_after ks (λ i d low high. after (suc i) d (omega arith) (omega arith)))
+
+  not_above : (k : ℕ) → nat_le k last ≡ true → nat_lt last k ≡ false
+  not_above k e = let below = leb-true k last e in le-ltb last k (omega arith)
+
+  -- the numbers after the place up to which none is above the last are those above it
+  pub drop-filter : (ks : List ℕ) (place : ℕ) → IsPartitionPoint (λ k. nat_le k last ≡ true) (λ k. nat_le k last ≡ false) ks place
+      → drop place ks ≡ filter (λ k. nat_lt last k) ks
+  drop-filter [] zero parted = refl
+  drop-filter [] (suc place) parted = refl
+  drop-filter (k ∷ ks) zero parted = sym (all_after (k ∷ ks) parted.1)
+  drop-filter (k ∷ ks) (suc place) parted =
+      drop-filter ks place ((λ i d low high. parted.0 (suc i) d (omega arith) (omega arith)), (λ i d low high. parted.1 (suc i) d (omega arith) (omega arith)))
+      ∙ sym (ap (λ t. cond t (k ∷ filter (λ j. nat_lt last j) ks) (filter (λ j. nat_lt last j) ks)) (not_above k (parted.0 0 0 (omega arith) (omega arith))))
