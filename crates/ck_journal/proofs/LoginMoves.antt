@@ -87,7 +87,7 @@ module _ (e : Entry) (h : History) where
 
 -- ---- an entry that leaves sessions, the login and PINs as they are
 
-opens-left : (c : Option Call) → leaves_sessions c ≡ true → opens c ≡ false
+pub opens-left : (c : Option Call) → leaves_sessions c ≡ true → opens c ≡ false
 opens-left (Some (call.OpenSession flags)) l = cc
 opens-left other l = refl
 

@@ -1,7 +1,7 @@
 -- How sessions, the login and PINs keep agreeing with the history
-use Rattle.std.proofs.Common.{◌≡◌, ◌≢◌, ℕ, suc, ◌+◌, ◌<◌, Bool, true, false, not, cond, ◌||◌, ◌&&◌, List, [], ◌∷◌, ◌++◌, Option, Some, None, refl, sym, ap, ◌∙◌, add-one, arith}
-use Rattle.std.specs.Prelude.{◌==◌, filter, length, is_some, unwrap_or}
-use Rattle.std.proofs.lemmas.Bool.{ne_eqb}
+use Rattle.std.proofs.Common.{◌≡◌, ◌≢◌, ℕ, suc, ◌+◌, ◌-◌, ◌<◌, Bool, true, false, not, cond, subst, ◌||◌, ◌&&◌, List, [], ◌∷◌, ◌++◌, Option, Some, None, refl, sym, ap, ◌∙◌, add-one, arith}
+use Rattle.std.specs.Prelude.{◌==◌, filter, length, map, is_some, slice_get, unwrap_or}
+use Rattle.std.proofs.lemmas.Bool.{ne_eqb, false≢true}
 use Rattle.ck_types.specs.Users.{user_of, same_user}
 use Rattle.ck_types.specs.declared.pins.Pin.{Pin}
 use Rattle.ck_types.specs.declared.users.UserType.{UserType}
@@ -9,13 +9,18 @@ use Rattle.ck_types.specs.declared.users.UserType.TheVariants as user
 use Rattle.ck_journal.specs.declared.calls.Call.{Call}
 use Rattle.ck_journal.specs.declared.calls.Call.TheVariants as call
 use Rattle.ck_journal.specs.declared.calls.Entry.{Entry}
-use Rattle.ck_journal.specs.Histories.{History, done, wrong_try, leaves_sessions}
+use Rattle.ck_journal.specs.Histories.{History, done, wrong_try, leaves_sessions, leaves_searches}
+use Rattle.ck_journal.specs.Lists.{change_first}
+use Rattle.ck_journal.specs.Searches.{is_searching, matching_objects, handles_in, number_of_handle}
 use Rattle.ck_journal.specs.Pins.{so_pin, so_pin_after, user_pin, user_pin_after, named_owner, pin_owner, present_pin, is_initialized, initializes, about, is_about, is_user, resets, tries}
 use Rattle.ck_journal.specs.Sessions.{opens, openings, closes, is_open, flags_of, open_sessions, login, login_after, user_logins, logs_user_in, state_of}
-use Rattle.ck_journal.proofs.LoginMoves.{wrong_try-done, login-none, login-open, login-same, login-logged_out, user_logins-step, so_pin-step, user_pin-step, tries-step, tries-done, openings-left, session_rows-left, login-left, user_logins-left, so_pin-left, user_pin-left, is_initialized-left, tries-left}
-use Rattle.ck_journal.proofs.Selections.{selected, filter-selected, selected-none}
-use Rattle.ck_journal.proofs.SessionMoves.{session_rows, openings-opened, session_rows-opened, openings-later, session_rows-later, session_rows-same, open_sessions-rows, length-session_rows}
+use Rattle.ck_journal.proofs.LoginMoves.{wrong_try-done, login-none, login-open, login-same, login-logged_out, user_logins-step, so_pin-step, user_pin-step, tries-step, tries-done, openings-left, opens-left, session_rows-left, login-left, user_logins-left, so_pin-left, user_pin-left, is_initialized-left, tries-left}
+use Rattle.ck_journal.proofs.Selections.{selected, selected-same, filter-selected, selected-none}
+use Rattle.ck_journal.proofs.SessionMoves.{session_rows, openings-opened, session_rows-opened, openings-later, session_rows-later, session_rows-changed, session_rows-same, open_sessions-rows, length-session_rows}
 use Rattle.ck_sessions.specs.Agreement.{SessionsState, SessionsAgree, CredentialAgrees, credential_of, session_row}
+use Rattle.ck_types.specs.declared.templates.Template.{Template}
+use Rattle.ck_sessions.proofs.SearchRows.{row-left, row-below, row-opened, row-other, row-logged_out, session_rows-started, session_rows-handed, session_rows-none_handed, session_rows-ended, last_or-last, no_last}
+use Rattle.ck_sessions.specs.Rows.{is_session, with_search, with_last}
 use Rattle.ck_sessions.specs.declared.session_table.Credential.{Credential}
 use Rattle.ck_sessions.specs.declared.session_table.Session.{Session}
 
@@ -41,13 +46,17 @@ more : (rows : List Session) (row : Session) → length (rows ++ row ∷ []) ≡
 more [] row e = omega arith
 more (r ∷ rows) row e = omega arith
 
+map-map : (change : Session → Session) (row : ℕ → Session) (ks : List ℕ) → map change (map row ks) ≡ map (λ k. change (row k)) ks
+map-map change row [] = refl
+map-map change row (k ∷ ks) = ap (λ rows. change (row k) ∷ rows) (map-map change row ks)
+
 module _ (h : History) (old : SessionsState) (agree : SessionsAgree h old) (e : Entry) where
   -- ---- rows of a call that opens and closes nothing
 
   openings-stay : (c : Call) → done e ≡ Some c → opens (Some c) ≡ false → old.openings ≡ openings (e ∷ h)
   openings-stay c d o = agree.openings ∙ sym (openings-later e h (ap opens d ∙ o))
 
-  module _ (c : Call) (d : done e ≡ Some c) (o : opens (Some c) ≡ false) (cl : (s : ℕ) → closes (Some c) s ≡ false) where
+  module _ (c : Call) (d : done e ≡ Some c) (o : opens (Some c) ≡ false) (cl : (s : ℕ) → closes (Some c) s ≡ false) (ls : leaves_searches (Some c) ≡ true) where
     no_opening : opens (done e) ≡ false
     no_opening = ap opens d ∙ o
 
@@ -55,10 +64,10 @@ module _ (h : History) (old : SessionsState) (agree : SessionsAgree h old) (e : 
     no_closing s = ap (λ x. closes x s) d ∙ cl s
 
     rows-stay : old.rows ≡ session_rows session_row (e ∷ h)
-    rows-stay = agree.rows ∙ sym (session_rows-same e h no_opening session_row no_closing)
+    rows-stay = agree.rows ∙ sym (session_rows-same e h no_opening session_row (row-left e h no_opening (ap leaves_searches d ∙ ls)) no_closing)
 
     sessions-stay : open_sessions (e ∷ h) ≡ open_sessions h
-    sessions-stay = sym (open_sessions-rows (e ∷ h)) ∙ session_rows-same e h no_opening (λ s flags. s) no_closing ∙ open_sessions-rows h
+    sessions-stay = sym (open_sessions-rows (e ∷ h)) ∙ session_rows-same e h no_opening (λ h s. s) (λ k. refl) no_closing ∙ open_sessions-rows h
 
     login-stays : ((before : Option UserType) → login_after (Some c) before ≡ before) → old.login ≡ login (e ∷ h)
     login-stays left = agree.login ∙ sym (login-same e h sessions-stay (ap (λ x. login_after x (login h)) d ∙ left (login h)))
@@ -86,16 +95,31 @@ module _ (h : History) (old : SessionsState) (agree : SessionsAgree h old) (e : 
 
   -- ---- an entry that leaves all of it as it is
 
-  pub SessionsAgree-left : leaves_sessions (done e) ≡ true → ((u : UserType) → is_about u h (wrong_try e) ≡ false) → SessionsAgree (e ∷ h) old
-  SessionsAgree-left l w = record {
-    rows = agree.rows ∙ sym (session_rows-left e h l session_row);
-    openings = agree.openings ∙ sym (openings-left e h l);
-    login = agree.login ∙ sym (login-left e h l);
-    logins = agree.logins ∙ sym (user_logins-left e h l);
-    so = record { pin = agree.so.pin ∙ sym (so_pin-left e h l); tries = agree.so.tries ∙ sym (tries-left e h l user.So (w user.So)) };
-    user = record { pin = agree.user.pin ∙ sym (user_pin-left e h l); tries = agree.user.tries ∙ sym (tries-left e h l user.User (w user.User)) };
-    initialized = agree.initialized ∙ sym (is_initialized-left e h l);
+  -- the list of sessions, the login and PINs stay
+  pub SessionsAgree-same : leaves_sessions (done e) ≡ true → ((u : UserType) → is_about u h (wrong_try e) ≡ false) → (new : SessionsState)
+      → new.rows ≡ session_rows session_row (e ∷ h) → new.openings ≡ old.openings → new.login ≡ old.login → new.logins ≡ old.logins → new.so ≡ old.so → new.user ≡ old.user
+      → SessionsAgree (e ∷ h) new
+  SessionsAgree-same l w new rows count log logs so us = record {
+    rows = rows;
+    openings = count ∙ agree.openings ∙ sym (openings-left e h l);
+    login = log ∙ agree.login ∙ sym (login-left e h l);
+    logins = logs ∙ agree.logins ∙ sym (user_logins-left e h l);
+    so = rw so (record { pin = agree.so.pin ∙ sym (so_pin-left e h l); tries = agree.so.tries ∙ sym (tries-left e h l user.So (w user.So)) });
+    user = rw us (record { pin = agree.user.pin ∙ sym (user_pin-left e h l); tries = agree.user.tries ∙ sym (tries-left e h l user.User (w user.User)) });
+    initialized = ap (λ (c : Credential). is_some c.pin) so ∙ agree.initialized ∙ sym (is_initialized-left e h l);
   }
+
+  rows-left : leaves_sessions (done e) ≡ true → leaves_searches (done e) ≡ true → session_rows session_row (e ∷ h) ≡ session_rows session_row h
+  rows-left l ls = session_rows-left e h l session_row (row-left e h (opens-left (done e) l) ls)
+
+  pub SessionsAgree-left : leaves_sessions (done e) ≡ true → leaves_searches (done e) ≡ true → ((u : UserType) → is_about u h (wrong_try e) ≡ false) → SessionsAgree (e ∷ h) old
+  SessionsAgree-left l ls w = SessionsAgree-same l w old (agree.rows ∙ sym (rows-left l ls)) refl refl refl refl refl
+
+  -- a call about searches, which is answered OK
+  SessionsAgree-searched : (c : Call) → done e ≡ Some c → leaves_sessions (Some c) ≡ true → (new : SessionsState) → new.rows ≡ session_rows session_row (e ∷ h)
+      → new.openings ≡ old.openings → new.login ≡ old.login → new.logins ≡ old.logins → new.so ≡ old.so → new.user ≡ old.user → SessionsAgree (e ∷ h) new
+  SessionsAgree-searched c d l new rows count log logs so us =
+      SessionsAgree-same (ap leaves_sessions d ∙ l) (λ u. ap (is_about u h) (wrong_try-done e c d)) new rows count log logs so us
 
   -- ---- a wrong try
 
@@ -113,7 +137,7 @@ module _ (h : History) (old : SessionsState) (agree : SessionsAgree h old) (e : 
   SessionsAgree-wrong u new d a rows count login logins so_pin user_pin so_tries user_tries =
       let l : leaves_sessions (done e) ≡ true = ap leaves_sessions d in
       record {
-        rows = rows ∙ agree.rows ∙ sym (session_rows-left e h l session_row);
+        rows = rows ∙ agree.rows ∙ sym (rows-left l (ap leaves_searches d));
         openings = count ∙ agree.openings ∙ sym (openings-left e h l);
         login = login ∙ agree.login ∙ sym (login-left e h l);
         logins = logins ∙ agree.logins ∙ sym (user_logins-left e h l);
@@ -124,13 +148,15 @@ module _ (h : History) (old : SessionsState) (agree : SessionsAgree h old) (e : 
 
   -- ---- openings and closings
 
-  pub SessionsAgree-opened : (flags : ℕ) (new : SessionsState) → done e ≡ Some (call.OpenSession flags) → new.rows ≡ old.rows ++ session_row (old.openings + 1) flags ∷ []
+  pub SessionsAgree-opened : (flags : ℕ) (new : SessionsState) → done e ≡ Some (call.OpenSession flags) → is_searching h (suc (openings h)) ≡ false
+      → new.rows ≡ old.rows ++ record { handle = old.openings + 1; flags = flags; search = None } ∷ []
       → new.openings ≡ old.openings + 1 → new.login ≡ old.login → new.logins ≡ old.logins → new.so ≡ old.so → new.user ≡ old.user → SessionsAgree (e ∷ h) new
-  SessionsAgree-opened flags new d rows count log logs so us =
+  SessionsAgree-opened flags new d none rows count log logs so us =
       let c = call.OpenSession flags in
-      let all : session_rows session_row (e ∷ h) ≡ session_rows session_row h ++ session_row (suc (openings h)) flags ∷ [] = session_rows-opened e h flags d session_row in
+      let all : session_rows session_row (e ∷ h) ≡ session_rows session_row h ++ record { handle = suc (openings h); flags = flags; search = None } ∷ [] =
+      session_rows-opened e h flags d session_row (row-below e h flags d) ∙ ap (λ r. session_rows session_row h ++ r ∷ []) (row-opened e h flags d none) in
       let some : length (open_sessions (e ∷ h)) == 0 ≡ false =
-      ne_eqb (length (open_sessions (e ∷ h))) 0 (λ z. more (session_rows session_row h) (session_row (suc (openings h)) flags)
+      ne_eqb (length (open_sessions (e ∷ h))) 0 (λ z. more (session_rows session_row h) (record { handle = suc (openings h); flags = flags; search = None })
       (sym (ap length all) ∙ length-session_rows session_row (e ∷ h) ∙ z)) in
       record {
         rows = rows ∙ rw (agree.rows, agree.openings, add-one) (sym all);
@@ -158,9 +184,9 @@ module _ (h : History) (old : SessionsState) (agree : SessionsAgree h old) (e : 
       let c = call.CloseSession session in
       let all : new.rows ≡ session_rows session_row (e ∷ h) =
       rows ∙ ap (filter (λ (row : Session). not (session == row.handle))) agree.rows
-      ∙ filter-selected (λ (row : Session). not (session == row.handle)) (is_open h) (λ n. session_row n (flags_of h n)) (openings h)
-      ∙ ap (λ x. selected (λ k. is_open h k && not (closes x k)) (λ n. session_row n (flags_of h n)) (openings h)) (sym d)
-      ∙ sym (session_rows-later e h (ap opens d) session_row) in
+      ∙ filter-selected (λ (row : Session). not (session == row.handle)) (is_open h) (session_row h) (openings h)
+      ∙ ap (λ x. selected (λ k. is_open h k && not (closes x k)) (session_row h) (openings h)) (sym d)
+      ∙ sym (session_rows-later e h (ap opens d) session_row (λ k below passes. row-other e h session d k passes)) in
       record {
         rows = all;
         openings = count ∙ openings-stay c d refl;
@@ -177,7 +203,8 @@ module _ (h : History) (old : SessionsState) (agree : SessionsAgree h old) (e : 
       let c = call.CloseAllSessions in
       let all : session_rows session_row (e ∷ h) ≡ [] =
       session_rows-later e h (ap opens d) session_row
-      ∙ selected-none (λ k. is_open h k && not (closes (done e) k)) (λ n. session_row n (flags_of h n)) (openings h)
+      (λ k below passes. absurd (false≢true (sym (ap (λ x. is_open h k && not (closes x k)) d ∙ and-false (is_open h k)) ∙ passes)))
+      ∙ selected-none (λ k. is_open h k && not (closes (done e) k)) (session_row h) (openings h)
       (λ k below. ap (λ x. is_open h k && not (closes x k)) d ∙ and-false (is_open h k)) in
       let none : length (open_sessions (e ∷ h)) == 0 ≡ true = rw (sym (length-session_rows session_row (e ∷ h)), all) in
       record {
@@ -198,9 +225,9 @@ module _ (h : History) (old : SessionsState) (agree : SessionsAgree h old) (e : 
   SessionsAgree-initialized pin new d rows count log logs so_pin so_tries user_pin user_tries =
       let c = call.InitToken pin in
       record {
-        rows = rows ∙ rows-stay c d refl (λ s. refl);
+        rows = rows ∙ rows-stay c d refl (λ s. refl) refl;
         openings = count ∙ openings-stay c d refl;
-        login = log ∙ login-stays c d refl (λ s. refl) (λ before. refl);
+        login = log ∙ login-stays c d refl (λ s. refl) refl (λ before. refl);
         logins = logs ∙ logins-stay c d refl;
         so = record { pin = so_pin ∙ rw agree.so.pin (sym (so_pin-step e h (Some c) d)); tries = so_tries ∙ sym (tries-done e h user.So c d) };
         user = record { pin = user_pin ∙ sym (user_pin-step e h (Some c) d); tries = user_tries ∙ sym (tries-done e h user.User c d) };
@@ -212,9 +239,9 @@ module _ (h : History) (old : SessionsState) (agree : SessionsAgree h old) (e : 
   SessionsAgree-pin_initialized session pin new d rows count log logs so user_pin user_tries =
       let c = call.InitPin session pin in
       record {
-        rows = rows ∙ rows-stay c d refl (λ s. refl);
+        rows = rows ∙ rows-stay c d refl (λ s. refl) refl;
         openings = count ∙ openings-stay c d refl;
-        login = log ∙ login-stays c d refl (λ s. refl) (λ before. refl);
+        login = log ∙ login-stays c d refl (λ s. refl) refl (λ before. refl);
         logins = logs ∙ logins-stay c d refl;
         so = rw so (so-stays c d (λ owner before. refl) refl);
         user = record { pin = user_pin ∙ sym (user_pin-step e h (Some c) d); tries = user_tries ∙ sym (tries-done e h user.User c d) };
@@ -230,9 +257,9 @@ module _ (h : History) (old : SessionsState) (agree : SessionsAgree h old) (e : 
     pub SessionsAgree-so_pin_set : pin_owner (state_of h session) ≡ user.So → is_some old.so.pin ≡ true → new.so.pin ≡ Some pin → new.so.tries ≡ 0 → new.user ≡ old.user
         → SessionsAgree (e ∷ h) new
     SessionsAgree-so_pin_set owner had so_pin so_tries us = record {
-      rows = rows ∙ rows-stay c d refl (λ s. refl);
+      rows = rows ∙ rows-stay c d refl (λ s. refl) refl;
       openings = count ∙ openings-stay c d refl;
-      login = log ∙ login-stays c d refl (λ s. refl) (λ b. refl);
+      login = log ∙ login-stays c d refl (λ s. refl) refl (λ b. refl);
       logins = logs ∙ logins-stay c d refl;
       so = record {
         pin = so_pin ∙ sym (so_pin-step e h (Some c) d ∙ ap (λ o. so_pin_after (Some c) o (so_pin_of h)) owner);
@@ -247,9 +274,9 @@ module _ (h : History) (old : SessionsState) (agree : SessionsAgree h old) (e : 
 
     pub SessionsAgree-user_pin_set : pin_owner (state_of h session) ≡ user.User → new.so ≡ old.so → new.user.pin ≡ Some pin → new.user.tries ≡ 0 → SessionsAgree (e ∷ h) new
     SessionsAgree-user_pin_set owner so us_pin us_tries = record {
-      rows = rows ∙ rows-stay c d refl (λ s. refl);
+      rows = rows ∙ rows-stay c d refl (λ s. refl) refl;
       openings = count ∙ openings-stay c d refl;
-      login = log ∙ login-stays c d refl (λ s. refl) (λ b. refl);
+      login = log ∙ login-stays c d refl (λ s. refl) refl (λ b. refl);
       logins = logs ∙ logins-stay c d refl;
       so = rw so (record {
         pin = agree.so.pin ∙ sym (so_pin-step e h (Some c) d ∙ ap (λ o. so_pin_after (Some c) o (so_pin_of h)) owner);
@@ -261,3 +288,55 @@ module _ (h : History) (old : SessionsState) (agree : SessionsAgree h old) (e : 
       };
       initialized = ap (λ (s : Credential). is_some s.pin) so ∙ initialized-stays c d refl;
     }
+
+  -- ---- searches
+
+  module _ (new : SessionsState) (count : new.openings ≡ old.openings) (log : new.login ≡ old.login) (logs : new.logins ≡ old.logins) (so : new.so ≡ old.so)
+      (us : new.user ≡ old.user) where
+    pub SessionsAgree-started : (session : ℕ) (template : Template) (found : List ℕ) → done e ≡ Some (call.FindObjectsInit session template)
+        → found ≡ matching_objects h template.items
+        → new.rows ≡ change_first (is_session session) (with_search (Some (record { found = found; last = 0 }))) old.rows → SessionsAgree (e ∷ h) new
+    SessionsAgree-started session template found d matching rows =
+        SessionsAgree-searched (call.FindObjectsInit session template) d refl new
+        (rows ∙ ap (change_first (is_session session) (with_search (Some (record { found = found; last = 0 })))) agree.rows
+        ∙ session_rows-started e h session template found d matching) count log logs so us
+
+    pub SessionsAgree-handed : (session max handle : ℕ) (handles : List ℕ) → done e ≡ Some (call.FindObjects session max) → handles ≡ handles_in e.reply.body
+        → Some handle ≡ slice_get handles (length handles - 1) → new.rows ≡ change_first (is_session session) (with_last (number_of_handle handle)) old.rows
+        → SessionsAgree (e ∷ h) new
+    SessionsAgree-handed session max handle handles d same last rows =
+        SessionsAgree-searched (call.FindObjects session max) d refl new
+        (rows ∙ ap (change_first (is_session session) (with_last (number_of_handle handle))) agree.rows
+        ∙ session_rows-handed e h session max d (number_of_handle handle)
+        (last_or-last (handles_in e.reply.body) handle (subst (λ hs. Some handle ≡ slice_get hs (length hs - 1)) same last))) count log logs so us
+
+    pub SessionsAgree-none_handed : (session max : ℕ) (handles : List ℕ) → done e ≡ Some (call.FindObjects session max) → handles ≡ handles_in e.reply.body
+        → None ≡ slice_get handles (length handles - 1) → new.rows ≡ old.rows → SessionsAgree (e ∷ h) new
+    SessionsAgree-none_handed session max handles d same none rows =
+        SessionsAgree-searched (call.FindObjects session max) d refl new
+        (rows ∙ agree.rows ∙ session_rows-none_handed e h session max d (sym same ∙ no_last handles none)) count log logs so us
+
+    pub SessionsAgree-search_ended : (session : ℕ) → done e ≡ Some (call.FindObjectsFinal session) → new.rows ≡ change_first (is_session session) (with_search None) old.rows
+        → SessionsAgree (e ∷ h) new
+    SessionsAgree-search_ended session d rows =
+        SessionsAgree-searched (call.FindObjectsFinal session) d refl new
+        (rows ∙ ap (change_first (is_session session) (with_search None)) agree.rows ∙ session_rows-ended e h session d) count log logs so us
+
+  -- a logout ends the login and all searches
+  pub SessionsAgree-logged_out : (session : ℕ) (new : SessionsState) → done e ≡ Some (call.Logout session) → new.rows ≡ map (with_search None) old.rows
+      → new.openings ≡ old.openings → new.login ≡ None → new.logins ≡ old.logins → new.so ≡ old.so → new.user ≡ old.user → SessionsAgree (e ∷ h) new
+  SessionsAgree-logged_out session new d rows count log logs so us =
+      let c = call.Logout session in
+      record {
+        rows =
+            rows ∙ ap (map (with_search None)) agree.rows ∙ map-map (with_search None) (session_row h) (open_sessions h)
+            ∙ selected-same (is_open h) (is_open h) (λ k. with_search None (session_row h k)) (session_row (e ∷ h)) (openings h) (λ k b. refl)
+            (λ k b. sym (row-logged_out e h session d k))
+            ∙ sym (session_rows-changed e h (ap opens d) session_row (λ s. ap (λ x. closes x s) d));
+        openings = count ∙ openings-stay c d refl;
+        login = log ∙ sym (login-logged_out e h session d);
+        logins = logs ∙ logins-stay c d refl;
+        so = rw so (so-stays c d (λ owner before. refl) refl);
+        user = rw us (user-stays c d (λ owner before. refl) refl);
+        initialized = ap (λ (s : Credential). is_some s.pin) so ∙ initialized-stays c d refl;
+      }

@@ -1,9 +1,10 @@
 -- What sessions that agree with a history tell of it
 use Rattle.std.proofs.Common.{◌≡◌, ℕ, suc, Bool, true, false, not, ◌||◌, cond, List, [], ◌∷◌, Option, Some, None, refl, sym, ap, ◌∙◌, subst}
-use Rattle.std.proofs.lemmas.Bool.{eqb-true}
+use Rattle.std.proofs.lemmas.Bool.{eqb-true, false≢true}
 use Rattle.std.proofs.lemmas.Option.{same_Some}
-use Rattle.std.specs.Prelude.{◌==◌, map, filter, find, length, is_some, option_map}
+use Rattle.std.specs.Prelude.{◌==◌, map, filter, find, length, is_some, nat_lt, option_map}
 use Rattle.std.specs.List.{list_any}
+use Rattle.std.specs.List.Sorted.{IsNonDecreasingBy}
 use Rattle.ck_types.specs.declared.users.UserType.{UserType}
 use Rattle.ck_types.specs.declared.users.UserType.TheVariants as user
 use Rattle.ck_journal.specs.Histories.{History}
@@ -11,9 +12,15 @@ use Rattle.ck_journal.specs.Pins.{present_pin, tries}
 use Rattle.ck_journal.specs.Sessions.{openings, is_open, flags_of, open_sessions, is_read_write, rw_sessions, numbers}
 use Rattle.ck_journal.proofs.Selections.{list_any-selected, list_any-at, length-selected, filter-selected, find-map, is_some-find, find-passes}
 use Rattle.ck_journal.proofs.SessionMoves.{is_open-within}
-use Rattle.ck_sessions.specs.Agreement.{SessionsState, SessionsAgree, CredentialAgrees, credential_of, session_row}
+use Rattle.ck_journal.specs.Searches.{is_searching, found_objects, last_number, remaining_objects}
+use Rattle.ck_journal.proofs.RisingLemmas.{found_objects-rise}
+use Rattle.ck_sessions.specs.Agreement.{SessionsState, SessionsAgree, CredentialAgrees, credential_of, session_row, remaining_at}
 use Rattle.ck_sessions.specs.Rows.{is_session, is_rw_row, is_read_only_row}
+use Rattle.ck_sessions.specs.declared.session_table.Search.{Search}
 use Rattle.ck_sessions.specs.declared.session_table.Session.{Session}
+
+abbrev search : List ℕ → ℕ → Search
+search found last = record { found = found; last = last }
 
 length-cond : (t : Bool) (row : Session) (rows : List Session) (k : ℕ) (ks : List ℕ) → length rows ≡ length ks → length (cond t (row ∷ rows) rows) ≡ length (cond t (k ∷ ks) ks)
 length-cond true row rows k ks e = ap suc e
@@ -33,7 +40,7 @@ list_any-map test row again same (k ∷ ks) = rw (same k, list_any-map test row 
 
 module _ (h : History) (s : SessionsState) (agree : SessionsAgree h s) where
   abbrev row_of : ℕ → Session
-  row_of n = session_row n (flags_of h n)
+  row_of = session_row h
 
   pub length-rows : length s.rows ≡ length (open_sessions h)
   length-rows = ap length agree.rows ∙ length-selected (is_open h) row_of (openings h)
@@ -71,13 +78,42 @@ module _ (h : History) (s : SessionsState) (agree : SessionsAgree h s) where
   pub is_open-found : (session : ℕ) (row : Session) → Some row ≡ found_row session → true ≡ is_open h session
   is_open-found session row e = ap is_some e ∙ is_some-row session
 
-  pub flags_of-found : (session : ℕ) (row : Session) → Some row ≡ found_row session → row.flags ≡ flags_of h session
-  flags_of-found session row e = flags-at session row (find (λ k. k == session) (open_sessions h)) refl (e ∙ row-found session)
+  row-of-found : (session : ℕ) (row : Session) → Some row ≡ found_row session → row ≡ row_of session
+  row-of-found session row e = row-at session row (find (λ k. k == session) (open_sessions h)) refl (e ∙ row-found session)
     where
-      flags-at : (session : ℕ) (row : Session) (found : Option ℕ) → find (λ k. k == session) (open_sessions h) ≡ found → Some row ≡ option_map row_of found
-          → row.flags ≡ flags_of h session
-      flags-at session row None f e = cc
-      flags-at session row (Some k) f e =
+      row-at : (session : ℕ) (row : Session) (found : Option ℕ) → find (λ k. k == session) (open_sessions h) ≡ found → Some row ≡ option_map row_of found → row ≡ row_of session
+      row-at session row None f e = cc
+      row-at session row (Some k) f e =
           let same : k ≡ session = eqb-true k session (find-passes (λ j. j == session) (open_sessions h) k f) in
-          let r : row ≡ row_of k = same_Some row (row_of k) e in
-          ap (λ (x : Session). x.flags) r ∙ ap (flags_of h) same
+          same_Some row (row_of k) e ∙ ap row_of same
+
+  pub flags_of-found : (session : ℕ) (row : Session) → Some row ≡ found_row session → row.flags ≡ flags_of h session
+  flags_of-found session row e = ap (λ (x : Session). x.flags) (row-of-found session row e)
+
+  -- ---- its search
+
+  pub remaining-closed : (session : ℕ) → None ≡ found_row session → is_open h session ≡ true → None ≡ remaining_at h session
+  remaining-closed session e o = absurd (false≢true (is_open-not_found session e ∙ o))
+
+  inactive_case : (active : Bool) (found rest : List ℕ) (last : ℕ) → None ≡ cond active (Some (search found last)) None → None ≡ cond active (Some rest) None
+  inactive_case true found rest last e = cc
+  inactive_case false found rest last e = refl
+
+  pub remaining-none : (session : ℕ) (row : Session) → Some row ≡ found_row session → None ≡ row.search → None ≡ remaining_at h session
+  remaining-none session row e none =
+      inactive_case (is_searching h session) (found_objects h session) (remaining_objects h session) (last_number h session)
+      (none ∙ ap (λ (x : Session). x.search) (row-of-found session row e))
+
+  active_case : (active : Bool) (found : List ℕ) (last : ℕ) (x : Search) (rest : List ℕ) → IsNonDecreasingBy (λ n. n) found
+      → (IsNonDecreasingBy (λ n. n) x.found → rest ≡ filter (λ n. nat_lt x.last n) x.found) → Some x ≡ cond active (Some (search found last)) None
+      → Some rest ≡ cond active (Some (filter (λ n. nat_lt last n) found)) None
+  active_case true found last x rest rises is e =
+      let same : x ≡ search found last = same_Some x (search found last) e in
+      ap Some (is (subst (λ (y : Search). IsNonDecreasingBy (λ n. n) y.found) (sym same) rises) ∙ ap (λ (y : Search). filter (λ n. nat_lt y.last n) y.found) same)
+  active_case false found last x rest rises is e = cc
+
+  pub remaining-some : (session : ℕ) (row : Session) (x : Search) (rest : List ℕ) → Some row ≡ found_row session → Some x ≡ row.search
+      → (IsNonDecreasingBy (λ n. n) x.found → rest ≡ filter (λ n. nat_lt x.last n) x.found) → Some rest ≡ remaining_at h session
+  remaining-some session row x rest e some is =
+      active_case (is_searching h session) (found_objects h session) (last_number h session) x rest (found_objects-rise h session) is
+      (some ∙ ap (λ (x : Session). x.search) (row-of-found session row e))

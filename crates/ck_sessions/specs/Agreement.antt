@@ -1,11 +1,13 @@
 -- When sessions, the login and PINs are what a history says
-use Rattle.std.specs.Prelude.{◌≡◌, ◌<◌, ◌≤◌, ◌^◌, ℕ, Bool, true, List, Option, map, is_some}
+use Rattle.std.specs.Prelude.{◌≡◌, ◌<◌, ◌≤◌, ◌^◌, ℕ, Bool, true, List, Option, Some, None, map, is_some, if◌then◌else◌}
 use Rattle.ck_types.specs.declared.users.UserType.{UserType}
 use Rattle.ck_types.specs.declared.users.UserType.TheVariants as user
 use Rattle.ck_journal.specs.Histories.{History}
 use Rattle.ck_journal.specs.Pins.{present_pin, tries, is_initialized}
+use Rattle.ck_journal.specs.Searches.{is_searching, found_objects, last_number, remaining_objects}
 use Rattle.ck_journal.specs.Sessions.{openings, flags_of, open_sessions, login, user_logins}
 use Rattle.ck_sessions.specs.declared.session_table.Credential.{Credential}
+use Rattle.ck_sessions.specs.declared.session_table.Search.{Search}
 use Rattle.ck_sessions.specs.declared.session_table.Session.{Session}
 
 -- the open sessions, how many there may be, how many have been opened, who is logged in, how many times the user has
@@ -23,8 +25,17 @@ abbrev pub credential_of : UserType → SessionsState → Credential
 credential_of user.So s = s.so
 credential_of user.User s = s.user
 
-abbrev pub session_row : ℕ → ℕ → Session
-session_row handle flags = record { handle = handle; flags = flags }
+-- the session's search, where one is active
+abbrev pub search_of : History → ℕ → Option Search
+search_of h s = if is_searching h s then Some (record { found = found_objects h s; last = last_number h s }) else None
+
+-- an open session as the history has it
+abbrev pub session_row : History → ℕ → Session
+session_row h s = record { handle = s; flags = flags_of h s; search = search_of h s }
+
+-- what the session's search found and has not handed out, where one is active
+abbrev pub remaining_at : History → ℕ → Option (List ℕ)
+remaining_at h s = if is_searching h s then Some (remaining_objects h s) else None
 
 -- there is room for all sessions that may be open, the user has logged in fewer than 2^31 times, and no user has made more
 -- than three wrong tries
@@ -40,7 +51,7 @@ pub record CredentialAgrees (u : UserType) (h : History) (c : Credential) : Type
   pub tries : c.tries ≡ tries u h
 
 pub record SessionsAgree (h : History) (s : SessionsState) : Type 0 where
-  pub rows : s.rows ≡ map (λ n. session_row n (flags_of h n)) (open_sessions h)
+  pub rows : s.rows ≡ map (session_row h) (open_sessions h)
   pub openings : s.openings ≡ openings h
   pub login : s.login ≡ login h
   pub logins : s.logins ≡ user_logins h

@@ -6,4 +6,4 @@ mod session_table;
 #[cfg(test)]
 mod tests;
 
-pub use session_table::{Credential, Session, Sessions};
+pub use session_table::{Credential, Search, Session, Sessions};

@@ -1,13 +1,26 @@
-use crate::rows::{count_read_write, find_session, has_read_only, has_session, remove_session};
-use ck_types::{Limits, NoMemory, Pin, UserType};
+use crate::rows::{
+    count_read_write, end_searches, find_session, has_read_only, has_session, note_last,
+    remove_session, set_search,
+};
+use ck_types::{Limits, NoMemory, Pin, Sequence, UserType};
 use std::alloc::Global;
 use std::marker::Model;
 
+/// An active search for objects (PKCS #11 Base 3.0, Object management functions).
+#[derive(Debug, Drop)]
+pub struct Search {
+    /// The numbers of the objects that it found when it started, rising.
+    pub found: Sequence<u64>,
+    /// The number of the object that it handed out last, 0 where none.
+    pub last: u64,
+}
+
 /// An open session.
-#[derive(Clone, Copy, Debug, PartialEq, Eq)]
+#[derive(Debug, Drop)]
 pub struct Session {
     pub handle: u64,
     pub flags: u64,
+    pub search: Option<Search>,
 }
 
 /// A user's PIN, and how many wrong tries of it were made since they last went back to 0.
@@ -30,6 +43,20 @@ pub struct Sessions {
     user: Credential,
 }
 
+impl Search {
+    ghost use Rattle.std.specs.Prelude.{◌≡◌, filter, nat_lt};
+    ghost use Rattle.std.specs.List.Sorted.{IsNonDecreasingBy};
+
+    /// What it found and has not handed out.
+    fn remaining(&self) -> &[u64]
+        ensures { IsNonDecreasingBy (λ n. n) self.now.found → result.now ≡ filter (λ n. nat_lt self.now.last n) self.now.found }
+    {
+        let found = self.found.as_slice();
+        let place = found.partition_point(|number| *number <= self.last);
+        &found[place..]
+    }
+}
+
 impl Model for Sessions {
     ghost use Rattle.std.specs.Prelude.{vec_capacity};
     ghost use Rattle.ck_sessions.specs.Agreement.{SessionsState, IsSound};
@@ -41,13 +68,16 @@ impl Model for Sessions {
     ghost invariant = { λ s. IsSound (vec_capacity s.rows) s.limit s.logins s.so.tries s.user.tries };
 }
 
+/// How far the handles of one object's number stand apart.
+const HANDLE_STEP: u64 = 0x1_0000_0000;
+
 const NO_PIN: Credential = Credential {
     pin: None,
     tries: 0,
 };
 
 impl Sessions {
-    ghost use Rattle.std.specs.Prelude.{◌≡◌, ◌∷◌, ◌≢◌, ◌+◌, ◌<◌, ◌≤◌, ◌^◌, ◌==◌, [], ℕ, true, false, not, Some, None, IfOk, IfSome, is_some, length};
+    ghost use Rattle.std.specs.Prelude.{◌≡◌, ◌∷◌, ◌≢◌, ◌+◌, ◌<◌, ◌≤◌, ◌^◌, ◌==◌, [], ℕ, suc, true, false, not, Some, None, IfOk, IfSome, is_some, length};
     ghost use Rattle.std.specs.List.{list_any};
     ghost use Rattle.ck_types.specs.Users.{user_of};
     ghost use Rattle.ck_types.specs.declared.users.UserType.TheVariants as user;
@@ -57,7 +87,10 @@ impl Sessions {
     ghost use Rattle.ck_journal.specs.Sessions.{openings, is_open, flags_of, open_sessions, is_read_write, rw_sessions, login, user_logins, state_of};
     ghost use Rattle.ck_journal.specs.declared.calls.Call.TheVariants as call;
     ghost use Rattle.ck_journal.specs.declared.calls.Entry.{Entry};
-    ghost use Rattle.ck_sessions.specs.Agreement.{SessionsAgree, CredentialAgrees, credential_of};
+    ghost use Rattle.ck_journal.specs.Searches.{is_searching, matching_objects, handles_in};
+    ghost use Rattle.ck_types.specs.declared.templates.Template.{Template};
+    ghost use Rattle.std.specs.Option.{option_copied};
+    ghost use Rattle.ck_sessions.specs.Agreement.{SessionsAgree, CredentialAgrees, credential_of, remaining_at};
 
     /// No sessions, with room for as many as may be open at once.
     pub fn new(alloc: Global, limits: Limits) -> Result<Sessions, NoMemory>
@@ -129,6 +162,20 @@ impl Sessions {
         match find_session(self.rows.as_slice(), session) {
             None => None,
             Some(row) => Some(row.flags),
+        }
+    }
+
+    /// The numbers of the objects that the open session's search found and has not handed out, rising, or `None` where no
+    /// search is active. It halves its way to their beginning.
+    pub fn remaining_objects(&self, session: u64) -> Option<&[u64]>
+        ensures { (h : History) → SessionsAgree h self.now → is_open h session ≡ true → option_copied result ≡ remaining_at h session }
+    {
+        match find_session(self.rows.as_slice(), session) {
+            None => None,
+            Some(row) => match &row.search {
+                None => None,
+                Some(search) => Some(search.remaining()),
+            },
         }
     }
 
@@ -204,17 +251,23 @@ impl Sessions {
         }
     }
 
-    /// Opens a session, and answers its handle.
+    /// Opens a session, which has no search, and answers its handle.
     pub fn open_session(&mut self, flags: u64) -> u64
         requires room { length self.old.rows < self.old.limit }
         requires handles { self.old.openings < 2 ^ 32 }
         ensures handle { result ≡ self.old.openings + 1 }
-        ensures agree { (h : History) (e : Entry) → done e ≡ Some (call.OpenSession flags) → SessionsAgree h self.old → SessionsAgree (e ∷ h) self.new }
+        ensures agree { (h : History) (e : Entry) → done e ≡ Some (call.OpenSession flags) → is_searching h (suc (openings h)) ≡ false
+            → SessionsAgree h self.old → SessionsAgree (e ∷ h) self.new }
         ensures limit { self.new.limit ≡ self.old.limit }
     {
         self.openings += 1;
         let handle = self.openings;
-        self.rows.push(Session { handle, flags }).unwrap();
+        let session = Session {
+            handle,
+            flags,
+            search: None,
+        };
+        self.rows.push(session).unwrap();
         handle
     }
 
@@ -256,11 +309,45 @@ impl Sessions {
         }
     }
 
+    /// Logs out whoever is logged in, and ends the searches of all sessions.
     pub fn log_out(&mut self)
         ensures agree { (h : History) (e : Entry) (session : ℕ) → done e ≡ Some (call.Logout session) → SessionsAgree h self.old → SessionsAgree (e ∷ h) self.new }
         ensures limit { self.new.limit ≡ self.old.limit }
     {
         self.login = None;
+        end_searches(self.rows.as_mut_slice());
+    }
+
+    /// Starts a search that found the objects of these numbers.
+    pub fn start_search(&mut self, session: u64, found: Vec<u64>)
+        ensures agree { (h : History) (e : Entry) (template : Template) → done e ≡ Some (call.FindObjectsInit session template)
+            → found.items ≡ matching_objects h template.items → SessionsAgree h self.old → SessionsAgree (e ∷ h) self.new }
+        ensures limit { self.new.limit ≡ self.old.limit }
+    {
+        let search = Search {
+            found: Sequence::from_vec(found),
+            last: 0,
+        };
+        set_search(&mut self.rows, session, Some(search));
+    }
+
+    /// Notes which handles the session's search hands out.
+    pub fn hand_out(&mut self, session: u64, handles: &[u64])
+        ensures agree { (h : History) (e : Entry) (max : ℕ) → done e ≡ Some (call.FindObjects session max) → handles.now ≡ handles_in e.reply.body
+            → SessionsAgree h self.old → SessionsAgree (e ∷ h) self.new }
+        ensures limit { self.new.limit ≡ self.old.limit }
+    {
+        if let Some(handle) = handles.last() {
+            note_last(&mut self.rows, session, *handle % HANDLE_STEP);
+        }
+    }
+
+    /// Ends the session's search.
+    pub fn end_search(&mut self, session: u64)
+        ensures agree { (h : History) (e : Entry) → done e ≡ Some (call.FindObjectsFinal session) → SessionsAgree h self.old → SessionsAgree (e ∷ h) self.new }
+        ensures limit { self.new.limit ≡ self.old.limit }
+    {
+        set_search(&mut self.rows, session, None);
     }
 
     /// Counts a wrong try of a user's PIN.

@@ -2,6 +2,7 @@ ghost use Rattle.std.specs.Prelude.{◌≡◌};
 
 use crate::Sessions;
 use ck_types::{Limits, NoMemory, Pin, UserType};
+use std::alloc::Global;
 use std::process::Abort;
 use std::test::Fail;
 
@@ -88,5 +89,41 @@ fn sessions_logins_and_pins(rt: HostRuntime) -> Result<(), Fail> {
     sessions.close_all();
     assert_eq!(rt; sessions.count(), 0);
     assert_eq!(rt; sessions.login(), None);
+    Ok(())
+}
+
+/// What is left of the searches of sessions 1 and 2.
+fn left(sessions: &Sessions) -> [Option<&[u64]>; 2] {
+    [sessions.remaining_objects(1), sessions.remaining_objects(2)]
+}
+
+/// The numbers in a list of their own.
+fn numbers(alloc: Global, numbers: &[u64]) -> Result<Vec<u64>, NoMemory> {
+    Ok(Vec::from_slice(alloc, numbers)?)
+}
+
+#[test]
+fn searches(rt: HostRuntime) -> Result<(), Fail> {
+    let mut sessions = Sessions::new(rt.alloc(), Limits::largest())?;
+    opened(&rt, &mut sessions, 6);
+    opened(&rt, &mut sessions, 4);
+    assert_eq!(rt; left(&sessions), [None, None]);
+    sessions.start_search(1, numbers(rt.alloc(), &[2, 3, 5, 8])?);
+    sessions.start_search(2, numbers(rt.alloc(), &[])?);
+    let all: &[u64] = &[2, 3, 5, 8];
+    let none: &[u64] = &[];
+    assert_eq!(rt; left(&sessions), [Some(all), Some(none)]);
+    // private handles after two logins, of the objects 2 and 5
+    sessions.hand_out(1, &[0x2_0000_0002, 0x2_0000_0005]);
+    assert_eq!(rt; left(&sessions), [Some(&all[3..]), Some(none)]);
+    sessions.hand_out(1, &[]);
+    assert_eq!(rt; left(&sessions), [Some(&all[3..]), Some(none)]);
+    sessions.end_search(1);
+    assert_eq!(rt; left(&sessions), [None, Some(none)]);
+    sessions.start_search(1, numbers(rt.alloc(), &[4])?);
+    sessions.close(1);
+    assert_eq!(rt; left(&sessions), [None, Some(none)]);
+    sessions.log_out();
+    assert_eq!(rt; left(&sessions), [None, None]);
     Ok(())
 }

@@ -3,5 +3,5 @@ use Rattle.ck_sessions.proofs.Moves.{SessionsAgree-opened}
 use Rattle.ck_sessions.proofs.session_table.Sessions.open_session.Goals as goal
 
 pub returns-clause-agree : goal.returns-clause-agree
-returns-clause-agree c = λ h e d agree.
-    SessionsAgree-opened h _ (rw (← c.self.view_is) at agree) e c.args.flags _ d (rw c.unwrap.ensures at c.push.ensures.items) refl refl refl refl refl
+returns-clause-agree c = λ h e d none agree.
+    SessionsAgree-opened h _ (rw (← c.self.view_is) at agree) e c.args.flags _ d none (rw c.unwrap.ensures at c.push.ensures.items) refl refl refl refl refl

@@ -1,0 +1,16 @@
+use Rattle.std.proofs.Common.{◌≡◌, ◌∙◌, ap, length, drop, arith, rules}
+use Rattle.std.specs.Prelude.{nat_le, nat_lt, filter}
+use Rattle.std.proofs.lemmas.List.{length-drop, take_all}
+use Rattle.std.proofs.lemmas.List.Sorted.{IsPartitionPoint-from_clause, IsPartitionedBy-leb}
+use Rattle.ck_journal.proofs.RisingLemmas.{drop-filter}
+use Rattle.ck_sessions.proofs.session_table.Search.remaining.Goals as goal
+
+pub returns : goal.returns
+returns c = λ rises.
+    let found = c.as_slice-found.result.now in
+    let place = c.partition_point-place.result in
+    let parted =
+    IsPartitionPoint-from_clause (λ n. nat_le n c.args.self.now.last) found place c.partition_point-place.ensures.partitioned
+    (IsPartitionedBy-leb (λ n. n) found c.args.self.now.last (rw (← c.as_slice-found.ensures) at rises)) (λ a r q k. search rules) in
+    let all = length-drop place found in
+    take_all _ (drop place found) (omega arith) ∙ drop-filter c.args.self.now.last found place parted ∙ ap (filter (λ n. nat_lt c.args.self.now.last n)) c.as_slice-found.ensures
