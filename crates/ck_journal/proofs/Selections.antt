@@ -48,7 +48,8 @@ module _ {X : Type 0} where
   filter-map_step again row k ks true later = ap (λ rows. row k ∷ rows) later
   filter-map_step again row k ks false later = later
 
-  filter-map : (again : X → Bool) (row : ℕ → X) (ks : List ℕ) → filter again (map row ks) ≡ map row (filter (λ k. again (row k)) ks)
+  -- the rows that pass are those of the numbers whose rows pass
+  pub filter-map : (again : X → Bool) (row : ℕ → X) (ks : List ℕ) → filter again (map row ks) ≡ map row (filter (λ k. again (row k)) ks)
   filter-map again row [] = refl
   filter-map again row (k ∷ ks) = filter-map_step again row k ks (again (row k)) (filter-map again row ks)
 
@@ -162,6 +163,16 @@ find-filter_step p q test k ks false same later = later
 pub find-filter_same : (p q test : ℕ → Bool) → ((k : ℕ) → test k ≡ true → p k ≡ q k) → (ks : List ℕ) → find p (filter test ks) ≡ find q (filter test ks)
 find-filter_same p q test same [] = refl
 find-filter_same p q test same (k ∷ ks) = find-filter_step p q test k ks (test k) (same k) (find-filter_same p q test same ks)
+
+filter-filter_step_same : (p q test : ℕ → Bool) (k : ℕ) (ks : List ℕ) (passes : Bool) → (passes ≡ true → p k ≡ q k) → filter p (filter test ks) ≡ filter q (filter test ks)
+    → filter p (cond passes (k ∷ filter test ks) (filter test ks)) ≡ filter q (cond passes (k ∷ filter test ks) (filter test ks))
+filter-filter_step_same p q test k ks true same later = rw (same refl, later)
+filter-filter_step_same p q test k ks false same later = later
+
+-- and keep the same
+pub filter-filter_same : (p q test : ℕ → Bool) → ((k : ℕ) → test k ≡ true → p k ≡ q k) → (ks : List ℕ) → filter p (filter test ks) ≡ filter q (filter test ks)
+filter-filter_same p q test same [] = refl
+filter-filter_same p q test same (k ∷ ks) = filter-filter_step_same p q test k ks (test k) (same k) (filter-filter_same p q test same ks)
 
 module _ {X : Type 0} where
   last_row-same : (p : Bool) (x y : X) → (p ≡ true → x ≡ y) → last_row p x ≡ last_row p y

@@ -1,8 +1,8 @@
 -- How objects keep agreeing with the history
 use Rattle.std.proofs.Common.{◌≡◌, ℕ, suc, ◌+◌, ◌*◌, ◌^◌, ◌<◌, ◌≤◌, Bool, true, false, cond, not, ◌&&◌, ◌||◌, List, [], ◌∷◌, ◌++◌, Option, Some, None, refl, sym, ap, ◌∙◌, add-one, arith, subst}
-use Rattle.std.specs.Prelude.{◌==◌, filter, find, option_map, unwrap_or, is_some}
+use Rattle.std.specs.Prelude.{◌==◌, map, filter, find, option_map, unwrap_or, is_some}
 use Rattle.std.proofs.lemmas.Bool.{eqb-true, and_parts, and_from}
-use Rattle.ck_types.specs.Records.{with_given, is_set}
+use Rattle.ck_types.specs.Records.{with_given, is_set, matches}
 use Rattle.ck_types.specs.declared.attributes.Attribute.TheVariants as attribute
 use Rattle.ck_types.specs.declared.pins.Pin.{Pin}
 use Rattle.ck_types.specs.declared.templates.Item.{Item}
@@ -12,13 +12,14 @@ use Rattle.ck_journal.specs.declared.calls.Call.TheVariants as call
 use Rattle.ck_journal.specs.declared.calls.Entry.{Entry}
 use Rattle.ck_journal.specs.declared.views.View.{View}
 use Rattle.ck_journal.specs.Histories.{History, done, leaves_objects}
-use Rattle.ck_journal.specs.Objects.{creates, creations, creation_session, session_of, creation_attributes, attributes_after, attributes_of, ends, has_object, objects, names, names_with, is_visible_with, handle_with, view_of, named_attributes, object_named}
+use Rattle.ck_journal.specs.Objects.{creates, creations, creation_session, session_of, creation_attributes, attributes_after, attributes_of, ends, has_object, objects, is_visible, names, names_with, is_visible_with, handle_with, view_of, named_attributes, object_named}
+use Rattle.ck_journal.specs.Searches.{matching_objects}
 use Rattle.ck_journal.specs.Sessions.{numbers}
 use Rattle.ck_journal.proofs.ObjectMoves.{object_rows, creations-created, object_rows-created, creations-same, object_rows-later, object_named-among, creations-left, object_rows-left, has_object-within}
-use Rattle.ck_journal.proofs.Selections.{selected, selected-none, selected-same, filter-selected, find-map, selected-rows_same, is_some-find, find-passes, list_any-passing, list_any-member, list_any-at}
+use Rattle.ck_journal.proofs.Selections.{selected, selected-none, selected-same, filter-selected, filter-map, filter-filter_same, find-map, selected-rows_same, is_some-find, find-passes, list_any-passing, list_any-member, list_any-at}
 use Rattle.ck_store.proofs.Changes.{selected-replaced}
 use Rattle.ck_store.specs.Agreement.{StoreState, StoreAgrees, object_row, attributes_at, handle_at}
-use Rattle.ck_store.specs.Rows.{is_named, ends_with, is_session_object, is_private_session_object, change_first, has_number, visible_handle}
+use Rattle.ck_store.specs.Rows.{is_named, ends_with, is_session_object, is_private_session_object, change_first, has_number, is_match, matching_numbers, visible_handle}
 use Rattle.ck_store.specs.declared.stores.StoredObject.{StoredObject}
 
 and-false : (b : Bool) → (b && false) ≡ false
@@ -76,6 +77,18 @@ module _ (h : History) (old : StoreState) (agree : StoreAgrees h old) where
       ∙ ap (option_map (λ (row : StoredObject). row.attributes)) (find-map (is_named (view_of h) handle) row_of (objects h))
       ∙ option_map-map h (find (λ n. is_named (view_of h) handle (row_of n)) (objects h))
       ∙ ap (option_map (attributes_of h)) (sym (object_named-among h handle))
+
+  numbers_of_rows : (ks : List ℕ) → map (λ (row : StoredObject). row.number) (map row_of ks) ≡ ks
+  numbers_of_rows [] = refl
+  numbers_of_rows (k ∷ ks) = ap (λ rest. k ∷ rest) (numbers_of_rows ks)
+
+  pub matching-agree : (template : List Item) → matching_numbers (view_of h) template old.rows ≡ matching_objects h template
+  matching-agree template =
+      ap (matching_numbers (view_of h) template) agree.rows
+      ∙ ap (map (λ (row : StoredObject). row.number)) (filter-map (is_match (view_of h) template) row_of (objects h))
+      ∙ numbers_of_rows (filter (λ n. is_match (view_of h) template (row_of n)) (objects h))
+      ∙ filter-filter_same (λ n. is_match (view_of h) template (row_of n)) (λ n. is_visible h n && matches (attributes_of h n) template) (has_object h)
+      (λ n there. ap (λ b. is_visible_with (view_of h) b (attributes_of h n) && matches (attributes_of h n) template) (sym there)) (numbers (creations h))
 
   found_numbered : (number : ℕ) (found : Option ℕ) (there : Bool) → find (λ k. k == number) (objects h) ≡ found → is_some found ≡ there
       → found ≡ cond there (Some number) None

@@ -1,11 +1,12 @@
-ghost use Rattle.std.specs.Prelude.{◌≡◌, ◌<◌, ◌^◌, not, filter, find, position};
+ghost use Rattle.std.specs.Prelude.{◌≡◌, ◌<◌, ◌^◌, not, filter, find, position, IfOk};
 ghost use Rattle.std.specs.Option.{option_copied};
-ghost use Rattle.ck_store.specs.Rows.{is_named, ends_with, is_session_object, is_private_session_object, change_first, has_number, visible_handle};
+ghost use Rattle.ck_store.specs.Rows.{is_named, ends_with, is_session_object, is_private_session_object, change_first, has_number, matching_numbers, visible_handle};
 ghost use Rattle.ck_store.specs.declared.stores.StoredObject.{StoredObject};
 
 use crate::stores::StoredObject;
 use ck_journal::View;
-use ck_types::{Attribute, Record};
+use ck_types::{Attribute, NoMemory, Record, Template};
+use std::alloc::Global;
 
 /// How far the handles of private objects move with each login of the user.
 const LOGIN_STEP: u64 = 0x1_0000_0000;
@@ -13,7 +14,7 @@ const LOGIN_STEP: u64 = 0x1_0000_0000;
 impl StoredObject {
     ghost use Rattle.std.specs.Prelude.{◌≡◌, ◌==◌, ◌<◌, ◌^◌, true};
     ghost use Rattle.ck_journal.specs.Objects.{is_visible_with, handle_with};
-    ghost use Rattle.ck_store.specs.Rows.{is_named, ends_with, is_session_object, is_private_session_object};
+    ghost use Rattle.ck_store.specs.Rows.{is_named, is_match, ends_with, is_session_object, is_private_session_object};
 
     fn is_visible(&self, view: View) -> bool
         ensures { result ≡ is_visible_with view true self.now.attributes }
@@ -40,6 +41,13 @@ impl StoredObject {
         ensures { result ≡ is_named view handle self.now }
     {
         self.is_visible(view) && self.has_handle(view, handle)
+    }
+
+    /// Whether the object is visible and matches the template.
+    fn is_match(&self, view: View, template: &Template) -> bool
+        ensures { result ≡ is_match view template.now.items self.now }
+    {
+        self.is_visible(view) && self.attributes.matches(template)
     }
 
     /// Whether the object ends where the session is closed.
@@ -100,6 +108,25 @@ pub(crate) fn find_numbered(rows: &[StoredObject], number: u64) -> Option<&Store
         }
     }
     None
+}
+
+/// The numbers of the objects that are visible and match the template. Most searches find few objects, so room is made as
+/// they are found.
+pub(crate) fn find_matching(
+    alloc: Global,
+    rows: &[StoredObject],
+    view: View,
+    template: &Template,
+) -> Result<Vec<u64>, NoMemory>
+    ensures { IfOk result (λ numbers. numbers.items ≡ matching_numbers view template.now.items rows.now) }
+{
+    let mut numbers = Vec::new(alloc);
+    for row in rows {
+        if row.is_match(view, template) {
+            numbers.push(row.number)?;
+        }
+    }
+    Ok(numbers)
 }
 
 /// The place of the first object that the handle names.
