@@ -1,12 +1,22 @@
 -- Lists of rows that are read off the numbers from 1 to n: those that pass a test, each as its row
 use Rattle.std.proofs.Common.{◌≡◌, ◌≢◌, ℕ, zero, suc, ◌<◌, ◌≤◌, Bool, true, false, cond, ◌&&◌, ◌||◌, List, [], ◌∷◌, ◌++◌, Option, Some, None, length, subst, refl, sym, ap, ◌∙◌, arith, inl, inr}
-use Rattle.std.specs.Prelude.{◌==◌, map, filter, find, option_map, is_some}
+use Rattle.std.specs.Prelude.{◌==◌, All, AllPairs, map, filter, find, option_map, is_some}
 use Rattle.std.proofs.lemmas.Option.{same_Some}
 use Rattle.std.specs.List.{list_any}
 use Rattle.std.proofs.lemmas.Bool.{eqb-true, eqb-false, ne_eqb, cases_Bool}
 use Rattle.std.proofs.lemmas.List.{map-append, length-map}
-use Rattle.std.proofs.lemmas.List.Elements.{filter-append}
+use Rattle.std.proofs.lemmas.List.Elements.{filter-append, All-push}
+use Rattle.std.proofs.lemmas.List.Quantifiers.{all_pairs_push}
 use Rattle.ck_journal.specs.Sessions.{numbers}
+
+numbers-below : (n : ℕ) → All (λ k. k < suc n) (numbers n)
+numbers-below zero = λ k d within. absurd (omega arith)
+numbers-below (suc n) = All-push (λ k. k < suc (suc n)) (numbers n) (suc n) (λ k d within. omega (arith, numbers-below n k d within)) (omega arith)
+
+-- the numbers rise
+pub AllPairs-numbers : (n : ℕ) → AllPairs (λ j k. j < k) (numbers n)
+AllPairs-numbers zero = λ i j d low within. absurd (omega arith)
+AllPairs-numbers (suc n) = all_pairs_push (λ j k. j < k) (numbers n) (suc n) (AllPairs-numbers n) (numbers-below n)
 
 module _ {X : Type 0} where
   -- the rows of the numbers from 1 to n that pass the test

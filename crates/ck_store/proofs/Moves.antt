@@ -1,7 +1,9 @@
 -- How objects keep agreeing with the history
-use Rattle.std.proofs.Common.{◌≡◌, ℕ, suc, ◌+◌, ◌*◌, ◌^◌, ◌<◌, ◌≤◌, Bool, true, false, cond, not, ◌&&◌, ◌||◌, List, [], ◌∷◌, ◌++◌, Option, Some, None, refl, sym, ap, ◌∙◌, add-one, arith, subst}
+use Rattle.std.proofs.Common.{◌≡◌, ℕ, suc, ◌+◌, ◌*◌, ◌^◌, ◌<◌, ◌≤◌, Bool, true, false, cond, not, ◌&&◌, ◌||◌, List, [], ◌∷◌, ◌++◌, length, Option, Some, None, refl, sym, ap, ◌∙◌, add-one, arith, subst}
 use Rattle.std.specs.Prelude.{◌==◌, map, filter, find, option_map, unwrap_or, is_some}
 use Rattle.std.proofs.lemmas.Bool.{eqb-true, and_parts, and_from}
+use Rattle.std.proofs.lemmas.List.{get_or-map, length-map}
+use Rattle.std.proofs.lemmas.List.Kept.{AllPairs-filter}
 use Rattle.ck_types.specs.Records.{with_given, is_set, matches}
 use Rattle.ck_types.specs.declared.attributes.Attribute.TheVariants as attribute
 use Rattle.ck_types.specs.declared.pins.Pin.{Pin}
@@ -16,10 +18,10 @@ use Rattle.ck_journal.specs.Objects.{creates, creations, creation_session, sessi
 use Rattle.ck_journal.specs.Searches.{matching_objects}
 use Rattle.ck_journal.specs.Sessions.{numbers}
 use Rattle.ck_journal.proofs.ObjectMoves.{object_rows, creations-created, object_rows-created, creations-same, object_rows-later, object_named-among, creations-left, object_rows-left, has_object-within}
-use Rattle.ck_journal.proofs.Selections.{selected, selected-none, selected-same, filter-selected, filter-map, filter-filter_same, find-map, selected-rows_same, is_some-find, find-passes, list_any-passing, list_any-member, list_any-at}
+use Rattle.ck_journal.proofs.Selections.{AllPairs-numbers, selected, selected-none, selected-same, filter-selected, filter-map, filter-filter_same, find-map, selected-rows_same, is_some-find, find-passes, list_any-passing, list_any-member, list_any-at}
 use Rattle.ck_store.proofs.Changes.{selected-replaced}
 use Rattle.ck_store.specs.Agreement.{StoreState, StoreAgrees, object_row, attributes_at, handle_at}
-use Rattle.ck_store.specs.Rows.{is_named, ends_with, is_session_object, is_private_session_object, change_first, has_number, is_match, matching_numbers, visible_handle}
+use Rattle.ck_store.specs.Rows.{is_named, ends_with, is_session_object, is_private_session_object, change_first, has_number, NumbersRise, is_match, matching_numbers, visible_handle}
 use Rattle.ck_store.specs.declared.stores.StoredObject.{StoredObject}
 
 and-false : (b : Bool) → (b && false) ≡ false
@@ -77,6 +79,13 @@ module _ (h : History) (old : StoreState) (agree : StoreAgrees h old) where
       ∙ ap (option_map (λ (row : StoredObject). row.attributes)) (find-map (is_named (view_of h) handle) row_of (objects h))
       ∙ option_map-map h (find (λ n. is_named (view_of h) handle (row_of n)) (objects h))
       ∙ ap (option_map (attributes_of h)) (sym (object_named-among h handle))
+
+  -- objects stand in the order of their numbers
+  pub numbers_rise : NumbersRise old.rows
+  numbers_rise = subst NumbersRise (sym agree.rows) (λ j k d low within.
+      let below : k < length (objects h) = subst (λ n. k < n) (length-map (objects h) row_of) within in
+      rw (get_or-map row_of (objects h) j 0 d (omega arith), get_or-map row_of (objects h) k 0 d below)
+      (AllPairs-filter (λ j k. j < k) (has_object h) (numbers (creations h)) (AllPairs-numbers (creations h)) j k 0 low below))
 
   numbers_of_rows : (ks : List ℕ) → map (λ (row : StoredObject). row.number) (map row_of ks) ≡ ks
   numbers_of_rows [] = refl

@@ -1,5 +1,5 @@
 -- An object as the token stores it
-use Rattle.std.specs.Prelude.{ℕ, Bool, true, List, [], ◌∷◌, Option, Some, None, ◌==◌, ◌&&◌, not, filter, map, if◌then◌else◌}
+use Rattle.std.specs.Prelude.{ℕ, Bool, true, List, [], ◌∷◌, Option, Some, None, ◌==◌, ◌<◌, ◌&&◌, AllPairs, not, filter, map, if◌then◌else◌}
 use Rattle.ck_types.specs.Records.{is_set, matches}
 use Rattle.ck_types.specs.declared.attributes.Attribute.TheVariants as attribute
 use Rattle.ck_types.specs.declared.templates.Item.{Item}
@@ -39,6 +39,10 @@ change_first test change (row ∷ rows) = if test row then change row ∷ rows e
 -- the object has this number
 abbrev pub has_number : ℕ → StoredObject → Bool
 has_number number row = row.number == number
+
+-- each number is below all later ones
+abbrev pub NumbersRise : List StoredObject → Type 0
+NumbersRise rows = AllPairs (λ (row : StoredObject) (later : StoredObject). row.number < later.number) rows
 
 -- the handle of an object with these attributes and this number, where it is visible
 abbrev pub visible_handle : View → List Item → ℕ → Option ℕ

@@ -1,6 +1,6 @@
 ghost use Rattle.std.specs.Prelude.{◌≡◌, ◌<◌, ◌^◌, not, filter, find, position, IfOk};
 ghost use Rattle.std.specs.Option.{option_copied};
-ghost use Rattle.ck_store.specs.Rows.{is_named, ends_with, is_session_object, is_private_session_object, change_first, has_number, matching_numbers, visible_handle};
+ghost use Rattle.ck_store.specs.Rows.{is_named, ends_with, is_session_object, is_private_session_object, change_first, has_number, NumbersRise, matching_numbers, visible_handle};
 ghost use Rattle.ck_store.specs.declared.stores.StoredObject.{StoredObject};
 
 use crate::stores::StoredObject;
@@ -98,16 +98,14 @@ pub(crate) fn find_named(rows: &[StoredObject], view: View, handle: u64) -> Opti
     None
 }
 
-/// The first object that has the number.
+/// The object that has the number, among rows whose numbers rise.
 pub(crate) fn find_numbered(rows: &[StoredObject], number: u64) -> Option<&StoredObject>
-    ensures { option_copied result ≡ find (has_number number) rows.now }
+    ensures { NumbersRise rows.now → option_copied result ≡ find (has_number number) rows.now }
 {
-    for row in rows {
-        if row.number == number {
-            return Some(row);
-        }
+    match rows.binary_search_by_key(&number, |row| row.number) {
+        Ok(place) => Some(&rows[place]),
+        Err(_) => None,
     }
-    None
 }
 
 /// The numbers of the objects that are visible and match the template. Most searches find few objects, so room is made as
