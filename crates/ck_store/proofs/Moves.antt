@@ -21,7 +21,7 @@ use Rattle.ck_journal.proofs.ObjectMoves.{object_rows, creations-created, object
 use Rattle.ck_journal.proofs.Selections.{AllPairs-numbers, selected, selected-none, selected-same, filter-selected, filter-map, filter-filter_same, find-map, selected-rows_same, is_some-find, find-passes, list_any-passing, list_any-member, list_any-at}
 use Rattle.ck_store.proofs.Changes.{selected-replaced}
 use Rattle.ck_store.specs.Agreement.{StoreState, StoreAgrees, object_row, attributes_at, handle_at}
-use Rattle.ck_store.specs.Rows.{is_named, ends_with, is_session_object, is_private_session_object, change_first, has_number, NumbersRise, is_match, matching_numbers, visible_handle}
+use Rattle.ck_store.specs.Rows.{is_named, ends_with, is_session_object, is_private_session_object, change_first, has_number, NumbersRise, is_match, matching_numbers}
 use Rattle.ck_store.specs.declared.stores.StoredObject.{StoredObject}
 
 and-false : (b : Bool) → (b && false) ≡ false
@@ -31,30 +31,6 @@ and-false false = refl
 and-true : (b : Bool) → (b && true) ≡ b
 and-true true = refl
 and-true false = refl
-
--- an object that isn't there has no handle
-pub handle-none : (h : History) (number : ℕ) → None ≡ attributes_at h number → None ≡ handle_at h number
-handle-none h number e = none_step (has_object h number) refl
-  where
-    none_step : (there : Bool) → has_object h number ≡ there → None ≡ handle_at h number
-    none_step true t =
-        let wrong : None ≡ Some (attributes_of h number) = rw t at e in
-        cc
-    none_step false t = rw t refl
-
--- the handle of one that is there is that of its attributes
-pub handle-some : (h : History) (number : ℕ) (attributes : List Item) → Some attributes ≡ attributes_at h number
-    → visible_handle (view_of h) attributes number ≡ handle_at h number
-handle-some h number attributes e = some_step (has_object h number) refl
-  where
-    some_step : (there : Bool) → has_object h number ≡ there → visible_handle (view_of h) attributes number ≡ handle_at h number
-    some_step true t =
-        let same : Some attributes ≡ Some (attributes_of h number) = rw t at e in
-        let here : attributes ≡ attributes_of h number = cc in
-        rw (t, here) refl
-    some_step false t =
-        let wrong : Some attributes ≡ None = rw t at e in
-        cc
 
 -- a test of a stored object, which is there
 there_test : (was_there visible same : Bool) → (was_there && not (visible && same)) ≡ was_there && not ((was_there && visible) && same)
@@ -126,6 +102,30 @@ module _ (h : History) (old : StoreState) (agree : StoreAgrees h old) where
       at_step : (there : Bool) → option_map (λ (row : StoredObject). row.attributes) (cond there (Some (row_of number)) None) ≡ cond there (Some (attributes_of h number)) None
       at_step true = refl
       at_step false = refl
+
+  -- the handle of one that is found is that of its attributes
+  pub handle-found : (number : ℕ) (row : StoredObject) (visible : Bool) → visible ≡ is_visible_with (view_of h) true row.attributes
+      → Some row ≡ find (has_number number) old.rows → cond visible (Some (handle_with (view_of h) row.attributes number)) None ≡ handle_at h number
+  handle-found number row visible is found = found_step (has_object h number) refl
+    where
+      found_step : (there : Bool) → has_object h number ≡ there → cond visible (Some (handle_with (view_of h) row.attributes number)) None ≡ handle_at h number
+      found_step true t =
+          let same : Some row ≡ Some (row_of number) = found ∙ find-numbered number ∙ ap (λ b. cond b (Some (row_of number)) None) t in
+          let here : row ≡ row_of number = cc in
+          rw (t, is, here) refl
+      found_step false t =
+          let wrong : Some row ≡ None = found ∙ find-numbered number ∙ ap (λ b. cond b (Some (row_of number)) None) t in
+          cc
+
+  -- one that isn't found has none
+  pub handle-missing : (number : ℕ) → None ≡ find (has_number number) old.rows → None ≡ handle_at h number
+  handle-missing number missing = missing_step (has_object h number) refl
+    where
+      missing_step : (there : Bool) → has_object h number ≡ there → None ≡ handle_at h number
+      missing_step true t =
+          let wrong : None ≡ Some (row_of number) = missing ∙ find-numbered number ∙ ap (λ b. cond b (Some (row_of number)) None) t in
+          cc
+      missing_step false t = rw t refl
 
   -- no object has a number above those of all creations
   pub handle-beyond : (number : ℕ) → old.creations < number → None ≡ handle_at h number

@@ -43,7 +43,3 @@ has_number number row = row.number == number
 -- each number is below all later ones
 abbrev pub NumbersRise : List StoredObject → Type 0
 NumbersRise rows = AllPairs (λ (row : StoredObject) (later : StoredObject). row.number < later.number) rows
-
--- the handle of an object with these attributes and this number, where it is visible
-abbrev pub visible_handle : View → List Item → ℕ → Option ℕ
-visible_handle view attributes number = if is_visible_with view true attributes then Some (handle_with view attributes number) else None

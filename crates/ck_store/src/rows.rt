@@ -1,6 +1,6 @@
 ghost use Rattle.std.specs.Prelude.{◌≡◌, ◌<◌, ◌^◌, not, filter, find, position, IfOk};
 ghost use Rattle.std.specs.Option.{option_copied};
-ghost use Rattle.ck_store.specs.Rows.{is_named, ends_with, is_session_object, is_private_session_object, change_first, has_number, NumbersRise, matching_numbers, visible_handle};
+ghost use Rattle.ck_store.specs.Rows.{is_named, ends_with, is_session_object, is_private_session_object, change_first, has_number, NumbersRise, matching_numbers};
 ghost use Rattle.ck_store.specs.declared.stores.StoredObject.{StoredObject};
 
 use crate::stores::StoredObject;
@@ -8,31 +8,24 @@ use ck_journal::View;
 use ck_types::{Attribute, NoMemory, Record, Template};
 use std::alloc::Global;
 
-/// How far the handles of private objects move with each login of the user.
-const LOGIN_STEP: u64 = 0x1_0000_0000;
-
 impl StoredObject {
     ghost use Rattle.std.specs.Prelude.{◌≡◌, ◌==◌, ◌<◌, ◌^◌, true};
     ghost use Rattle.ck_journal.specs.Objects.{is_visible_with, handle_with};
     ghost use Rattle.ck_store.specs.Rows.{is_named, is_match, ends_with, is_session_object, is_private_session_object};
 
-    fn is_visible(&self, view: View) -> bool
+    pub(crate) fn is_visible(&self, view: View) -> bool
         ensures { result ≡ is_visible_with view true self.now.attributes }
     {
         !self.attributes.is_set(Attribute::Private) || view.user
     }
 
-    /// Whether the handle is the object's: its number, and for a private object 2^32 more for each login of the user.
+    /// Whether the handle is the object's: by the object's number above that of the number 0.
     fn has_handle(&self, view: View, handle: u64) -> bool
         requires { view.logins < 2 ^ 31 }
         ensures { result ≡ (handle_with view self.now.attributes self.now.number == handle) }
     {
-        if self.attributes.is_set(Attribute::Private) {
-            let above = LOGIN_STEP * view.logins;
-            above <= handle && handle - above == self.number
-        } else {
-            self.number == handle
-        }
+        let base = view.handle(&self.attributes, 0);
+        base <= handle && handle - base == self.number
     }
 
     /// Whether the handle names the object.
@@ -67,21 +60,6 @@ impl StoredObject {
         ensures { result ≡ is_private_session_object self.now }
     {
         self.is_session_object() && self.attributes.is_set(Attribute::Private)
-    }
-}
-
-/// The handle of an object with these attributes and this number, where it is visible.
-pub(crate) fn visible_handle(view: View, attributes: &Record, number: u64) -> Option<u64>
-    requires number { number < 2 ^ 32 }
-    requires logins { view.logins < 2 ^ 31 }
-    ensures { result ≡ visible_handle view attributes.now number }
-{
-    if !attributes.is_set(Attribute::Private) {
-        Some(number)
-    } else if view.user {
-        Some(number + LOGIN_STEP * view.logins)
-    } else {
-        None
     }
 }
 

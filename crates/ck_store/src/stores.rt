@@ -1,6 +1,6 @@
 use crate::rows::{
     find_matching, find_named, find_numbered, remove_named, remove_of_session, remove_private_session_objects,
-    remove_session_objects, replace_named, visible_handle,
+    remove_session_objects, replace_named,
 };
 use ck_journal::View;
 use ck_types::{NoMemory, Record, Template};
@@ -97,9 +97,11 @@ impl Store {
         if number > self.creations {
             return None;
         }
-        match self.at(number) {
-            None => None,
-            Some(attributes) => visible_handle(view, attributes, number),
+        let row = find_numbered(self.rows.as_slice(), number)?;
+        if row.is_visible(view) {
+            Some(view.handle(&row.attributes, number))
+        } else {
+            None
         }
     }
 
