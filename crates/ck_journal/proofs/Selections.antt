@@ -1,12 +1,22 @@
 -- Lists of rows that are read off the numbers from 1 to n: those that pass a test, each as its row
 use Rattle.std.proofs.Common.{◌≡◌, ◌≢◌, ℕ, zero, suc, ◌<◌, ◌≤◌, Bool, true, false, cond, ◌&&◌, ◌||◌, List, [], ◌∷◌, ◌++◌, Option, Some, None, length, subst, refl, sym, ap, ◌∙◌, arith, inl, inr}
-use Rattle.std.specs.Prelude.{◌==◌, map, filter, find, option_map, is_some}
+use Rattle.std.specs.Prelude.{◌==◌, All, AllPairs, map, filter, find, option_map, is_some}
 use Rattle.std.proofs.lemmas.Option.{same_Some}
 use Rattle.std.specs.List.{list_any}
 use Rattle.std.proofs.lemmas.Bool.{eqb-true, eqb-false, ne_eqb, cases_Bool}
 use Rattle.std.proofs.lemmas.List.{map-append, length-map}
-use Rattle.std.proofs.lemmas.List.Elements.{filter-append}
+use Rattle.std.proofs.lemmas.List.Elements.{filter-append, All-push}
+use Rattle.std.proofs.lemmas.List.Quantifiers.{all_pairs_push}
 use Rattle.ck_journal.specs.Sessions.{numbers}
+
+numbers-below : (n : ℕ) → All (λ k. k < suc n) (numbers n)
+numbers-below zero = λ k d within. absurd (omega arith)
+numbers-below (suc n) = All-push (λ k. k < suc (suc n)) (numbers n) (suc n) (λ k d within. omega (arith, numbers-below n k d within)) (omega arith)
+
+-- the numbers rise
+pub AllPairs-numbers : (n : ℕ) → AllPairs (λ j k. j < k) (numbers n)
+AllPairs-numbers zero = λ i j d low within. absurd (omega arith)
+AllPairs-numbers (suc n) = all_pairs_push (λ j k. j < k) (numbers n) (suc n) (AllPairs-numbers n) (numbers-below n)
 
 module _ {X : Type 0} where
   -- the rows of the numbers from 1 to n that pass the test
@@ -48,7 +58,8 @@ module _ {X : Type 0} where
   filter-map_step again row k ks true later = ap (λ rows. row k ∷ rows) later
   filter-map_step again row k ks false later = later
 
-  filter-map : (again : X → Bool) (row : ℕ → X) (ks : List ℕ) → filter again (map row ks) ≡ map row (filter (λ k. again (row k)) ks)
+  -- the rows that pass are those of the numbers whose rows pass
+  pub filter-map : (again : X → Bool) (row : ℕ → X) (ks : List ℕ) → filter again (map row ks) ≡ map row (filter (λ k. again (row k)) ks)
   filter-map again row [] = refl
   filter-map again row (k ∷ ks) = filter-map_step again row k ks (again (row k)) (filter-map again row ks)
 
@@ -162,6 +173,16 @@ find-filter_step p q test k ks false same later = later
 pub find-filter_same : (p q test : ℕ → Bool) → ((k : ℕ) → test k ≡ true → p k ≡ q k) → (ks : List ℕ) → find p (filter test ks) ≡ find q (filter test ks)
 find-filter_same p q test same [] = refl
 find-filter_same p q test same (k ∷ ks) = find-filter_step p q test k ks (test k) (same k) (find-filter_same p q test same ks)
+
+filter-filter_step_same : (p q test : ℕ → Bool) (k : ℕ) (ks : List ℕ) (passes : Bool) → (passes ≡ true → p k ≡ q k) → filter p (filter test ks) ≡ filter q (filter test ks)
+    → filter p (cond passes (k ∷ filter test ks) (filter test ks)) ≡ filter q (cond passes (k ∷ filter test ks) (filter test ks))
+filter-filter_step_same p q test k ks true same later = rw (same refl, later)
+filter-filter_step_same p q test k ks false same later = later
+
+-- and keep the same
+pub filter-filter_same : (p q test : ℕ → Bool) → ((k : ℕ) → test k ≡ true → p k ≡ q k) → (ks : List ℕ) → filter p (filter test ks) ≡ filter q (filter test ks)
+filter-filter_same p q test same [] = refl
+filter-filter_same p q test same (k ∷ ks) = filter-filter_step_same p q test k ks (test k) (same k) (filter-filter_same p q test same ks)
 
 module _ {X : Type 0} where
   last_row-same : (p : Bool) (x y : X) → (p ≡ true → x ≡ y) → last_row p x ≡ last_row p y

@@ -1,8 +1,10 @@
 -- How objects keep agreeing with the history
-use Rattle.std.proofs.Common.{◌≡◌, ℕ, suc, ◌+◌, ◌*◌, ◌^◌, ◌<◌, ◌≤◌, Bool, true, false, cond, not, ◌&&◌, ◌||◌, List, [], ◌∷◌, ◌++◌, Option, Some, None, refl, sym, ap, ◌∙◌, add-one, arith, subst}
-use Rattle.std.specs.Prelude.{◌==◌, filter, find, option_map, unwrap_or, is_some}
+use Rattle.std.proofs.Common.{◌≡◌, ℕ, suc, ◌+◌, ◌*◌, ◌^◌, ◌<◌, ◌≤◌, Bool, true, false, cond, not, ◌&&◌, ◌||◌, List, [], ◌∷◌, ◌++◌, length, Option, Some, None, refl, sym, ap, ◌∙◌, add-one, arith, subst}
+use Rattle.std.specs.Prelude.{◌==◌, map, filter, find, option_map, unwrap_or, is_some}
 use Rattle.std.proofs.lemmas.Bool.{eqb-true, and_parts, and_from}
-use Rattle.ck_types.specs.Records.{with_given, is_set}
+use Rattle.std.proofs.lemmas.List.{get_or-map, length-map}
+use Rattle.std.proofs.lemmas.List.Kept.{AllPairs-filter}
+use Rattle.ck_types.specs.Records.{with_given, is_set, matches}
 use Rattle.ck_types.specs.declared.attributes.Attribute.TheVariants as attribute
 use Rattle.ck_types.specs.declared.pins.Pin.{Pin}
 use Rattle.ck_types.specs.declared.templates.Item.{Item}
@@ -12,14 +14,15 @@ use Rattle.ck_journal.specs.declared.calls.Call.TheVariants as call
 use Rattle.ck_journal.specs.declared.calls.Entry.{Entry}
 use Rattle.ck_journal.specs.declared.views.View.{View}
 use Rattle.ck_journal.specs.Histories.{History, done, leaves_objects}
-use Rattle.ck_journal.specs.Objects.{creates, creations, creation_session, session_of, creation_attributes, attributes_after, attributes_of, ends, has_object, objects, names, names_with, is_visible_with, handle_with, view_of, named_attributes, object_named}
+use Rattle.ck_journal.specs.Objects.{creates, creations, creation_session, session_of, creation_attributes, attributes_after, attributes_of, ends, has_object, objects, is_visible, names, names_with, is_visible_with, handle_with, view_of, named_attributes, object_named}
+use Rattle.ck_journal.specs.Searches.{matching_objects}
 use Rattle.ck_journal.specs.Sessions.{numbers}
 use Rattle.ck_journal.proofs.ObjectMoves.{object_rows, creations-created, object_rows-created, creations-same, object_rows-later, object_named-among, creations-left, object_rows-left, has_object-within}
-use Rattle.ck_journal.proofs.Selections.{selected, selected-none, selected-same, filter-selected, find-map, selected-rows_same, is_some-find, find-passes, list_any-passing, list_any-member, list_any-at}
+use Rattle.ck_journal.proofs.Selections.{AllPairs-numbers, selected, selected-none, selected-same, filter-selected, filter-map, filter-filter_same, find-map, selected-rows_same, is_some-find, find-passes, list_any-passing, list_any-member, list_any-at}
 use Rattle.ck_journal.specs.Lists.{change_first}
 use Rattle.ck_journal.proofs.Changes.{selected-replaced}
 use Rattle.ck_store.specs.Agreement.{StoreState, StoreAgrees, object_row, attributes_at, handle_at}
-use Rattle.ck_store.specs.Rows.{is_named, ends_with, is_session_object, is_private_session_object, has_number, visible_handle}
+use Rattle.ck_store.specs.Rows.{is_named, ends_with, is_session_object, is_private_session_object, has_number, NumbersRise, is_match, matching_numbers}
 use Rattle.ck_store.specs.declared.stores.StoredObject.{StoredObject}
 
 and-false : (b : Bool) → (b && false) ≡ false
@@ -29,30 +32,6 @@ and-false false = refl
 and-true : (b : Bool) → (b && true) ≡ b
 and-true true = refl
 and-true false = refl
-
--- an object that isn't there has no handle
-pub handle-none : (h : History) (number : ℕ) → None ≡ attributes_at h number → None ≡ handle_at h number
-handle-none h number e = none_step (has_object h number) refl
-  where
-    none_step : (there : Bool) → has_object h number ≡ there → None ≡ handle_at h number
-    none_step true t =
-        let wrong : None ≡ Some (attributes_of h number) = rw t at e in
-        cc
-    none_step false t = rw t refl
-
--- the handle of one that is there is that of its attributes
-pub handle-some : (h : History) (number : ℕ) (attributes : List Item) → Some attributes ≡ attributes_at h number
-    → visible_handle (view_of h) attributes number ≡ handle_at h number
-handle-some h number attributes e = some_step (has_object h number) refl
-  where
-    some_step : (there : Bool) → has_object h number ≡ there → visible_handle (view_of h) attributes number ≡ handle_at h number
-    some_step true t =
-        let same : Some attributes ≡ Some (attributes_of h number) = rw t at e in
-        let here : attributes ≡ attributes_of h number = cc in
-        rw (t, here) refl
-    some_step false t =
-        let wrong : Some attributes ≡ None = rw t at e in
-        cc
 
 -- a test of a stored object, which is there
 there_test : (was_there visible same : Bool) → (was_there && not (visible && same)) ≡ was_there && not ((was_there && visible) && same)
@@ -77,6 +56,25 @@ module _ (h : History) (old : StoreState) (agree : StoreAgrees h old) where
       ∙ ap (option_map (λ (row : StoredObject). row.attributes)) (find-map (is_named (view_of h) handle) row_of (objects h))
       ∙ option_map-map h (find (λ n. is_named (view_of h) handle (row_of n)) (objects h))
       ∙ ap (option_map (attributes_of h)) (sym (object_named-among h handle))
+
+  -- objects stand in the order of their numbers
+  pub numbers_rise : NumbersRise old.rows
+  numbers_rise = subst NumbersRise (sym agree.rows) (λ j k d low within.
+      let below : k < length (objects h) = subst (λ n. k < n) (length-map (objects h) row_of) within in
+      rw (get_or-map row_of (objects h) j 0 d (omega arith), get_or-map row_of (objects h) k 0 d below)
+      (AllPairs-filter (λ j k. j < k) (has_object h) (numbers (creations h)) (AllPairs-numbers (creations h)) j k 0 low below))
+
+  numbers_of_rows : (ks : List ℕ) → map (λ (row : StoredObject). row.number) (map row_of ks) ≡ ks
+  numbers_of_rows [] = refl
+  numbers_of_rows (k ∷ ks) = ap (λ rest. k ∷ rest) (numbers_of_rows ks)
+
+  pub matching-agree : (template : List Item) → matching_numbers (view_of h) template old.rows ≡ matching_objects h template
+  matching-agree template =
+      ap (matching_numbers (view_of h) template) agree.rows
+      ∙ ap (map (λ (row : StoredObject). row.number)) (filter-map (is_match (view_of h) template) row_of (objects h))
+      ∙ numbers_of_rows (filter (λ n. is_match (view_of h) template (row_of n)) (objects h))
+      ∙ filter-filter_same (λ n. is_match (view_of h) template (row_of n)) (λ n. is_visible h n && matches (attributes_of h n) template) (has_object h)
+      (λ n there. ap (λ b. is_visible_with (view_of h) b (attributes_of h n) && matches (attributes_of h n) template) (sym there)) (numbers (creations h))
 
   found_numbered : (number : ℕ) (found : Option ℕ) (there : Bool) → find (λ k. k == number) (objects h) ≡ found → is_some found ≡ there
       → found ≡ cond there (Some number) None
@@ -105,6 +103,30 @@ module _ (h : History) (old : StoreState) (agree : StoreAgrees h old) where
       at_step : (there : Bool) → option_map (λ (row : StoredObject). row.attributes) (cond there (Some (row_of number)) None) ≡ cond there (Some (attributes_of h number)) None
       at_step true = refl
       at_step false = refl
+
+  -- the handle of one that is found is that of its attributes
+  pub handle-found : (number : ℕ) (row : StoredObject) (visible : Bool) → visible ≡ is_visible_with (view_of h) true row.attributes
+      → Some row ≡ find (has_number number) old.rows → cond visible (Some (handle_with (view_of h) row.attributes number)) None ≡ handle_at h number
+  handle-found number row visible is found = found_step (has_object h number) refl
+    where
+      found_step : (there : Bool) → has_object h number ≡ there → cond visible (Some (handle_with (view_of h) row.attributes number)) None ≡ handle_at h number
+      found_step true t =
+          let same : Some row ≡ Some (row_of number) = found ∙ find-numbered number ∙ ap (λ b. cond b (Some (row_of number)) None) t in
+          let here : row ≡ row_of number = cc in
+          rw (t, is, here) refl
+      found_step false t =
+          let wrong : Some row ≡ None = found ∙ find-numbered number ∙ ap (λ b. cond b (Some (row_of number)) None) t in
+          cc
+
+  -- one that isn't found has none
+  pub handle-missing : (number : ℕ) → None ≡ find (has_number number) old.rows → None ≡ handle_at h number
+  handle-missing number missing = missing_step (has_object h number) refl
+    where
+      missing_step : (there : Bool) → has_object h number ≡ there → None ≡ handle_at h number
+      missing_step true t =
+          let wrong : None ≡ Some (row_of number) = missing ∙ find-numbered number ∙ ap (λ b. cond b (Some (row_of number)) None) t in
+          cc
+      missing_step false t = rw t refl
 
   -- no object has a number above those of all creations
   pub handle-beyond : (number : ℕ) → old.creations < number → None ≡ handle_at h number

@@ -1,6 +1,6 @@
 -- An object as the token stores it
-use Rattle.std.specs.Prelude.{ℕ, Bool, true, List, Option, Some, None, ◌==◌, ◌&&◌, not, if◌then◌else◌}
-use Rattle.ck_types.specs.Records.{is_set}
+use Rattle.std.specs.Prelude.{ℕ, Bool, true, List, Option, Some, None, ◌==◌, ◌<◌, ◌&&◌, AllPairs, not, filter, map, if◌then◌else◌}
+use Rattle.ck_types.specs.Records.{is_set, matches}
 use Rattle.ck_types.specs.declared.attributes.Attribute.TheVariants as attribute
 use Rattle.ck_types.specs.declared.templates.Item.{Item}
 use Rattle.ck_journal.specs.Objects.{names_with, is_visible_with, handle_with}
@@ -10,6 +10,14 @@ use Rattle.ck_store.specs.declared.stores.StoredObject.{StoredObject}
 -- the handle names the object
 abbrev pub is_named : View → ℕ → StoredObject → Bool
 is_named view handle row = names_with view true row.attributes handle row.number
+
+-- the object is visible and matches the template
+abbrev pub is_match : View → List Item → StoredObject → Bool
+is_match view template row = is_visible_with view true row.attributes && matches row.attributes template
+
+-- the numbers of the rows that do
+abbrev pub matching_numbers : View → List Item → List StoredObject → List ℕ
+matching_numbers view template rows = map (λ (row : StoredObject). row.number) (filter (is_match view template) rows)
 
 -- the object ends where the session is closed
 abbrev pub ends_with : ℕ → StoredObject → Bool
@@ -27,6 +35,6 @@ is_private_session_object row = not (is_set row.attributes attribute.Token) && i
 abbrev pub has_number : ℕ → StoredObject → Bool
 has_number number row = row.number == number
 
--- the handle of an object with these attributes and this number, where it is visible
-abbrev pub visible_handle : View → List Item → ℕ → Option ℕ
-visible_handle view attributes number = if is_visible_with view true attributes then Some (handle_with view attributes number) else None
+-- each number is below all later ones
+abbrev pub NumbersRise : List StoredObject → Type 0
+NumbersRise rows = AllPairs (λ (row : StoredObject) (later : StoredObject). row.number < later.number) rows

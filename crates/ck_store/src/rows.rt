@@ -1,38 +1,32 @@
-ghost use Rattle.std.specs.Prelude.{◌≡◌, ◌<◌, ◌^◌, not, filter, find, position};
+ghost use Rattle.std.specs.Prelude.{◌≡◌, ◌<◌, ◌^◌, not, filter, find, position, IfOk};
 ghost use Rattle.std.specs.Option.{option_copied};
 ghost use Rattle.ck_journal.specs.Lists.{change_first};
-ghost use Rattle.ck_store.specs.Rows.{is_named, ends_with, is_session_object, is_private_session_object, has_number, visible_handle};
+ghost use Rattle.ck_store.specs.Rows.{is_named, ends_with, is_session_object, is_private_session_object, has_number, NumbersRise, matching_numbers};
 ghost use Rattle.ck_store.specs.declared.stores.StoredObject.{StoredObject};
 
 use crate::stores::StoredObject;
 use ck_journal::View;
-use ck_types::{Attribute, Record};
-
-/// How far the handles of private objects move with each login of the user.
-const LOGIN_STEP: u64 = 0x1_0000_0000;
+use ck_types::{Attribute, NoMemory, Record, Template};
+use std::alloc::Global;
 
 impl StoredObject {
     ghost use Rattle.std.specs.Prelude.{◌≡◌, ◌==◌, ◌<◌, ◌^◌, true};
     ghost use Rattle.ck_journal.specs.Objects.{is_visible_with, handle_with};
-    ghost use Rattle.ck_store.specs.Rows.{is_named, ends_with, is_session_object, is_private_session_object};
+    ghost use Rattle.ck_store.specs.Rows.{is_named, is_match, ends_with, is_session_object, is_private_session_object};
 
-    fn is_visible(&self, view: View) -> bool
+    pub(crate) fn is_visible(&self, view: View) -> bool
         ensures { result ≡ is_visible_with view true self.now.attributes }
     {
         !self.attributes.is_set(Attribute::Private) || view.user
     }
 
-    /// Whether the handle is the object's: its number, and for a private object 2^32 more for each login of the user.
+    /// Whether the handle is the object's: by the object's number above that of the number 0.
     fn has_handle(&self, view: View, handle: u64) -> bool
         requires { view.logins < 2 ^ 31 }
         ensures { result ≡ (handle_with view self.now.attributes self.now.number == handle) }
     {
-        if self.attributes.is_set(Attribute::Private) {
-            let above = LOGIN_STEP * view.logins;
-            above <= handle && handle - above == self.number
-        } else {
-            self.number == handle
-        }
+        let base = view.handle(&self.attributes, 0);
+        base <= handle && handle - base == self.number
     }
 
     /// Whether the handle names the object.
@@ -41,6 +35,13 @@ impl StoredObject {
         ensures { result ≡ is_named view handle self.now }
     {
         self.is_visible(view) && self.has_handle(view, handle)
+    }
+
+    /// Whether the object is visible and matches the template.
+    fn is_match(&self, view: View, template: &Template) -> bool
+        ensures { result ≡ is_match view template.now.items self.now }
+    {
+        self.is_visible(view) && self.attributes.matches(template)
     }
 
     /// Whether the object ends where the session is closed.
@@ -63,21 +64,6 @@ impl StoredObject {
     }
 }
 
-/// The handle of an object with these attributes and this number, where it is visible.
-pub(crate) fn visible_handle(view: View, attributes: &Record, number: u64) -> Option<u64>
-    requires number { number < 2 ^ 32 }
-    requires logins { view.logins < 2 ^ 31 }
-    ensures { result ≡ visible_handle view attributes.now number }
-{
-    if !attributes.is_set(Attribute::Private) {
-        Some(number)
-    } else if view.user {
-        Some(number + LOGIN_STEP * view.logins)
-    } else {
-        None
-    }
-}
-
 /// The first object that the handle names.
 pub(crate) fn find_named(rows: &[StoredObject], view: View, handle: u64) -> Option<&StoredObject>
     requires { view.logins < 2 ^ 31 }
@@ -91,16 +77,33 @@ pub(crate) fn find_named(rows: &[StoredObject], view: View, handle: u64) -> Opti
     None
 }
 
-/// The first object that has the number.
+/// The object that has the number, among rows whose numbers rise.
 pub(crate) fn find_numbered(rows: &[StoredObject], number: u64) -> Option<&StoredObject>
-    ensures { option_copied result ≡ find (has_number number) rows.now }
+    ensures { NumbersRise rows.now → option_copied result ≡ find (has_number number) rows.now }
 {
+    match rows.binary_search_by_key(&number, |row| row.number) {
+        Ok(place) => Some(&rows[place]),
+        Err(_) => None,
+    }
+}
+
+/// The numbers of the objects that are visible and match the template. Most searches find few objects, so room is made as
+/// they are found.
+pub(crate) fn find_matching(
+    alloc: Global,
+    rows: &[StoredObject],
+    view: View,
+    template: &Template,
+) -> Result<Vec<u64>, NoMemory>
+    ensures { IfOk result (λ numbers. numbers.items ≡ matching_numbers view template.now.items rows.now) }
+{
+    let mut numbers = Vec::new(alloc);
     for row in rows {
-        if row.number == number {
-            return Some(row);
+        if row.is_match(view, template) {
+            numbers.push(row.number)?;
         }
     }
-    None
+    Ok(numbers)
 }
 
 /// The place of the first object that the handle names.

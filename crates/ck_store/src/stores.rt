@@ -1,9 +1,9 @@
 use crate::rows::{
-    find_named, find_numbered, remove_named, remove_of_session, remove_private_session_objects,
-    remove_session_objects, replace_named, visible_handle,
+    find_matching, find_named, find_numbered, remove_named, remove_of_session, remove_private_session_objects,
+    remove_session_objects, replace_named,
 };
 use ck_journal::View;
-use ck_types::{NoMemory, Record};
+use ck_types::{NoMemory, Record, Template};
 use std::alloc::Global;
 use std::marker::Model;
 
@@ -35,13 +35,14 @@ impl Model for Store {
 }
 
 impl Store {
-    ghost use Rattle.std.specs.Prelude.{◌≡◌, ◌∷◌, ◌+◌, ◌<◌, ◌^◌, [], ℕ, true, Some, OnOk, option_map};
+    ghost use Rattle.std.specs.Prelude.{◌≡◌, ◌∷◌, ◌+◌, ◌<◌, ◌^◌, [], ℕ, true, Some, IfOk, OnOk, option_map};
     ghost use Rattle.std.specs.Option.{option_copied};
     ghost use Rattle.ck_types.specs.Records.{with_given};
     ghost use Rattle.ck_types.specs.declared.pins.Pin.{Pin};
     ghost use Rattle.ck_types.specs.declared.templates.Template.{Template};
     ghost use Rattle.ck_journal.specs.Histories.{History, done};
     ghost use Rattle.ck_journal.specs.Objects.{creates, creation_session, creation_attributes, creations, attributes_of, view_of, object_named, named_attributes};
+    ghost use Rattle.ck_journal.specs.Searches.{matching_objects};
     ghost use Rattle.ck_journal.specs.declared.calls.Call.{Call};
     ghost use Rattle.ck_journal.specs.declared.calls.Call.TheVariants as call;
     ghost use Rattle.ck_journal.specs.declared.calls.Entry.{Entry};
@@ -96,10 +97,24 @@ impl Store {
         if number > self.creations {
             return None;
         }
-        match self.at(number) {
-            None => None,
-            Some(attributes) => visible_handle(view, attributes, number),
+        let row = find_numbered(self.rows.as_slice(), number)?;
+        if row.is_visible(view) {
+            Some(view.handle(&row.attributes, number))
+        } else {
+            None
         }
+    }
+
+    /// The numbers, which rise, of the objects that are visible and match the template.
+    pub fn find(
+        &self,
+        alloc: Global,
+        view: View,
+        template: &Template,
+    ) -> Result<Vec<u64>, NoMemory>
+        ensures { IfOk result (λ numbers. (h : History) → StoreAgrees h self.now → view ≡ view_of h → numbers.items ≡ matching_objects h template.now.items) }
+    {
+        find_matching(alloc, self.rows.as_slice(), view, template)
     }
 
     // ---- changes, each that of a call that is answered OK
