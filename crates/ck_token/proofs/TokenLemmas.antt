@@ -6,7 +6,7 @@ use Rattle.ck_types.specs.Users.{user_of}
 use Rattle.ck_types.specs.declared.pins.Pin.{Pin}
 use Rattle.ck_types.specs.declared.users.UserType.{UserType}
 use Rattle.ck_journal.specs.Answers.{answer, ok, refusal, IsLegal, user_login_error, known_login_error, login_error}
-use Rattle.ck_journal.specs.Histories.{History, done, wrong_try, is_ok, is_wrong_pin, leaves_sessions, leaves_objects}
+use Rattle.ck_journal.specs.Histories.{History, done, wrong_try, is_ok, is_wrong_pin, leaves_sessions, leaves_searches, leaves_objects}
 use Rattle.ck_journal.specs.Pins.{about, is_about, is_user}
 use Rattle.ck_journal.specs.declared.calls.Body.{Body}
 use Rattle.ck_journal.specs.Objects.{creates}
@@ -14,7 +14,7 @@ use Rattle.ck_journal.specs.declared.calls.Call.{Call}
 use Rattle.ck_journal.specs.declared.calls.Call.TheVariants as call
 use Rattle.ck_journal.specs.declared.calls.Entry.{Entry}
 use Rattle.ck_journal.specs.declared.calls.Reply.{Reply}
-use Rattle.std.specs.Prelude.{◌<◌, length}
+use Rattle.std.specs.Prelude.{◌<◌, is_some, length}
 use Rattle.std.specs.List.{list_any}
 use Rattle.ck_types.specs.declared.return_codes.Rv.TheVariants as rv
 use Rattle.ck_journal.specs.Sessions.{is_open}
@@ -49,11 +49,12 @@ module _ (limits : Ranges) (h : History) (s : SessionsState) (o : StoreState) (a
   -- one more entry that changes nothing else
   pub TokenAgrees-left : (caller : ℕ) (call : Call) (reply : Reply) (entries : History) → reply ≡ answer limits h call
       → entries ≡ record { caller = caller; call = call; reply = reply } ∷ h
-      → leaves_sessions (done (entry_of limits h caller call)) ≡ true → leaves_objects (done (entry_of limits h caller call)) ≡ true
+      → leaves_sessions (done (entry_of limits h caller call)) ≡ true → leaves_searches (done (entry_of limits h caller call)) ≡ true
+      → leaves_objects (done (entry_of limits h caller call)) ≡ true
       → ((u : UserType) → is_about u h (wrong_try (entry_of limits h caller call)) ≡ false) → TokenAgrees limits entries s o
-  TokenAgrees-left caller call reply entries answered entered sessions objects tries =
+  TokenAgrees-left caller call reply entries answered entered sessions searches objects tries =
       TokenAgrees-entered caller call reply entries s o answered entered
-      (SessionsAgree-left h s agree.sessions (entry_of limits h caller call) sessions tries) (StoreAgrees-left h o agree.objects (entry_of limits h caller call) objects) refl
+      (SessionsAgree-left h s agree.sessions (entry_of limits h caller call) sessions searches tries) (StoreAgrees-left h o agree.objects (entry_of limits h caller call) objects) refl
 
 -- ---- refusals
 
@@ -80,9 +81,9 @@ no_try-code limits h caller call code answered other u =
 -- ---- parts that a call leaves
 
 pub SessionsAgree-done : (h : History) (s : SessionsState) → SessionsAgree h s → (e : Entry) (call : Call) → done e ≡ Some call → leaves_sessions (Some call) ≡ true
-    → SessionsAgree (e ∷ h) s
-SessionsAgree-done h s agree e call d l =
-    SessionsAgree-left h s agree e (ap leaves_sessions d ∙ l) (λ u. ap (is_about u h) (wrong_try-done e call d))
+    → leaves_searches (Some call) ≡ true → SessionsAgree (e ∷ h) s
+SessionsAgree-done h s agree e call d l ls =
+    SessionsAgree-left h s agree e (ap leaves_sessions d ∙ l) (ap leaves_searches d ∙ ls) (λ u. ap (is_about u h) (wrong_try-done e call d))
 
 pub StoreAgrees-done : (h : History) (o : StoreState) → StoreAgrees h o → (e : Entry) (call : Call) → done e ≡ Some call → leaves_objects (Some call) ≡ true
     → StoreAgrees (e ∷ h) o
@@ -119,3 +120,15 @@ pub leaves_sessions-creation : (c : Call) → creates (Some c) ≡ true → leav
 leaves_sessions-creation (call.CreateObject session template) t = refl
 leaves_sessions-creation (call.CopyObject session object template) t = refl
 leaves_sessions-creation other t = cc
+
+pub leaves_searches-creation : (c : Call) → creates (Some c) ≡ true → leaves_searches (Some c) ≡ true
+leaves_searches-creation (call.CreateObject session template) t = refl
+leaves_searches-creation (call.CopyObject session object template) t = refl
+leaves_searches-creation other t = cc
+
+-- ---- searches
+
+-- whether there is something
+pub is_some-if : {X : Type 0} (active : Bool) (x : X) → is_some (cond active (Some x) None) ≡ active
+is_some-if true x = refl
+is_some-if false x = refl

@@ -14,6 +14,7 @@ use std::marker::Model;
 
 mod object_calls;
 mod pin_calls;
+mod search_calls;
 mod session_calls;
 
 /// A token with its sessions and objects, wholly in memory. Contracts see its limits and the history of its journal;
@@ -59,7 +60,7 @@ impl Token {
     ghost use Rattle.std.specs.Option.{option_copied};
     ghost use Rattle.ck_types.specs.declared.users.UserType.{UserType};
     ghost use Rattle.ck_journal.specs.Answers.{IsLegal, answer};
-    ghost use Rattle.ck_journal.specs.Histories.{done, wrong_try, is_ok, is_wrong_pin, leaves_sessions, leaves_objects};
+    ghost use Rattle.ck_journal.specs.Histories.{done, wrong_try, is_ok, is_wrong_pin, leaves_sessions, leaves_searches, leaves_objects};
     ghost use Rattle.ck_journal.specs.Objects.{creations, attributes_of, view_of, object_named};
     ghost use Rattle.ck_journal.specs.Pins.{is_initialized, present_pin, tries, is_locked, about, is_about};
     ghost use Rattle.ck_journal.specs.Sessions.{openings, is_open, flags_of, open_sessions, is_read_write, rw_sessions, login, user_logins};
@@ -134,6 +135,11 @@ impl Token {
             Call::DestroyObject { session, object } => {
                 self.destroy_object(caller, session, object)
             }
+            Call::FindObjectsInit { session, template } => {
+                self.find_objects_init(alloc, caller, session, template)
+            }
+            Call::FindObjects { session, max } => self.find_objects(alloc, caller, session, max),
+            Call::FindObjectsFinal { session } => self.find_objects_final(caller, session),
         }
     }
 
@@ -242,6 +248,7 @@ impl Token {
         requires answer { reply ≡ answer self.old.limits self.old.history call }
         requires same { entered ≡ reply }
         requires sessions { leaves_sessions (done (entry_of self.old.limits self.old.history caller call)) ≡ true }
+        requires searches { leaves_searches (done (entry_of self.old.limits self.old.history caller call)) ≡ true }
         requires objects { leaves_objects (done (entry_of self.old.limits self.old.history caller call)) ≡ true }
         requires tries { (u : UserType) → is_about u self.old.history (wrong_try (entry_of self.old.limits self.old.history caller call)) ≡ false }
         ensures answered { IfOk result (λ reply. IsAnswered self.old self.new caller call reply) }

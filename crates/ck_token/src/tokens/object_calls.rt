@@ -1,27 +1,8 @@
-ghost use Rattle.std.specs.Prelude.{◌≡◌, ◌<◌, ◌^◌};
-ghost use Rattle.ck_journal.specs.Objects.{handle_with};
-
 use super::{Token, done, is_user_in};
 use crate::queries::queries_reply;
-use ck_journal::{AttributeQuery, Body, Call, Entry, Reply, View};
+use ck_journal::{AttributeQuery, Body, Call, Entry, Reply};
 use ck_types::{Attribute, NoMemory, Record, Refusal, Rv, Sequence, Template};
 use std::alloc::Global;
-
-/// How far the handles of private objects move with each login of the user.
-const LOGIN_STEP: u64 = 0x1_0000_0000;
-
-/// The handle of a new object with these attributes and this number.
-fn new_handle(view: View, attributes: &Record, number: u64) -> u64
-    requires number { number < 2 ^ 32 }
-    requires logins { view.logins < 2 ^ 31 }
-    ensures { result ≡ handle_with view attributes.now number }
-{
-    if attributes.is_set(Attribute::Private) {
-        number + LOGIN_STEP * view.logins
-    } else {
-        number
-    }
-}
 
 /// Creating, copying, reading, changing and destroying objects.
 impl Token {
@@ -182,7 +163,7 @@ impl Token {
         ensures unchanged { OnErr result (IsUnchanged self.old self.new) }
     {
         let number = self.creations() + 1;
-        let handle = new_handle(self.view(), &attributes, number);
+        let handle = self.view().handle(&attributes, number);
         self.objects.reserve()?;
         self.journal.reserve(1)?;
         self.objects.create(session, attributes);

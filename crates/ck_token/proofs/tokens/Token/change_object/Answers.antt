@@ -15,6 +15,6 @@ invariant_of-self-2 c =
     c.args.caller (call.SetAttributeValue c.args.session c.args.object c.args.template) body.Empty c.done.result c.push_reserved.new.self.entries _ _
     (ap (λ e. unless e (ok body.Empty)) error)
     c.done.ensures (c.push_reserved.ensures.entries ∙ rw c.in_ok-reserve.ensures.entries)
-    (λ d. SessionsAgree-done h _ c.self.invariant.sessions _ (call.SetAttributeValue c.args.session c.args.object c.args.template) d refl)
+    (λ d. SessionsAgree-done h _ c.self.invariant.sessions _ (call.SetAttributeValue c.args.session c.args.object c.args.template) d refl refl)
     (λ d. c.set.ensures h _ c.args.session c.args.template d view attributes c.self.invariant.objects)
     refl

@@ -1,0 +1,65 @@
+-- What a search hands out
+use Rattle.std.proofs.Common.{◌≡◌, ℕ, zero, suc, ◌+◌, ◌-◌, ◌<◌, Bool, true, false, cond, List, [], ◌∷◌, ◌++◌, length, drop, get_or, Option, Some, None, refl, sym, ap, ◌∙◌, add-one, arith}
+use Rattle.std.proofs.Math.Seq.{drop-cons}
+use Rattle.std.specs.Prelude.{filter, map, take}
+use Rattle.ck_journal.specs.Histories.{History}
+use Rattle.ck_journal.specs.Objects.{handle_of, is_visible}
+use Rattle.ck_store.specs.Agreement.{handle_at}
+
+append-one : (xs : List ℕ) (x : ℕ) (ys : List ℕ) → xs ++ x ∷ ys ≡ (xs ++ x ∷ []) ++ ys
+append-one [] x ys = refl
+append-one (y ∷ xs) x ys = ap (λ rest. y ∷ rest) (append-one xs x ys)
+
+-- the handles of the visible objects of these numbers, at most as many as there is room for
+abbrev pub next : History → ℕ → List ℕ → List ℕ
+next h room numbers = map (handle_of h) (take room (filter (is_visible h) numbers))
+
+module _ (h : History) where
+  pub next-no_room : (numbers : List ℕ) → next h 0 numbers ≡ []
+  next-no_room numbers = refl
+
+  pub next-visible : (room n handle : ℕ) (numbers : List ℕ) → 0 < room → Some handle ≡ handle_at h n → next h room (n ∷ numbers) ≡ handle ∷ next h (room - 1) numbers
+  next-visible room n handle numbers some found = visible_case room some (is_visible h n) refl
+    where
+      visible_case : (room : ℕ) → 0 < room → (visible : Bool) → is_visible h n ≡ visible → next h room (n ∷ numbers) ≡ handle ∷ next h (room - 1) numbers
+      visible_case zero some visible v = absurd (omega arith)
+      visible_case (suc room) some true v =
+          let same : Some handle ≡ Some (handle_of h n) = rw v at found in
+          let less : suc room - 1 ≡ room = omega arith in
+          let is : handle ≡ handle_of h n = cc in
+          rw (v, is, less) refl
+      visible_case (suc room) some false v =
+          let wrong : Some handle ≡ None = rw v at found in
+          cc
+
+  pub next-hidden : (room n : ℕ) (numbers : List ℕ) → None ≡ handle_at h n → next h room (n ∷ numbers) ≡ next h room numbers
+  next-hidden room n numbers none = hidden_case (is_visible h n) refl
+    where
+      hidden_case : (visible : Bool) → is_visible h n ≡ visible → next h room (n ∷ numbers) ≡ next h room numbers
+      hidden_case true v =
+          let wrong : None ≡ Some (handle_of h n) = rw v at none in
+          cc
+      hidden_case false v = rw v refl
+
+  -- ---- one number more
+
+  module _ (total handles numbers : List ℕ) (i room : ℕ) (is : total ≡ handles ++ next h room (drop i numbers)) (below : i < length numbers) where
+    one_more : total ≡ handles ++ next h room (get_or numbers i 0 ∷ drop (i + 1) numbers)
+    one_more = is ∙ ap (λ ns. handles ++ next h room ns) (drop-cons numbers i 0 below ∙ ap (λ k. get_or numbers i 0 ∷ drop k numbers) (sym (add-one i)))
+
+    -- it is visible and is handed out
+    pub handed_out-next : (handles' : List ℕ) (room' handle : ℕ) → (room ≡ 0 → ⊥) → Some handle ≡ handle_at h (get_or numbers i 0) → handles' ≡ handles ++ handle ∷ []
+        → room' ≡ room - 1 → total ≡ handles' ++ next h room' (drop (i + 1) numbers)
+    handed_out-next handles' room' handle some found more less =
+        one_more
+        ∙ ap (λ hs. handles ++ hs) (next-visible room (get_or numbers i 0) handle (drop (i + 1) numbers) (omega arith) found)
+        ∙ append-one handles handle (next h (room - 1) (drop (i + 1) numbers))
+        ∙ ap (λ r. (handles ++ handle ∷ []) ++ next h r (drop (i + 1) numbers)) (sym less)
+        ∙ ap (λ hs. hs ++ next h room' (drop (i + 1) numbers)) (sym more)
+
+    -- it isn't
+    pub passed-next : (handles' : List ℕ) (room' : ℕ) → None ≡ handle_at h (get_or numbers i 0) → handles' ≡ handles → room' ≡ room → total ≡ handles' ++ next h room' (drop (i + 1) numbers)
+    passed-next handles' room' hidden same same_room =
+        one_more
+        ∙ ap (λ hs. handles ++ hs) (next-hidden room (get_or numbers i 0) (drop (i + 1) numbers) hidden)
+        ∙ rw (same, same_room) refl

@@ -1,0 +1,18 @@
+use Rattle.std.proofs.Common.{◌≡◌, ◌∙◌, ap, sym, refl, Some, None}
+use Rattle.ck_journal.specs.Answers.{ok, unless}
+use Rattle.ck_journal.specs.declared.calls.Body.TheVariants as body
+use Rattle.ck_journal.specs.declared.calls.Call.TheVariants as call
+use Rattle.ck_token.proofs.TokenLemmas.{TokenAgrees-done, StoreAgrees-done}
+use Rattle.ck_token.proofs.tokens.Token.start_search.Goals as goal
+
+pub invariant_of-self-2 : goal.invariant_of-self-2
+invariant_of-self-2 c =
+    let h = c.self.inside.journal.entries in
+    let error = rw (← c.self.view_is) at c.requires in
+    let view = rw (← c.self.view_is) at c.view-view.ensures.view in
+    TokenAgrees-done c.self.inside.limits h c.self.inside.sessions c.self.inside.objects c.self.invariant
+    c.args.caller (call.FindObjectsInit c.args.session c.args.template) body.Empty c.done.result c.push_reserved.new.self.entries _ _ (ap (λ e. unless e (ok body.Empty)) error)
+    c.done.ensures (c.push_reserved.ensures.entries ∙ rw c.in_ok-reserve.ensures.entries)
+    (λ d. c.start_search.ensures.agree h _ c.args.template d (c.in_ok-found.ensures h c.self.invariant.objects view) c.self.invariant.sessions)
+    (λ d. StoreAgrees-done h _ c.self.invariant.objects _ (call.FindObjectsInit c.args.session c.args.template) d refl)
+    c.start_search.ensures.limit
