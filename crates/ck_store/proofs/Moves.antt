@@ -18,7 +18,7 @@ use Rattle.ck_journal.specs.Objects.{creates, creations, creation_session, sessi
 use Rattle.ck_journal.specs.Searches.{matching_objects}
 use Rattle.ck_journal.specs.Sessions.{numbers}
 use Rattle.ck_journal.proofs.ObjectMoves.{object_rows, creations-created, object_rows-created, creations-same, object_rows-later, object_named-among, creations-left, object_rows-left, has_object-within}
-use Rattle.ck_journal.proofs.Selections.{AllPairs-numbers, selected, selected-none, selected-same, filter-selected, filter-map, filter-filter_same, find-map, selected-rows_same, is_some-find, find-passes, list_any-passing, list_any-member, list_any-at}
+use Rattle.ck_journal.proofs.Selections.{AllPairs-numbers, selected-none, selected-same, filter-selected, filter-map, filter-filter_same, find-map, selected-rows_same, is_some-find, find-passes, list_any-passing, list_any-member, list_any-at}
 use Rattle.ck_journal.specs.Lists.{change_first}
 use Rattle.ck_journal.proofs.Changes.{selected-replaced}
 use Rattle.ck_store.specs.Agreement.{StoreState, StoreAgrees, object_row, attributes_at, handle_at}

@@ -1,9 +1,9 @@
 -- An object as the token stores it
-use Rattle.std.specs.Prelude.{ℕ, Bool, true, List, Option, Some, None, ◌==◌, ◌<◌, ◌&&◌, AllPairs, not, filter, map, if◌then◌else◌}
+use Rattle.std.specs.Prelude.{ℕ, Bool, true, List, ◌==◌, ◌<◌, ◌&&◌, AllPairs, not, filter, map, if◌then◌else◌}
 use Rattle.ck_types.specs.Records.{is_set, matches}
 use Rattle.ck_types.specs.declared.attributes.Attribute.TheVariants as attribute
 use Rattle.ck_types.specs.declared.templates.Item.{Item}
-use Rattle.ck_journal.specs.Objects.{names_with, is_visible_with, handle_with}
+use Rattle.ck_journal.specs.Objects.{names_with, is_visible_with}
 use Rattle.ck_journal.specs.declared.views.View.{View}
 use Rattle.ck_store.specs.declared.stores.StoredObject.{StoredObject}
 

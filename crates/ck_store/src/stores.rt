@@ -1,6 +1,6 @@
 use crate::rows::{
-    find_matching, find_named, find_numbered, remove_named, remove_of_session, remove_private_session_objects,
-    remove_session_objects, replace_named,
+    find_matching, find_named, find_numbered, remove_named, remove_of_session,
+    remove_private_session_objects, remove_session_objects, replace_named,
 };
 use ck_journal::View;
 use ck_types::{NoMemory, Record, Template};
@@ -106,12 +106,7 @@ impl Store {
     }
 
     /// The numbers, which rise, of the objects that are visible and match the template.
-    pub fn find(
-        &self,
-        alloc: Global,
-        view: View,
-        template: &Template,
-    ) -> Result<Vec<u64>, NoMemory>
+    pub fn find(&self, alloc: Global, view: View, template: &Template) -> Result<Vec<u64>, NoMemory>
         ensures { IfOk result (λ numbers. (h : History) → StoreAgrees h self.now → view ≡ view_of h → numbers.items ≡ matching_objects h template.now.items) }
     {
         find_matching(alloc, self.rows.as_slice(), view, template)

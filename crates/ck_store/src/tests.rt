@@ -2,12 +2,41 @@ ghost use Rattle.std.specs.Prelude.{◌≡◌, true, false};
 
 use crate::Store;
 use ck_journal::View;
-use ck_types::{Bytes, Item, NoMemory, Record, Sequence, Template};
+use ck_types::{Bytes, Item, NoMemory, Record, Refusal, Sequence, Template};
 use std::alloc::Global;
 use std::process::Abort;
 use std::test::Fail;
 
 const DATA: &[u8] = &[0; 8];
+
+/// Whether the user is logged in, the items of a search's template, and the numbers that it finds.
+type Search = (bool, &'static [(u64, &'static [u8])], &'static [u64]);
+
+/// Searches of the objects of `filled`.
+const SEARCHES: &[Search] = &[
+    // without items
+    (true, &[], &[1, 2, 3, 4]),
+    (false, &[], &[1, 4]),
+    // for a label, for one that no object has, and for a part of one
+    (true, &[(0x3, &[9; 2])], &[2]),
+    (false, &[(0x3, &[9; 2])], &[]),
+    (false, &[(0x3, &[9; 4])], &[4]),
+    (true, &[(0x3, &[9; 5])], &[]),
+    (true, &[(0x3, &[])], &[]),
+    // for private and public objects
+    (true, &[(0x2, &[1])], &[2, 3]),
+    (false, &[(0x2, &[1])], &[]),
+    (true, &[(0x2, &[0])], &[1, 4]),
+    // by more than one item
+    (true, &[(0, DATA), (0x1, &[0])], &[1, 2, 4]),
+    (true, &[(0x1, &[1]), (0x3, &[9; 3])], &[3]),
+    (true, &[(0x1, &[0]), (0x3, &[9; 3])], &[]),
+    // two values of one type
+    (true, &[(0x3, &[9; 1]), (0x3, &[9; 2])], &[]),
+    (true, &[(0x3, &[9; 1]), (0x3, &[9; 1])], &[1]),
+    // an attribute that no object has
+    (true, &[(0x100, &[])], &[]),
+];
 
 /// The user is logged in, for the first time.
 fn logged_in() -> View
@@ -29,14 +58,19 @@ fn public() -> View
     }
 }
 
-fn record_of(alloc: Global, items: &[(u64, &[u8])]) -> Result<Record, Fail> {
+fn template_of(alloc: Global, items: &[(u64, &[u8])]) -> Result<Template, NoMemory> {
     let mut list = Vec::new(alloc);
     for (kind, value) in items {
         let value = Bytes::from_slice(alloc, value)?;
         list.push(Item { kind: *kind, value })?;
     }
     let items = Sequence::from_vec(list);
-    Ok(Record::created(alloc, &Template { items })?)
+    Ok(Template { items })
+}
+
+fn record_of(alloc: Global, items: &[(u64, &[u8])]) -> Result<Record, Refusal> {
+    let template = template_of(alloc, items)?;
+    Record::created(alloc, &template)
 }
 
 fn created(
@@ -59,7 +93,7 @@ fn label(store: &Store, view: View, handle: u64) -> Option<u64>
 
 /// Two session objects of session 1, the second private, a private token object, and a session object of session 2;
 /// their labels have 1 to 4 bytes.
-fn filled(rt: &impl Abort, alloc: Global) -> Result<Store, Fail> {
+fn filled(rt: &impl Abort, alloc: Global) -> Result<Store, Refusal> {
     let mut store = Store::new(alloc);
     for (number, session, items) in [
         (1, 1, [(0, DATA), (0x3, &[9; 1]), (0x1, &[0])]),
@@ -133,5 +167,31 @@ fn ends_of_sessions_and_logins(rt: HostRuntime) -> Result<(), Fail> {
     assert_eq!(rt; labels(&store), [Some(1), None, Some(3), None]);
     store.end_all_sessions();
     assert_eq!(rt; labels(&store), [None, None, Some(3), None]);
+    Ok(())
+}
+
+/// Passes too where one growth is refused, whichever it is: `rt try --test --fail-alloc N` refuses the Nth of each test.
+#[test]
+fn searches(rt: HostRuntime) -> Result<(), Fail> {
+    let alloc = rt.alloc();
+    let store = match filled(&rt, alloc) {
+        Ok(store) => store,
+        Err(refusal) => {
+            assert_eq!(rt; refusal, Refusal::Memory);
+            filled(&rt, alloc)?
+        }
+    };
+    for (user, items, numbers) in SEARCHES {
+        let view = if *user { logged_in() } else { public() };
+        let template = match template_of(alloc, items) {
+            Ok(template) => template,
+            Err(NoMemory) => template_of(alloc, items)?,
+        };
+        let found = match store.find(alloc, view, &template) {
+            Ok(found) => found,
+            Err(NoMemory) => store.find(alloc, view, &template)?,
+        };
+        assert_eq!(rt; found.as_slice(), *numbers, "{items:?}");
+    }
     Ok(())
 }

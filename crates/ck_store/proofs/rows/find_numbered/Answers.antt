@@ -1,5 +1,4 @@
-use Rattle.std.proofs.Common.{rules, sym}
-use Rattle.std.proofs.lemmas.Cmp.{ranked}
+use Rattle.std.proofs.Common.{rules}
 use Rattle.std.proofs.lemmas.List.Sorted.{answers_always}
 use Rattle.ck_store.specs.declared.stores.StoredObject.{StoredObject}
 use Rattle.ck_store.proofs.Numbered.{find_numbered-at, find_numbered-none}

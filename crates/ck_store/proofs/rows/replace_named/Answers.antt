@@ -1,4 +1,3 @@
-use Rattle.std.proofs.Common.{◌≡◌}
 use Rattle.ck_store.specs.Rows.{is_named}
 use Rattle.ck_store.specs.declared.stores.StoredObject.{StoredObject}
 use Rattle.ck_journal.proofs.Changes.{change_first-place, change_first-no_place}

@@ -1,4 +1,4 @@
-use Rattle.std.proofs.Common.{◌≡◌, ◌∙◌, ap}
+use Rattle.std.proofs.Common.{◌∙◌, ap}
 use Rattle.std.specs.Prelude.{option_map}
 use Rattle.ck_store.specs.declared.stores.StoredObject.{StoredObject}
 use Rattle.ck_store.proofs.Moves.{numbers_rise, at-agree}

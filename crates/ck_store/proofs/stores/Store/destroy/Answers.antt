@@ -1,4 +1,4 @@
-use Rattle.std.proofs.Common.{◌≡◌, ◌∙◌, sym, ap, refl}
+use Rattle.std.proofs.Common.{refl}
 use Rattle.ck_store.proofs.Moves.{StoreAgrees-destroyed}
 use Rattle.ck_store.proofs.stores.Store.destroy.Goals as goal
 

@@ -1,4 +1,4 @@
-use Rattle.std.proofs.Common.{◌≡◌, ◌∙◌, sym, ap, refl}
+use Rattle.std.proofs.Common.{refl}
 use Rattle.ck_store.proofs.Moves.{StoreAgrees-logged_out}
 use Rattle.ck_store.proofs.stores.Store.end_private.Goals as goal
 

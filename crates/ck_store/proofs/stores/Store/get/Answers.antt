@@ -1,4 +1,4 @@
-use Rattle.std.proofs.Common.{◌≡◌, ◌∙◌, sym, ap, refl}
+use Rattle.std.proofs.Common.{◌∙◌, ap}
 use Rattle.ck_store.proofs.Moves.{find-agree}
 use Rattle.std.specs.Prelude.{option_map}
 use Rattle.ck_store.specs.declared.stores.StoredObject.{StoredObject}

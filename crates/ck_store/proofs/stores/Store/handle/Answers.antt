@@ -1,4 +1,4 @@
-use Rattle.std.proofs.Common.{◌≡◌, ◌∙◌, ap, true, false, Some}
+use Rattle.std.proofs.Common.{◌∙◌, ap, true, false, Some}
 use Rattle.ck_store.proofs.Moves.{numbers_rise, handle-beyond, handle-found, handle-missing}
 use Rattle.ck_store.proofs.stores.Store.handle.Goals as goal
 

@@ -1,4 +1,4 @@
-use Rattle.std.proofs.Common.{◌≡◌, refl, sym}
+use Rattle.std.proofs.Common.{refl}
 use Rattle.ck_store.proofs.Moves.{StoreAgrees-set}
 use Rattle.ck_store.proofs.stores.Store.set.Goals as goal
 
