@@ -1,10 +1,15 @@
 #!/usr/bin/env python3
-"""Writes a script of rounds of calls: make_script.py objects|sessions LINES.
+"""Writes a script: make_script.py objects|sessions LINES or make_script.py labels|searches OBJECTS.
 
 objects: each round creates a data object, reads its label and destroys it.
 sessions: each round opens a session and closes it.
+labels: one session creates data objects, each with a label of its own.
+searches: the same, and then searches by a label, each of which finds one object.
 """
+import itertools
 import sys
+
+SEARCHES = 200
 
 
 def object_rounds():
@@ -27,12 +32,33 @@ def session_rounds():
         yield f"1 CloseSession {session}"
 
 
+def labelled_objects(count):
+    yield "1 InitToken 31323334"
+    yield "1 OpenSession 6"
+    for number in range(1, count + 1):
+        yield f"1 CreateObject 1 0=0000000000000000,3={number:08x}"
+
+
+def searched_numbers(count):
+    """The objects that the searches find, spread over all of them."""
+    return [1 + search * count // SEARCHES for search in range(SEARCHES)]
+
+
+def searched_objects(count):
+    yield from labelled_objects(count)
+    for number in searched_numbers(count):
+        yield f"1 FindObjectsInit 1 3={number:08x}"
+        yield "1 FindObjects 1 9"
+        yield "1 FindObjectsFinal 1"
+
+
 ROUNDS = {"objects": object_rounds, "sessions": session_rounds}
+OBJECTS = {"labels": labelled_objects, "searches": searched_objects}
 
 
 def script(kind, count):
-    lines = ROUNDS[kind]()
-    return "".join(next(lines) + "\n" for _ in range(count))
+    lines = itertools.islice(ROUNDS[kind](), count) if kind in ROUNDS else OBJECTS[kind](count)
+    return "".join(line + "\n" for line in lines)
 
 
 if __name__ == "__main__":

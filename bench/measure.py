@@ -1,19 +1,23 @@
 #!/usr/bin/env python3
-"""Plays scripts of 1,000, 10,000 and 100,000 lines with the built program, and prints what a line takes.
+"""Plays scripts of 1,000, 10,000 and 100,000 lines with the built program, and prints what a line takes. Then plays
+searches among 1,000, 10,000 and 50,000 objects, and prints what an object takes in one search.
 
 The program is crates/ck_run/out/ck_run, or the path that is given; it is built by `rt run` in crates/ck_run. Times are
-processor time, the median of several runs, and memory is the peak; those of an empty script are taken off both.
+processor time, the median of several runs, and memory is the peak; those of an empty script are taken off both. Off the
+time of searches is taken that of a script that only makes their objects. A search takes a time for each object, so an
+object should take at most 3 times as much of it among the most objects as among the fewest.
 """
 import os
 import statistics
 import sys
 import tempfile
 
-from make_script import ROUNDS, script
+from make_script import ROUNDS, SEARCHES, script, searched_numbers
 
 SIZES = [1_000, 10_000, 100_000]
+OBJECT_COUNTS = [1_000, 10_000, 50_000]
 # A short run hardly differs from an empty one, so it is made often.
-RUNS = {0: 301, 1_000: 301, 10_000: 101, 100_000: 21}
+RUNS = {0: 301, 1_000: 301, 10_000: 101, 50_000: 21, 100_000: 21}
 PROGRAM = os.path.join(os.path.dirname(__file__), "..", "crates", "ck_run", "out", "ck_run")
 
 
@@ -60,6 +64,26 @@ def measure(program, kind, start_time, start_memory):
     print(f"{kind}: {times[-1] / times[0]:.2f} times as much time a line at {SIZES[-1]} lines as at {SIZES[0]}")
 
 
+def check_searches(program, text, count):
+    """Each search has found its object, and the search is ended."""
+    replies = play([program], text)[1].decode()
+    expected = "".join(f"0\n0 {number}\n0\n" for number in searched_numbers(count))
+    if not replies.endswith(f"\n0 {count}\n{expected}"):
+        sys.exit("searches: not every search found its object")
+
+
+def measure_searches(program):
+    times = []
+    for count in OBJECT_COUNTS:
+        text = script("searches", count)
+        check_searches(program, text, count)
+        objects_time = median_time(program, script("labels", count), count)
+        times.append((median_time(program, text, count) - objects_time) / (SEARCHES * count))
+        print(f"searches, {count} objects: {times[-1] * 1e9:.1f} ns an object")
+    ratio = times[-1] / times[0]
+    print(f"searches: {ratio:.2f} times as much time an object at {OBJECT_COUNTS[-1]} objects as at {OBJECT_COUNTS[0]}")
+
+
 def main():
     program = sys.argv[1] if len(sys.argv) > 1 else PROGRAM
     start_time = median_time(program, "", 0)
@@ -67,6 +91,7 @@ def main():
     print(f"empty script: {start_time * 1e6:.0f} us, {start_memory} KiB")
     for kind in ROUNDS:
         measure(program, kind, start_time, start_memory)
+    measure_searches(program)
 
 
 if __name__ == "__main__":

@@ -7,4 +7,4 @@ pub mod PlayerLemmas
 pub mod PartLemmas
 pub mod DigitLemmas
 pub mod NumberLemmas
-pub mod AnswerLemmas
+pub mod JoinLemmas

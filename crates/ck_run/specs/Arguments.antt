@@ -28,7 +28,7 @@ numeral_value base digits =
     if not (length digits == 0) && not (has_leading_zero digits) && nat_lt (digits_value base digits) (2 ^ 64) then Some (digits_value base digits)
     else None
 
--- a number, in decimal: sessions, objects, lengths
+-- a number, in decimal: sessions, objects, lengths, counts
 abbrev pub number_in : List ℕ → Option ℕ
 number_in text = if list_all is_ascii_digit text then numeral_value 10 text else None
 

@@ -25,10 +25,15 @@ answer_text (answer.Value bytes) = codes "=" ++ bytes_text bytes
 answer_text (answer.Length length) = codes ":" ++ decimal length
 answer_text answer.Unavailable = codes "!"
 
--- joined by commas (44), and `-` for none
+-- answers, joined by commas (44), and `-` for none
 abbrev pub answers_text : List Answer → List ℕ
 answers_text [] = codes "-"
 answers_text (a ∷ answers) = join_with_byte 44 (map answer_text (a ∷ answers))
+
+-- handles, joined by commas (44), and `-` for none
+abbrev pub handles_text : List ℕ → List ℕ
+handles_text [] = codes "-"
+handles_text (h ∷ handles) = join_with_byte 44 (map decimal (h ∷ handles))
 
 -- what stands after the code
 abbrev pub body_text : Body → List ℕ
@@ -38,6 +43,7 @@ body_text (body.Session state flags) = codes " " ++ decimal (state_number state)
 body_text (body.Token flags limit sessions rw_sessions) =
     codes " " ++ hexadecimal flags.0 ++ codes " " ++ decimal limit ++ codes " " ++ decimal sessions ++ codes " " ++ decimal rw_sessions
 body_text (body.Attributes answers) = codes " " ++ answers_text answers
+body_text (body.Handles handles) = codes " " ++ handles_text handles
 
 abbrev pub reply_text : Reply → List ℕ
 reply_text reply = hexadecimal (number_of reply.rv) ++ body_text reply.body ++ 10 ∷ []

@@ -59,7 +59,25 @@ set_attribute_value_in =
 abbrev pub destroy_object_in : List (List ℕ) → Option Call
 destroy_object_in = with_two (λ session object. both call.DestroyObject (number_in session) (number_in object))
 
--- a call on an object
+abbrev pub find_objects_init_in : List (List ℕ) → Option Call
+find_objects_init_in =
+    with_two (λ session template. both (λ s items. call.FindObjectsInit s (record { items = items })) (number_in session) (template_in template))
+
+abbrev pub find_objects_in : List (List ℕ) → Option Call
+find_objects_in = with_two (λ session max. both call.FindObjects (number_in session) (number_in max))
+
+abbrev pub find_objects_final_in : List (List ℕ) → Option Call
+find_objects_final_in = with_one (λ session. option_map call.FindObjectsFinal (number_in session))
+
+-- a call on a session's search
+abbrev pub search_call_in : List ℕ → List (List ℕ) → Option Call
+search_call_in name arguments =
+    if same_bytes name (codes "FindObjectsInit") then find_objects_init_in arguments
+    else if same_bytes name (codes "FindObjects") then find_objects_in arguments
+    else if same_bytes name (codes "FindObjectsFinal") then find_objects_final_in arguments
+    else None
+
+-- a call on an object, or else the call of another name
 abbrev pub object_call_in : List ℕ → List (List ℕ) → Option Call
 object_call_in name arguments =
     if same_bytes name (codes "CreateObject") then create_object_in arguments
@@ -67,7 +85,7 @@ object_call_in name arguments =
     else if same_bytes name (codes "GetAttributeValue") then get_attribute_value_in arguments
     else if same_bytes name (codes "SetAttributeValue") then set_attribute_value_in arguments
     else if same_bytes name (codes "DestroyObject") then destroy_object_in arguments
-    else None
+    else search_call_in name arguments
 
 -- a call on sessions or the login, or else the call of another name
 abbrev pub session_call_in : List ℕ → List (List ℕ) → Option Call

@@ -53,7 +53,7 @@ fn numeral_value(digits: &[u8], base: u32) -> Option<u64>
     }
 }
 
-/// A number in decimal digits: sessions, objects, lengths.
+/// A number in decimal digits: sessions, objects, lengths, counts.
 #[tactic(auto, using(crate::proofs::DigitLemmas::digits))]
 pub(crate) fn number_in(text: &[u8]) -> Option<u64>
     ensures { result ≡ number_in text.now }

@@ -106,6 +106,30 @@ fn lines_have_their_meanings(rt: HostRuntime) -> Result<(), Fail> {
                 "1 DestroyObject 2 3",
                 "Called { caller: 1, call: DestroyObject { session: 2, object: 3 } }",
             ),
+            (
+                "1 FindObjectsInit 2 -",
+                "Called { caller: 1, call: FindObjectsInit { session: 2, template: Template { items: Sequence { items: [] } } } }",
+            ),
+            (
+                "1 FindObjectsInit 2 10a=6bC0,3=-",
+                "Called { caller: 1, call: FindObjectsInit { session: 2, template: Template { items: Sequence { items: [Item { kind: 266, value: Sequence { items: [107, 192] } }, Item { kind: 3, value: Sequence { items: [] } }] } } } }",
+            ),
+            (
+                "1 FindObjects 2 10",
+                "Called { caller: 1, call: FindObjects { session: 2, max: 10 } }",
+            ),
+            (
+                "1 FindObjects 2 0",
+                "Called { caller: 1, call: FindObjects { session: 2, max: 0 } }",
+            ),
+            (
+                "1 FindObjects 0 18446744073709551615",
+                "Called { caller: 1, call: FindObjects { session: 0, max: 18446744073709551615 } }",
+            ),
+            (
+                "8 FindObjectsFinal 2",
+                "Called { caller: 8, call: FindObjectsFinal { session: 2 } }",
+            ),
         ],
     )
 }
@@ -245,6 +269,34 @@ fn malformed_lines_are_bad(rt: HostRuntime) -> Result<(), Fail> {
             "1 DestroyObject 1",
             "1 DestroyObject 1 1 1",
             "1 DestroyObject 1 01",
+            // searches
+            "1 FindObjectsInit",
+            "1 FindObjectsInit 1",
+            "1 FindObjectsInit 1 ",
+            "1 FindObjectsInit -",
+            "1 FindObjectsInit 01 -",
+            "1 FindObjectsInit 1 3",
+            "1 FindObjectsInit 1 3:61",
+            "1 FindObjectsInit 1 3=61,",
+            "1 FindObjectsInit 1 - -",
+            "1 FindObjectsinit 1 -",
+            "1 FindObjects",
+            "1 FindObjects 1",
+            "1 FindObjects 1 ",
+            "1 FindObjects 1 -",
+            "1 FindObjects 1 ?",
+            "1 FindObjects 1 a",
+            "1 FindObjects 1 09",
+            "1 FindObjects 01 9",
+            "1 FindObjects 1 18446744073709551616",
+            "1 FindObjects 1 1 9",
+            "1 FindObject 1 9",
+            "1 FindObjectsFinal",
+            "1 FindObjectsFinal ",
+            "1 FindObjectsFinal a",
+            "1 FindObjectsFinal 01",
+            "1 FindObjectsFinal 1 1",
+            "1 FindObjectsFinally 1",
         ],
     )
 }

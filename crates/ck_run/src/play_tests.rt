@@ -254,6 +254,8 @@ fn objects_are_copied_and_changed(rt: HostRuntime) -> Result<(), Fail> {
                 1 Logout 1 -> 0
                 1 Login 1 1 75736572 -> 0
                 1 GetAttributeValue 1 4294967297 3:8 -> 82
+                1 FindObjectsInit 1 - -> 0
+                1 FindObjects 1 9 -> 0 8589934593
                 1 GetAttributeValue 1 8589934593 3:8 -> 0 =61
             ",
         ),
@@ -269,6 +271,86 @@ fn objects_are_copied_and_changed(rt: HostRuntime) -> Result<(), Fail> {
                 2 CreateObject 2 0=0000000000000000,2=01 -> 101
                 2 CloseSession 2 -> 0
                 1 GetAttributeValue 1 1 3:8 -> 82
+            ",
+        ),
+    ];
+    for (start, case) in cases {
+        assert_replies(&rt, rt.alloc(), Limits::largest(), start, case)?;
+    }
+    Ok(())
+}
+
+#[test]
+fn objects_are_searched_for(rt: HostRuntime) -> Result<(), Fail> {
+    let cases: [(&str, &str); 4] = [
+        (
+            USER_LOGGED_IN,
+            "
+                1 CreateObject 1 0=0000000000000000 -> 0 1
+                1 CreateObject 1 0=0000000000000000 -> 0 2
+                1 CreateObject 1 0=0000000000000000 -> 0 3
+                1 FindObjectsInit 1 - -> 0
+                1 FindObjects 1 0 -> 0 -
+                1 FindObjects 1 1 -> 0 1
+                1 DestroyObject 1 2 -> 0
+                1 FindObjects 1 9 -> 0 3
+                1 FindObjects 1 9 -> 0 -
+                1 FindObjectsInit 1 - -> 90
+                1 FindObjectsFinal 1 -> 0
+                1 FindObjects 1 9 -> 91
+            ",
+        ),
+        (
+            USER_LOGGED_IN,
+            "
+                1 CreateObject 1 0=0000000000000000,3=61 -> 0 1
+                1 CreateObject 1 0=0000000000000000,3=62 -> 0 2
+                1 FindObjectsInit 1 3=61 -> 0
+                1 SetAttributeValue 1 1 3=63 -> 0
+                1 CreateObject 1 0=0000000000000000,3=61 -> 0 3
+                1 FindObjects 1 9 -> 0 1
+                1 FindObjectsFinal 1 -> 0
+                1 FindObjectsInit 1 3=61,3=62 -> 0
+                1 FindObjects 1 9 -> 0 -
+                1 Logout 1 -> 0
+                1 FindObjects 1 9 -> 91
+                1 FindObjectsInit 1 - -> 0
+                1 FindObjects 1 18446744073709551615 -> 0 1,2,3
+            ",
+        ),
+        (
+            USER_LOGGED_IN,
+            "
+                1 CreateObject 1 0=0000000000000000,1=01,2=01 -> 0 4294967297
+                1 CreateObject 1 0=0000000000000000 -> 0 2
+                1 FindObjectsInit 1 3=- -> 0
+                1 FindObjects 1 9 -> 0 4294967297,2
+                1 Logout 1 -> 0
+                1 FindObjectsFinal 1 -> 91
+                1 FindObjectsInit 1 3=- -> 0
+                1 Login 1 1 75736572 -> 0
+                1 FindObjects 1 9 -> 0 2
+                1 FindObjectsFinal 1 -> 0
+                1 FindObjectsInit 1 2=01,1=01 -> 0
+                1 FindObjects 1 1 -> 0 8589934593
+            ",
+        ),
+        (
+            NEW,
+            "
+                1 FindObjectsInit 1 - -> b3
+                1 FindObjects 1 0 -> b3
+                1 FindObjectsFinal 1 -> b3
+                1 InitToken 31323334 -> 0
+                1 OpenSession 4 -> 0 1
+                2 OpenSession 4 -> 0 2
+                1 FindObjectsFinal 1 -> 91
+                1 FindObjectsInit 1 80000002=00 -> 0
+                2 FindObjects 1 1 -> 0 -
+                2 FindObjectsFinal 2 -> 91
+                2 FindObjectsInit 2 - -> 0
+                1 CloseSession 2 -> 0
+                2 FindObjects 2 9 -> b3
             ",
         ),
     ];

@@ -1,7 +1,7 @@
 ghost use Rattle.std.specs.Prelude.{◌≡◌, ◌++◌, ◌≤◌, ◌<◌, false, codes, OnOk};
 ghost use Rattle.std.specs.Fmt.{digit_glyph, digits};
 ghost use Rattle.hex.specs.Hex.{encode_lower};
-ghost use Rattle.ck_run.specs.Replies.{bytes_text, answer_text, answers_text, body_text, reply_text};
+ghost use Rattle.ck_run.specs.Replies.{bytes_text, answer_text, answers_text, handles_text, body_text, reply_text};
 
 use bitflags::Flags;
 use ck_journal::{Answer, Body, Reply};
@@ -102,6 +102,22 @@ fn push_answers(out: &mut Vec<u8>, answers: &[Answer]) -> Result<(), NoMemory>
     Ok(())
 }
 
+/// Appends the handles with a comma between two of them, and no handles as `-`.
+fn push_handles(out: &mut Vec<u8>, handles: &[u64]) -> Result<(), NoMemory>
+    ensures { OnOk result (out.new.items ≡ out.old.items ++ handles_text handles.now) }
+{
+    let Some((first, rest)) = handles.split_first() else {
+        out.push(b'-')?;
+        return Ok(());
+    };
+    push_number(out, *first, 10)?;
+    for handle in rest {
+        out.push(b',')?;
+        push_number(out, *handle, 10)?;
+    }
+    Ok(())
+}
+
 /// Appends what stands after the code.
 fn push_body(out: &mut Vec<u8>, body: &Body) -> Result<(), NoMemory>
     ensures { OnOk result (out.new.items ≡ out.old.items ++ body_text body.now) }
@@ -127,6 +143,10 @@ fn push_body(out: &mut Vec<u8>, body: &Body) -> Result<(), NoMemory>
         Body::Attributes(answers) => {
             out.push(b' ')?;
             push_answers(out, answers.as_slice())
+        }
+        Body::Handles(handles) => {
+            out.push(b' ')?;
+            push_handles(out, handles.as_slice())
         }
     }
 }

@@ -41,6 +41,13 @@ fn token(flags: TokenFlags, limit: u64, sessions: u64, rw_sessions: u64) -> Repl
     }
 }
 
+fn handles(numbers: Vec<u64>) -> Reply {
+    Reply {
+        rv: Rv::Ok,
+        body: Body::Handles(Sequence::from_vec(numbers)),
+    }
+}
+
 fn code(rv: Rv) -> Reply {
     Reply {
         rv,
@@ -100,6 +107,13 @@ fn replies_have_their_text(rt: HostRuntime) -> Result<(), Fail> {
                 vec![in alloc; letter, Answer::Unavailable, Answer::Length(8)]?,
             ),
             "12 =61,!,:8\n",
+        ),
+        (handles(vec![in alloc;]?), "0 -\n"),
+        (handles(vec![in alloc; 0]?), "0 0\n"),
+        (handles(vec![in alloc; 12]?), "0 12\n"),
+        (
+            handles(vec![in alloc; 1, 10, 4_294_967_299, u64::MAX]?),
+            "0 1,10,4294967299,18446744073709551615\n",
         ),
     ];
     let mut all = Vec::new(alloc);

@@ -1,5 +1,5 @@
 ghost use Rattle.std.specs.Prelude.{◌≡◌, IfOk};
-ghost use Rattle.ck_run.specs.Scripts.{init_token_in, init_pin_in, set_pin_in, open_session_in, close_session_in, close_all_sessions_in, login_in, logout_in, get_session_info_in, get_token_info_in, create_object_in, copy_object_in, get_attribute_value_in, set_attribute_value_in, destroy_object_in, object_call_in, session_call_in, call_in, caller_in, words_meaning, meaning};
+ghost use Rattle.ck_run.specs.Scripts.{init_token_in, init_pin_in, set_pin_in, open_session_in, close_session_in, close_all_sessions_in, login_in, logout_in, get_session_info_in, get_token_info_in, create_object_in, copy_object_in, get_attribute_value_in, set_attribute_value_in, destroy_object_in, find_objects_init_in, find_objects_in, find_objects_final_in, search_call_in, object_call_in, session_call_in, call_in, caller_in, words_meaning, meaning};
 
 use crate::arguments::{code_number_in, list_in, number_in, pin_in};
 use crate::parts::Parts;
@@ -200,7 +200,56 @@ fn destroy_object_in(arguments: Parts) -> Option<Call>
     Some(Call::DestroyObject { session, object })
 }
 
-/// The call of this name on an object.
+fn find_objects_init_in(alloc: Global, arguments: Parts) -> Result<Option<Call>, NoMemory>
+    ensures { IfOk result (λ call. call ≡ find_objects_init_in arguments.entry) }
+{
+    let Some((session, template)) = arguments.two() else {
+        return Ok(None);
+    };
+    let Some(session) = number_in(session) else {
+        return Ok(None);
+    };
+    match list_in(alloc, template)? {
+        Some(items) => Ok(Some(Call::FindObjectsInit {
+            session,
+            template: Template { items },
+        })),
+        None => Ok(None),
+    }
+}
+
+fn find_objects_in(arguments: Parts) -> Option<Call>
+    ensures { result ≡ find_objects_in arguments.entry }
+{
+    let (session, max) = arguments.two()?;
+    let session = number_in(session)?;
+    let max = number_in(max)?;
+    Some(Call::FindObjects { session, max })
+}
+
+fn find_objects_final_in(arguments: Parts) -> Option<Call>
+    ensures { result ≡ find_objects_final_in arguments.entry }
+{
+    let session = number_in(arguments.one()?)?;
+    Some(Call::FindObjectsFinal { session })
+}
+
+/// The call of this name on a session's search.
+fn search_call_in(alloc: Global, name: &[u8], arguments: Parts) -> Result<Option<Call>, NoMemory>
+    ensures { IfOk result (λ call. call ≡ search_call_in name.now arguments.entry) }
+{
+    if name == b"FindObjectsInit".as_slice() {
+        find_objects_init_in(alloc, arguments)
+    } else if name == b"FindObjects".as_slice() {
+        Ok(find_objects_in(arguments))
+    } else if name == b"FindObjectsFinal".as_slice() {
+        Ok(find_objects_final_in(arguments))
+    } else {
+        Ok(None)
+    }
+}
+
+/// The call of this name on an object, or else of another name.
 fn object_call_in(alloc: Global, name: &[u8], arguments: Parts) -> Result<Option<Call>, NoMemory>
     ensures { IfOk result (λ call. call ≡ object_call_in name.now arguments.entry) }
 {
@@ -215,7 +264,7 @@ fn object_call_in(alloc: Global, name: &[u8], arguments: Parts) -> Result<Option
     } else if name == b"DestroyObject".as_slice() {
         Ok(destroy_object_in(arguments))
     } else {
-        Ok(None)
+        search_call_in(alloc, name, arguments)
     }
 }
 

@@ -7,14 +7,17 @@ use std::str::Split;
 use std::test::Fail;
 
 mod rows;
+mod search_rows;
 
-use rows::{GROWING, GROWING_OBJECTS, LARGEST, ROWS};
+use rows::{GROWING, GROWING_OBJECTS, GROWING_SEARCHES, LARGEST, ROWS};
+use search_rows::SEARCH_ROWS;
 
 /// A caller, its call and the call's reply. In calls flags, types and bytes are hexadecimal, other numbers decimal, and
 /// PINs their characters; a template's items are `type=bytes`; the queries are `type:room`, with `?` for no room. A
 /// reply is its code, in hexadecimal, and then a handle; a session's state and its flags, in hexadecimal; the token's
-/// flags, in hexadecimal, its limit of sessions, its open sessions and its open read/write sessions; or one answer for
-/// each query: `=` and a value's bytes, `:` and a length, or `!`.
+/// flags, in hexadecimal, its limit of sessions, its open sessions and its open read/write sessions; one answer for
+/// each query: `=` and a value's bytes, `:` and a length, or `!`; or the handles that a search hands out. Lists have
+/// commas between their parts, and an empty list is `-`.
 type Step = (u32, &'static str, &'static str);
 
 /// The calls of a token from its first call on, in two parts, and its limits: sessions, openings, creations and logins
@@ -133,6 +136,15 @@ fn call_in_session(
             let template = template_of(alloc, first)?;
             Some(Call::CreateObject { session, template })
         }
+        "FindObjectsInit" => {
+            let template = template_of(alloc, first)?;
+            Some(Call::FindObjectsInit { session, template })
+        }
+        "FindObjects" => {
+            let max = number_of(first)?;
+            Some(Call::FindObjects { session, max })
+        }
+        "FindObjectsFinal" => Some(Call::FindObjectsFinal { session }),
         name => call_on_object(alloc, name, session, number_of(first)?, second),
     }
 }
@@ -224,6 +236,19 @@ fn are_answers(answers: &[Answer], text: Option<&str>) -> bool {
     texts.next().is_none()
 }
 
+fn are_handles(handles: &[u64], text: Option<&str>) -> bool {
+    let Some(text) = text else {
+        return false;
+    };
+    let mut texts = text.split(',').filter(|text| *text != "-");
+    for handle in handles {
+        if number_of(texts.next()) != Some(*handle) {
+            return false;
+        }
+    }
+    texts.next().is_none()
+}
+
 fn is_body(body: &Body, words: &mut Split<'_, char>) -> bool {
     match body {
         Body::Empty => true,
@@ -244,6 +269,7 @@ fn is_body(body: &Body, words: &mut Split<'_, char>) -> bool {
                 && number_of(words.next()) == Some(*rw_sessions)
         }
         Body::Attributes(answers) => are_answers(answers.as_slice(), words.next()),
+        Body::Handles(handles) => are_handles(handles.as_slice(), words.next()),
     }
 }
 
@@ -361,7 +387,7 @@ fn check_by_run(rt: &impl Abort, alloc: Global, row: &Row) -> Result<u64, Fail> 
 #[test]
 fn calls_and_replies(rt: HostRuntime) -> Result<(), Fail> {
     let mut refused = 0u64;
-    for row in &ROWS {
+    for row in ROWS.iter().chain(&SEARCH_ROWS) {
         refused = refused.saturating_add(check_by_calls(&rt, rt.alloc(), row)?);
         refused = refused.saturating_add(check_by_run(&rt, rt.alloc(), row)?);
     }
@@ -379,7 +405,7 @@ fn refused_growths(rt: HostRuntime) -> Result<(), Fail> {
     let mut refused = 0u64;
     for count in 0..=BEFORE.len() {
         let (before, _) = BEFORE.split_at_checked(count).ok_or("too many calls")?;
-        for steps in [GROWING, GROWING_OBJECTS] {
+        for steps in [GROWING, GROWING_OBJECTS, GROWING_SEARCHES] {
             let row = (LARGEST, before, steps);
             refused = refused.saturating_add(check_by_calls(&rt, rt.alloc(), &row)?);
             refused = refused.saturating_add(check_by_run(&rt, rt.alloc(), &row)?);

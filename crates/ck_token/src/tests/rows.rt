@@ -3,7 +3,7 @@ use super::{Row, Step};
 pub const LARGEST: [u64; 4] = [64, 0xffff_ffff, 0xffff_ffff, 0x7fff_ffff];
 
 /// The user has a PIN and is logged in in a read/write session.
-const USER_LOGGED_IN: [Step; 6] = [
+pub const USER_LOGGED_IN: [Step; 6] = [
     (1, "InitToken 1234", "0"),
     (1, "OpenSession 6", "0 1"),
     (1, "Login 1 0 1234", "0"),
@@ -423,6 +423,8 @@ pub const ROWS: [Row; 26] = [
             (1, "Logout 1", "0"),
             (1, "Login 1 1 user", "0"),
             (1, "GetAttributeValue 1 4294967297 3:8", "82"),
+            (1, "FindObjectsInit 1 -", "0"),
+            (1, "FindObjects 1 9", "0 8589934593"),
             (1, "GetAttributeValue 1 8589934593 3:8", "0 =61"),
         ],
     ),
@@ -553,4 +555,26 @@ pub const GROWING_OBJECTS: &[Step] = &[
     (1, "DestroyObject 1 1", "0"),
     (1, "CloseSession 1", "0"),
     (1, "GetAttributeValue 1 1 3:8", "b3"),
+];
+
+/// The same of searches.
+pub const GROWING_SEARCHES: &[Step] = &[
+    (1, "InitToken 1234", "0"),
+    (1, "OpenSession 6", "0 1"),
+    (1, "CreateObject 1 0=0000000000000000", "0 1"),
+    (1, "CreateObject 1 0=0000000000000000", "0 2"),
+    (1, "CreateObject 1 0=0000000000000000", "0 3"),
+    (1, "CreateObject 1 0=0000000000000000", "0 4"),
+    (1, "CreateObject 1 0=0000000000000000", "0 5"),
+    (2, "FindObjectsInit 1 -", "0"),
+    (3, "FindObjects 1 1", "0 1"),
+    (1, "FindObjectsInit 1 3=61", "90"),
+    (1, "OpenSession 4", "0 2"),
+    (1, "FindObjectsInit 2 3=,0=0000000000000000", "0"),
+    (1, "FindObjects 2 9", "0 1,2,3,4,5"),
+    (1, "FindObjects 1 9", "0 2,3,4,5"),
+    (1, "FindObjectsFinal 1", "0"),
+    (1, "FindObjects 1 9", "91"),
+    (1, "CloseSession 2", "0"),
+    (1, "FindObjectsFinal 2", "b3"),
 ];
