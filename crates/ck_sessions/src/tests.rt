@@ -1,4 +1,4 @@
-ghost use Rattle.std.specs.Prelude.{◌≡◌};
+ghost use Rattle.std.specs.Prelude.{◌≡◌, IfOk};
 
 use crate::Sessions;
 use ck_types::{Limits, NoMemory, Pin, UserType};
@@ -43,14 +43,22 @@ fn count_wrong_try(rt: &impl Abort, sessions: &mut Sessions, user: UserType)
     sessions.count_wrong_try(user);
 }
 
-/// Each function once. Only the making of the sessions takes memory, and where that is refused, they are made again.
+/// Sessions of the largest limits; where memory is refused, they are made again.
+fn new_sessions(alloc: Global) -> Result<Sessions, NoMemory>
+    ensures { IfOk result (λ sessions. sessions.limit ≡ 64) }
+{
+    let limits = Limits::largest();
+    let sessions = match Sessions::new(alloc, limits) {
+        Ok(sessions) => sessions,
+        Err(NoMemory) => Sessions::new(alloc, limits)?,
+    };
+    Ok(sessions)
+}
+
+/// Each function but those of searches once.
 #[test]
 fn sessions_logins_and_pins(rt: HostRuntime) -> Result<(), Fail> {
-    let limits = Limits::largest();
-    let mut sessions = match Sessions::new(rt.alloc(), limits) {
-        Ok(sessions) => sessions,
-        Err(NoMemory) => Sessions::new(rt.alloc(), limits)?,
-    };
+    let mut sessions = new_sessions(rt.alloc())?;
     assert!(rt; !sessions.is_initialized());
     sessions.init_token(Pin::of(b"1234"));
     assert!(rt; sessions.is_initialized());
@@ -97,14 +105,18 @@ fn left(sessions: &Sessions) -> [Option<&[u64]>; 2] {
     [sessions.remaining_objects(1), sessions.remaining_objects(2)]
 }
 
-/// The numbers in a list of their own.
+/// The numbers in a list of their own; where memory is refused, it is made again.
 fn numbers(alloc: Global, numbers: &[u64]) -> Result<Vec<u64>, NoMemory> {
-    Ok(Vec::from_slice(alloc, numbers)?)
+    let list = match Vec::from_slice(alloc, numbers) {
+        Ok(list) => list,
+        Err(_) => Vec::from_slice(alloc, numbers)?,
+    };
+    Ok(list)
 }
 
 #[test]
 fn searches(rt: HostRuntime) -> Result<(), Fail> {
-    let mut sessions = Sessions::new(rt.alloc(), Limits::largest())?;
+    let mut sessions = new_sessions(rt.alloc())?;
     opened(&rt, &mut sessions, 6);
     opened(&rt, &mut sessions, 4);
     assert_eq!(rt; left(&sessions), [None, None]);

@@ -1,6 +1,6 @@
 -- The attributes that the token knows: their types, the forms of their values, the templates that they may stand in
 -- and the values that an object has where its template gives none
--- (PKCS #11 Base 3.0, Object attributes; Current Mechanisms 3.0, Generic secret key)
+-- (PKCS #11 Base 3.0, Common attributes; Current Mechanisms 3.0, Generic secret key)
 use Rattle.std.specs.Prelude.{ℕ, Bool, true, false, List, [], ◌∷◌, Option, Some, None, ◌==◌, ◌||◌, find, length, replicate, option_map}
 use Rattle.std.specs.Int.{w64, to_le_bytes}
 use Rattle.std.specs.Cmp.Lexicographic.{pointwise}

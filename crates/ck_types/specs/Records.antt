@@ -100,10 +100,10 @@ abbrev pub changed_error : List Item → Option Rv
 changed_error template = template_error purpose.Set template
 
 -- the object with these attributes, or the refusal with this code; want of memory comes where the checks find nothing
-abbrev pub IsMade : Option Rv → List Item → Result (List Item) Refusal → Type 0
-IsMade error items (Ok object) = (error ≡ None) × (object ≡ items)
-IsMade error items (Err (refusal.Code code)) = error ≡ Some code
-IsMade error items (Err refusal.Memory) = error ≡ None
+abbrev pub IsRecordUnless : Option Rv → List Item → Result (List Item) Refusal → Type 0
+IsRecordUnless error items (Ok object) = (error ≡ None) × (object ≡ items)
+IsRecordUnless error items (Err (refusal.Code code)) = error ≡ Some code
+IsRecordUnless error items (Err refusal.Memory) = error ≡ None
 
 -- ---- search templates
 

@@ -1,4 +1,4 @@
--- Users and the states of sessions (PKCS #11 Base 3.0, Session states)
+-- Users and the states of sessions (PKCS #11 Base 3.0, Session types)
 use Rattle.std.specs.Prelude.{ℕ, Bool, true, false, Option, Some, None, ◌==◌, if◌then◌else◌}
 use Rattle.ck_types.specs.declared.users.SessionState.{SessionState}
 use Rattle.ck_types.specs.declared.users.SessionState.TheVariants as state

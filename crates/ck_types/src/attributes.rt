@@ -35,7 +35,7 @@ pub enum Purpose {
     Set,
 }
 
-/// An attribute that the token knows (PKCS #11 Base 3.0, Object attributes; Current Mechanisms 3.0, Generic
+/// An attribute that the token knows (PKCS #11 Base 3.0, Common attributes; Current Mechanisms 3.0, Generic
 /// secret key). `KeyState` is a vendor attribute of this token.
 #[derive(Clone, Copy, Debug, PartialEq, Eq)]
 pub enum Attribute {

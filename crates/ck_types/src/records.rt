@@ -207,7 +207,7 @@ impl Record {
     ghost use Rattle.ck_types.specs.Templates.{given};
     ghost use Rattle.ck_types.specs.Templates.{created_error, first_error, form_error};
     ghost use Rattle.ck_types.specs.declared.attributes.Attribute.TheVariants as attribute;
-    ghost use Rattle.ck_types.specs.Records.{IsMade, created_items, copied_error, changed_error, with_given, flag_in, is_set, has_item, matches};
+    ghost use Rattle.ck_types.specs.Records.{IsRecordUnless, created_items, copied_error, changed_error, with_given, flag_in, is_set, has_item, matches};
     ghost use Rattle.ck_types.specs.Fields.{field_bytes, flag_field};
 
     /// The object that a template of C_CreateObject makes (PKCS #11 Base 3.0, Object management functions). It is
@@ -218,7 +218,7 @@ impl Record {
     /// be given (CKR_ATTRIBUTE_READ_ONLY), item by item.
     #[tactic(auto, unfolding(crate::specs::Records::created_items))]
     pub fn created(alloc: Global, template: &Template) -> Result<Record, Refusal>
-        ensures { IsMade (created_error template.now.items) (created_items template.now.items) result }
+        ensures { IsRecordUnless (created_error template.now.items) (created_items template.now.items) result }
     {
         let items = template.items.as_slice();
         match created_error(items) {
@@ -236,7 +236,7 @@ impl Record {
     /// functions). The template is refused as that of a creation is, but for its class, which is the object's; a copy of
     /// a private object stays private (CKR_TEMPLATE_INCONSISTENT).
     pub fn copied(&self, alloc: Global, template: &Template) -> Result<Record, Refusal>
-        ensures { IsMade (copied_error self.now template.now.items) (with_given template.now.items self.now) result }
+        ensures { IsRecordUnless (copied_error self.now template.now.items) (with_given template.now.items self.now) result }
     {
         let items = template.items.as_slice();
         match self.copied_error(items) {
@@ -251,7 +251,7 @@ impl Record {
     /// The object with the values that a template of C_SetAttributeValue gives. The template is refused as that of a
     /// copy is.
     pub fn changed(&self, alloc: Global, template: &Template) -> Result<Record, Refusal>
-        ensures { IsMade (changed_error template.now.items) (with_given template.now.items self.now) result }
+        ensures { IsRecordUnless (changed_error template.now.items) (with_given template.now.items self.now) result }
     {
         let items = template.items.as_slice();
         match template_error(items, Purpose::Set) {

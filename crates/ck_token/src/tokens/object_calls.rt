@@ -7,7 +7,7 @@ use std::alloc::Global;
 /// Creating, copying, reading, changing and destroying objects.
 impl Token {
     ghost use Rattle.std.specs.Prelude.{◌≡◌, ◌<◌, ◌∷◌, [], true, None, Some, IfOk, OnErr, is_some};
-    ghost use Rattle.ck_types.specs.Records.{IsMade, created_items, with_given, copied_error};
+    ghost use Rattle.ck_types.specs.Records.{IsRecordUnless, created_items, with_given, copied_error};
     ghost use Rattle.ck_types.specs.Templates.{created_error, first_of};
     ghost use Rattle.ck_journal.specs.Answers.{answer, ok, object_error, session_error, read_only_session_error, placement_error, creations_error, create_object_error, copy_object_error, get_attribute_value_error, set_attribute_value_error, destroy_object_error, new_handle};
     ghost use Rattle.ck_journal.specs.Histories.{done, is_ok};
@@ -17,7 +17,7 @@ impl Token {
     ghost use Rattle.ck_journal.specs.Sessions.{is_open};
     ghost use Rattle.ck_journal.specs.declared.calls.Body.TheVariants as body;
     ghost use Rattle.ck_journal.specs.declared.calls.Call.TheVariants as call;
-    ghost use Rattle.ck_token.specs.Copies.{IsMadeOrShort};
+    ghost use Rattle.ck_token.specs.Copies.{IsCopyUnless};
     ghost use Rattle.ck_token.specs.TokenStates.{IsAnswered, IsUnchanged};
 
     // ---- checks
@@ -215,7 +215,7 @@ impl Token {
         object: u64,
         template: &Template,
     ) -> Result<Record, Refusal>
-        ensures { IsMadeOrShort (copy_object_error self.now.limits self.now.history session object template.now.items)
+        ensures { IsCopyUnless (copy_object_error self.now.limits self.now.history session object template.now.items)
             (with_given template.now.items (named_attributes self.now.history object)) result }
     {
         if !self.has_session(session) {
@@ -241,7 +241,7 @@ impl Token {
         template: &Template,
     ) -> Result<Record, Refusal>
         requires { is_open self.now.history session ≡ true }
-        ensures { IsMadeOrShort (first_of (copied_error source.now template.now.items
+        ensures { IsCopyUnless (first_of (copied_error source.now template.now.items
             ∷ placement_error self.now.history session (with_given template.now.items source.now)
             ∷ creations_error self.now.limits self.now.history ∷ []))
             (with_given template.now.items source.now) result }
@@ -340,7 +340,7 @@ impl Token {
         object: u64,
         template: &Template,
     ) -> Result<Record, Refusal>
-        ensures { IsMade (set_attribute_value_error self.now.history session object template.now.items)
+        ensures { IsRecordUnless (set_attribute_value_error self.now.history session object template.now.items)
             (with_given template.now.items (named_attributes self.now.history object)) result }
     {
         if !self.has_session(session) {
