@@ -17,7 +17,7 @@ abbrev pub starts_search : Option Call → ℕ → Bool
 starts_search (Some (call.FindObjectsInit session template)) s = session == s
 starts_search other s = false
 
--- the call ends the session's search: its last call, the closing of the session or of all sessions, and any logout
+-- the call ends the session's search: C_FindObjectsFinal, the closing of the session or of all sessions, and any logout
 abbrev pub ends_search : Option Call → ℕ → Bool
 ends_search (Some (call.FindObjectsFinal session)) s = session == s
 ends_search (Some (call.CloseSession session)) s = session == s

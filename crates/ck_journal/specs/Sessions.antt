@@ -62,7 +62,7 @@ rw_sessions h = filter (is_read_write h) (open_sessions h)
 
 -- ---- the login, which all sessions share
 
--- who is logged in after a call, where somebody was before
+-- who is logged in after a call, by who was before
 abbrev pub login_after : Option Call → Option UserType → Option UserType
 login_after (Some (call.Login session user pin)) before = user_of user
 login_after (Some (call.Logout session)) before = None

@@ -86,8 +86,7 @@ pub enum Answer {
     Value(Bytes),
     /// The value's length in bytes.
     Length(u64),
-    /// The object doesn't have the attribute, its value may not be revealed, or the room is too small
-    /// (CK_UNAVAILABLE_INFORMATION).
+    /// The object doesn't have the attribute, or the room is too small (CK_UNAVAILABLE_INFORMATION).
     Unavailable,
 }
 

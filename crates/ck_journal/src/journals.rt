@@ -73,6 +73,7 @@ impl Journal {
         self.entries.len() as u64
     }
 
+    /// Whether there are no entries.
     pub fn is_empty(&self) -> bool
         ensures { IsTrue result ↔ (self.now.entries ≡ []) }
     {

@@ -4,10 +4,12 @@
 
 mod calls;
 mod journals;
+mod session_flags;
 #[cfg(test)]
 mod tests;
 mod views;
 
 pub use calls::{Answer, AttributeQuery, Body, Call, Entry, Reply};
 pub use journals::Journal;
-pub use views::View;
+pub use session_flags::{RW_SESSION, SERIAL_SESSION, is_read_write};
+pub use views::{View, number_of_handle};

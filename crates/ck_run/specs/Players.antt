@@ -18,7 +18,7 @@ pub record IsBroken (is_written : Writing → Type 0) (w : Writing) (bytes : Lis
   pub parts : bytes ≡ part ++ rest
   pub writer : is_written (failed_write (wrote w part))
 
--- a line of these bytes and number can't be kept: it is too long, or memory is wanted
+-- a line of these bytes and number isn't taken: it is too long, or memory is wanted
 abbrev pub IsRefused : ℕ → List ℕ → PlayFault → Type 0
 IsRefused number bytes (fault.Line n) = (n ≡ number) × (4194304 < length bytes)
 IsRefused number bytes fault.Read = ⊥

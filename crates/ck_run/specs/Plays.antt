@@ -105,7 +105,7 @@ pub record IsCutOff (limits : Ranges) (lines : List (List ℕ)) (ended : Bool) (
   pub written : output ≡ output_of limits before ++ part
   pub reply : output_of limits (before ++ cut ∷ []) ≡ output ++ rest
 
--- of `play_with`'s result
+-- what the result of playing says of the lines and of what was written
 abbrev pub Outcome : Ranges → List (List ℕ) → Bool → List ℕ → Result (Unit {0}) PlayFault → Type 0
 Outcome limits lines ended output (Ok u) = AllAnswered limits lines ended output
 Outcome limits lines ended output (Err (fault.Line number)) = IsFirstBadLine limits lines ended output number

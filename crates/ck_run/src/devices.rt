@@ -16,14 +16,15 @@ pub trait Source {
 
 /// Where replies go. It is written as std's `Write` is, and contracts see what was written to it as far as it says.
 pub trait Sink {
-    ghost use Rattle.std.specs.Prelude.{IfOk, ◌≤◌, length};
+    ghost use Rattle.std.specs.Prelude.{IfOk, ◌<◌, ◌≤◌, length};
     ghost use Rattle.ck_run.specs.Devices.{Writing, after_write};
 
     /// Whether this was written to the sink up to now.
     ghost is_written: { Self → Writing → Type 0 };
 
-    /// Takes bytes from the front and says how many it took.
+    /// Takes bytes from the front and says how many it took. It is never asked to take none.
     fn write(&mut self, bytes: &[u8]) -> io::Result<usize>
+        requires some { 0 < length bytes.now }
         ensures bound { IfOk result (λ count. count ≤ length bytes.now) }
         ensures writing { (w : Writing) → is_written self.old w → is_written self.new (after_write w result bytes.now) };
 }

@@ -17,13 +17,14 @@ pub struct MemorySource<'a> {
 }
 
 impl<'a> MemorySource<'a> {
-    ghost use Rattle.std.specs.Prelude.{[]};
+    ghost use Rattle.std.specs.Prelude.{◌≡◌, []};
     ghost use Rattle.ck_run.specs.Devices.{Reading};
     ghost use Rattle.ck_run.specs.MemoryDevices.{IsCount};
 
     /// A source that gives at most `piece` bytes a read. The read of number `fails_at` fails; 0 is none.
     pub fn new(script: &'a [u8], piece: usize, fails_at: u64) -> MemorySource<'a>
-        ensures { ⟦<MemorySource<'a> as Source>⟧.is_read result (record { bytes = []; reads = 0; ends = 0; failures = 0 }) }
+        ensures script { result.script.now ≡ script.now }
+        ensures reading { ⟦<MemorySource<'a> as Source>⟧.is_read result (record { bytes = []; reads = 0; ends = 0; failures = 0 }) }
     {
         MemorySource {
             script,

@@ -35,13 +35,12 @@ pub(crate) fn result_text(
 
 /// Appends the lines of a case to a script, and their replies to its output.
 pub(crate) fn add_case(script: &mut String, output: &mut String, case: &str) -> Result<(), Fail> {
-    for text in case.lines() {
-        if let Some((line, reply)) = text.trim().rsplit_once(" -> ") {
-            script.push_str(line)?;
-            script.push_str("\n")?;
-            output.push_str(reply)?;
-            output.push_str("\n")?;
-        }
+    for text in case.lines().filter(|text| !text.trim().is_empty()) {
+        let (line, reply) = text.trim().rsplit_once(" -> ").ok_or("a line without ->")?;
+        script.push_str(line)?;
+        script.push_str("\n")?;
+        output.push_str(reply)?;
+        output.push_str("\n")?;
     }
     Ok(())
 }

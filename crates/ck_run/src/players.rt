@@ -11,13 +11,10 @@ ghost use Rattle.ck_run.specs.Replies.{reply_text};
 use crate::devices::Sink;
 use crate::faults::PlayFault;
 use crate::replies::push_reply;
-use crate::scripts::{Line, meaning_of};
+use crate::scripts::{LONGEST_LINE, Line, meaning_of};
 use ck_journal::Call;
 use ck_token::Token;
 use std::alloc::Global;
-
-/// The longest line, in bytes without its end.
-const LONGEST_LINE: usize = 4_194_304;
 
 #[derive(Drop)]
 pub(crate) struct Player {
@@ -32,6 +29,7 @@ pub(crate) struct Player {
 
 /// Writes some of these bytes, or answers that the writer failed.
 fn write_some<W: Sink>(writer: &mut W, bytes: &[u8]) -> Result<usize, PlayFault>
+    requires some { 0 < length bytes.now }
     ensures bound { IfOk result (λ count. count ≤ length bytes.now) }
     ensures some { IfOk result (λ count. 0 < count) }
     ensures ok { IfOk result (λ count. (w : Writing) → W.is_written writer.old w

@@ -3,7 +3,6 @@ ghost use Rattle.std.specs.Fmt.{digit_glyph, digits};
 ghost use Rattle.hex.specs.Hex.{encode_lower};
 ghost use Rattle.ck_run.specs.Replies.{bytes_text, answer_text, answers_text, handles_text, body_text, reply_text};
 
-use bitflags::Flags;
 use ck_journal::{Answer, Body, Reply};
 use ck_types::NoMemory;
 
@@ -135,7 +134,7 @@ fn push_body(out: &mut Vec<u8>, body: &Body) -> Result<(), NoMemory>
             sessions,
             rw_sessions,
         } => {
-            push_next(out, flags.bits(), 16)?;
+            push_next(out, flags.number(), 16)?;
             push_next(out, *limit, 10)?;
             push_next(out, *sessions, 10)?;
             push_next(out, *rw_sessions, 10)

@@ -1,6 +1,6 @@
--- What sessions that agree with a history tell of it
-use Rattle.std.proofs.Common.{◌≡◌, ℕ, suc, Bool, true, false, not, ◌||◌, cond, List, [], ◌∷◌, Option, Some, None, refl, sym, ap, ◌∙◌, subst}
-use Rattle.std.proofs.lemmas.Bool.{eqb-true, false≢true}
+-- Readings of sessions that agree with a history
+use Rattle.std.proofs.Common.{◌≡◌, ℕ, suc, Bool, true, false, not, ◌&&◌, ◌||◌, cond, List, [], ◌∷◌, Option, Some, None, refl, sym, ap, ◌∙◌, subst}
+use Rattle.std.proofs.lemmas.Bool.{eqb-true}
 use Rattle.std.proofs.lemmas.Option.{same_Some}
 use Rattle.std.specs.Prelude.{◌==◌, map, filter, find, length, is_some, nat_lt, option_map}
 use Rattle.std.specs.List.{list_any}
@@ -92,8 +92,11 @@ module _ (h : History) (s : SessionsState) (agree : SessionsAgree h s) where
 
   -- ---- its search
 
-  pub remaining-closed : (session : ℕ) → None ≡ found_row session → is_open h session ≡ true → None ≡ remaining_at h session
-  remaining-closed session e o = absurd (false≢true (is_open-not_found session e ∙ o))
+  pub remaining-closed : (session : ℕ) → None ≡ found_row session → None ≡ remaining_at h session
+  remaining-closed session e = ap (λ o. cond (o && is_searching h session) (Some (remaining_objects h session)) None) (is_open-not_found session e)
+
+  remaining-open : (session : ℕ) (row : Session) → Some row ≡ found_row session → cond (is_searching h session) (Some (remaining_objects h session)) None ≡ remaining_at h session
+  remaining-open session row e = ap (λ o. cond (o && is_searching h session) (Some (remaining_objects h session)) None) (is_open-found session row e)
 
   inactive_case : (active : Bool) (found rest : List ℕ) (last : ℕ) → None ≡ cond active (Some (search found last)) None → None ≡ cond active (Some rest) None
   inactive_case true found rest last e = cc
@@ -103,6 +106,7 @@ module _ (h : History) (s : SessionsState) (agree : SessionsAgree h s) where
   remaining-none session row e none =
       inactive_case (is_searching h session) (found_objects h session) (remaining_objects h session) (last_number h session)
       (none ∙ ap (λ (x : Session). x.search) (row-of-found session row e))
+      ∙ remaining-open session row e
 
   active_case : (active : Bool) (found : List ℕ) (last : ℕ) (x : Search) (rest : List ℕ) → IsNonDecreasingBy (λ n. n) found
       → (IsNonDecreasingBy (λ n. n) x.found → rest ≡ filter (λ n. nat_lt x.last n) x.found) → Some x ≡ cond active (Some (search found last)) None
@@ -117,3 +121,4 @@ module _ (h : History) (s : SessionsState) (agree : SessionsAgree h s) where
   remaining-some session row x rest e some is =
       active_case (is_searching h session) (found_objects h session) (last_number h session) x rest (found_objects-rise h session) is
       (some ∙ ap (λ (x : Session). x.search) (row-of-found session row e))
+      ∙ remaining-open session row e

@@ -1,11 +1,11 @@
 -- When sessions, the login and PINs are what a history says
-use Rattle.std.specs.Prelude.{◌≡◌, ◌<◌, ◌≤◌, ◌^◌, ℕ, Bool, true, List, Option, Some, None, map, is_some, if◌then◌else◌}
+use Rattle.std.specs.Prelude.{◌≡◌, ◌<◌, ◌≤◌, ◌&&◌, ◌^◌, ℕ, Bool, true, List, Option, Some, None, map, is_some, if◌then◌else◌}
 use Rattle.ck_types.specs.declared.users.UserType.{UserType}
 use Rattle.ck_types.specs.declared.users.UserType.TheVariants as user
 use Rattle.ck_journal.specs.Histories.{History}
 use Rattle.ck_journal.specs.Pins.{present_pin, tries, is_initialized}
 use Rattle.ck_journal.specs.Searches.{is_searching, found_objects, last_number, remaining_objects}
-use Rattle.ck_journal.specs.Sessions.{openings, flags_of, open_sessions, login, user_logins}
+use Rattle.ck_journal.specs.Sessions.{openings, is_open, flags_of, open_sessions, login, user_logins}
 use Rattle.ck_sessions.specs.declared.session_table.Credential.{Credential}
 use Rattle.ck_sessions.specs.declared.session_table.Search.{Search}
 use Rattle.ck_sessions.specs.declared.session_table.Session.{Session}
@@ -33,9 +33,9 @@ search_of h s = if is_searching h s then Some (record { found = found_objects h 
 abbrev pub session_row : History → ℕ → Session
 session_row h s = record { handle = s; flags = flags_of h s; search = search_of h s }
 
--- what the session's search found and has not handed out, where one is active
+-- what an open session's search found and has not handed out, where one is active
 abbrev pub remaining_at : History → ℕ → Option (List ℕ)
-remaining_at h s = if is_searching h s then Some (remaining_objects h s) else None
+remaining_at h s = if is_open h s && is_searching h s then Some (remaining_objects h s) else None
 
 -- there is room for all sessions that may be open, the user has logged in fewer than 2^31 times, and no user has made more
 -- than three wrong tries

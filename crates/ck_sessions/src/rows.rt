@@ -7,13 +7,10 @@ ghost use Rattle.ck_sessions.specs.declared.session_table.Session.{Session};
 
 use crate::session_table::{Search, Session};
 
-/// CKF_RW_SESSION (PKCS #11 Base 3.0, Session types).
-const RW_SESSION: u64 = 2;
-
 fn is_read_write(row: &Session) -> bool
     ensures { result ≡ is_rw_row row.now }
 {
-    row.flags & RW_SESSION != 0
+    ck_journal::is_read_write(row.flags)
 }
 
 pub(crate) fn has_session(rows: &[Session], session: u64) -> bool

@@ -2,6 +2,7 @@ use crate::rows::{
     count_read_write, end_searches, find_session, has_read_only, has_session, note_last,
     remove_session, set_search,
 };
+use ck_journal::number_of_handle;
 use ck_types::{Limits, NoMemory, Pin, Sequence, UserType};
 use std::alloc::Global;
 use std::marker::Model;
@@ -19,7 +20,9 @@ pub struct Search {
 #[derive(Debug, Drop)]
 pub struct Session {
     pub handle: u64,
+    /// The flags that it was opened with (CK_SESSION_INFO).
     pub flags: u64,
+    /// Its search, where one is active.
     pub search: Option<Search>,
 }
 
@@ -68,9 +71,6 @@ impl Model for Sessions {
     ghost invariant = { λ s. IsSound (vec_capacity s.rows) s.limit s.logins s.so.tries s.user.tries };
 }
 
-/// How far the handles of one object's number stand apart.
-const HANDLE_STEP: u64 = 0x1_0000_0000;
-
 const NO_PIN: Credential = Credential {
     pin: None,
     tries: 0,
@@ -110,8 +110,9 @@ impl Sessions {
         })
     }
 
-    // ---- what the sessions tell of every history that they agree with
+    // ---- readings of every history that the sessions agree with
 
+    /// Whether the token has been initialized.
     pub fn is_initialized(&self) -> bool
         ensures { (h : History) → SessionsAgree h self.now → result ≡ is_initialized h }
     {
@@ -148,6 +149,7 @@ impl Sessions {
         self.openings
     }
 
+    /// Whether the handle is that of an open session.
     pub fn is_open(&self, session: u64) -> bool
         ensures { (h : History) → SessionsAgree h self.now → result ≡ is_open h session }
     {
@@ -165,10 +167,10 @@ impl Sessions {
         }
     }
 
-    /// The numbers of the objects that the open session's search found and has not handed out, rising, or `None` where no
-    /// search is active. It halves its way to their beginning.
+    /// The numbers of the objects that the session's search found and that stand after those it has handed out, rising, or
+    /// `None` where the session has no active search. Their beginning is found by halving.
     pub fn remaining_objects(&self, session: u64) -> Option<&[u64]>
-        ensures { (h : History) → SessionsAgree h self.now → is_open h session ≡ true → option_copied result ≡ remaining_at h session }
+        ensures { (h : History) → SessionsAgree h self.now → option_copied result ≡ remaining_at h session }
     {
         match find_session(self.rows.as_slice(), session) {
             None => None,
@@ -331,14 +333,14 @@ impl Sessions {
         set_search(&mut self.rows, session, Some(search));
     }
 
-    /// Notes which handles the session's search hands out.
+    /// Notes that the session's search hands out these handles; where there is one, its next object comes after the last.
     pub fn hand_out(&mut self, session: u64, handles: &[u64])
         ensures agree { (h : History) (e : Entry) (max : ℕ) → done e ≡ Some (call.FindObjects session max) → handles.now ≡ handles_in e.reply.body
             → SessionsAgree h self.old → SessionsAgree (e ∷ h) self.new }
         ensures limit { self.new.limit ≡ self.old.limit }
     {
         if let Some(handle) = handles.last() {
-            note_last(&mut self.rows, session, *handle % HANDLE_STEP);
+            note_last(&mut self.rows, session, number_of_handle(*handle));
         }
     }
 

@@ -27,7 +27,7 @@ ends_with session row = not (is_set row.attributes attribute.Token) && session =
 abbrev pub is_session_object : StoredObject → Bool
 is_session_object row = not (is_set row.attributes attribute.Token)
 
--- the object ends where its user logs out
+-- the object ends at a logout
 abbrev pub is_private_session_object : StoredObject → Bool
 is_private_session_object row = not (is_set row.attributes attribute.Token) && is_set row.attributes attribute.Private
 

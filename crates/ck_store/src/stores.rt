@@ -58,7 +58,7 @@ impl Store {
         }
     }
 
-    // ---- what the objects tell of every history that they agree with
+    // ---- readings of every history that the objects agree with
 
     /// How many objects have been created.
     pub fn creations(&self) -> u64

@@ -196,7 +196,11 @@ fn token_flags_of(text: Option<&str>) -> Option<TokenFlags> {
             flags = flags | flag;
         }
     }
-    Some(flags)
+    if flags.number() == number {
+        Some(flags)
+    } else {
+        None
+    }
 }
 
 /// Whether the text has these bytes in pairs of hexadecimal digits.
@@ -297,14 +301,29 @@ fn call_again(alloc: Global, text: &str) -> Result<Call, Fail> {
     }
 }
 
+fn debug_text(alloc: Global, call: &Call) -> Result<String, Fail> {
+    match format!(in alloc; "{call:?}") {
+        Ok(text) => Ok(text),
+        Err(_) => Ok(format!(in alloc; "{call:?}")?),
+    }
+}
+
 /// The journal has the entries of the row's first steps, `most` at most, and no others.
-fn check_journal(rt: &impl Abort, journal: &Journal, row: &Row, most: usize) -> Result<(), Fail> {
+fn check_journal(
+    rt: &impl Abort,
+    alloc: Global,
+    journal: &Journal,
+    row: &Row,
+    most: usize,
+) -> Result<(), Fail> {
     let (_, first, second) = *row;
     let mut count = 0u64;
     for (caller, text, expected) in first.iter().chain(second).take(most) {
         count = count.saturating_add(1);
         let entry = journal.entry(count).ok_or("no entry")?;
         assert_eq!(rt; entry.caller, *caller, "{text}");
+        let call = call_again(alloc, text)?;
+        assert_eq!(rt; debug_text(alloc, &entry.call)?, debug_text(alloc, &call)?);
         assert!(rt;
             is_reply(&entry.reply, expected),
             "{text}: {:?}",
@@ -342,7 +361,7 @@ fn check_by_calls(rt: &impl Abort, alloc: Global, row: &Row) -> Result<u64, Fail
     for step in first.iter().chain(second) {
         refused = refused.saturating_add(check_call(rt, alloc, &mut token, step)?);
     }
-    check_journal(rt, token.journal(), row, ALL)?;
+    check_journal(rt, alloc, token.journal(), row, ALL)?;
     Ok(refused)
 }
 
@@ -375,15 +394,16 @@ fn check_by_run(rt: &impl Abort, alloc: Global, row: &Row) -> Result<u64, Fail> 
         Err(Stopped::At { done, token }) => (token, done as usize, 1),
         Err(Stopped::NotMade) => (Token::new(alloc, limits)?, 0, 1),
     };
-    check_journal(rt, token.journal(), row, done)?;
+    check_journal(rt, alloc, token.journal(), row, done)?;
     for step in first.iter().chain(second).skip(done) {
         refused = refused.saturating_add(check_call(rt, alloc, &mut token, step)?);
     }
-    check_journal(rt, token.journal(), row, ALL)?;
+    check_journal(rt, alloc, token.journal(), row, ALL)?;
     Ok(refused)
 }
 
-/// Each row by one call after the other, and by a run. With enough memory no call answers want of it.
+/// Each row by one call after the other, and by a run. With enough memory no call answers want of it; where
+/// `rt try --test --fail-alloc N` refuses a growth, one does.
 #[test]
 fn calls_and_replies(rt: HostRuntime) -> Result<(), Fail> {
     let mut refused = 0u64;

@@ -143,7 +143,7 @@ impl Token {
         }
     }
 
-    // ---- what the token tells of its history
+    // ---- readings of the history
 
     fn is_initialized(&self) -> bool
         ensures { result ≡ is_initialized self.now.history }
@@ -237,7 +237,7 @@ impl Token {
 
     // ---- entries that change nothing else, and refusals
 
-    /// Enters a call that only reads, and hands out its reply.
+    /// Enters a call that changes nothing else, and hands out its reply.
     fn enter(
         &mut self,
         caller: u32,

@@ -233,8 +233,11 @@ impl Record {
     }
 
     /// A copy of the object with the values that a template of C_CopyObject gives (PKCS #11 Base 3.0, Object management
-    /// functions). The template is refused as that of a creation is, but for its class, which is the object's; a copy of
-    /// a private object stays private (CKR_TEMPLATE_INCONSISTENT).
+    /// functions). The template is refused with the code of the first check that fails: a type that the token doesn't know
+    /// (CKR_ATTRIBUTE_TYPE_INVALID) or a value that isn't of its form (CKR_ATTRIBUTE_VALUE_INVALID), item by item; two
+    /// values of one type (CKR_TEMPLATE_INCONSISTENT); an attribute that the object's class doesn't have
+    /// (CKR_ATTRIBUTE_TYPE_INVALID) or that a copy may not be given (CKR_ATTRIBUTE_READ_ONLY), item by item; CKA_PRIVATE
+    /// false for a private object (CKR_TEMPLATE_INCONSISTENT).
     pub fn copied(&self, alloc: Global, template: &Template) -> Result<Record, Refusal>
         ensures { IsRecordUnless (copied_error self.now template.now.items) (with_given template.now.items self.now) result }
     {
@@ -248,8 +251,9 @@ impl Record {
         }
     }
 
-    /// The object with the values that a template of C_SetAttributeValue gives. The template is refused as that of a
-    /// copy is.
+    /// The object with the values that a template of C_SetAttributeValue gives (PKCS #11 Base 3.0, Object management
+    /// functions). The template is refused with the code of the first check that fails: those of `copied` but the last, for
+    /// the attributes that may be set (else CKR_ATTRIBUTE_READ_ONLY).
     pub fn changed(&self, alloc: Global, template: &Template) -> Result<Record, Refusal>
         ensures { IsRecordUnless (changed_error template.now.items) (with_given template.now.items self.now) result }
     {

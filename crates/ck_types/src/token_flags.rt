@@ -67,6 +67,13 @@ impl TokenFlags {
             .with(so_tries == 3, TokenFlags::SO_PIN_LOCKED)
     }
 
+    /// The flags as one number (CK_FLAGS).
+    pub fn number(&self) -> u64
+        ensures { result ≡ self.now.0 }
+    {
+        self.bits()
+    }
+
     /// These flags, and another one where it holds.
     fn with(self, holds: bool, flag: TokenFlags) -> TokenFlags
         ensures { result.0 ≡ with_flag holds flag.0 self.0 }

@@ -1,7 +1,7 @@
 ghost use Rattle.std.specs.Prelude.{◌≡◌};
 ghost use Rattle.ck_types.specs.Users.{user_of, state_number};
 
-/// Who logs in (CK_USER_TYPE; PKCS #11 Base 3.0, Session management functions).
+/// Who logs in (CK_USER_TYPE; PKCS #11 Base 3.0, Session types).
 #[derive(Clone, Copy, Debug, PartialEq, Eq)]
 pub enum UserType {
     /// The security officer (CKU_SO).

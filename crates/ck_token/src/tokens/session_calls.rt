@@ -1,25 +1,12 @@
 ghost use Rattle.std.specs.Prelude.{◌≡◌};
 ghost use Rattle.ck_types.specs.Users.{session_state};
-ghost use Rattle.ck_journal.specs.Sessions.{has_rw_flag};
 
 use super::{Token, done};
-use ck_journal::{Body, Call, Entry, Reply};
+use ck_journal::{Body, Call, Entry, RW_SESSION, Reply, SERIAL_SESSION, is_read_write};
 use ck_types::{NoMemory, Rv, SessionState, TokenFlags, UserType};
 
-/// CKF_RW_SESSION (PKCS #11 Base 3.0, Session types).
-const RW_SESSION: u64 = 2;
-
-/// CKF_SERIAL_SESSION.
-const SERIAL_SESSION: u64 = 4;
-
 /// All flags that a session may be opened with.
-const SESSION_FLAGS: u64 = 6;
-
-fn is_read_write(flags: u64) -> bool
-    ensures { result ≡ has_rw_flag flags }
-{
-    flags & RW_SESSION != 0
-}
+const SESSION_FLAGS: u64 = RW_SESSION | SERIAL_SESSION;
 
 /// The state of a session, by who is logged in and whether the session is read/write.
 pub(super) fn session_state(login: Option<UserType>, is_read_write: bool) -> SessionState

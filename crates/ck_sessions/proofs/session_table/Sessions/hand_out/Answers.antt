@@ -5,7 +5,7 @@ use Rattle.ck_sessions.proofs.session_table.Sessions.hand_out.Goals as goal
 pub returns-in-Some-clause-agree : goal.returns-in-Some-clause-agree
 returns-in-Some-clause-agree c = λ h e max d same agree.
     SessionsAgree-handed h _ (rw (← c.self.view_is) at agree) e _ refl refl refl refl refl c.args.session max c.in-Some.handle.now c.args.handles.now d same
-    c.in-Some.ensures.value c.note_last.ensures.rows
+    c.in-Some.ensures.value (rw c.number_of_handle.ensures at c.note_last.ensures.rows)
 
 pub returns-in_default-clause-agree : goal.returns-in_default-clause-agree
 returns-in_default-clause-agree c = λ h e max d same agree.
