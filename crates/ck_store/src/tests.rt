@@ -92,8 +92,15 @@ fn label(store: &Store, view: View, handle: u64) -> Option<u64>
 }
 
 /// Two session objects of session 1, the second private, a private token object, and a session object of session 2;
-/// their labels have 1 to 4 bytes.
+/// their labels have 1 to 4 bytes. Where memory is refused, they are made again.
 fn filled(rt: &impl Abort, alloc: Global) -> Result<Store, Refusal> {
+    match new_store(rt, alloc) {
+        Err(Refusal::Memory) => new_store(rt, alloc),
+        filled => filled,
+    }
+}
+
+fn new_store(rt: &impl Abort, alloc: Global) -> Result<Store, Refusal> {
     let mut store = Store::new(alloc);
     for (number, session, items) in [
         (1, 1, [(0, DATA), (0x3, &[9; 1]), (0x1, &[0])]),
@@ -147,7 +154,11 @@ fn objects(rt: HostRuntime) -> Result<(), Fail> {
     }
     assert_eq!(rt; store.handle(public(), 1), Some(1));
     assert_eq!(rt; store.handle(public(), 2), None);
-    let longer = record_of(rt.alloc(), &[(0, DATA), (0x3, &[9; 5])])?;
+    let items: &[(u64, &[u8])] = &[(0, DATA), (0x3, &[9; 5])];
+    let longer = match record_of(rt.alloc(), items) {
+        Ok(longer) => longer,
+        Err(_) => record_of(rt.alloc(), items)?,
+    };
     store.set(logged_in(), 4, longer);
     assert_eq!(rt; labels(&store), [Some(1), Some(2), Some(3), Some(5)]);
     store.destroy(logged_in(), 4);
@@ -174,13 +185,7 @@ fn ends_of_sessions_and_logins(rt: HostRuntime) -> Result<(), Fail> {
 #[test]
 fn searches(rt: HostRuntime) -> Result<(), Fail> {
     let alloc = rt.alloc();
-    let store = match filled(&rt, alloc) {
-        Ok(store) => store,
-        Err(refusal) => {
-            assert_eq!(rt; refusal, Refusal::Memory);
-            filled(&rt, alloc)?
-        }
-    };
+    let store = filled(&rt, alloc)?;
     for (user, items, numbers) in SEARCHES {
         let view = if *user { logged_in() } else { public() };
         let template = match template_of(alloc, items) {
