@@ -1,7 +1,8 @@
-ghost use Rattle.std.specs.Prelude.{◌≡◌};
+ghost use Rattle.std.specs.Prelude.{◌≡◌, ◌∷◌, ◌<◌};
 ghost use Rattle.ck_types.specs.declared.return_codes.Rv.TheVariants as rv;
 ghost use Rattle.ck_journal.specs.Answers.{ok, refusal};
 ghost use Rattle.ck_types.specs.declared.users.UserType.TheVariants as user;
+ghost use Rattle.ck_journal.specs.declared.calls.Body.TheVariants as body;
 ghost use Rattle.ck_journal.specs.Histories.{is_wrong_pin};
 ghost use Rattle.ck_journal.specs.Pins.{is_user};
 
@@ -52,6 +53,20 @@ fn done(body: Body) -> Reply
     ensures { result ≡ ok body }
 {
     Reply { rv: Rv::Ok, body }
+}
+
+/// Enters a call that was answered OK and gives nothing beside the code, and hands out its reply.
+fn enter_done(journal: &mut Journal, caller: u32, call: Call) -> Reply
+    requires room { 0 < journal.old.spare }
+    ensures reply { result ≡ ok body.Empty }
+    ensures entries { journal.new.entries ≡ record { caller = caller; call = call; reply = result } ∷ journal.old.entries }
+{
+    journal.push_reserved(Entry {
+        caller,
+        call,
+        reply: done(Body::Empty),
+    });
+    done(Body::Empty)
 }
 
 impl Token {

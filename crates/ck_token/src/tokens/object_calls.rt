@@ -1,4 +1,4 @@
-use super::{Token, done, is_user_in};
+use super::{Token, done, enter_done, is_user_in};
 use crate::queries::queries_reply;
 use ck_journal::{AttributeQuery, Body, Call, Entry, Reply};
 use ck_types::{Attribute, NoMemory, Record, Refusal, Rv, Sequence, Template};
@@ -377,16 +377,12 @@ impl Token {
         let view = self.view();
         self.journal.reserve(1)?;
         self.objects.set(view, object, attributes);
-        self.journal.push_reserved(Entry {
-            caller,
-            call: Call::SetAttributeValue {
-                session,
-                object,
-                template,
-            },
-            reply: done(Body::Empty),
-        });
-        Ok(done(Body::Empty))
+        let call = Call::SetAttributeValue {
+            session,
+            object,
+            template,
+        };
+        Ok(enter_done(&mut self.journal, caller, call))
     }
 
     pub(super) fn destroy_object(
@@ -412,11 +408,7 @@ impl Token {
         let view = self.view();
         self.journal.reserve(1)?;
         self.objects.destroy(view, object);
-        self.journal.push_reserved(Entry {
-            caller,
-            call: Call::DestroyObject { session, object },
-            reply: done(Body::Empty),
-        });
-        Ok(done(Body::Empty))
+        let call = Call::DestroyObject { session, object };
+        Ok(enter_done(&mut self.journal, caller, call))
     }
 }

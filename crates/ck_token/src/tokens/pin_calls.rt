@@ -2,8 +2,8 @@ ghost use Rattle.std.specs.Prelude.{◌≡◌};
 ghost use Rattle.ck_journal.specs.Answers.{is_so_state, logged_in_error};
 ghost use Rattle.ck_journal.specs.Pins.{is_pin, pin_owner};
 
-use super::{Token, done};
-use ck_journal::{Body, Call, Entry, Reply};
+use super::{Token, enter_done};
+use ck_journal::{Call, Reply};
 use ck_types::{NoMemory, Pin, Rv, SessionState, UserType};
 
 /// How many wrong tries lock a user.
@@ -199,12 +199,8 @@ impl Token {
         self.journal.reserve(1)?;
         self.sessions.init_token(pin);
         self.objects.clear();
-        self.journal.push_reserved(Entry {
-            caller,
-            call: Call::InitToken { pin },
-            reply: done(Body::Empty),
-        });
-        Ok(done(Body::Empty))
+        let call = Call::InitToken { pin };
+        Ok(enter_done(&mut self.journal, caller, call))
     }
 
     pub(super) fn init_pin(
@@ -232,12 +228,8 @@ impl Token {
     {
         self.journal.reserve(1)?;
         self.sessions.init_pin(pin);
-        self.journal.push_reserved(Entry {
-            caller,
-            call: Call::InitPin { session, pin },
-            reply: done(Body::Empty),
-        });
-        Ok(done(Body::Empty))
+        let call = Call::InitPin { session, pin };
+        Ok(enter_done(&mut self.journal, caller, call))
     }
 
     pub(super) fn set_pin(
@@ -281,12 +273,8 @@ impl Token {
     {
         self.journal.reserve(1)?;
         self.sessions.set_pin(owner, new);
-        self.journal.push_reserved(Entry {
-            caller,
-            call: Call::SetPin { session, old, new },
-            reply: done(Body::Empty),
-        });
-        Ok(done(Body::Empty))
+        let call = Call::SetPin { session, old, new };
+        Ok(enter_done(&mut self.journal, caller, call))
     }
 
     pub(super) fn login(
@@ -328,12 +316,8 @@ impl Token {
     {
         self.journal.reserve(1)?;
         self.sessions.log_in(user_type);
-        self.journal.push_reserved(Entry {
-            caller,
-            call: Call::Login { session, user, pin },
-            reply: done(Body::Empty),
-        });
-        Ok(done(Body::Empty))
+        let call = Call::Login { session, user, pin };
+        Ok(enter_done(&mut self.journal, caller, call))
     }
 
     pub(super) fn logout(&mut self, caller: u32, session: u64) -> Result<Reply, NoMemory>
@@ -354,12 +338,8 @@ impl Token {
         self.journal.reserve(1)?;
         self.sessions.log_out();
         self.objects.end_private();
-        self.journal.push_reserved(Entry {
-            caller,
-            call: Call::Logout { session },
-            reply: done(Body::Empty),
-        });
-        Ok(done(Body::Empty))
+        let call = Call::Logout { session };
+        Ok(enter_done(&mut self.journal, caller, call))
     }
 }
 

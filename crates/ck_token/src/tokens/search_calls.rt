@@ -3,7 +3,7 @@ ghost use Rattle.ck_journal.specs.Histories.{History};
 ghost use Rattle.ck_journal.specs.Objects.{handle_of, is_visible, view_of};
 ghost use Rattle.ck_store.specs.Agreement.{StoreAgrees};
 
-use super::{Token, done};
+use super::{Token, done, enter_done};
 use ck_journal::{Body, Call, Entry, Reply, View};
 use ck_store::Store;
 use ck_types::{NoMemory, Rv, Sequence, Template};
@@ -125,12 +125,8 @@ impl Token {
         let found = self.objects.find(alloc, view, &template)?;
         self.journal.reserve(1)?;
         self.sessions.start_search(session, found);
-        self.journal.push_reserved(Entry {
-            caller,
-            call: Call::FindObjectsInit { session, template },
-            reply: done(Body::Empty),
-        });
-        Ok(done(Body::Empty))
+        let call = Call::FindObjectsInit { session, template };
+        Ok(enter_done(&mut self.journal, caller, call))
     }
 
     pub(super) fn find_objects(
@@ -204,11 +200,7 @@ impl Token {
     {
         self.journal.reserve(1)?;
         self.sessions.end_search(session);
-        self.journal.push_reserved(Entry {
-            caller,
-            call: Call::FindObjectsFinal { session },
-            reply: done(Body::Empty),
-        });
-        Ok(done(Body::Empty))
+        let call = Call::FindObjectsFinal { session };
+        Ok(enter_done(&mut self.journal, caller, call))
     }
 }

@@ -1,7 +1,7 @@
 ghost use Rattle.std.specs.Prelude.{◌≡◌};
 ghost use Rattle.ck_types.specs.Users.{session_state};
 
-use super::{Token, done};
+use super::{Token, done, enter_done};
 use ck_journal::{Body, Call, Entry, RW_SESSION, Reply, SERIAL_SESSION, is_read_write};
 use ck_types::{NoMemory, Rv, SessionState, TokenFlags, UserType};
 
@@ -102,12 +102,8 @@ impl Token {
         self.journal.reserve(1)?;
         self.sessions.close(session);
         self.objects.end_session(session);
-        self.journal.push_reserved(Entry {
-            caller,
-            call: Call::CloseSession { session },
-            reply: done(Body::Empty),
-        });
-        Ok(done(Body::Empty))
+        let call = Call::CloseSession { session };
+        Ok(enter_done(&mut self.journal, caller, call))
     }
 
     pub(super) fn close_all_sessions(&mut self, caller: u32) -> Result<Reply, NoMemory>
@@ -117,12 +113,8 @@ impl Token {
         self.journal.reserve(1)?;
         self.sessions.close_all();
         self.objects.end_all_sessions();
-        self.journal.push_reserved(Entry {
-            caller,
-            call: Call::CloseAllSessions,
-            reply: done(Body::Empty),
-        });
-        Ok(done(Body::Empty))
+        let call = Call::CloseAllSessions;
+        Ok(enter_done(&mut self.journal, caller, call))
     }
 
     /// The state of an open session.

@@ -12,9 +12,9 @@ invariant_of-self-2 c =
     let attributes = rw (← c.self.view_is) at c.requires.attributes in
     let view = rw (← c.self.view_is) at c.view-view.ensures.view in
     TokenAgrees-done c.self.inside.limits h c.self.inside.sessions c.self.inside.objects c.self.invariant
-    c.args.caller (call.SetAttributeValue c.args.session c.args.object c.args.template) body.Empty c.done.result c.push_reserved.new.self.entries _ _
+    c.args.caller (call.SetAttributeValue c.args.session c.args.object c.args.template) body.Empty c.enter_done.result c.enter_done.new.journal.entries _ _
     (ap (λ e. unless e (ok body.Empty)) error)
-    c.done.ensures (c.push_reserved.ensures.entries ∙ rw c.in_ok-reserve.ensures.entries)
+    c.enter_done.ensures.reply (c.enter_done.ensures.entries ∙ rw c.in_ok-reserve.ensures.entries)
     (λ d. SessionsAgree-done h _ c.self.invariant.sessions _ (call.SetAttributeValue c.args.session c.args.object c.args.template) d refl refl)
     (λ d. c.set.ensures h _ c.args.session c.args.template d view attributes c.self.invariant.objects)
     refl

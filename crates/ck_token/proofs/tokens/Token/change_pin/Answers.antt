@@ -12,8 +12,8 @@ invariant_of-self-2 c =
     let error = rw (← c.self.view_is) at c.requires.error in
     let owner = rw (← c.self.view_is) at c.requires.owner in
     TokenAgrees-done c.self.inside.limits h c.self.inside.sessions c.self.inside.objects c.self.invariant
-    c.args.caller (call.SetPin c.args.session c.args.old c.args.new) body.Empty c.done.result c.push_reserved.new.self.entries _ _ (ap (λ e. unless e (ok body.Empty)) error)
-    (c.done.ensures) (c.push_reserved.ensures.entries ∙ rw c.in_ok-reserve.ensures.entries)
+    c.args.caller (call.SetPin c.args.session c.args.old c.args.new) body.Empty c.enter_done.result c.enter_done.new.journal.entries _ _ (ap (λ e. unless e (ok body.Empty)) error)
+    c.enter_done.ensures.reply (c.enter_done.ensures.entries ∙ rw c.in_ok-reserve.ensures.entries)
     (λ d. c.set_pin.ensures.agree h _ c.args.session c.args.old d (sym owner) c.self.invariant.sessions)
     (λ d. StoreAgrees-done h _ c.self.invariant.objects _ (call.SetPin c.args.session c.args.old c.args.new) d refl)
     c.set_pin.ensures.limit

@@ -11,8 +11,8 @@ invariant_of-self-2 c =
     let error = rw (← c.self.view_is) at c.requires in
     let view = rw (← c.self.view_is) at c.view-view.ensures.view in
     TokenAgrees-done c.self.inside.limits h c.self.inside.sessions c.self.inside.objects c.self.invariant
-    c.args.caller (call.DestroyObject c.args.session c.args.object) body.Empty c.done.result c.push_reserved.new.self.entries _ _ (ap (λ e. unless e (ok body.Empty)) error)
-    c.done.ensures (c.push_reserved.ensures.entries ∙ rw c.in_ok-reserve.ensures.entries)
+    c.args.caller (call.DestroyObject c.args.session c.args.object) body.Empty c.enter_done.result c.enter_done.new.journal.entries _ _ (ap (λ e. unless e (ok body.Empty)) error)
+    c.enter_done.ensures.reply (c.enter_done.ensures.entries ∙ rw c.in_ok-reserve.ensures.entries)
     (λ d. SessionsAgree-done h _ c.self.invariant.sessions _ (call.DestroyObject c.args.session c.args.object) d refl refl)
     (λ d. c.destroy.ensures h _ c.args.session d view c.self.invariant.objects)
     refl

@@ -18,8 +18,8 @@ invariant_of-self-2 c =
     let none = rw (← c.self.view_is) at c.requires.error in
     let error = login_error-none c.self.inside.limits h c.args.session c.args.user c.args.user_type c.args.pin session c.requires.user none in
     TokenAgrees-done c.self.inside.limits h c.self.inside.sessions c.self.inside.objects c.self.invariant
-    c.args.caller (call.Login c.args.session c.args.user c.args.pin) body.Empty c.done.result c.push_reserved.new.self.entries _ _ (ap (λ e. unless e (ok body.Empty)) error)
-    (c.done.ensures) (c.push_reserved.ensures.entries ∙ rw c.in_ok-reserve.ensures.entries)
+    c.args.caller (call.Login c.args.session c.args.user c.args.pin) body.Empty c.enter_done.result c.enter_done.new.journal.entries _ _ (ap (λ e. unless e (ok body.Empty)) error)
+    c.enter_done.ensures.reply (c.enter_done.ensures.entries ∙ rw c.in_ok-reserve.ensures.entries)
     (λ d. c.log_in.ensures.agree h _ c.args.session c.args.user c.args.pin d c.requires.user c.self.invariant.sessions)
     (λ d. StoreAgrees-done h _ c.self.invariant.objects _ (call.Login c.args.session c.args.user c.args.pin) d refl)
     c.log_in.ensures.limit

@@ -11,8 +11,8 @@ invariant_of-self-2 c =
     let h = c.self.inside.journal.entries in
     let error = rw (← c.self.view_is) at c.requires in
     TokenAgrees-done c.self.inside.limits h c.self.inside.sessions c.self.inside.objects c.self.invariant
-    c.args.caller (call.Logout c.args.session) body.Empty c.done.result c.push_reserved.new.self.entries _ _ (ap (λ e. unless e (ok body.Empty)) error)
-    (c.done.ensures) (c.push_reserved.ensures.entries ∙ rw c.in_ok-reserve.ensures.entries)
+    c.args.caller (call.Logout c.args.session) body.Empty c.enter_done.result c.enter_done.new.journal.entries _ _ (ap (λ e. unless e (ok body.Empty)) error)
+    c.enter_done.ensures.reply (c.enter_done.ensures.entries ∙ rw c.in_ok-reserve.ensures.entries)
     (λ d. c.log_out.ensures.agree h _ c.args.session d c.self.invariant.sessions)
     (λ d. c.end_private.ensures h _ c.args.session d c.self.invariant.objects)
     c.log_out.ensures.limit

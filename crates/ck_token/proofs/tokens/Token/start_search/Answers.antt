@@ -11,8 +11,8 @@ invariant_of-self-2 c =
     let error = rw (← c.self.view_is) at c.requires in
     let view = rw (← c.self.view_is) at c.view-view.ensures.view in
     TokenAgrees-done c.self.inside.limits h c.self.inside.sessions c.self.inside.objects c.self.invariant
-    c.args.caller (call.FindObjectsInit c.args.session c.args.template) body.Empty c.done.result c.push_reserved.new.self.entries _ _ (ap (λ e. unless e (ok body.Empty)) error)
-    c.done.ensures (c.push_reserved.ensures.entries ∙ rw c.in_ok-reserve.ensures.entries)
+    c.args.caller (call.FindObjectsInit c.args.session c.args.template) body.Empty c.enter_done.result c.enter_done.new.journal.entries _ _ (ap (λ e. unless e (ok body.Empty)) error)
+    c.enter_done.ensures.reply (c.enter_done.ensures.entries ∙ rw c.in_ok-reserve.ensures.entries)
     (λ d. c.start_search.ensures.agree h _ c.args.template d (c.in_ok-found.ensures h c.self.invariant.objects view) c.self.invariant.sessions)
     (λ d. StoreAgrees-done h _ c.self.invariant.objects _ (call.FindObjectsInit c.args.session c.args.template) d refl)
     c.start_search.ensures.limit
