@@ -100,11 +100,11 @@ pub is_over-lines_in : (xs : List ℕ) → is_over (lines_in xs) false ≡ true
 is_over-lines_in xs = rw (has_first xs).parts
 
 -- the first line to come goes on with the open line
-pub first_to_come : (all before to_come more : List (List ℕ)) (open_line piece : List ℕ)
-    → all ≡ before ++ onto open_line to_come → to_come ≡ piece ∷ more → all ≡ before ++ (open_line ++ piece) ∷ more
-first_to_come all before to_come more open_line piece e f = e ∙ ap (λ lines. before ++ onto open_line lines) f
+pub first_later : (all before later more : List (List ℕ)) (open_line piece : List ℕ)
+    → all ≡ before ++ onto open_line later → later ≡ piece ∷ more → all ≡ before ++ (open_line ++ piece) ∷ more
+first_later all before later more open_line piece e f = e ∙ ap (λ lines. before ++ onto open_line lines) f
 
 -- once it is answered, the next line is open
-pub next_to_come : (all before : List (List ℕ)) (l open_line more : List ℕ) → all ≡ before ++ l ∷ lines_in more → open_line ≡ [] → all ≡ (before ++ l ∷ []) ++ onto open_line (lines_in more)
-next_to_come all before l open_line more e none =
+pub next_later : (all before : List (List ℕ)) (l open_line more : List ℕ) → all ≡ before ++ l ∷ lines_in more → open_line ≡ [] → all ≡ (before ++ l ∷ []) ++ onto open_line (lines_in more)
+next_later all before l open_line more e none =
     e ∙ ap (λ lines. before ++ l ∷ lines) (onto-empty (lines_in more) (has_first more) ∙ ap (λ bytes. onto bytes (lines_in more)) (sym none)) ∙ sym (append_assoc before (l ∷ []) (onto open_line (lines_in more)))

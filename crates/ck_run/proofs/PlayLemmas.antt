@@ -6,7 +6,7 @@ use Rattle.std.specs.Prelude.{◌==◌, if◌then◌else◌}
 use Rattle.ck_types.specs.TokenLimits.{Ranges}
 use Rattle.ck_token.specs.TokenStates.{TokenState}
 use Rattle.ck_run.specs.Devices.{Reading, Writing, end_read, failed_read, read_on}
-use Rattle.ck_run.specs.Players.{HasAnswered, IsStopped, IsFed, IsReading, IsTurn, IsOfLine, onto}
+use Rattle.ck_run.specs.Players.{HasAnswered, IsStopped, IsAnsweredSoFar, IsReading, IsTurn, IsOfLine, onto}
 use Rattle.ck_run.specs.Plays.{lines_in, output_of, IsPlayed, AreReads, failed_reads, one_if, Outcome}
 use Rattle.ck_run.specs.declared.faults.PlayFault.{PlayFault}
 use Rattle.ck_run.specs.declared.faults.PlayFault.TheVariants as fault
@@ -48,11 +48,11 @@ played-read_failed limits turns read written reads player A B P f e lt h more =
       script = h.script;
       ended = false;
       reads = suc reads;
-      output = output_of limits h.fed.before;
+      output = output_of limits h.so_far.before;
       reader = same_count B (read.bytes ++ h.script) (suc (read.reads + reads)) (read.reads + suc reads) read.ends (suc read.failures) (one_more read.reads reads) (more _ h.reader);
-      writer = h.fed.answered.writer;
+      writer = h.so_far.answered.writer;
       within = omega arith;
-      outcome = record { before = h.fed.before; open_line = player.open_line.items; no_end = refl; parts = h.fed.parts; good = h.fed.answered.good; written = refl };
+      outcome = record { before = h.so_far.before; open_line = player.open_line.items; no_end = refl; parts = h.so_far.parts; good = h.so_far.answered.good; written = refl };
     })
 
 -- no more reads are allowed
@@ -62,11 +62,11 @@ played-out limits turns read written reads player A P e h = record {
   script = h.script;
   ended = false;
   reads = reads;
-  output = output_of limits h.fed.before;
+  output = output_of limits h.so_far.before;
   reader = h.reader;
-  writer = h.fed.answered.writer;
+  writer = h.so_far.answered.writer;
   within = e;
-  outcome = record { before = h.fed.before; open_line = player.open_line.items; no_end = refl; parts = h.fed.parts; good = h.fed.answered.good; written = refl };
+  outcome = record { before = h.so_far.before; open_line = player.open_line.items; no_end = refl; parts = h.so_far.parts; good = h.so_far.answered.good; written = refl };
 }
 
 of_line-reads : (f : PlayFault) (n : ℕ) → IsOfLine f → n ≡ failed_reads n (Err f)
@@ -102,44 +102,44 @@ stopped limits turns read written script lines ended reads B P f d same e le h s
 -- the end, where the last line is answered
 pub played-ended : (limits : Ranges) (turns : ℕ) (read : Reading) (written : Writing) (reads : ℕ) (player : Player) (token : TokenState) (number count : ℕ) (bytes : List ℕ) (A B : Reading → Type 0) (P Q : Writing → Type 0)
     → reads < turns → count ≡ 0 → (h : IsReading limits read written reads player A P) → ((r : Reading) → A r → B (if count == 0 then end_read r else read_on r bytes))
-    → HasAnswered limits written (h.fed.before ++ player.open_line.items ∷ []) token number Q → IsPlayed limits turns read written B Q (Ok tt)
+    → HasAnswered limits written (h.so_far.before ++ player.open_line.items ∷ []) token number Q → IsPlayed limits turns read written B Q (Ok tt)
 played-ended limits turns read written reads player token number count bytes A B P Q lt none h more answered = record {
   script = h.script;
   ended = true;
   reads = suc reads;
-  output = output_of limits (h.fed.before ++ player.open_line.items ∷ []);
+  output = output_of limits (h.so_far.before ++ player.open_line.items ∷ []);
   reader = at_end read h.script reads count bytes A B none h.reader more;
   writer = answered.writer;
   within = omega arith;
-  outcome = subst (λ (ls : List (List ℕ)). Outcome limits ls true (output_of limits (h.fed.before ++ player.open_line.items ∷ [])) (Ok tt)) (sym h.fed.parts)
+  outcome = subst (λ (ls : List (List ℕ)). Outcome limits ls true (output_of limits (h.so_far.before ++ player.open_line.items ∷ [])) (Ok tt)) (sym h.so_far.parts)
       (record { end_found = refl; good = answered.good; written = refl });
 }
 
 -- the end, where the last line isn't answered
 pub played-ended_stopped : (limits : Ranges) (turns : ℕ) (read : Reading) (written : Writing) (reads : ℕ) (player : Player) (count : ℕ) (bytes : List ℕ) (A B : Reading → Type 0) (P Q : Writing → Type 0) (f d : PlayFault)
     → f ≡ d → reads < turns → count ≡ 0 → (h : IsReading limits read written reads player A P) → ((r : Reading) → A r → B (if count == 0 then end_read r else read_on r bytes))
-    → IsStopped limits written (h.fed.before ++ player.open_line.items ∷ []) true Q d → IsPlayed limits turns read written B Q (Err f)
+    → IsStopped limits written (h.so_far.before ++ player.open_line.items ∷ []) true Q d → IsPlayed limits turns read written B Q (Err f)
 played-ended_stopped limits turns read written reads player count bytes A B P Q f d same lt none h more s =
-    stopped limits turns read written h.script _ true (suc reads) B Q f d same h.fed.parts (omega arith) (at_end read h.script reads count bytes A B none h.reader more) s
+    stopped limits turns read written h.script _ true (suc reads) B Q f d same h.so_far.parts (omega arith) (at_end read h.script reads count bytes A B none h.reader more) s
 
 -- further bytes, of which a line isn't answered
 pub played-fed_stopped : (limits : Ranges) (turns : ℕ) (read : Reading) (written : Writing) (reads : ℕ) (player : Player) (count : ℕ) (bytes : List ℕ) (A B : Reading → Type 0) (P Q : Writing → Type 0) (f d : PlayFault)
     → f ≡ d → reads < turns → (count == 0) ≡ false → (h : IsReading limits read written reads player A P) → ((r : Reading) → A r → B (if count == 0 then end_read r else read_on r bytes))
-    → IsStopped limits written (h.fed.before ++ onto player.open_line.items (lines_in bytes)) false Q d → IsPlayed limits turns read written B Q (Err f)
+    → IsStopped limits written (h.so_far.before ++ onto player.open_line.items (lines_in bytes)) false Q d → IsPlayed limits turns read written B Q (Err f)
 played-fed_stopped limits turns read written reads player count bytes A B P Q f d same lt some h more s =
-    stopped limits turns read written (h.script ++ bytes) _ false (suc reads) B Q f d same (lines_in-read_on h.script bytes h.fed.before player.open_line.items h.fed.parts) (omega arith)
+    stopped limits turns read written (h.script ++ bytes) _ false (suc reads) B Q f d same (lines_in-read_on h.script bytes h.so_far.before player.open_line.items h.so_far.parts) (omega arith)
     (further read h.script reads count bytes A B some h.reader more) s
 
 -- further bytes
-pub reading-fed : (limits : Ranges) (read : Reading) (written : Writing) (reads : ℕ) (player next : Player) (count : ℕ) (bytes : List ℕ) (A B : Reading → Type 0) (P Q : Writing → Type 0)
+pub reading-so_far : (limits : Ranges) (read : Reading) (written : Writing) (reads : ℕ) (player next : Player) (count : ℕ) (bytes : List ℕ) (A B : Reading → Type 0) (P Q : Writing → Type 0)
     → (count == 0) ≡ false → (h : IsReading limits read written reads player A P) → ((r : Reading) → A r → B (if count == 0 then end_read r else read_on r bytes))
-    → IsFed limits written (h.fed.before ++ onto player.open_line.items (lines_in bytes)) [] next Q → IsReading limits read written (suc reads) next B Q
-reading-fed limits read written reads player next count bytes A B P Q some h more fed = record {
+    → IsAnsweredSoFar limits written (h.so_far.before ++ onto player.open_line.items (lines_in bytes)) [] next Q → IsReading limits read written (suc reads) next B Q
+reading-so_far limits read written reads player next count bytes A B P Q some h more so_far = record {
   script = h.script ++ bytes;
-  fed = record {
-    before = fed.before;
-    parts = lines_in-read_on h.script bytes h.fed.before player.open_line.items h.fed.parts ∙ fed.parts;
-    answered = fed.answered;
+  so_far = record {
+    before = so_far.before;
+    parts = lines_in-read_on h.script bytes h.so_far.before player.open_line.items h.so_far.parts ∙ so_far.parts;
+    answered = so_far.answered;
   };
   reader = further read h.script reads count bytes A B some h.reader more;
 }
@@ -149,7 +149,7 @@ pub reading-nothing : (limits : Ranges) (read : Reading) (written : Writing) (pl
     → player.token ≡ record { limits = limits; history = [] } → player.open_line.items ≡ [] → player.number ≡ 1 → A read → P written → IsReading limits read written 0 player A P
 reading-nothing limits read written player A P token empty number h w = record {
   script = [];
-  fed = record {
+  so_far = record {
     before = [];
     parts = ap (λ (bytes : List ℕ). bytes ∷ []) (sym empty);
     answered = record {

@@ -7,7 +7,7 @@ use Rattle.ck_journal.specs.Histories.{History}
 use Rattle.ck_journal.specs.declared.calls.Call.{Call}
 use Rattle.ck_token.specs.TokenStates.{TokenState, after, entry_of}
 use Rattle.ck_run.specs.Devices.{Writing, wrote, failed_write}
-use Rattle.ck_run.specs.Players.{HasAnswered, IsStopped, IsUnwritten, IsBroken, IsCalled, IsRefused}
+use Rattle.ck_run.specs.Players.{HasAnswered, IsStopped, IsUnwritten, WriteFailed, IsCalled, IsRefused}
 use Rattle.ck_run.specs.Plays.{calls_in, output_of, replies_text, is_over, is_bad}
 use Rattle.ck_run.specs.Replies.{reply_text}
 use Rattle.ck_run.specs.Scripts.{meaning}
@@ -95,7 +95,7 @@ stopped-short limits written lines later ended l token number P f e h =
 -- a reply whose writing failed with a beginning of it written
 cut_off : (limits : Ranges) (written : Writing) (lines later : List (List ℕ)) (ended : Bool) (l : List ℕ) (old : TokenState) (number : ℕ) (P Q : Writing → Type 0) (caller : ℕ) (call : Call)
     → line.Called caller call ≡ meaning l → is_over later ended ≡ true → HasAnswered limits written lines old number P
-    → IsBroken Q (wrote written (output_of limits lines)) (reply_text (answer old.limits old.history call)) → IsStopped limits written (lines ++ l ∷ later) ended Q fault.Write
+    → WriteFailed Q (wrote written (output_of limits lines)) (reply_text (answer old.limits old.history call)) → IsStopped limits written (lines ++ l ∷ later) ended Q fault.Write
 cut_off limits written lines later ended l old number P Q caller call is over h b = record {
   of_line = tt;
   output = output_of limits lines ++ b.part;
@@ -133,9 +133,9 @@ stopped-call limits written lines later ended l old number P Q caller call fault
 stopped-call limits written lines later ended l old number P Q caller call fault.Turns is over h u = absurd u
 
 -- a line that can't be kept
-pub stopped-keep : (limits : Ranges) (written : Writing) (lines later : List (List ℕ)) (ended : Bool) (l : List ℕ) (token : TokenState) (number : ℕ) (P : Writing → Type 0) (f : PlayFault)
+pub stopped-extend_open_line : (limits : Ranges) (written : Writing) (lines later : List (List ℕ)) (ended : Bool) (l : List ℕ) (token : TokenState) (number : ℕ) (P : Writing → Type 0) (f : PlayFault)
     → IsRefused number l f → HasAnswered limits written lines token number P → IsStopped limits written (lines ++ l ∷ later) ended P f
-stopped-keep limits written lines later ended l token number P (fault.Line n) r h = record {
+stopped-extend_open_line limits written lines later ended l token number P (fault.Line n) r h = record {
   of_line = tt;
   output = output_of limits lines;
   writer = h.writer;
@@ -151,10 +151,10 @@ stopped-keep limits written lines later ended l token number P (fault.Line n) r 
     written = refl;
   };
 }
-stopped-keep limits written lines later ended l token number P fault.Read r h = absurd r
-stopped-keep limits written lines later ended l token number P fault.Write r h = absurd r
-stopped-keep limits written lines later ended l token number P fault.Memory r h = short limits written lines later ended l token number P h
-stopped-keep limits written lines later ended l token number P fault.Turns r h = absurd r
+stopped-extend_open_line limits written lines later ended l token number P fault.Read r h = absurd r
+stopped-extend_open_line limits written lines later ended l token number P fault.Write r h = absurd r
+stopped-extend_open_line limits written lines later ended l token number P fault.Memory r h = short limits written lines later ended l token number P h
+stopped-extend_open_line limits written lines later ended l token number P fault.Turns r h = absurd r
 
 -- the same fault, of the same lines
 pub stopped-same : (limits : Ranges) (written : Writing) (all lines : List (List ℕ)) (ended : Bool) (P : Writing → Type 0) (f g : PlayFault)

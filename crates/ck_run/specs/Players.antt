@@ -12,7 +12,7 @@ use Rattle.ck_run.specs.declared.faults.PlayFault.TheVariants as fault
 use Rattle.ck_run.specs.declared.players.Player.{Player}
 
 -- a write failed with a beginning of these bytes written
-pub record IsBroken (is_written : Writing → Type 0) (w : Writing) (bytes : List ℕ) : Type 0 where
+pub record WriteFailed (is_written : Writing → Type 0) (w : Writing) (bytes : List ℕ) : Type 0 where
   pub part : List ℕ
   pub rest : List ℕ
   pub parts : bytes ≡ part ++ rest
@@ -30,7 +30,7 @@ IsRefused number bytes fault.Turns = ⊥
 abbrev pub IsUnwritten : (Writing → Type 0) → Writing → List ℕ → PlayFault → Type 0
 IsUnwritten is_written w bytes (fault.Line n) = ⊥
 IsUnwritten is_written w bytes fault.Read = ⊥
-IsUnwritten is_written w bytes fault.Write = IsBroken is_written w bytes
+IsUnwritten is_written w bytes fault.Write = WriteFailed is_written w bytes
 IsUnwritten is_written w bytes fault.Memory = is_written w
 IsUnwritten is_written w bytes fault.Turns = ⊥
 
@@ -68,16 +68,16 @@ abbrev pub onto : List ℕ → List (List ℕ) → List (List ℕ)
 onto open_line [] = open_line ∷ []
 onto open_line (l ∷ lines) = (open_line ++ l) ∷ lines
 
--- of all lines these are still to come, of which the first goes on with the open line; those before are answered
-pub record IsFed (limits : Ranges) (written : Writing) (lines to_come : List (List ℕ)) (player : Player) (is_written : Writing → Type 0) : Type 0 where
+-- of all lines these come later, of which the first goes on with the open line; those before are answered
+pub record IsAnsweredSoFar (limits : Ranges) (written : Writing) (lines later : List (List ℕ)) (player : Player) (is_written : Writing → Type 0) : Type 0 where
   pub before : List (List ℕ)
-  pub parts : lines ≡ before ++ onto player.open_line.items to_come
+  pub parts : lines ≡ before ++ onto player.open_line.items later
   pub answered : HasAnswered limits written before player.token player.number is_written
 
 -- what a reader gave in so many reads is answered as far as its lines are over
 pub record IsReading (limits : Ranges) (read : Reading) (written : Writing) (reads : ℕ) (player : Player) (is_read : Reading → Type 0) (is_written : Writing → Type 0) : Type 0 where
   pub script : List ℕ
-  pub fed : IsFed limits written (lines_in script) [] player is_written
+  pub so_far : IsAnsweredSoFar limits written (lines_in script) [] player is_written
   pub reader : is_read (record { bytes = read.bytes ++ script; reads = read.reads + reads; ends = read.ends; failures = read.failures })
 
 -- ---- what the steps of playing do, whatever was answered before them
@@ -102,7 +102,7 @@ abbrev pub AnswersChunk : List ℕ → Player → (Writing → Type 0) → Playe
 AnswersChunk chunk old was_written new is_written =
     (limits : Ranges) (written : Writing) (lines : List (List ℕ))
     → HasAnswered limits written lines old.token old.number was_written
-    → IsFed limits written (lines ++ onto old.open_line.items (lines_in chunk)) [] new is_written
+    → IsAnsweredSoFar limits written (lines ++ onto old.open_line.items (lines_in chunk)) [] new is_written
 
 -- playing ends with this fault in these further bytes
 abbrev pub StopsInChunk : List ℕ → Player → (Writing → Type 0) → (Writing → Type 0) → PlayFault → Type 0

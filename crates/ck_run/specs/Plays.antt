@@ -75,7 +75,7 @@ pub record IsFirstBadLine (limits : Ranges) (lines : List (List ℕ)) (ended : B
   pub written : output ≡ output_of limits before
 
 -- all lines that are over are answered, where only further bytes or the end would end the last
-pub record IsUpToDate (limits : Ranges) (lines : List (List ℕ)) (ended : Bool) (output : List ℕ) : Type 0 where
+pub record EndedLinesAnswered (limits : Ranges) (lines : List (List ℕ)) (ended : Bool) (output : List ℕ) : Type 0 where
   pub before : List (List ℕ)
   pub open_line : List ℕ
   pub no_end : ended ≡ false
@@ -84,7 +84,7 @@ pub record IsUpToDate (limits : Ranges) (lines : List (List ℕ)) (ended : Bool)
   pub written : output ≡ output_of limits before
 
 -- the lines before one of them are answered
-pub record IsShort (limits : Ranges) (lines : List (List ℕ)) (output : List ℕ) : Type 0 where
+pub record LinesBeforeAnswered (limits : Ranges) (lines : List (List ℕ)) (output : List ℕ) : Type 0 where
   pub before : List (List ℕ)
   pub unanswered : List ℕ
   pub later : List (List ℕ)
@@ -93,7 +93,7 @@ pub record IsShort (limits : Ranges) (lines : List (List ℕ)) (output : List �
   pub written : output ≡ output_of limits before
 
 -- the lines before one of them are answered, and a beginning of the reply to this one is written
-pub record IsCutOff (limits : Ranges) (lines : List (List ℕ)) (ended : Bool) (output : List ℕ) : Type 0 where
+pub record ReplyPartlyWritten (limits : Ranges) (lines : List (List ℕ)) (ended : Bool) (output : List ℕ) : Type 0 where
   pub before : List (List ℕ)
   pub cut : List ℕ
   pub later : List (List ℕ)
@@ -109,10 +109,10 @@ pub record IsCutOff (limits : Ranges) (lines : List (List ℕ)) (ended : Bool) (
 abbrev pub Outcome : Ranges → List (List ℕ) → Bool → List ℕ → Result (Unit {0}) PlayFault → Type 0
 Outcome limits lines ended output (Ok u) = AllAnswered limits lines ended output
 Outcome limits lines ended output (Err (fault.Line number)) = IsFirstBadLine limits lines ended output number
-Outcome limits lines ended output (Err fault.Read) = IsUpToDate limits lines ended output
-Outcome limits lines ended output (Err fault.Write) = IsCutOff limits lines ended output
-Outcome limits lines ended output (Err fault.Memory) = IsShort limits lines output
-Outcome limits lines ended output (Err fault.Turns) = IsUpToDate limits lines ended output
+Outcome limits lines ended output (Err fault.Read) = EndedLinesAnswered limits lines ended output
+Outcome limits lines ended output (Err fault.Write) = ReplyPartlyWritten limits lines ended output
+Outcome limits lines ended output (Err fault.Memory) = LinesBeforeAnswered limits lines output
+Outcome limits lines ended output (Err fault.Turns) = EndedLinesAnswered limits lines ended output
 
 -- ---- the devices
 

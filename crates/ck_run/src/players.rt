@@ -80,7 +80,11 @@ fn line_end(bytes: &[u8]) -> Option<usize>
 }
 
 /// Adds to the open line, of this number, what is next of it.
-pub(crate) fn keep(open_line: &mut Vec<u8>, piece: &[u8], number: u64) -> Result<(), PlayFault>
+pub(crate) fn extend_open_line(
+    open_line: &mut Vec<u8>,
+    piece: &[u8],
+    number: u64,
+) -> Result<(), PlayFault>
     ensures ok { OnOk result (open_line.new.items ≡ open_line.old.items ++ piece.now) }
     ensures short { OnOk result (length open_line.new.items ≤ 4194304) }
     ensures err { IfErr result (IsRefused number (open_line.old.items ++ piece.now)) }
@@ -174,12 +178,12 @@ fn complete_line<W: Sink>(
     ensures err { IfErr result (StopsAtLine (player.old.open_line.items ++ piece.now) player.old.token player.old.number
         (W.is_written writer.old) (W.is_written writer.new)) }
 {
-    keep(&mut player.open_line, piece, player.number)?;
+    extend_open_line(&mut player.open_line, piece, player.number)?;
     end_line(player, alloc, writer)
 }
 
 /// Answers the lines that end in this piece of a script, and keeps what follows them.
-pub(crate) fn feed<W: Sink>(
+pub(crate) fn answer_chunk<W: Sink>(
     player: &mut Player,
     alloc: Global,
     writer: &mut W,
@@ -193,5 +197,5 @@ pub(crate) fn feed<W: Sink>(
         complete_line(player, alloc, writer, piece)?;
         rest = more;
     }
-    keep(&mut player.open_line, rest, player.number)
+    extend_open_line(&mut player.open_line, rest, player.number)
 }

@@ -7,7 +7,7 @@ ghost use Rattle.ck_run.specs.Plays.{IsPlayed};
 
 use crate::devices::{Sink, Source};
 use crate::faults::PlayFault;
-use crate::players::{Player, end_line, feed};
+use crate::players::{Player, answer_chunk, end_line};
 use ck_token::Token;
 use ck_types::{Limits, NoMemory};
 use std::alloc::Global;
@@ -117,7 +117,7 @@ fn take_turn<R: Source, W: Sink>(
         end_line(player, alloc, writer)?;
         return Ok(true);
     }
-    feed(player, alloc, writer, &buffer[..count])?;
+    answer_chunk(player, alloc, writer, &buffer[..count])?;
     Ok(false)
 }
 
