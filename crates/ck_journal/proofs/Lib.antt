@@ -2,6 +2,7 @@ pub mod Changes
 pub mod EntryLemmas
 pub mod LegalLemmas
 pub mod LoginMoves
+pub mod NumberTests
 pub mod ObjectMoves
 pub mod RefusalLemmas
 pub mod RisingLemmas

@@ -1,7 +1,8 @@
 -- How objects move by one entry
 use Rattle.std.proofs.Common.{◌≡◌, ℕ, zero, suc, ◌+◌, ◌<◌, ◌≤◌, Bool, true, false, cond, not, ◌&&◌, List, [], ◌∷◌, ◌++◌, Option, Some, None, length, refl, sym, ap, ◌∙◌, subst, arith}
 use Rattle.std.specs.Prelude.{◌==◌, find, filter}
-use Rattle.std.proofs.lemmas.Bool.{eqb-true, eq-eqb, ne_eqb}
+use Rattle.std.proofs.Math.Bool.{and-true}
+use Rattle.std.proofs.lemmas.Bool.{eqb-true}
 use Rattle.ck_types.specs.declared.templates.Item.{Item}
 use Rattle.ck_journal.specs.declared.calls.Call.{Call}
 use Rattle.ck_journal.specs.declared.calls.Call.TheVariants as call
@@ -9,6 +10,7 @@ use Rattle.ck_journal.specs.declared.calls.Entry.{Entry}
 use Rattle.ck_journal.specs.Histories.{History, done, leaves_objects}
 use Rattle.ck_journal.specs.Objects.{creates, creations, creation_session, session_of, creation_attributes, attributes_after, attributes_of, ends, has_object, objects, names, names_with, view_of, named_attributes, object_named}
 use Rattle.ck_journal.specs.Sessions.{numbers}
+use Rattle.ck_journal.proofs.NumberTests.{below_suc, same_number, ended_test}
 use Rattle.ck_journal.proofs.Selections.{selected, selected-suc, selected-same, find-filter_same}
 
 -- ---- steps, over what was done
@@ -30,22 +32,6 @@ attributes_step done count n named is_named attributes =
 -- the rows of the objects that haven't ended
 abbrev pub object_rows : {X : Type 0} → (ℕ → ℕ → List Item → X) → History → List X
 object_rows row h = selected (has_object h) (λ n. row n (session_of h n) (attributes_of h n)) (creations h)
-
-below_suc : (k n : ℕ) → k ≤ n → k == suc n ≡ false
-below_suc k n h = ne_eqb k (suc n) (λ e. omega arith)
-
-same_number : (k : ℕ) → k == k ≡ true
-same_number k = eq-eqb k k refl
-
-ended_test : (ended was_there : Bool) → cond ended false was_there ≡ was_there && not ended
-ended_test true true = refl
-ended_test true false = refl
-ended_test false true = refl
-ended_test false false = refl
-
-and-true : (b : Bool) → (b && true) ≡ b
-and-true true = refl
-and-true false = refl
 
 -- a creation ends and changes nothing
 ends-creation : (c : Option Call) (attributes : List Item) (creator : ℕ) (is_named : ℕ → Bool) → creates c ≡ true → ends c attributes creator is_named ≡ false

@@ -1,32 +1,42 @@
 -- Numbers that rise
 use Rattle.std.proofs.Common.{◌≡◌, ℕ, zero, suc, ◌+◌, ◌-◌, ◌<◌, ◌≤◌, Bool, true, false, cond, List, [], ◌∷◌, ◌++◌, length, drop, get_or, refl, sym, ap, ◌∙◌, subst, arith}
 use Rattle.std.specs.Prelude.{filter, map, nat_lt, nat_le}
-use Rattle.std.specs.List.{All, AllWithin}
+use Rattle.std.specs.List.{All, AllPairs, AllWithin}
 use Rattle.std.specs.List.Sorted.{IsNonDecreasingBy, IsPartitionPoint}
-use Rattle.std.proofs.lemmas.Bool.{leb-true, leb-false, le-ltb, lt-ltb}
+use Rattle.std.proofs.lemmas.Bool.{leb-true, leb-false, le-ltb, lt-ltb, ltb-true, ltb-false}
 use Rattle.std.proofs.lemmas.List.Elements.{All-push}
 use Rattle.std.proofs.lemmas.List.Kept.{IsNonDecreasingBy-filter}
-use Rattle.std.proofs.lemmas.List.Sorted.{IsNonDecreasingBy-short, IsNonDecreasingBy-push}
+use Rattle.std.proofs.lemmas.List.Quantifiers.{all_pairs_push}
+use Rattle.std.proofs.lemmas.List.Sorted.{IsNonDecreasingBy-short}
 use Rattle.ck_journal.specs.declared.calls.Entry.{Entry}
 use Rattle.ck_journal.specs.Histories.{History, done}
 use Rattle.ck_journal.specs.Objects.{objects, has_object, creations}
 use Rattle.ck_journal.specs.Searches.{starts_search, matching_objects, search_template, found_objects}
 use Rattle.ck_journal.specs.Sessions.{numbers}
 
--- none is above the last
-numbers-bound : (n : ℕ) → All (λ k. k ≤ n) (numbers n)
-numbers-bound zero = λ k d below. absurd (omega arith)
-numbers-bound (suc n) =
-    let earlier = numbers-bound n in
-    All-push (λ k. k ≤ suc n) (numbers n) (suc n) (λ k d below. let b = earlier k d below in omega arith) (omega arith)
+numbers-below : (n : ℕ) → All (λ k. k < suc n) (numbers n)
+numbers-below zero = λ k d within. absurd (omega arith)
+numbers-below (suc n) = All-push (λ k. k < suc (suc n)) (numbers n) (suc n) (λ k d within. omega (arith, numbers-below n k d within)) (omega arith)
 
-pub numbers-rise : (n : ℕ) → IsNonDecreasingBy (λ k. k) (numbers n)
-numbers-rise zero = IsNonDecreasingBy-short (λ k. k) [] (omega arith)
-numbers-rise (suc n) =
-    IsNonDecreasingBy-push (λ k. k) (numbers n) (suc n) (numbers-rise n)
-    (λ d some. let last = numbers-bound n (length (numbers n) - 1) d (omega arith) in omega arith)
+-- each number is below all later ones
+pub AllPairs-numbers : (n : ℕ) → AllPairs (λ j k. j < k) (numbers n)
+AllPairs-numbers zero = λ i j d low within. absurd (omega arith)
+AllPairs-numbers (suc n) = all_pairs_push (λ j k. j < k) (numbers n) (suc n) (AllPairs-numbers n) (numbers-below n)
 
-pub objects-rise : (h : History) → IsNonDecreasingBy (λ k. k) (objects h)
+rises : (ks : List ℕ) → AllPairs (λ j k. j < k) ks → IsNonDecreasingBy (λ k. k) ks
+rises ks below i j d le within = place_case (nat_lt i j) refl
+  where
+    place_case : (t : Bool) → nat_lt i j ≡ t → get_or ks i d ≤ get_or ks j d
+    place_case true t = let b = below i j d (ltb-true i j t) within in omega arith
+    place_case false t =
+        let high = ltb-false i j t in
+        let same : i ≡ j = omega arith in
+        subst (λ k. get_or ks i d ≤ get_or ks k d) same (omega arith)
+
+numbers-rise : (n : ℕ) → IsNonDecreasingBy (λ k. k) (numbers n)
+numbers-rise n = rises (numbers n) (AllPairs-numbers n)
+
+objects-rise : (h : History) → IsNonDecreasingBy (λ k. k) (objects h)
 objects-rise h = IsNonDecreasingBy-filter (λ k. k) (has_object h) (numbers (creations h)) (numbers-rise (creations h))
 
 found_step : (t : Bool) (fresh before : List ℕ) → IsNonDecreasingBy (λ k. k) fresh → IsNonDecreasingBy (λ k. k) before → IsNonDecreasingBy (λ k. k) (cond t fresh before)

@@ -1,22 +1,13 @@
 -- Lists of rows that are read off the numbers from 1 to n: those that pass a test, each as its row
 use Rattle.std.proofs.Common.{◌≡◌, ◌≢◌, ℕ, zero, suc, ◌<◌, ◌≤◌, Bool, true, false, cond, ◌&&◌, ◌||◌, List, [], ◌∷◌, ◌++◌, Option, Some, None, length, subst, refl, sym, ap, ◌∙◌, arith, inl, inr}
-use Rattle.std.specs.Prelude.{◌==◌, All, AllPairs, map, filter, find, option_map, is_some}
+use Rattle.std.specs.Prelude.{◌==◌, map, filter, find, option_map, is_some}
+use Rattle.std.proofs.Math.Bool.{and-true, and-false, or-false}
 use Rattle.std.proofs.lemmas.Option.{same_Some}
 use Rattle.std.specs.List.{list_any}
 use Rattle.std.proofs.lemmas.Bool.{eqb-true, eqb-false, ne_eqb, cases_Bool}
 use Rattle.std.proofs.lemmas.List.{map-append, length-map}
-use Rattle.std.proofs.lemmas.List.Elements.{filter-append, All-push}
-use Rattle.std.proofs.lemmas.List.Quantifiers.{all_pairs_push}
+use Rattle.std.proofs.lemmas.List.Elements.{filter-append}
 use Rattle.ck_journal.specs.Sessions.{numbers}
-
-numbers-below : (n : ℕ) → All (λ k. k < suc n) (numbers n)
-numbers-below zero = λ k d within. absurd (omega arith)
-numbers-below (suc n) = All-push (λ k. k < suc (suc n)) (numbers n) (suc n) (λ k d within. omega (arith, numbers-below n k d within)) (omega arith)
-
--- the numbers rise
-pub AllPairs-numbers : (n : ℕ) → AllPairs (λ j k. j < k) (numbers n)
-AllPairs-numbers zero = λ i j d low within. absurd (omega arith)
-AllPairs-numbers (suc n) = all_pairs_push (λ j k. j < k) (numbers n) (suc n) (AllPairs-numbers n) (numbers-below n)
 
 module _ {X : Type 0} where
   -- the rows of the numbers from 1 to n that pass the test
@@ -108,14 +99,6 @@ list_any-append test (k ∷ ks) js = ap (λ b. test k || b) (list_any-append tes
 
 list_any_last : (test : ℕ → Bool) (n : ℕ) → list_any test (numbers (suc n)) ≡ list_any test (numbers n) || test (suc n)
 list_any_last test n = list_any-append test (numbers n) (suc n ∷ []) ∙ ap (λ b. list_any test (numbers n) || b) (or-false (test (suc n)))
-  where
-    or-false : (b : Bool) → (b || false) ≡ b
-    or-false true = refl
-    or-false false = refl
-
-and-false : (b : Bool) → (b && false) ≡ false
-and-false true = refl
-and-false false = refl
 
 -- no number up to n is s
 list_any-past : (test : ℕ → Bool) (s n : ℕ) → n < s → list_any (λ k. test k && k == s) (numbers n) ≡ false
@@ -130,20 +113,12 @@ list_any-at_step : (test : ℕ → Bool) (s n : ℕ) (same : Bool) → suc n == 
 list_any-at_step test s n true same within below =
     let e : suc n ≡ s = eqb-true (suc n) s same in
     list_any_last (λ k. test k && k == s) n ∙ rw (list_any-past test s n (omega arith), same, e) (and-true (test s))
-  where
-    and-true : (b : Bool) → (b && true) ≡ b
-    and-true true = refl
-    and-true false = refl
 list_any-at_step test s n false same within below =
     list_any_last (λ k. test k && k == s) n
-    ∙ rw (same, and-false, below (λ t. ((within t).0, ne_below s n (within t).1 (λ e. eqb-false (suc n) s same e)))) (or-false' (test s))
+    ∙ rw (same, and-false, below (λ t. ((within t).0, ne_below s n (within t).1 (λ e. eqb-false (suc n) s same e)))) (or-false (test s))
   where
     ne_below : (s n : ℕ) → s ≤ suc n → (suc n ≡ s → ⊥) → s ≤ n
     ne_below s n h other = omega arith
-
-    or-false' : (b : Bool) → (b || false) ≡ b
-    or-false' true = refl
-    or-false' false = refl
 
 -- the one number that can pass, where it is among the numbers up to n if it does
 pub list_any-at : (test : ℕ → Bool) (s n : ℕ) → (test s ≡ true → (1 ≤ s) × (s ≤ n)) → list_any (λ k. test k && k == s) (numbers n) ≡ test s

@@ -1,12 +1,14 @@
 -- How sessions move by one entry
 use Rattle.std.proofs.Common.{◌≡◌, ℕ, suc, ◌≤◌, Bool, true, false, cond, not, ◌&&◌, List, [], ◌∷◌, ◌++◌, Option, Some, None, refl, ap, ◌∙◌, arith}
 use Rattle.std.specs.Prelude.{◌==◌, map, length}
-use Rattle.std.proofs.lemmas.Bool.{eqb-true, eq-eqb, ne_eqb}
+use Rattle.std.proofs.Math.Bool.{and-true}
+use Rattle.std.proofs.lemmas.Bool.{eqb-true}
 use Rattle.ck_journal.specs.declared.calls.Call.{Call}
 use Rattle.ck_journal.specs.declared.calls.Call.TheVariants as call
 use Rattle.ck_journal.specs.declared.calls.Entry.{Entry}
 use Rattle.ck_journal.specs.Histories.{History, done}
 use Rattle.ck_journal.specs.Sessions.{opens, openings, closes, is_open, opening_flags, flags_of, open_sessions}
+use Rattle.ck_journal.proofs.NumberTests.{below_suc, same_number, ended_test}
 use Rattle.ck_journal.proofs.Selections.{selected, selected-suc, selected-same, selected-rows_same, length-selected}
 
 -- ---- steps, over what was done
@@ -23,22 +25,6 @@ flags_step done count s flags = cond (opens done && s == suc count) (opening_fla
 -- the rows of the open sessions, each as the history has it
 abbrev pub session_rows : {X : Type 0} → (History → ℕ → X) → History → List X
 session_rows row h = selected (is_open h) (row h) (openings h)
-
-below_suc : (k n : ℕ) → k ≤ n → k == suc n ≡ false
-below_suc k n h = ne_eqb k (suc n) (λ e. omega arith)
-
-same_number : (k : ℕ) → k == k ≡ true
-same_number k = eq-eqb k k refl
-
-closed_test : (closed was_open : Bool) → cond closed false was_open ≡ was_open && not closed
-closed_test true true = refl
-closed_test true false = refl
-closed_test false true = refl
-closed_test false false = refl
-
-and-true : (b : Bool) → (b && true) ≡ b
-and-true true = refl
-and-true false = refl
 
 module _ (e : Entry) (h : History) where
   -- ---- an opening
@@ -83,7 +69,7 @@ module _ (e : Entry) (h : History) where
     is_open-later : (k : ℕ) → is_open (e ∷ h) k ≡ is_open h k && not (closes (done e) k)
     is_open-later k =
         ap (λ t. cond (t && k == suc (openings h)) true (cond (closes (done e) k) false (is_open h k))) no_opening
-        ∙ closed_test (closes (done e) k) (is_open h k)
+        ∙ ended_test (closes (done e) k) (is_open h k)
 
     pub flags_of-later : (k : ℕ) → flags_of (e ∷ h) k ≡ flags_of h k
     flags_of-later k = ap (λ t. cond (t && k == suc (openings h)) (opening_flags (done e)) (flags_of h k)) no_opening

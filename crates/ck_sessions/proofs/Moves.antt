@@ -1,6 +1,7 @@
 -- How sessions, the login and PINs keep agreeing with the history
 use Rattle.std.proofs.Common.{◌≡◌, ◌≢◌, ℕ, suc, ◌+◌, ◌-◌, ◌<◌, Bool, true, false, not, cond, subst, ◌||◌, ◌&&◌, List, [], ◌∷◌, ◌++◌, Option, Some, None, refl, sym, ap, ◌∙◌, add-one, arith}
 use Rattle.std.specs.Prelude.{◌==◌, filter, length, map, is_some, slice_get, unwrap_or}
+use Rattle.std.proofs.Math.Bool.{and-false}
 use Rattle.std.proofs.lemmas.Bool.{ne_eqb, false≢true}
 use Rattle.ck_types.specs.Users.{user_of, same_user}
 use Rattle.ck_types.specs.declared.pins.Pin.{Pin}
@@ -26,10 +27,6 @@ use Rattle.ck_sessions.specs.declared.session_table.Session.{Session}
 
 abbrev so_pin_of : History → Option Pin
 so_pin_of h = so_pin h
-
-and-false : (b : Bool) → (b && false) ≡ false
-and-false true = refl
-and-false false = refl
 
 -- the first initialization sets the PIN of the security officer
 pub Some-unwrap_or : (pin : Pin) (before : Option Pin) → Some (unwrap_or before pin) ≡ so_pin_after (Some (call.InitToken pin)) user.User before

@@ -1,6 +1,7 @@
 -- How objects keep agreeing with the history
 use Rattle.std.proofs.Common.{◌≡◌, ℕ, suc, ◌+◌, ◌*◌, ◌^◌, ◌<◌, ◌≤◌, Bool, true, false, cond, not, ◌&&◌, ◌||◌, List, [], ◌∷◌, ◌++◌, length, Option, Some, None, refl, sym, ap, ◌∙◌, add-one, arith, subst}
 use Rattle.std.specs.Prelude.{◌==◌, map, filter, find, option_map, unwrap_or, is_some}
+use Rattle.std.proofs.Math.Bool.{and-true, and-false}
 use Rattle.std.proofs.lemmas.Bool.{eqb-true, and_parts, and_from}
 use Rattle.std.proofs.lemmas.List.{get_or-map, length-map}
 use Rattle.std.proofs.lemmas.List.Kept.{AllPairs-filter}
@@ -18,20 +19,13 @@ use Rattle.ck_journal.specs.Objects.{creates, creations, creation_session, sessi
 use Rattle.ck_journal.specs.Searches.{matching_objects}
 use Rattle.ck_journal.specs.Sessions.{numbers}
 use Rattle.ck_journal.proofs.ObjectMoves.{object_rows, creations-created, object_rows-created, creations-same, object_rows-later, object_named-among, creations-left, object_rows-left, has_object-within}
-use Rattle.ck_journal.proofs.Selections.{AllPairs-numbers, selected-none, selected-same, filter-selected, filter-map, filter-filter_same, find-map, selected-rows_same, is_some-find, find-passes, list_any-passing, list_any-member, list_any-at}
+use Rattle.ck_journal.proofs.RisingLemmas.{AllPairs-numbers}
+use Rattle.ck_journal.proofs.Selections.{selected-none, selected-same, filter-selected, filter-map, filter-filter_same, find-map, selected-rows_same, is_some-find, find-passes, list_any-passing, list_any-member, list_any-at}
 use Rattle.ck_journal.specs.Lists.{change_first}
 use Rattle.ck_journal.proofs.Changes.{selected-replaced}
 use Rattle.ck_store.specs.Agreement.{StoreState, StoreAgrees, object_row, attributes_at, handle_at}
 use Rattle.ck_store.specs.Rows.{is_named, ends_with, is_session_object, is_private_session_object, has_number, NumbersRise, is_match, matching_numbers}
 use Rattle.ck_store.specs.declared.stores.StoredObject.{StoredObject}
-
-and-false : (b : Bool) → (b && false) ≡ false
-and-false true = refl
-and-false false = refl
-
-and-true : (b : Bool) → (b && true) ≡ b
-and-true true = refl
-and-true false = refl
 
 -- a test of a stored object, which is there
 there_test : (was_there visible same : Bool) → (was_there && not (visible && same)) ≡ was_there && not ((was_there && visible) && same)
