@@ -1,5 +1,5 @@
 -- How objects keep agreeing with the history
-use Rattle.std.proofs.Common.{◌≡◌, ℕ, suc, ◌+◌, ◌*◌, ◌^◌, ◌<◌, ◌≤◌, Bool, true, false, cond, not, ◌&&◌, ◌||◌, List, [], ◌∷◌, ◌++◌, length, Option, Some, None, refl, sym, ap, ◌∙◌, add-one, arith, subst}
+use Rattle.std.proofs.Common.{◌≡◌, ℕ, suc, ◌+◌, ◌*◌, ◌%◌, ◌^◌, ◌<◌, ◌≤◌, Bool, true, false, cond, not, ◌&&◌, ◌||◌, List, [], ◌∷◌, ◌++◌, length, Option, Some, None, refl, sym, ap, ◌∙◌, add-one, arith, subst}
 use Rattle.std.specs.Prelude.{◌==◌, map, filter, find, option_map, unwrap_or, is_some}
 use Rattle.std.proofs.Math.Bool.{and-true, and-false}
 use Rattle.std.proofs.lemmas.Bool.{eqb-true, and_parts, and_from}
@@ -16,7 +16,8 @@ use Rattle.ck_journal.specs.declared.calls.Entry.{Entry}
 use Rattle.ck_journal.specs.declared.views.View.{View}
 use Rattle.ck_journal.specs.Histories.{History, done, leaves_objects}
 use Rattle.ck_journal.specs.Objects.{creates, creations, creation_session, session_of, creation_attributes, attributes_after, attributes_of, ends, has_object, objects, is_visible, names, names_with, is_visible_with, handle_with, view_of, named_attributes, object_named}
-use Rattle.ck_journal.specs.Searches.{matching_objects}
+use Rattle.ck_journal.specs.Searches.{matching_objects, number_of_handle}
+use Rattle.std.proofs.lemmas.Nat.{mod-mul-add}
 use Rattle.ck_journal.specs.Sessions.{numbers}
 use Rattle.ck_journal.proofs.ObjectMoves.{object_rows, creations-created, object_rows-created, creations-same, object_rows-later, object_named-among, creations-left, object_rows-left, has_object-within}
 use Rattle.ck_journal.proofs.RisingLemmas.{AllPairs-numbers}
@@ -42,14 +43,6 @@ module _ (h : History) (old : StoreState) (agree : StoreAgrees h old) where
   row_of n = object_row n (session_of h n) (attributes_of h n)
 
   -- ---- readings
-
-  pub find-agree : (handle : ℕ) →
-      option_map (λ (row : StoredObject). row.attributes) (find (is_named (view_of h) handle) old.rows) ≡ option_map (attributes_of h) (object_named h handle)
-  find-agree handle =
-      ap (λ rows. option_map (λ (row : StoredObject). row.attributes) (find (is_named (view_of h) handle) rows)) agree.rows
-      ∙ ap (option_map (λ (row : StoredObject). row.attributes)) (find-map (is_named (view_of h) handle) row_of (objects h))
-      ∙ option_map-map h (find (λ n. is_named (view_of h) handle (row_of n)) (objects h))
-      ∙ ap (option_map (attributes_of h)) (sym (object_named-among h handle))
 
   -- objects stand in the order of their numbers
   pub numbers_rise : NumbersRise old.rows
@@ -254,6 +247,74 @@ module _ (h : History) (handle : ℕ) (bound : creations h < 2 ^ 32) where
   -- its attributes
   named_attributes-at : (k : ℕ) → has_object h k ≡ true → names h handle k ≡ true → named_attributes h handle ≡ attributes_of h k
   named_attributes-at k has n = found_case k has n (object_named h handle) refl (some_found k has n)
+
+-- ---- the object that a handle names has the handle's number
+
+number_case : (private : Bool) (logins n handle : ℕ) → n < 2 ^ 32 → cond private (n + 2 ^ 32 * logins) n ≡ handle → n ≡ number_of_handle handle
+number_case true logins n handle small e =
+    let form : handle ≡ logins * 2 ^ 32 + n = omega arith in
+    sym (ap (λ x. x % 2 ^ 32) form ∙ mod-mul-add logins (2 ^ 32) n small)
+number_case false logins n handle small e =
+    let form : handle ≡ 0 * 2 ^ 32 + n = omega arith in
+    sym (ap (λ x. x % 2 ^ 32) form ∙ mod-mul-add 0 (2 ^ 32) n small)
+
+module _ (h : History) (old : StoreState) (agree : StoreAgrees h old) (handle : ℕ) (small : old.creations < 2 ^ 32) where
+  abbrev number : ℕ
+  number = number_of_handle handle
+
+  bound : creations h < 2 ^ 32
+  bound = subst (λ n. n < 2 ^ 32) agree.creations small
+
+  named_number : (k : ℕ) → names h handle k ≡ true → k ≡ number
+  named_number k n =
+      let has = has-named h handle bound k n in
+      let within = (has_object-within h k has).1 in
+      let low : k < 2 ^ 32 = let b = bound in omega arith in
+      number_case (is_set (attributes_of h k) attribute.Private) (view_of h).logins k handle low
+      (named_handle (view_of h) (attributes_of h k) handle k (sym (there h handle bound k has) ∙ n))
+
+  named_case : (found : Option ℕ) (t : Bool) → object_named h handle ≡ found → names h handle number ≡ t → found ≡ cond t (Some number) None
+  named_case None true f n =
+      let wrong : false ≡ true = ap is_some (sym f) ∙ some_found h handle bound number (has-named h handle bound number n) n in
+      cc
+  named_case None false f n = refl
+  named_case (Some k) t f n =
+      let nk = find-passes (names h handle) (objects h) k f in
+      let same = named_number k nk in
+      let passes : t ≡ true = sym n ∙ ap (names h handle) (sym same) ∙ nk in
+      ap Some same ∙ sym (ap (λ b. cond b (Some number) None) passes)
+
+  object_named-number : object_named h handle ≡ cond (names h handle number) (Some number) None
+  object_named-number = named_case (object_named h handle) (names h handle number) refl refl
+
+  pub get-none : None ≡ find (has_number number) old.rows → None ≡ option_map (attributes_of h) (object_named h handle)
+  get-none missing = none_case (names h handle number) refl
+    where
+      none_case : (t : Bool) → names h handle number ≡ t → None ≡ option_map (attributes_of h) (object_named h handle)
+      none_case true n =
+          let has = has-named h handle bound number n in
+          let wrong : None ≡ Some (row_of h old agree number) = missing ∙ find-numbered h old agree number ∙ ap (λ b. cond b (Some (row_of h old agree number)) None) has in
+          cc
+      none_case false n = ap (option_map (attributes_of h)) (sym (object_named-number ∙ ap (λ t. cond t (Some number) None) n))
+
+  pub get-some : (row : StoredObject) (named : Bool) → Some row ≡ find (has_number number) old.rows → named ≡ is_named (view_of h) handle row
+      → cond named (Some row.attributes) None ≡ option_map (attributes_of h) (object_named h handle)
+  get-some row named found is = some_case (has_object h number) refl
+    where
+      named_attributes : (t : Bool) → cond t (Some (attributes_of h number)) None ≡ option_map (attributes_of h) (cond t (Some number) None)
+      named_attributes true = refl
+      named_attributes false = refl
+
+      some_case : (has : Bool) → has_object h number ≡ has → cond named (Some row.attributes) None ≡ option_map (attributes_of h) (object_named h handle)
+      some_case true has =
+          let same : Some row ≡ Some (row_of h old agree number) = found ∙ find-numbered h old agree number ∙ ap (λ b. cond b (Some (row_of h old agree number)) None) has in
+          let this : row ≡ row_of h old agree number = cc in
+          let name : named ≡ names h handle number = is ∙ ap (is_named (view_of h) handle) this ∙ sym (there h handle bound number has) in
+          ap (λ (r : StoredObject). cond named (Some r.attributes) None) this ∙ ap (λ t. cond t (Some (attributes_of h number)) None) name
+          ∙ named_attributes (names h handle number) ∙ ap (option_map (attributes_of h)) (sym object_named-number)
+      some_case false has =
+          let wrong : Some row ≡ None = found ∙ find-numbered h old agree number ∙ ap (λ b. cond b (Some (row_of h old agree number)) None) has in
+          cc
 
 module _ (h : History) (old new : StoreState) (agree : StoreAgrees h old) (e : Entry) (session handle : ℕ) (template : Template) (attributes : List Item) where
   abbrev set_call : Call

@@ -30,7 +30,7 @@ impl StoredObject {
     }
 
     /// Whether the handle names the object.
-    fn is_named(&self, view: View, handle: u64) -> bool
+    pub(crate) fn is_named(&self, view: View, handle: u64) -> bool
         requires { view.logins < 2 ^ 31 }
         ensures { result ≡ is_named view handle self.now }
     {
@@ -62,19 +62,6 @@ impl StoredObject {
     {
         self.is_session_object() && self.attributes.is_set(Attribute::Private)
     }
-}
-
-/// The first object that the handle names.
-pub(crate) fn find_named(rows: &[StoredObject], view: View, handle: u64) -> Option<&StoredObject>
-    requires { view.logins < 2 ^ 31 }
-    ensures { option_copied result ≡ find (is_named view handle) rows.now }
-{
-    for row in rows {
-        if row.is_named(view, handle) {
-            return Some(row);
-        }
-    }
-    None
 }
 
 /// The object that has the number, among rows whose numbers rise.

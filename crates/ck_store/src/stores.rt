@@ -1,8 +1,8 @@
 use crate::rows::{
-    find_matching, find_named, find_numbered, remove_named, remove_of_session,
-    remove_private_session_objects, remove_session_objects, replace_named,
+    find_matching, find_numbered, remove_named, remove_of_session, remove_private_session_objects,
+    remove_session_objects, replace_named,
 };
-use ck_journal::View;
+use ck_journal::{View, number_of_handle};
 use ck_types::{NoMemory, Record, Template};
 use std::alloc::Global;
 use std::marker::Model;
@@ -73,9 +73,11 @@ impl Store {
         requires logins { view.logins < 2 ^ 31 }
         ensures { (h : History) → StoreAgrees h self.now → view ≡ view_of h → option_copied result ≡ option_map (attributes_of h) (object_named h handle) }
     {
-        match find_named(self.rows.as_slice(), view, handle) {
-            None => None,
-            Some(row) => Some(&row.attributes),
+        let row = find_numbered(self.rows.as_slice(), number_of_handle(handle))?;
+        if row.is_named(view, handle) {
+            Some(&row.attributes)
+        } else {
+            None
         }
     }
 
