@@ -1,6 +1,5 @@
 -- What is so in every legal history
-use Rattle.std.proofs.Common.{◌≡◌, ◌≢◌, ℕ, suc, ◌<◌, ◌≤◌, Bool, true, false, cond, not, ◌&&◌, List, [], ◌∷◌, Option, Some, None, refl, sym, ap, ◌∙◌, subst, arith}
-use Rattle.std.specs.Prelude.{◌==◌}
+use Rattle.std.proofs.Common.{◌≡◌, ℕ, suc, ◌≤◌, Bool, true, false, cond, not, [], ◌∷◌, Some, None, refl, subst, arith}
 use Rattle.std.proofs.lemmas.Bool.{eqb-true, false_from_ne_true}
 use Rattle.ck_types.specs.Templates.{error_if, first_of}
 use Rattle.ck_types.specs.TokenLimits.{Ranges}
@@ -9,7 +8,6 @@ use Rattle.ck_journal.specs.Answers.{answer, ok, unless, IsLegal}
 use Rattle.ck_journal.specs.declared.calls.Body.TheVariants as body
 use Rattle.ck_journal.specs.declared.calls.Call.{Call}
 use Rattle.ck_journal.specs.declared.calls.Call.TheVariants as call
-use Rattle.ck_journal.specs.declared.calls.Entry.{Entry}
 use Rattle.ck_journal.specs.Histories.{History, done, is_ok}
 use Rattle.ck_journal.specs.Searches.{starts_search, ends_search, is_searching}
 use Rattle.ck_journal.specs.Sessions.{opens, openings, is_open}

@@ -1,17 +1,15 @@
 -- How the login, PINs and wrong tries move by one entry
-use Rattle.std.proofs.Common.{◌≡◌, ◌≢◌, ℕ, zero, suc, ◌+◌, ◌<◌, ◌≤◌, Bool, true, false, cond, not, ◌&&◌, ◌||◌, List, [], ◌∷◌, Option, Some, None, length, refl, sym, ap, ◌∙◌, subst, arith}
-use Rattle.std.specs.Prelude.{◌==◌, is_some}
-use Rattle.ck_types.specs.Users.{user_of, same_user}
+use Rattle.std.proofs.Common.{◌≡◌, ℕ, suc, Bool, true, false, cond, ◌||◌, [], ◌∷◌, Option, Some, None, length, refl, sym, ap, ◌∙◌}
+use Rattle.std.specs.Prelude.{◌==◌}
 use Rattle.ck_types.specs.declared.pins.Pin.{Pin}
 use Rattle.ck_types.specs.declared.return_codes.Rv.{Rv}
 use Rattle.ck_types.specs.declared.return_codes.Rv.TheVariants as rv
 use Rattle.ck_types.specs.declared.users.UserType.{UserType}
-use Rattle.ck_types.specs.declared.users.UserType.TheVariants as user
 use Rattle.ck_journal.specs.declared.calls.Call.{Call}
 use Rattle.ck_journal.specs.declared.calls.Call.TheVariants as call
 use Rattle.ck_journal.specs.declared.calls.Entry.{Entry}
 use Rattle.ck_journal.specs.Histories.{History, done, wrong_try, is_ok, is_wrong_pin, leaves_sessions}
-use Rattle.ck_journal.specs.Pins.{so_pin, so_pin_after, user_pin, user_pin_after, named_owner, present_pin, is_initialized, initializes, about, is_about, is_user, resets, tries}
+use Rattle.ck_journal.specs.Pins.{so_pin, so_pin_after, user_pin, user_pin_after, named_owner, is_initialized, initializes, is_about, resets, tries}
 use Rattle.ck_journal.proofs.SessionMoves.{session_rows, session_rows-same, openings-later, flags_of-later, open_sessions-rows}
 use Rattle.ck_journal.specs.Sessions.{opens, openings, closes, flags_of, open_sessions, login, login_after, logs_user_in, user_logins}
 

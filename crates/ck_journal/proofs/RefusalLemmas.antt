@@ -17,14 +17,13 @@ use Rattle.ck_types.specs.declared.return_codes.Rv.{Rv}
 use Rattle.ck_types.specs.declared.return_codes.Rv.TheVariants as rv
 use Rattle.ck_types.specs.declared.templates.Item.{Item}
 use Rattle.ck_types.specs.TokenLimits.{Ranges}
-use Rattle.ck_types.specs.Users.{user_of}
 use Rattle.ck_types.specs.declared.pins.Pin.{Pin}
 use Rattle.ck_types.specs.declared.users.UserType.{UserType}
 use Rattle.ck_types.specs.declared.users.UserType.TheVariants as user
 use Rattle.ck_journal.specs.Answers.{session_error, pin_error, init_token_error, init_pin_error, set_pin_error, open_session_error, logged_in_error, read_only_error, logins_error, user_login_error, known_login_error, login_error, logout_error, object_error, read_only_session_error, placement_error, creations_error, copy_object_error, set_attribute_value_error}
 use Rattle.ck_journal.specs.Histories.{History, is_ok, is_wrong_pin}
-use Rattle.ck_journal.specs.Pins.{is_initialized, is_locked, pin_owner}
-use Rattle.ck_journal.specs.Sessions.{login, state_of}
+use Rattle.ck_journal.specs.Pins.{is_locked, pin_owner}
+use Rattle.ck_journal.specs.Sessions.{state_of}
 
 -- no error, or one that isn't CKR_OK
 abbrev pub is_refusal : Option Rv → Bool

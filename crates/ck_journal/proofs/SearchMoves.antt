@@ -1,8 +1,7 @@
 -- How searches move by one entry
-use Rattle.std.proofs.Common.{◌≡◌, ℕ, zero, suc, ◌≤◌, Bool, true, false, cond, not, ◌&&◌, ◌||◌, List, [], ◌∷◌, Option, Some, None, refl, sym, ap, ◌∙◌}
-use Rattle.std.specs.Prelude.{filter, map}
-use Rattle.ck_types.specs.Records.{is_set, matches}
-use Rattle.ck_types.specs.declared.attributes.Attribute.TheVariants as attribute
+use Rattle.std.proofs.Common.{◌≡◌, ℕ, Bool, true, false, cond, ◌&&◌, List, [], ◌∷◌, Option, Some, refl, ap, ◌∙◌}
+use Rattle.std.specs.Prelude.{filter}
+use Rattle.ck_types.specs.Records.{matches}
 use Rattle.ck_types.specs.declared.templates.Item.{Item}
 use Rattle.ck_types.specs.declared.users.UserType.TheVariants as user
 use Rattle.ck_journal.specs.declared.calls.Call.{Call}
@@ -12,7 +11,7 @@ use Rattle.ck_journal.specs.declared.views.View.{View}
 use Rattle.ck_journal.specs.Histories.{History, done, leaves_sessions, leaves_objects, leaves_searches}
 use Rattle.ck_journal.specs.Objects.{creations, has_object, attributes_of, objects, is_visible, is_visible_with, view_of}
 use Rattle.ck_journal.specs.Pins.{is_user}
-use Rattle.ck_journal.specs.Searches.{starts_search, ends_search, asks_search, is_searching, matching_objects, search_template, found_objects, number_of_handle, handles_in, last_or, last_number}
+use Rattle.ck_journal.specs.Searches.{starts_search, ends_search, asks_search, is_searching, matching_objects, search_template, found_objects, last_number}
 use Rattle.ck_journal.specs.Sessions.{numbers, login, user_logins}
 use Rattle.ck_journal.proofs.LoginMoves.{login-left, user_logins-left}
 use Rattle.ck_journal.proofs.ObjectMoves.{creations-left, has_object-left, attributes_of-left}

@@ -1,6 +1,6 @@
 -- What each call answers, read off the history just before it: a list of checks, of which the first that fails gives
 -- the code, and the body where none does. Who calls makes no difference.
-use Rattle.std.specs.Prelude.{◌≡◌, ℕ, suc, List, [], ◌∷◌, Option, Some, None, ◌==◌, ◌&&◌, not, is_none, nat_le, length, map, take, bit_and, option_map, unwrap_or, if◌then◌else◌, Bool, true, false, is_some}
+use Rattle.std.specs.Prelude.{◌≡◌, ℕ, suc, List, [], ◌∷◌, Option, Some, None, ◌==◌, ◌&&◌, not, is_none, nat_le, length, map, take, bit_and, if◌then◌else◌, Bool, true, false, is_some}
 use Rattle.std.specs.List.{list_any}
 use Rattle.ck_types.specs.Pins.{fits_a_pin}
 use Rattle.ck_types.specs.Records.{created_items, with_given, is_set, copied_error, changed_error}

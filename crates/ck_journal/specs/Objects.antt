@@ -1,5 +1,5 @@
 -- Objects, their attributes and handles, and when they end (PKCS #11 Base 3.0, Object management functions)
-use Rattle.std.specs.Prelude.{ℕ, suc, ◌+◌, ◌*◌, ◌^◌, Bool, true, false, List, [], ◌∷◌, Option, Some, None, ◌==◌, ◌&&◌, ◌||◌, not, filter, find, option_map, unwrap_or, if◌then◌else◌}
+use Rattle.std.specs.Prelude.{ℕ, suc, ◌+◌, ◌*◌, ◌^◌, Bool, true, false, List, [], ◌∷◌, Option, Some, ◌==◌, ◌&&◌, ◌||◌, not, filter, find, option_map, unwrap_or, if◌then◌else◌}
 use Rattle.ck_types.specs.Records.{created_items, with_given, is_set}
 use Rattle.ck_types.specs.declared.attributes.Attribute.TheVariants as attribute
 use Rattle.ck_types.specs.declared.templates.Item.{Item}

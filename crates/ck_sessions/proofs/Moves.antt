@@ -1,9 +1,9 @@
 -- How sessions, the login and PINs keep agreeing with the history
-use Rattle.std.proofs.Common.{◌≡◌, ◌≢◌, ℕ, suc, ◌+◌, ◌-◌, ◌<◌, Bool, true, false, not, cond, subst, ◌||◌, ◌&&◌, List, [], ◌∷◌, ◌++◌, Option, Some, None, refl, sym, ap, ◌∙◌, add-one, arith}
+use Rattle.std.proofs.Common.{◌≡◌, ℕ, suc, ◌+◌, ◌-◌, true, false, not, cond, subst, ◌||◌, ◌&&◌, List, [], ◌∷◌, ◌++◌, Option, Some, None, refl, sym, ap, ◌∙◌, add-one, arith}
 use Rattle.std.specs.Prelude.{◌==◌, filter, length, map, is_some, slice_get, unwrap_or}
 use Rattle.std.proofs.Math.Bool.{and-false}
 use Rattle.std.proofs.lemmas.Bool.{ne_eqb, false≢true}
-use Rattle.ck_types.specs.Users.{user_of, same_user}
+use Rattle.ck_types.specs.Users.{same_user}
 use Rattle.ck_types.specs.declared.pins.Pin.{Pin}
 use Rattle.ck_types.specs.declared.users.UserType.{UserType}
 use Rattle.ck_types.specs.declared.users.UserType.TheVariants as user
@@ -13,12 +13,12 @@ use Rattle.ck_journal.specs.declared.calls.Entry.{Entry}
 use Rattle.ck_journal.specs.Histories.{History, done, wrong_try, leaves_sessions, leaves_searches}
 use Rattle.ck_journal.specs.Lists.{change_first}
 use Rattle.ck_journal.specs.Searches.{is_searching, matching_objects, handles_in, number_of_handle}
-use Rattle.ck_journal.specs.Pins.{so_pin, so_pin_after, user_pin, user_pin_after, named_owner, pin_owner, present_pin, is_initialized, initializes, about, is_about, is_user, resets, tries}
-use Rattle.ck_journal.specs.Sessions.{opens, openings, closes, is_open, flags_of, open_sessions, login, login_after, user_logins, logs_user_in, state_of}
+use Rattle.ck_journal.specs.Pins.{so_pin, so_pin_after, user_pin, user_pin_after, named_owner, pin_owner, is_initialized, initializes, about, is_about, is_user, resets, tries}
+use Rattle.ck_journal.specs.Sessions.{opens, openings, closes, is_open, open_sessions, login, login_after, user_logins, logs_user_in, state_of}
 use Rattle.ck_journal.proofs.LoginMoves.{wrong_try-done, login-none, login-open, login-same, login-logged_out, user_logins-step, so_pin-step, user_pin-step, tries-step, tries-done, openings-left, opens-left, session_rows-left, login-left, user_logins-left, so_pin-left, user_pin-left, is_initialized-left, tries-left}
 use Rattle.ck_journal.proofs.Selections.{selected, selected-same, filter-selected, selected-none}
 use Rattle.ck_journal.proofs.SessionMoves.{session_rows, openings-opened, session_rows-opened, openings-later, session_rows-later, session_rows-changed, session_rows-same, open_sessions-rows, length-session_rows}
-use Rattle.ck_sessions.specs.Agreement.{SessionsState, SessionsAgree, CredentialAgrees, credential_of, session_row}
+use Rattle.ck_sessions.specs.Agreement.{SessionsState, SessionsAgree, CredentialAgrees, session_row}
 use Rattle.ck_types.specs.declared.templates.Template.{Template}
 use Rattle.ck_sessions.proofs.SearchRows.{row-left, row-below, row-opened, row-other, row-logged_out, session_rows-started, session_rows-handed, session_rows-none_handed, session_rows-ended, last_or-last, no_last}
 use Rattle.ck_sessions.specs.Rows.{is_session, with_search, with_last}

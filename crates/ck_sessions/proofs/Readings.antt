@@ -1,5 +1,5 @@
 -- Readings of sessions that agree with a history
-use Rattle.std.proofs.Common.{◌≡◌, ℕ, suc, Bool, true, false, not, ◌&&◌, ◌||◌, cond, List, [], ◌∷◌, Option, Some, None, refl, sym, ap, ◌∙◌, subst}
+use Rattle.std.proofs.Common.{◌≡◌, ℕ, suc, Bool, true, false, not, ◌&&◌, cond, List, [], ◌∷◌, Option, Some, None, refl, sym, ap, ◌∙◌, subst}
 use Rattle.std.proofs.lemmas.Bool.{eqb-true}
 use Rattle.std.proofs.lemmas.Option.{same_Some}
 use Rattle.std.specs.Prelude.{◌==◌, map, filter, find, length, is_some, nat_lt, option_map}
@@ -8,9 +8,8 @@ use Rattle.std.specs.List.Sorted.{IsNonDecreasingBy}
 use Rattle.ck_types.specs.declared.users.UserType.{UserType}
 use Rattle.ck_types.specs.declared.users.UserType.TheVariants as user
 use Rattle.ck_journal.specs.Histories.{History}
-use Rattle.ck_journal.specs.Pins.{present_pin, tries}
-use Rattle.ck_journal.specs.Sessions.{openings, is_open, flags_of, open_sessions, is_read_write, rw_sessions, numbers}
-use Rattle.ck_journal.proofs.Selections.{list_any-selected, list_any-at, length-selected, filter-selected, find-map, is_some-find, find-passes}
+use Rattle.ck_journal.specs.Sessions.{openings, is_open, flags_of, open_sessions, is_read_write, rw_sessions}
+use Rattle.ck_journal.proofs.Selections.{list_any-selected, list_any-at, length-selected, find-map, is_some-find, find-passes}
 use Rattle.ck_journal.proofs.SessionMoves.{is_open-within}
 use Rattle.ck_journal.specs.Searches.{is_searching, found_objects, last_number, remaining_objects}
 use Rattle.ck_journal.proofs.RisingLemmas.{found_objects-rise}

@@ -1,7 +1,7 @@
 -- How the rows of sessions move with their searches
 use Rattle.std.proofs.Common.{◌≡◌, ℕ, suc, ◌≤◌, ◌-◌, Bool, true, false, cond, not, ◌&&◌, List, [], ◌∷◌, ◌++◌, length, take, drop, Option, Some, None, refl, sym, ap, ◌∙◌, subst, arith}
 use Rattle.std.specs.Prelude.{◌==◌, map, option_map, slice_get}
-use Rattle.std.proofs.lemmas.Bool.{eqb-true, eqb-false, eq-eqb, ne_eqb, and_parts, not-true, false≢true}
+use Rattle.std.proofs.lemmas.Bool.{eqb-true, eqb-false, eq-eqb, ne_eqb, and_parts, not-true}
 use Rattle.std.proofs.lemmas.List.{append-nil, length-map, take_all, drop_all}
 use Rattle.std.proofs.lemmas.Option.{same_Some}
 use Rattle.ck_types.specs.declared.templates.Template.{Template}
@@ -14,7 +14,7 @@ use Rattle.ck_journal.specs.Searches.{starts_search, ends_search, asks_search, i
 use Rattle.ck_journal.specs.Sessions.{opens, openings, closes, is_open, flags_of}
 use Rattle.ck_journal.proofs.Changes.{selected-replaced}
 use Rattle.ck_journal.proofs.SearchMoves.{is_searching-left, found_objects-left, last_number-left, matching_objects-left}
-use Rattle.ck_journal.proofs.Selections.{selected, selected-same}
+use Rattle.ck_journal.proofs.Selections.{selected-same}
 use Rattle.ck_journal.proofs.SessionMoves.{session_rows, session_rows-changed, flags_of-below, flags_of-opened, flags_of-later}
 use Rattle.ck_sessions.specs.Agreement.{search_of, session_row}
 use Rattle.ck_sessions.specs.Rows.{is_session, with_search, with_last}

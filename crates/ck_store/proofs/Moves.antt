@@ -19,7 +19,7 @@ use Rattle.ck_journal.specs.Objects.{creates, creations, creation_session, sessi
 use Rattle.ck_journal.specs.Searches.{matching_objects, number_of_handle}
 use Rattle.std.proofs.lemmas.Nat.{mod-mul-add}
 use Rattle.ck_journal.specs.Sessions.{numbers}
-use Rattle.ck_journal.proofs.ObjectMoves.{object_rows, creations-created, object_rows-created, creations-same, object_rows-later, object_named-among, creations-left, object_rows-left, has_object-within}
+use Rattle.ck_journal.proofs.ObjectMoves.{object_rows, creations-created, object_rows-created, creations-same, object_rows-later, creations-left, object_rows-left, has_object-within}
 use Rattle.ck_journal.proofs.RisingLemmas.{AllPairs-numbers}
 use Rattle.ck_journal.proofs.Selections.{selected-none, selected-same, filter-selected, filter-map, filter-filter_same, find-map, selected-rows_same, is_some-find, find-passes, list_any-passing, list_any-member, list_any-at}
 use Rattle.ck_journal.specs.Lists.{change_first}

@@ -1,5 +1,5 @@
 -- An object as the token stores it
-use Rattle.std.specs.Prelude.{ℕ, Bool, true, List, ◌==◌, ◌<◌, ◌&&◌, AllPairs, not, filter, map, if◌then◌else◌}
+use Rattle.std.specs.Prelude.{ℕ, Bool, true, List, ◌==◌, ◌<◌, ◌&&◌, AllPairs, not, filter, map}
 use Rattle.ck_types.specs.Records.{is_set, matches}
 use Rattle.ck_types.specs.declared.attributes.Attribute.TheVariants as attribute
 use Rattle.ck_types.specs.declared.templates.Item.{Item}

@@ -1,11 +1,11 @@
 -- How a token keeps agreeing with its history
-use Rattle.std.proofs.Common.{◌≡◌, ℕ, suc, Bool, true, false, cond, not, ◌||◌, List, ◌∷◌, Option, Some, None, [], refl, sym, ap, ◌∙◌, subst, arith}
+use Rattle.std.proofs.Common.{◌≡◌, ℕ, Bool, true, false, cond, not, List, ◌∷◌, Some, None, [], refl, sym, ap, ◌∙◌, arith}
 use Rattle.ck_types.specs.Templates.{or_else, error_if}
 use Rattle.ck_types.specs.TokenLimits.{Ranges}
 use Rattle.ck_types.specs.Users.{user_of}
 use Rattle.ck_types.specs.declared.pins.Pin.{Pin}
 use Rattle.ck_types.specs.declared.users.UserType.{UserType}
-use Rattle.ck_journal.specs.Answers.{answer, ok, refusal, IsLegal, user_login_error, known_login_error, login_error}
+use Rattle.ck_journal.specs.Answers.{answer, ok, refusal, user_login_error, known_login_error, login_error}
 use Rattle.ck_journal.specs.Histories.{History, done, wrong_try, is_ok, is_wrong_pin, leaves_sessions, leaves_searches, leaves_objects}
 use Rattle.ck_journal.specs.Pins.{about, is_about, is_user}
 use Rattle.ck_journal.specs.declared.calls.Body.{Body}
@@ -26,7 +26,7 @@ use Rattle.ck_sessions.specs.Agreement.{SessionsState, SessionsAgree}
 use Rattle.ck_store.proofs.Moves.{StoreAgrees-left}
 use Rattle.ck_store.specs.Agreement.{StoreState, StoreAgrees}
 use Rattle.ck_token.specs.Agreement.{TokenAgrees}
-use Rattle.ck_token.specs.TokenStates.{TokenState, entry_of}
+use Rattle.ck_token.specs.TokenStates.{entry_of}
 
 module _ (limits : Ranges) (h : History) (s : SessionsState) (o : StoreState) (agree : TokenAgrees limits h s o) where
   -- one more entry, with parts that agree with it

@@ -1,4 +1,4 @@
-use Rattle.std.proofs.Common.{◌≡◌, ◌∙◌, ap, set}
+use Rattle.std.proofs.Common.{◌∙◌, ap, set}
 use Rattle.ck_sessions.specs.Rows.{is_session, with_last}
 use Rattle.ck_journal.proofs.Changes.{change_first-place, change_first-no_place}
 use Rattle.ck_sessions.proofs.SearchRows.{with_last-some, with_last-none}

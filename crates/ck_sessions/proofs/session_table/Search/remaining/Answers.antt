@@ -1,4 +1,4 @@
-use Rattle.std.proofs.Common.{◌≡◌, ◌∙◌, ap, length, drop, arith, rules}
+use Rattle.std.proofs.Common.{◌∙◌, ap, drop, arith, rules}
 use Rattle.std.specs.Prelude.{nat_le, nat_lt, filter}
 use Rattle.std.proofs.lemmas.List.{length-drop, take_all}
 use Rattle.std.proofs.lemmas.List.Sorted.{IsPartitionPoint-from_clause, IsPartitionedBy-leb}

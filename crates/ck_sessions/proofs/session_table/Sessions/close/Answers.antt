@@ -1,4 +1,4 @@
-use Rattle.std.proofs.Common.{◌≡◌, ◌∙◌, sym, ap, refl, suc, cond, add-one, true, false, Some, None}
+use Rattle.std.proofs.Common.{◌∙◌, sym, ap, refl, cond, None}
 use Rattle.ck_sessions.proofs.Moves.{SessionsAgree-closed}
 use Rattle.ck_sessions.proofs.session_table.Sessions.close.Goals as goal
 

@@ -1,4 +1,4 @@
-use Rattle.std.proofs.Common.{◌≡◌, ◌∙◌, sym, ap, refl, suc, add-one, true, false, Some, None}
+use Rattle.std.proofs.Common.{refl}
 use Rattle.ck_sessions.proofs.Moves.{SessionsAgree-all_closed}
 use Rattle.ck_sessions.proofs.session_table.Sessions.close_all.Goals as goal
 

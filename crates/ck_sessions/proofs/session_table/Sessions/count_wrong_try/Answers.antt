@@ -1,4 +1,4 @@
-use Rattle.std.proofs.Common.{◌≡◌, ◌∙◌, sym, ap, refl, suc, add-one, true, false, Some, None}
+use Rattle.std.proofs.Common.{◌∙◌, ap, refl, add-one, Some}
 use Rattle.ck_sessions.proofs.Moves.{SessionsAgree-wrong}
 use Rattle.ck_types.specs.declared.users.UserType.TheVariants as user
 use Rattle.ck_sessions.proofs.session_table.Sessions.count_wrong_try.Goals as goal

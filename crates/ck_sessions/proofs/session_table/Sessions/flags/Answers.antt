@@ -1,4 +1,3 @@
-use Rattle.std.proofs.Common.{◌≡◌, ◌∙◌, sym, ap, refl, suc, add-one, true, false, Some, None}
 use Rattle.ck_sessions.proofs.Readings.{is_open-not_found, is_open-found, flags_of-found}
 use Rattle.ck_sessions.proofs.session_table.Sessions.flags.Goals as goal
 

@@ -1,4 +1,4 @@
-use Rattle.std.proofs.Common.{◌≡◌, ◌∙◌, sym, ap, refl}
+use Rattle.std.proofs.Common.{refl}
 use Rattle.ck_sessions.proofs.Moves.{SessionsAgree-handed, SessionsAgree-none_handed}
 use Rattle.ck_sessions.proofs.session_table.Sessions.hand_out.Goals as goal
 

@@ -1,4 +1,4 @@
-use Rattle.std.proofs.Common.{◌≡◌, ◌∙◌, sym, ap, refl, suc, add-one, true, false, Some, None}
+use Rattle.std.proofs.Common.{◌∙◌}
 use Rattle.ck_sessions.proofs.Readings.{read_only-rows}
 use Rattle.ck_sessions.proofs.session_table.Sessions.has_read_only.Goals as goal
 

@@ -1,4 +1,4 @@
-use Rattle.std.proofs.Common.{◌≡◌, ◌∙◌, sym, ap, refl, suc, add-one, true, false, Some, None}
+use Rattle.std.proofs.Common.{refl}
 use Rattle.ck_sessions.proofs.Moves.{SessionsAgree-pin_initialized}
 use Rattle.ck_sessions.proofs.session_table.Sessions.init_pin.Goals as goal
 

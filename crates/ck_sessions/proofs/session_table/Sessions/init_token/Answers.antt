@@ -1,4 +1,4 @@
-use Rattle.std.proofs.Common.{◌≡◌, ◌∙◌, sym, ap, refl, suc, add-one, true, false, Some, None}
+use Rattle.std.proofs.Common.{◌∙◌, ap, refl, Some}
 use Rattle.ck_sessions.proofs.Moves.{SessionsAgree-initialized, Some-unwrap_or}
 use Rattle.ck_sessions.proofs.session_table.Sessions.init_token.Goals as goal
 

@@ -1,4 +1,4 @@
-use Rattle.std.proofs.Common.{◌≡◌, ◌∙◌, sym, ap, refl}
+use Rattle.std.proofs.Common.{refl}
 use Rattle.ck_sessions.proofs.Moves.{SessionsAgree-logged_out}
 use Rattle.std.specs.Prelude.{None}
 use Rattle.ck_sessions.proofs.SearchRows.{written_over}

@@ -1,4 +1,4 @@
-use Rattle.std.proofs.Common.{◌≡◌, ◌∙◌, sym, ap, refl, suc, add-one, true, false, Some, None}
+use Rattle.std.proofs.Common.{refl}
 use Rattle.ck_sessions.proofs.Moves.{SessionsAgree-opened}
 use Rattle.ck_sessions.proofs.session_table.Sessions.open_session.Goals as goal
 

@@ -1,4 +1,4 @@
-use Rattle.std.proofs.Common.{◌≡◌, ◌∙◌, sym, ap, refl, suc, add-one, true, false, Some, None}
+use Rattle.std.proofs.Common.{◌∙◌}
 use Rattle.ck_sessions.proofs.Readings.{rw-rows}
 use Rattle.ck_sessions.proofs.session_table.Sessions.read_write_count.Goals as goal
 

@@ -1,4 +1,4 @@
-use Rattle.std.proofs.Common.{◌≡◌, ◌∙◌, sym, ap, refl, Some, None}
+use Rattle.std.proofs.Common.{sym}
 use Rattle.ck_sessions.proofs.Readings.{remaining-closed, remaining-none, remaining-some}
 use Rattle.ck_sessions.proofs.session_table.Sessions.remaining_objects.Goals as goal
 

@@ -1,4 +1,4 @@
-use Rattle.std.proofs.Common.{◌≡◌, ◌∙◌, sym, ap, refl}
+use Rattle.std.proofs.Common.{◌∙◌, refl}
 use Rattle.ck_sessions.proofs.Moves.{SessionsAgree-started}
 use Rattle.ck_sessions.proofs.session_table.Sessions.start_search.Goals as goal
 

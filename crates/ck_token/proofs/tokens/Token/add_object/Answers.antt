@@ -1,7 +1,6 @@
-use Rattle.std.proofs.Common.{◌≡◌, ◌+◌, ◌∙◌, ap, sym, refl, suc, add-one, Some, None}
-use Rattle.ck_journal.specs.Answers.{ok, unless, new_handle}
+use Rattle.std.proofs.Common.{◌≡◌, ◌+◌, ◌∙◌, ap, refl, add-one}
+use Rattle.ck_journal.specs.Answers.{ok, new_handle}
 use Rattle.ck_journal.specs.declared.calls.Body.TheVariants as body
-use Rattle.ck_journal.specs.declared.calls.Call.TheVariants as call
 use Rattle.ck_journal.specs.Objects.{creations, view_of, handle_with}
 use Rattle.ck_store.proofs.Moves.{StoreAgrees-reserved}
 use Rattle.ck_token.proofs.TokenLemmas.{TokenAgrees-done, SessionsAgree-done, leaves_sessions-creation, leaves_searches-creation}

@@ -1,4 +1,4 @@
-use Rattle.std.proofs.Common.{◌≡◌, ◌∙◌, ap, sym, ◌∷◌, Some, subst}
+use Rattle.std.proofs.Common.{◌≡◌, ◌∙◌, ap, sym, Some, subst}
 use Rattle.ck_journal.specs.Histories.{leaves_objects}
 use Rattle.ck_store.proofs.Moves.{StoreAgrees-left}
 use Rattle.ck_token.proofs.TokenLemmas.{TokenAgrees-entered, done-wrong, about-wrong}

@@ -1,5 +1,5 @@
-use Rattle.std.proofs.Common.{◌≡◌, ◌∙◌, ap, sym, refl, suc, add-one, Some, None}
-use Rattle.ck_journal.specs.Answers.{ok, unless, new_handle}
+use Rattle.std.proofs.Common.{◌∙◌, ap, refl}
+use Rattle.ck_journal.specs.Answers.{ok, unless}
 use Rattle.ck_journal.specs.declared.calls.Body.TheVariants as body
 use Rattle.ck_journal.specs.declared.calls.Call.TheVariants as call
 use Rattle.ck_token.proofs.TokenLemmas.{TokenAgrees-done, SessionsAgree-done}

@@ -1,4 +1,4 @@
-use Rattle.std.proofs.Common.{◌≡◌, ◌∙◌, ap, ◌∷◌}
+use Rattle.std.proofs.Common.{◌∙◌}
 use Rattle.ck_token.proofs.TokenLemmas.{TokenAgrees-left}
 use Rattle.ck_token.proofs.tokens.Token.enter.Goals as goal
 

@@ -1,4 +1,4 @@
-use Rattle.std.proofs.Common.{◌≡◌, ◌∙◌, ap, sym, refl, Some, None}
+use Rattle.std.proofs.Common.{◌∙◌, ap, sym, refl}
 use Rattle.std.specs.Prelude.{map, take}
 use Rattle.ck_journal.specs.Answers.{ok, unless}
 use Rattle.ck_journal.specs.Objects.{handle_of}

@@ -1,10 +1,9 @@
-use Rattle.std.proofs.Common.{◌≡◌, ◌∙◌, ap, sym, refl, suc, add-one, Some, None}
-use Rattle.ck_journal.specs.Answers.{ok, refusal, unless}
+use Rattle.std.proofs.Common.{◌∙◌, ap, refl}
+use Rattle.ck_journal.specs.Answers.{ok, unless}
 use Rattle.ck_journal.specs.declared.calls.Body.TheVariants as body
 use Rattle.ck_journal.specs.declared.calls.Call.TheVariants as call
-use Rattle.ck_types.specs.declared.return_codes.Rv.TheVariants as rv
 use Rattle.ck_token.proofs.TokenLemmas.{login_error-none, some-open}
-use Rattle.ck_token.proofs.TokenLemmas.{TokenAgrees-done, SessionsAgree-done, StoreAgrees-done}
+use Rattle.ck_token.proofs.TokenLemmas.{TokenAgrees-done, StoreAgrees-done}
 use Rattle.ck_token.proofs.tokens.Token.log_in.Goals as goal
 
 pub log_in-requires-clause-open : goal.log_in-requires-clause-open

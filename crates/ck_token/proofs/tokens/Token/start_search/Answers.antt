@@ -1,4 +1,4 @@
-use Rattle.std.proofs.Common.{◌≡◌, ◌∙◌, ap, sym, refl, Some, None}
+use Rattle.std.proofs.Common.{◌∙◌, ap, refl}
 use Rattle.ck_journal.specs.Answers.{ok, unless}
 use Rattle.ck_journal.specs.declared.calls.Body.TheVariants as body
 use Rattle.ck_journal.specs.declared.calls.Call.TheVariants as call

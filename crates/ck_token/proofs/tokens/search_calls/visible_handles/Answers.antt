@@ -1,4 +1,4 @@
-use Rattle.std.proofs.Common.{◌≡◌, ◌∙◌, ap}
+use Rattle.std.proofs.Common.{◌∙◌, ap}
 use Rattle.ck_token.proofs.SearchLemmas.{next, handed_out-next, passed-next}
 use Rattle.ck_token.proofs.tokens.search_calls.visible_handles.Goals.{in-Some+in_ok-push, in_default}
 use Rattle.ck_token.proofs.tokens.search_calls.visible_handles.Goals as goal
