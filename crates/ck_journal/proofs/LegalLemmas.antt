@@ -5,7 +5,7 @@ use Rattle.ck_types.specs.Templates.{error_if, first_of}
 use Rattle.ck_types.specs.TokenLimits.{Ranges}
 use Rattle.ck_types.specs.declared.return_codes.Rv.TheVariants as rv
 use Rattle.ck_journal.specs.Answers.{answer, ok, unless, IsLegal}
-use Rattle.ck_journal.specs.declared.calls.Body.TheVariants as body
+use Rattle.ck_journal.specs.declared.replies.Body.TheVariants as body
 use Rattle.ck_journal.specs.declared.calls.Call.{Call}
 use Rattle.ck_journal.specs.declared.calls.Call.TheVariants as call
 use Rattle.ck_journal.specs.Histories.{History, done, is_ok}

@@ -1,80 +1,114 @@
--- A history is the list of the answered calls, newest first: `e ∷ h` is the history h and then the entry e, and a front
--- of a history is a tail of the list
-use Rattle.std.specs.Prelude.{ℕ, suc, Bool, true, false, List, [], ◌∷◌, Option, Some, None, ◌==◌, length, if◌then◌else◌}
+-- A history is a base and the answered calls since: `start b` is the base b alone, and `e ◁ h` is the history h and then the
+-- entry e. A front of a history is what is left where its last entries are taken away.
+use Rattle.std.specs.Prelude.{ℕ, suc, Bool, true, false, List, [], ◌∷◌, Option, Some, None, ◌==◌, if◌then◌else◌}
 use Rattle.ck_types.specs.declared.return_codes.Rv.{Rv}
 use Rattle.ck_types.specs.declared.return_codes.Rv.TheVariants as rv
+use Rattle.ck_types.specs.declared.return_codes.RvError.TheVariants as rv_error
+use Rattle.ck_journal.specs.declared.bases.Base.{Base}
 use Rattle.ck_journal.specs.declared.calls.Call.{Call}
 use Rattle.ck_journal.specs.declared.calls.Call.TheVariants as call
 use Rattle.ck_journal.specs.declared.calls.Entry.{Entry}
 
-abbrev pub History : Type 0
-History = List Entry
+infixr 5 ◌◁◌
 
--- a journal: its history, and for how many more entries it has room
-pub record JournalState : Type 0 where
-  pub entries : List Entry
-  pub spare : ℕ
+pub data History : Type 0 where
+  start : Base → History
+  ◌◁◌ : Entry → History → History
+
+abbrev pub start_of : History → Base
+start_of (start b) = b
+start_of (e ◁ h) = start_of h
+
+-- the entries, the newest first
+abbrev pub entries_of : History → List Entry
+entries_of (start b) = []
+entries_of (e ◁ h) = e ∷ entries_of h
+
+-- the history, and then these entries, the newest first
+abbrev pub followed_by : History → List Entry → History
+followed_by h [] = h
+followed_by h (e ∷ later) = e ◁ followed_by h later
+
+abbrev pub entry_count : History → ℕ
+entry_count (start b) = 0
+entry_count (e ◁ h) = suc (entry_count h)
 
 -- the entry of this number, counted from the oldest, which is 1
 abbrev pub entry_at : History → ℕ → Option Entry
-entry_at [] number = None
-entry_at (e ∷ h) number = if number == suc (length h) then Some e else entry_at h number
+entry_at (start b) number = None
+entry_at (e ◁ h) number = if number == suc (entry_count h) then Some e else entry_at h number
+
+-- a journal: its history, and for how many more entries it has room
+pub record JournalState : Type 0 where
+  pub history : History
+  pub spare : ℕ
+
+-- ---- what an entry says
 
 abbrev pub is_ok : Rv → Bool
 is_ok rv.Ok = true
-is_ok other = false
+is_ok (rv.Error code) = false
 
--- what was done in an entry: its call, where that was answered OK
+-- the call that was answered OK
 abbrev pub done : Entry → Option Call
 done e = if is_ok e.reply.rv then Some e.call else None
 
 abbrev pub is_wrong_pin : Rv → Bool
-is_wrong_pin rv.PinIncorrect = true
+is_wrong_pin (rv.Error rv_error.PinIncorrect) = true
 is_wrong_pin other = false
 
--- the call of an entry that was refused for a wrong PIN
+-- the call that was refused for a wrong PIN
 abbrev pub wrong_try : Entry → Option Call
 wrong_try e = if is_wrong_pin e.reply.rv then Some e.call else None
 
--- ---- what a call leaves as it is
+-- ---- what an entry may change
 
--- nothing was done, or a call that leaves the list of sessions, the login and PINs as they are. A refusal may still count
--- as a wrong try of a PIN.
-abbrev pub leaves_sessions : Option Call → Bool
-leaves_sessions None = true
-leaves_sessions (Some (call.GetSessionInfo session)) = true
-leaves_sessions (Some call.GetTokenInfo) = true
-leaves_sessions (Some (call.CreateObject session template)) = true
-leaves_sessions (Some (call.CopyObject session object template)) = true
-leaves_sessions (Some (call.GetAttributeValue session object queries)) = true
-leaves_sessions (Some (call.SetAttributeValue session object template)) = true
-leaves_sessions (Some (call.DestroyObject session object)) = true
-leaves_sessions (Some (call.FindObjectsInit session template)) = true
-leaves_sessions (Some (call.FindObjects session max)) = true
-leaves_sessions (Some (call.FindObjectsFinal session)) = true
-leaves_sessions other = false
+-- sessions, the login or PINs; objects; operations of sessions, as searches are
+pub record Effects : Type 0 where
+  pub sessions : Bool
+  pub objects : Bool
+  pub operations : Bool
 
--- nothing was done, or a call that leaves objects as they are
-abbrev pub leaves_objects : Option Call → Bool
-leaves_objects None = true
-leaves_objects (Some (call.InitPin session pin)) = true
-leaves_objects (Some (call.SetPin session old new)) = true
-leaves_objects (Some (call.OpenSession flags)) = true
-leaves_objects (Some (call.Login session user pin)) = true
-leaves_objects (Some (call.GetSessionInfo session)) = true
-leaves_objects (Some call.GetTokenInfo) = true
-leaves_objects (Some (call.GetAttributeValue session object queries)) = true
-leaves_objects (Some (call.FindObjectsInit session template)) = true
-leaves_objects (Some (call.FindObjects session max)) = true
-leaves_objects (Some (call.FindObjectsFinal session)) = true
-leaves_objects other = false
+abbrev nothing : Effects
+nothing = record { sessions = false; objects = false; operations = false }
 
--- nothing was done, or a call that leaves the searches of all sessions as they are
-abbrev pub leaves_searches : Option Call → Bool
-leaves_searches (Some (call.CloseSession session)) = false
-leaves_searches (Some call.CloseAllSessions) = false
-leaves_searches (Some (call.Logout session)) = false
-leaves_searches (Some (call.FindObjectsInit session template)) = false
-leaves_searches (Some (call.FindObjects session max)) = false
-leaves_searches (Some (call.FindObjectsFinal session)) = false
-leaves_searches other = true
+abbrev on_sessions : Effects
+on_sessions = record nothing { sessions = true }
+
+abbrev on_objects : Effects
+on_objects = record nothing { objects = true }
+
+abbrev on_operations : Effects
+on_operations = record nothing { operations = true }
+
+abbrev on_sessions_and_objects : Effects
+on_sessions_and_objects = record { sessions = true; objects = true; operations = false }
+
+abbrev on_all : Effects
+on_all = record { sessions = true; objects = true; operations = true }
+
+-- what a call that was answered OK may change; one that wasn't may still count as a wrong try of a PIN, and changes nothing
+-- else
+abbrev pub effects_of : Option Call → Effects
+effects_of None = nothing
+effects_of (Some (call.InitToken pin)) = on_sessions_and_objects
+effects_of (Some (call.InitPin session pin)) = on_sessions
+effects_of (Some (call.SetPin session old new)) = on_sessions
+effects_of (Some (call.OpenSession flags)) = on_sessions
+effects_of (Some (call.CloseSession session)) = on_all
+effects_of (Some call.CloseAllSessions) = on_all
+effects_of (Some (call.Login session user pin)) = on_sessions
+effects_of (Some (call.Logout session)) = on_all
+effects_of (Some (call.GetSessionInfo session)) = nothing
+effects_of (Some call.GetTokenInfo) = nothing
+effects_of (Some (call.CreateObject session template)) = on_objects
+effects_of (Some (call.CopyObject session object template)) = on_objects
+effects_of (Some (call.GetAttributeValue session object queries)) = nothing
+effects_of (Some (call.SetAttributeValue session object template)) = on_objects
+effects_of (Some (call.DestroyObject session object)) = on_objects
+effects_of (Some (call.FindObjectsInit session template)) = on_operations
+effects_of (Some (call.FindObjects session max)) = on_operations
+effects_of (Some (call.FindObjectsFinal session)) = on_operations
+
+abbrev pub effects : Entry → Effects
+effects e = effects_of (done e)

@@ -1,8 +1,11 @@
 pub mod Answers
+pub mod Bases
 pub mod Histories
+pub mod HistoryCode
 pub mod Lists
 pub mod Objects
 pub mod Pins
 pub mod Queries
+pub mod Replies
 pub mod Searches
 pub mod Sessions

@@ -9,7 +9,8 @@ use Rattle.ck_types.specs.declared.users.UserType.{UserType}
 use Rattle.ck_types.specs.declared.users.UserType.TheVariants as user
 use Rattle.ck_journal.specs.declared.calls.Call.{Call}
 use Rattle.ck_journal.specs.declared.calls.Call.TheVariants as call
-use Rattle.ck_journal.specs.Histories.{History, done, wrong_try}
+use Rattle.ck_journal.specs.Bases.{base_tries}
+use Rattle.ck_journal.specs.Histories.{History, start, ◌◁◌, done, wrong_try}
 use Rattle.ck_journal.specs.Sessions.{state_of}
 
 -- two PINs are the same where their lengths and tags agree
@@ -51,8 +52,8 @@ initializes other = false
 
 -- the token has been initialized
 abbrev pub is_initialized : History → Bool
-is_initialized [] = false
-is_initialized (e ∷ h) = initializes (done e) || is_initialized h
+is_initialized (start b) = b.initialized
+is_initialized (e ◁ h) = initializes (done e) || is_initialized h
 
 -- the security officer's PIN after a call, by the owner of the session's PIN: the first initialization sets it, a later
 -- one keeps it
@@ -74,12 +75,12 @@ named_owner h (Some (call.SetPin session old new)) = pin_owner (state_of h sessi
 named_owner h other = user.User
 
 abbrev pub so_pin : History → Option Pin
-so_pin [] = None
-so_pin (e ∷ h) = so_pin_after (done e) (named_owner h (done e)) (so_pin h)
+so_pin (start b) = b.so
+so_pin (e ◁ h) = so_pin_after (done e) (named_owner h (done e)) (so_pin h)
 
 abbrev pub user_pin : History → Option Pin
-user_pin [] = None
-user_pin (e ∷ h) = user_pin_after (done e) (named_owner h (done e)) (user_pin h)
+user_pin (start b) = b.user
+user_pin (e ◁ h) = user_pin_after (done e) (named_owner h (done e)) (user_pin h)
 
 abbrev pub present_pin : UserType → History → Option Pin
 present_pin user.So h = so_pin h
@@ -93,8 +94,8 @@ resets u h c = is_about u h c || initializes c
 
 -- how many wrong tries of the user's PIN were made since they last went back to 0
 abbrev pub tries : UserType → History → ℕ
-tries u [] = 0
-tries u (e ∷ h) =
+tries u (start b) = base_tries u b
+tries u (e ◁ h) =
     if resets u h (done e) then 0
     else if is_about u h (wrong_try e) then suc (tries u h)
     else tries u h

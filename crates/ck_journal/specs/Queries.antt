@@ -4,12 +4,13 @@ use Rattle.std.specs.List.{list_any}
 use Rattle.ck_types.specs.Templates.{given}
 use Rattle.ck_types.specs.declared.return_codes.Rv.{Rv}
 use Rattle.ck_types.specs.declared.return_codes.Rv.TheVariants as rv
+use Rattle.ck_types.specs.declared.return_codes.RvError.TheVariants as rv_error
 use Rattle.ck_types.specs.declared.templates.Item.{Item}
-use Rattle.ck_journal.specs.declared.calls.Answer.{Answer}
-use Rattle.ck_journal.specs.declared.calls.Answer.TheVariants as answer
+use Rattle.ck_journal.specs.declared.replies.Answer.{Answer}
+use Rattle.ck_journal.specs.declared.replies.Answer.TheVariants as answer
 use Rattle.ck_journal.specs.declared.calls.AttributeQuery.{AttributeQuery}
-use Rattle.ck_journal.specs.declared.calls.Body.TheVariants as body
-use Rattle.ck_journal.specs.declared.calls.Reply.{Reply}
+use Rattle.ck_journal.specs.declared.replies.Body.TheVariants as body
+use Rattle.ck_journal.specs.declared.replies.Reply.{Reply}
 
 -- a value, if the object has one, asked for with this room; room None, like a NULL pValue, asks for its length
 abbrev pub value_answer : Option (List ℕ) → Option ℕ → Answer
@@ -35,8 +36,8 @@ lacks_room attributes query = is_longer (given attributes query.kind) query.room
 -- the one code of the call: a missing attribute comes before too little room
 abbrev pub queries_code : List Item → List AttributeQuery → Rv
 queries_code attributes queries =
-    if list_any (is_missing attributes) queries then rv.AttributeTypeInvalid
-    else if list_any (lacks_room attributes) queries then rv.BufferTooSmall
+    if list_any (is_missing attributes) queries then rv.Error rv_error.AttributeTypeInvalid
+    else if list_any (lacks_room attributes) queries then rv.Error rv_error.BufferTooSmall
     else rv.Ok
 
 -- the reply to these queries of an object with these attributes: one answer for each, whatever the code

@@ -2,13 +2,15 @@
 use Rattle.std.specs.Prelude.{ℕ, ◌^◌, ◌%◌, Bool, true, false, List, [], ◌∷◌, Option, Some, ◌==◌, ◌&&◌, nat_lt, filter, map, if◌then◌else◌}
 use Rattle.ck_types.specs.Records.{matches}
 use Rattle.ck_types.specs.declared.templates.Item.{Item}
-use Rattle.ck_journal.specs.declared.calls.Body.{Body}
-use Rattle.ck_journal.specs.declared.calls.Body.TheVariants as body
+use Rattle.ck_journal.specs.declared.replies.Body.{Body}
+use Rattle.ck_journal.specs.declared.replies.Body.TheVariants as body
 use Rattle.ck_journal.specs.declared.calls.Call.{Call}
 use Rattle.ck_journal.specs.declared.calls.Call.TheVariants as call
 use Rattle.ck_journal.specs.declared.calls.Entry.{Entry}
-use Rattle.ck_journal.specs.Histories.{History, done}
-use Rattle.ck_journal.specs.Objects.{objects, attributes_of, is_visible}
+use Rattle.ck_journal.specs.Histories.{History, start, ◌◁◌, done}
+use Rattle.ck_journal.specs.Objects.{creations, object_at, view_of, is_some_with, is_visible_with, is_visible}
+use Rattle.ck_journal.specs.Sessions.{numbers}
+use Rattle.ck_journal.specs.declared.views.View.{View}
 
 -- ---- a session's search
 
@@ -27,17 +29,22 @@ ends_search other s = false
 
 -- a search is active in the session: one was started, and no later call ended it
 abbrev pub is_searching : History → ℕ → Bool
-is_searching [] s = false
-is_searching (e ∷ h) s =
+is_searching (start b) s = false
+is_searching (e ◁ h) s =
     if starts_search (done e) s then true
     else if ends_search (done e) s then false
     else is_searching h s
 
 -- ---- what it found
 
+-- the attributes are those of a visible object that matches the template
+abbrev pub is_match_with : View → List Item → List Item → Bool
+is_match_with view template attributes = is_visible_with view attributes && matches attributes template
+
 -- the objects that are visible and match the template, in the order of their creations
 abbrev pub matching_objects : History → List Item → List ℕ
-matching_objects h template = filter (λ n. is_visible h n && matches (attributes_of h n) template) (objects h)
+matching_objects h template =
+    filter (λ n. is_some_with (is_match_with (view_of h) template) (object_at h n)) (numbers (creations h))
 
 abbrev pub search_template : Option Call → List Item
 search_template (Some (call.FindObjectsInit session template)) = template.items
@@ -45,8 +52,8 @@ search_template other = []
 
 -- what the session's last search found when it started
 abbrev pub found_objects : History → ℕ → List ℕ
-found_objects [] s = []
-found_objects (e ∷ h) s = if starts_search (done e) s then matching_objects (e ∷ h) (search_template (done e)) else found_objects h s
+found_objects (start b) s = []
+found_objects (e ◁ h) s = if starts_search (done e) s then matching_objects (e ◁ h) (search_template (done e)) else found_objects h s
 
 -- ---- what it has handed out
 
@@ -74,8 +81,8 @@ last_or before (n ∷ ns) = last_or n ns
 
 -- the number of the object that the session's last search handed out last; 0, which is no object's, where none
 abbrev pub last_number : History → ℕ → ℕ
-last_number [] s = 0
-last_number (e ∷ h) s =
+last_number (start b) s = 0
+last_number (e ◁ h) s =
     if starts_search (done e) s then 0
     else last_or (last_number h s) (map number_of_handle (handed_out e s))
 

@@ -5,7 +5,7 @@ use Rattle.ck_types.specs.declared.users.SessionState.{SessionState}
 use Rattle.ck_types.specs.declared.users.UserType.{UserType}
 use Rattle.ck_journal.specs.declared.calls.Call.{Call}
 use Rattle.ck_journal.specs.declared.calls.Call.TheVariants as call
-use Rattle.ck_journal.specs.Histories.{History, done}
+use Rattle.ck_journal.specs.Histories.{History, start, ◌◁◌, done}
 
 -- the numbers from 1 to n, rising
 abbrev pub numbers : ℕ → List ℕ
@@ -20,8 +20,8 @@ opens other = false
 
 -- how many sessions have been opened; a session's handle is this count up to and with its opening
 abbrev pub openings : History → ℕ
-openings [] = 0
-openings (e ∷ h) = if opens (done e) then suc (openings h) else openings h
+openings (start b) = b.openings
+openings (e ◁ h) = if opens (done e) then suc (openings h) else openings h
 
 abbrev pub closes : Option Call → ℕ → Bool
 closes (Some (call.CloseSession session)) s = session == s
@@ -30,8 +30,8 @@ closes other s = false
 
 -- the session was opened and hasn't been closed since
 abbrev pub is_open : History → ℕ → Bool
-is_open [] s = false
-is_open (e ∷ h) s =
+is_open (start b) s = false
+is_open (e ◁ h) s =
     if opens (done e) && s == suc (openings h) then true
     else if closes (done e) s then false
     else is_open h s
@@ -42,8 +42,8 @@ opening_flags other = 0
 
 -- the flags that the session was opened with
 abbrev pub flags_of : History → ℕ → ℕ
-flags_of [] s = 0
-flags_of (e ∷ h) s = if opens (done e) && s == suc (openings h) then opening_flags (done e) else flags_of h s
+flags_of (start b) s = 0
+flags_of (e ◁ h) s = if opens (done e) && s == suc (openings h) then opening_flags (done e) else flags_of h s
 
 -- the open sessions, in the order of their openings
 abbrev pub open_sessions : History → List ℕ
@@ -70,8 +70,8 @@ login_after other before = before
 -- who is logged in: nobody where no session is open, else the user of the last login with no logout and no front
 -- without an open session after it
 abbrev pub login : History → Option UserType
-login [] = None
-login (e ∷ h) = if length (open_sessions (e ∷ h)) == 0 then None else login_after (done e) (login h)
+login (start b) = None
+login (e ◁ h) = if length (open_sessions (e ◁ h)) == 0 then None else login_after (done e) (login h)
 
 abbrev pub logs_user_in : Option Call → Bool
 logs_user_in (Some (call.Login session user pin)) = user == 1
@@ -79,8 +79,8 @@ logs_user_in other = false
 
 -- how many times the user has logged in
 abbrev pub user_logins : History → ℕ
-user_logins [] = 0
-user_logins (e ∷ h) = if logs_user_in (done e) then suc (user_logins h) else user_logins h
+user_logins (start b) = b.logins
+user_logins (e ◁ h) = if logs_user_in (done e) then suc (user_logins h) else user_logins h
 
 abbrev pub state_of : History → ℕ → SessionState
 state_of h s = session_state (login h) (is_read_write h s)

@@ -1,44 +1,66 @@
 ghost use Rattle.std.specs.Prelude.{◌≡◌, slice_get};
 ghost use Rattle.std.specs.Option.{option_copied};
 
+use crate::bases::Base;
 use crate::calls::Entry;
 use ck_types::NoMemory;
 use std::alloc::Global;
 use std::marker::Model;
 
-/// The answered calls, numbered from 1 in the order of their answers.
+/// The answered calls since a base, numbered from 1 in the order of their answers.
 #[derive(Debug, Drop)]
 pub struct Journal {
+    base: Base,
     /// The oldest first.
     entries: Vec<Entry>,
 }
 
 impl Model for Journal {
     ghost use Rattle.std.specs.Prelude.{reverse, vec_len, vec_capacity, ◌-◌};
-    ghost use Rattle.ck_journal.specs.Histories.{JournalState};
+    ghost use Rattle.std.specs.Coded.{codes};
+    ghost use Rattle.ck_journal.specs.Bases.{IsSound};
+    ghost use Rattle.ck_journal.specs.Histories.{JournalState, start, followed_by};
+    ghost use Rattle.ck_journal.specs.HistoryCode.{history_code};
 
     ghost Value = { JournalState };
 
-    ghost view = { λ j. record { entries = reverse j.entries.items; spare = vec_capacity j.entries - vec_len j.entries } };
+    ghost coded = { Prim.hlevel (codes, history_code) };
+
+    ghost view = { λ j. record {
+        history = followed_by (start j.base) (reverse j.entries.items);
+        spare = vec_capacity j.entries - vec_len j.entries
+    } };
+
+    ghost invariant = { λ j. IsSound j.base };
 }
 
 impl Journal {
-    ghost use Rattle.std.specs.Prelude.{◌≡◌, ◌∷◌, [], ◌+◌, ◌<◌, ◌≤◌, ◌↔◌, IsTrue, IsOk, OnOk, OnErr, length};
+    ghost use Rattle.std.specs.Prelude.{◌≡◌, ◌+◌, ◌<◌, ◌≤◌, ◌↔◌, IsTrue, IsOk, OnOk};
     ghost use Rattle.std.specs.Option.{option_copied};
-    ghost use Rattle.ck_journal.specs.Histories.{entry_at};
+    ghost use Rattle.ck_journal.specs.Bases.{empty_base, IsSound};
+    ghost use Rattle.ck_journal.specs.Histories.{start, ◌◁◌, start_of, entry_at, entry_count};
 
-    /// A journal of no entries, which takes no memory.
+    /// The journal of a new token, which has no entries and takes no memory.
     pub fn new(alloc: Global) -> Journal
-        ensures { result.entries ≡ [] }
+        ensures { result.history ≡ start empty_base }
     {
         Journal {
+            base: Base::empty(alloc),
             entries: Vec::new(alloc),
         }
     }
 
+    /// What the journal starts from.
+    pub fn base(&self) -> &Base
+        ensures base { result.now ≡ start_of self.now.history }
+        ensures sound { IsSound result.now }
+    {
+        &self.base
+    }
+
     /// Makes room for `count` more entries.
     pub fn reserve(&mut self, count: u64) -> Result<(), NoMemory>
-        ensures entries { self.new.entries ≡ self.old.entries }
+        ensures history { self.new.history ≡ self.old.history }
         ensures room { OnOk result (count ≤ self.new.spare) }
         ensures spare { self.old.spare ≤ self.new.spare }
         ensures succeeds { count ≤ self.old.spare → IsOk result }
@@ -47,10 +69,17 @@ impl Journal {
         Ok(())
     }
 
+    /// For how many more entries there is room.
+    pub fn spare(&self) -> u64
+        ensures { result ≡ self.now.spare }
+    {
+        (self.entries.capacity() - self.entries.len()) as u64
+    }
+
     /// Adds an entry where there is room for it, and takes no memory.
     pub fn push_reserved(&mut self, entry: Entry)
         requires { 0 < self.old.spare }
-        ensures entries { self.new.entries ≡ entry ∷ self.old.entries }
+        ensures history { self.new.history ≡ entry ◁ self.old.history }
         ensures spare { self.old.spare ≤ self.new.spare + 1 }
     {
         self.entries.push(entry).unwrap();
@@ -58,7 +87,7 @@ impl Journal {
 
     /// The entry of this number, from 1.
     pub fn entry(&self, number: u64) -> Option<&Entry>
-        ensures { option_copied result ≡ entry_at self.now.entries number }
+        ensures { option_copied result ≡ entry_at self.now.history number }
     {
         if number == 0 {
             return None;
@@ -68,14 +97,14 @@ impl Journal {
 
     /// How many entries there are.
     pub fn len(&self) -> u64
-        ensures { result ≡ length self.now.entries }
+        ensures { result ≡ entry_count self.now.history }
     {
         self.entries.len() as u64
     }
 
     /// Whether there are no entries.
     pub fn is_empty(&self) -> bool
-        ensures { IsTrue result ↔ (self.now.entries ≡ []) }
+        ensures { IsTrue result ↔ (self.now.history ≡ start (start_of self.now.history)) }
     {
         self.entries.is_empty()
     }

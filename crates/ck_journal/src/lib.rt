@@ -2,14 +2,18 @@
 //! answers, read off the journal.
 #![tactic(auto)]
 
+mod bases;
 mod calls;
 mod journals;
+mod replies;
 mod session_flags;
 #[cfg(test)]
 mod tests;
 mod views;
 
-pub use calls::{Answer, AttributeQuery, Body, Call, Entry, Reply};
+pub use bases::{Base, KeptObject};
+pub use calls::{AttributeQuery, Call, Entry};
 pub use journals::Journal;
+pub use replies::{Answer, Body, Reply};
 pub use session_flags::{RW_SESSION, SERIAL_SESSION, is_read_write};
 pub use views::{View, number_of_handle};

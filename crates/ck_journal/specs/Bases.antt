@@ -1,0 +1,46 @@
+-- What a history starts from
+use Rattle.std.specs.Prelude.{◌≡◌, ℕ, ◌<◌, ◌≤◌, ◌^◌, Bool, true, false, List, [], Option, None, ◌==◌, find, map, option_map, is_some}
+use Rattle.std.specs.List.{All, AllPairs}
+use Rattle.ck_types.specs.Records.{is_set}
+use Rattle.ck_types.specs.declared.attributes.Attribute.TheVariants as attribute
+use Rattle.ck_types.specs.declared.templates.Item.{Item}
+use Rattle.ck_types.specs.declared.users.UserType.{UserType}
+use Rattle.ck_types.specs.declared.users.UserType.TheVariants as user
+use Rattle.ck_journal.specs.declared.bases.Base.{Base}
+use Rattle.ck_journal.specs.declared.bases.KeptObject.{KeptObject}
+
+-- the base of a new token
+abbrev pub empty_base : Base
+empty_base = record {
+  initialized = false; so = None; user = None; so_tries = 0; user_tries = 0;
+  openings = 0; creations = 0; logins = 0; objects = []
+}
+
+-- the attributes of the object of this number, where the base has it
+abbrev pub kept_attributes : Base → ℕ → Option (List Item)
+kept_attributes b n =
+    option_map (λ (kept : KeptObject). kept.attributes)
+    (find (λ (kept : KeptObject). kept.number == n) b.objects)
+
+-- the user's wrong tries
+abbrev pub base_tries : UserType → Base → ℕ
+base_tries user.So b = b.so_tries
+base_tries user.User b = b.user_tries
+
+-- a number from 1 to the count of creations
+abbrev pub IsCreated : ℕ → KeptObject → Type 0
+IsCreated creations kept = (1 ≤ kept.number) × (kept.number ≤ creations)
+
+-- a base that the calls of a token can leave: the security officer has a PIN exactly where the token is initialized, no
+-- user has made more than three wrong tries, the counts are in range, and the objects are token objects whose numbers
+-- rise from 1 to the count of creations
+pub record IsSound (b : Base) : Type 0 where
+  pub so_pin : is_some b.so ≡ b.initialized
+  pub so_tries : b.so_tries ≤ 3
+  pub user_tries : b.user_tries ≤ 3
+  pub openings : b.openings < 2 ^ 32
+  pub creations : b.creations < 2 ^ 32
+  pub logins : b.logins < 2 ^ 31
+  pub rising : AllPairs (λ (kept : KeptObject) (later : KeptObject). kept.number < later.number) b.objects
+  pub numbers : All (IsCreated b.creations) b.objects
+  pub token_objects : All (λ (kept : KeptObject). is_set kept.attributes attribute.Token ≡ true) b.objects
