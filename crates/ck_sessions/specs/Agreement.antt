@@ -1,20 +1,19 @@
 -- When sessions, the login and PINs are what a history says
-use Rattle.std.specs.Prelude.{◌≡◌, ◌<◌, ◌≤◌, ◌&&◌, ◌^◌, ℕ, List, Option, Some, None, map, is_some, if◌then◌else◌}
+use Rattle.std.specs.Prelude.{◌≡◌, ℕ, Bool, List, Option, Some, None, map, is_some, if◌then◌else◌}
 use Rattle.ck_types.specs.declared.users.UserType.{UserType}
 use Rattle.ck_types.specs.declared.users.UserType.TheVariants as user
 use Rattle.ck_journal.specs.Histories.{History}
 use Rattle.ck_journal.specs.Pins.{present_pin, tries, is_initialized}
 use Rattle.ck_journal.specs.Searches.{is_searching, found_objects, last_number, remaining_objects}
 use Rattle.ck_journal.specs.Sessions.{openings, is_open, flags_of, open_sessions, login, user_logins}
-use Rattle.ck_sessions.specs.declared.session_table.Credential.{Credential}
-use Rattle.ck_sessions.specs.declared.session_table.Search.{Search}
-use Rattle.ck_sessions.specs.declared.session_table.Session.{Session}
+use Rattle.ck_sessions.specs.Rows.{Search, SessionRow}
+use Rattle.ck_sessions.specs.declared.credentials.Credential.{Credential}
 
--- the open sessions, how many there may be, how many have been opened, who is logged in, how many times the user has
--- logged in, and the PINs and wrong tries of the security officer and the user
+-- the open sessions, for how many more there is room, how many have been opened, who is logged in, how many times the user
+-- has logged in, and the PINs and wrong tries of the security officer and the user
 pub record SessionsState : Type 0 where
-  pub rows : List Session
-  pub limit : ℕ
+  pub rows : List SessionRow
+  pub spare : ℕ
   pub openings : ℕ
   pub login : Option UserType
   pub logins : ℕ
@@ -27,23 +26,20 @@ credential_of user.User s = s.user
 
 -- the session's search, where one is active
 abbrev pub search_of : History → ℕ → Option Search
-search_of h s = if is_searching h s then Some (record { found = found_objects h s; last = last_number h s }) else None
+search_of h s =
+    if is_searching h s then Some (record { found = found_objects h s; last = last_number h s }) else None
 
 -- an open session as the history has it
-abbrev pub session_row : History → ℕ → Session
+abbrev pub session_row : History → ℕ → SessionRow
 session_row h s = record { handle = s; flags = flags_of h s; search = search_of h s }
 
--- what an open session's search found and has not handed out, where one is active
-abbrev pub remaining_at : History → ℕ → Option (List ℕ)
-remaining_at h s = if is_open h s && is_searching h s then Some (remaining_objects h s) else None
+-- the session of this handle, where it is open
+abbrev pub session_at : History → ℕ → Option SessionRow
+session_at h s = if is_open h s then Some (session_row h s) else None
 
--- there is room for all sessions that may be open, the user has logged in fewer than 2^31 times, and no user has made more
--- than three wrong tries
-pub record IsSound (room limit logins so_tries user_tries : ℕ) : Type 0 where
-  pub rows : limit ≤ room
-  pub login_bound : logins < 2 ^ 31
-  pub so : so_tries ≤ 3
-  pub user : user_tries ≤ 3
+-- what the session's search has left, where one is active
+abbrev pub search_left : History → ℕ → Option (List ℕ)
+search_left h s = if is_searching h s then Some (remaining_objects h s) else None
 
 -- a user's PIN and tries are the history's
 pub record CredentialAgrees (u : UserType) (h : History) (c : Credential) : Type 0 where

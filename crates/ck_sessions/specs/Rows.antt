@@ -1,22 +1,36 @@
--- A session as the token stores it
-use Rattle.std.specs.Prelude.{ℕ, Bool, Option, ◌==◌, not, option_map}
+-- A session as contracts see it
+use Rattle.std.specs.Prelude.{ℕ, Bool, List, Option, ◌==◌, not, option_map}
 use Rattle.ck_journal.specs.Sessions.{has_rw_flag}
-use Rattle.ck_sessions.specs.declared.session_table.Search.{Search}
-use Rattle.ck_sessions.specs.declared.session_table.Session.{Session}
 
-abbrev pub is_session : ℕ → Session → Bool
+-- a search: the numbers of the objects that it found when it started, and the number of the object that it returned last,
+-- 0 where none
+pub record Search : Type 0 where
+  pub found : List ℕ
+  pub last : ℕ
+
+-- a session: its handle, the flags that it was opened with, and its search, where one is active
+pub record SessionRow : Type 0 where
+  pub handle : ℕ
+  pub flags : ℕ
+  pub search : Option Search
+
+abbrev pub is_session : ℕ → SessionRow → Bool
 is_session handle row = row.handle == handle
 
-abbrev pub is_rw_row : Session → Bool
+abbrev pub is_rw_row : SessionRow → Bool
 is_rw_row row = has_rw_flag row.flags
 
-abbrev pub is_read_only_row : Session → Bool
+abbrev pub is_read_only_row : SessionRow → Bool
 is_read_only_row row = not (has_rw_flag row.flags)
 
 -- the session with this search, or none
-abbrev pub with_search : Option Search → Session → Session
+abbrev pub with_search : Option Search → SessionRow → SessionRow
 with_search search row = record row { search = search }
 
--- the session with its search, if it has one, that has handed out the object of this number last
-abbrev pub with_last : ℕ → Session → Session
-with_last number row = record row { search = option_map (λ (s : Search). record s { last = number }) row.search }
+-- the search that has returned the object of this number last
+abbrev pub with_last : ℕ → Search → Search
+with_last number search = record search { last = number }
+
+-- the session whose search, if it has one, has returned the object of this number last
+abbrev pub with_last_found : ℕ → SessionRow → SessionRow
+with_last_found number row = record row { search = option_map (with_last number) row.search }

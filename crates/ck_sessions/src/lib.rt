@@ -1,9 +1,14 @@
 //! The sessions of a PKCS #11 token, who is logged in, and the PINs: what the journal says of them.
 #![tactic(auto)]
 
+mod credentials;
+mod open_sessions;
 mod rows;
+mod searches;
 mod session_table;
 #[cfg(test)]
 mod tests;
 
-pub use session_table::{Credential, Search, Session, Sessions};
+pub use credentials::Credential;
+pub use open_sessions::Session;
+pub use session_table::Sessions;

@@ -1,75 +1,57 @@
-ghost use Rattle.std.specs.Prelude.{◌≡◌, IfOk};
-
 use crate::Sessions;
-use ck_types::{Limits, NoMemory, Pin, UserType};
+use ck_types::{NoMemory, Pin, UserType};
 use std::alloc::Global;
 use std::process::Abort;
 use std::test::Fail;
 
-/// How many sessions may be open in these tests.
-const MOST_SESSIONS: u64 = 64;
-
-fn opened(rt: &impl Abort, sessions: &mut Sessions, flags: u64) -> u64
-    requires { sessions.old.limit ≡ 64 }
-    ensures { sessions.new.limit ≡ 64 }
-{
-    assert!(rt; sessions.count() < MOST_SESSIONS);
-    assert!(rt; sessions.openings() <= 0xffff_ffff);
-    sessions.open_session(flags)
+/// Opens a session; where memory is refused, the growth is made again.
+fn open(rt: &impl Abort, sessions: &mut Sessions, flags: u64) -> Result<(), NoMemory> {
+    if sessions.reserve().is_err() {
+        sessions.reserve()?;
+    }
+    assert!(rt; sessions.openings() < 100);
+    sessions.open_session(flags);
+    Ok(())
 }
 
-fn log_in(rt: &impl Abort, sessions: &mut Sessions, user: UserType)
-    requires { sessions.old.limit ≡ 64 }
-    ensures { sessions.new.limit ≡ 64 }
-{
-    assert!(rt; sessions.count() > 0);
-    assert!(rt; sessions.logins() < 0x7fff_ffff);
+fn log_in(rt: &impl Abort, sessions: &mut Sessions, user: UserType) {
+    assert!(rt; sessions.logins() < 100);
     sessions.log_in(user);
 }
 
-fn set_pin(rt: &impl Abort, sessions: &mut Sessions, user: UserType, pin: Pin)
-    requires { sessions.old.limit ≡ 64 }
-    ensures { sessions.new.limit ≡ 64 }
-{
+fn set_pin(rt: &impl Abort, sessions: &mut Sessions, user: UserType, pin: Pin) {
     assert!(rt; sessions.credential(user).pin.is_some());
     sessions.set_pin(user, pin);
 }
 
-fn count_wrong_try(rt: &impl Abort, sessions: &mut Sessions, user: UserType)
-    requires { sessions.old.limit ≡ 64 }
-    ensures { sessions.new.limit ≡ 64 }
-{
-    assert!(rt; sessions.credential(user).tries != 3);
+fn count_wrong_try(rt: &impl Abort, sessions: &mut Sessions, user: UserType) {
+    assert!(rt; sessions.credential(user).tries < 3);
     sessions.count_wrong_try(user);
 }
 
-/// Sessions of the largest limits; where memory is refused, they are made again.
-fn new_sessions(alloc: Global) -> Result<Sessions, NoMemory>
-    ensures { IfOk result (λ sessions. sessions.limit ≡ 64) }
-{
-    let limits = Limits::largest();
-    let sessions = match Sessions::new(alloc, limits) {
-        Ok(sessions) => sessions,
-        Err(NoMemory) => Sessions::new(alloc, limits)?,
-    };
-    Ok(sessions)
+/// The flags of an open session.
+fn flags(sessions: &Sessions, session: u64) -> Option<u64> {
+    match sessions.get(session) {
+        None => None,
+        Some(row) => Some(row.flags()),
+    }
 }
 
 /// Each function but those of searches once.
 #[test]
 fn sessions_logins_and_pins(rt: HostRuntime) -> Result<(), Fail> {
-    let mut sessions = new_sessions(rt.alloc())?;
+    let mut sessions = Sessions::new(rt.alloc());
     assert!(rt; !sessions.is_initialized());
     sessions.init_token(Pin::of(b"1234"));
     assert!(rt; sessions.is_initialized());
-    assert_eq!(rt; opened(&rt, &mut sessions, 6), 1);
-    assert_eq!(rt; opened(&rt, &mut sessions, 4), 2);
+    open(&rt, &mut sessions, 6)?;
+    open(&rt, &mut sessions, 4)?;
     assert_eq!(rt; sessions.openings(), 2);
     assert!(rt; sessions.has_read_only());
     sessions.close(2);
     assert!(rt; !sessions.has_read_only());
-    assert!(rt; sessions.is_open(1));
-    assert!(rt; !sessions.is_open(2));
+    assert_eq!(rt; flags(&sessions, 1), Some(6));
+    assert_eq!(rt; flags(&sessions, 2), None);
     log_in(&rt, &mut sessions, UserType::So);
     sessions.init_pin(Pin::of(b"user"));
     assert_eq!(rt; sessions.login(), Some(UserType::So));
@@ -90,8 +72,8 @@ fn sessions_logins_and_pins(rt: HostRuntime) -> Result<(), Fail> {
         sessions.credential(UserType::So).pin,
         Some(Pin::of(b"1234"))
     );
-    assert_eq!(rt; opened(&rt, &mut sessions, 4), 3);
-    assert_eq!(rt; sessions.flags(3), Some(4));
+    open(&rt, &mut sessions, 4)?;
+    assert_eq!(rt; flags(&sessions, 3), Some(4));
     assert_eq!(rt; sessions.count(), 2);
     assert_eq!(rt; sessions.read_write_count(), 1);
     sessions.close_all();
@@ -100,9 +82,12 @@ fn sessions_logins_and_pins(rt: HostRuntime) -> Result<(), Fail> {
     Ok(())
 }
 
-/// What is left of the searches of sessions 1 and 2.
-fn left(sessions: &Sessions) -> [Option<&[u64]>; 2] {
-    [sessions.remaining_objects(1), sessions.remaining_objects(2)]
+/// What the session's search has left.
+fn left(sessions: &Sessions, session: u64) -> Option<&[u64]> {
+    match sessions.get(session) {
+        None => None,
+        Some(row) => row.remaining_objects(),
+    }
 }
 
 /// The numbers in a list of their own; where memory is refused, it is made again.
@@ -116,26 +101,28 @@ fn numbers(alloc: Global, numbers: &[u64]) -> Result<Vec<u64>, NoMemory> {
 
 #[test]
 fn searches(rt: HostRuntime) -> Result<(), Fail> {
-    let mut sessions = new_sessions(rt.alloc())?;
-    opened(&rt, &mut sessions, 6);
-    opened(&rt, &mut sessions, 4);
-    assert_eq!(rt; left(&sessions), [None, None]);
+    let mut sessions = Sessions::new(rt.alloc());
+    open(&rt, &mut sessions, 6)?;
+    open(&rt, &mut sessions, 4)?;
+    assert_eq!(rt; left(&sessions, 1), None);
     sessions.start_search(1, numbers(rt.alloc(), &[2, 3, 5, 8])?);
     sessions.start_search(2, numbers(rt.alloc(), &[])?);
     let all: &[u64] = &[2, 3, 5, 8];
     let none: &[u64] = &[];
-    assert_eq!(rt; left(&sessions), [Some(all), Some(none)]);
+    assert_eq!(rt; left(&sessions, 1), Some(all));
+    assert_eq!(rt; left(&sessions, 2), Some(none));
     // private handles after two logins, of the objects 2 and 5
-    sessions.hand_out(1, &[0x2_0000_0002, 0x2_0000_0005]);
-    assert_eq!(rt; left(&sessions), [Some(&all[3..]), Some(none)]);
-    sessions.hand_out(1, &[]);
-    assert_eq!(rt; left(&sessions), [Some(&all[3..]), Some(none)]);
+    sessions.note_found(1, &[0x2_0000_0002, 0x2_0000_0005]);
+    assert_eq!(rt; left(&sessions, 1), Some(&all[3..]));
+    sessions.note_found(1, &[]);
+    assert_eq!(rt; left(&sessions, 1), Some(&all[3..]));
     sessions.end_search(1);
-    assert_eq!(rt; left(&sessions), [None, Some(none)]);
+    assert_eq!(rt; left(&sessions, 1), None);
+    assert_eq!(rt; left(&sessions, 2), Some(none));
     sessions.start_search(1, numbers(rt.alloc(), &[4])?);
     sessions.close(1);
-    assert_eq!(rt; left(&sessions), [None, Some(none)]);
+    assert_eq!(rt; left(&sessions, 1), None);
     sessions.log_out();
-    assert_eq!(rt; left(&sessions), [None, None]);
+    assert_eq!(rt; left(&sessions, 2), None);
     Ok(())
 }

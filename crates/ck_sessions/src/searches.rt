@@ -1,0 +1,48 @@
+ghost use Rattle.std.specs.Prelude.{◌≡◌, filter, nat_lt};
+ghost use Rattle.std.specs.List.Sorted.{IsNonDecreasingBy};
+ghost use Rattle.ck_sessions.specs.Rows.{with_last};
+
+use std::marker::Model;
+
+/// An active search for objects (PKCS #11 Base 3.0, Object management functions).
+#[derive(Debug, Drop)]
+pub(crate) struct Search {
+    /// The numbers of the objects that it found when it started, rising.
+    found: Vec<u64>,
+    /// The number of the object that it returned last, 0 where none.
+    last: u64,
+}
+
+impl Model for Search {
+    ghost use Rattle.ck_sessions.specs.Rows.{Search};
+
+    ghost Value = { Search };
+
+    ghost view = { λ s. record { found = s.found.items; last = s.last } };
+}
+
+impl Search {
+    /// A search that found the objects of these numbers.
+    pub(crate) fn new(found: Vec<u64>) -> Search
+        ensures { result ≡ record { found = found.items; last = 0 } }
+    {
+        Search { found, last: 0 }
+    }
+
+    /// What it found and has not returned yet. Its beginning is found by a binary search.
+    pub(crate) fn remaining(&self) -> &[u64]
+        ensures { IsNonDecreasingBy (λ n. n) self.now.found
+            → result.now ≡ filter (λ n. nat_lt self.now.last n) self.now.found }
+    {
+        let found = self.found.as_slice();
+        let place = found.partition_point(|number| *number <= self.last);
+        &found[place..]
+    }
+
+    /// Notes the number of the object that it returned last.
+    pub(crate) fn set_last(&mut self, number: u64)
+        ensures { self.new ≡ with_last number self.old }
+    {
+        self.last = number;
+    }
+}
