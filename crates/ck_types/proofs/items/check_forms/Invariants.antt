@@ -1,6 +1,7 @@
 use Rattle.std.proofs.Common.{◌≡◌, drop}
-use Rattle.ck_types.specs.Templates.{form_error, first_error}
-use Rattle.ck_types.proofs.templates.first_form_error.Given as goal
+use Rattle.ck_types.specs.Checks.{first_error}
+use Rattle.ck_types.specs.Templates.{form_error}
+use Rattle.ck_types.proofs.items.check_forms.Given as goal
 
 -- what is left decides
 abbrev pub invariant-loop-item : goal.invariant-loop-item

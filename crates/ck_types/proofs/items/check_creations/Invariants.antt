@@ -1,6 +1,7 @@
 use Rattle.std.proofs.Common.{◌≡◌, drop}
-use Rattle.ck_types.specs.Templates.{creation_error, first_error}
-use Rattle.ck_types.proofs.templates.first_creation_error.Given as goal
+use Rattle.ck_types.specs.Checks.{first_error}
+use Rattle.ck_types.specs.Templates.{creation_error}
+use Rattle.ck_types.proofs.items.check_creations.Given as goal
 
 -- what is left decides
 abbrev pub invariant-loop-item : goal.invariant-loop-item

@@ -1,6 +1,6 @@
 use Rattle.std.proofs.Common.{◌≡◌, drop}
 use Rattle.ck_types.specs.Templates.{given}
-use Rattle.ck_types.proofs.templates.given.Given as goal
+use Rattle.ck_types.proofs.items.given.Given as goal
 
 -- what is left decides
 abbrev pub invariant-loop-item : goal.invariant-loop-item

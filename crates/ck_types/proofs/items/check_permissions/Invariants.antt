@@ -1,6 +1,7 @@
 use Rattle.std.proofs.Common.{◌≡◌, drop}
-use Rattle.ck_types.specs.Templates.{class_error, first_error}
-use Rattle.ck_types.proofs.templates.first_class_error.Given as goal
+use Rattle.ck_types.specs.Checks.{first_error}
+use Rattle.ck_types.specs.Templates.{class_error}
+use Rattle.ck_types.proofs.items.check_permissions.Given as goal
 
 -- what is left decides
 abbrev pub invariant-loop-item : goal.invariant-loop-item

@@ -1,6 +1,6 @@
 use Rattle.std.proofs.Common.{◌∙◌}
 use Rattle.ck_types.proofs.ConflictLemmas.{has_conflict-attributes}
-use Rattle.ck_types.proofs.templates.has_conflict.Goals as goal
+use Rattle.ck_types.proofs.items.has_conflict.Goals as goal
 
 -- an item with no fault in form is of one of the attributes
 pub returns : goal.returns
