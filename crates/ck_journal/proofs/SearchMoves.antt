@@ -2,7 +2,7 @@
 use Rattle.std.proofs.Common.{◌≡◌, ℕ, suc, Bool, true, false, cond, List, [], ◌∷◌, Option, Some, None, refl, ap, ◌∙◌}
 use Rattle.std.specs.Prelude.{◌==◌, ◌&&◌, filter, option_and_then}
 use Rattle.std.proofs.lemmas.List.Elements.{filter_agree}
-use Rattle.ck_types.specs.declared.templates.Item.{Item}
+use Rattle.ck_types.specs.declared.items.Item.{Item}
 use Rattle.ck_types.specs.declared.users.UserType.TheVariants as user
 use Rattle.ck_journal.specs.declared.calls.Call.{Call}
 use Rattle.ck_journal.specs.declared.calls.Call.TheVariants as call

@@ -5,18 +5,19 @@ use Rattle.std.specs.List.{list_any}
 use Rattle.std.specs.Option.{option_map_or}
 use Rattle.ck_types.specs.Pins.{fits_a_pin}
 use Rattle.ck_types.specs.Records.{created_items, with_given, is_set, class_of, protections_of, placement_of, copied_error, changed_error}
-use Rattle.ck_types.specs.Templates.{error_if, first_of, created_error}
+use Rattle.ck_types.specs.Checks.{error_if, first_of}
+use Rattle.ck_types.specs.Templates.{created_error}
 use Rattle.ck_types.specs.TokenFlagBits.{token_flags}
 use Rattle.ck_types.specs.TokenLimits.{Ranges}
 use Rattle.ck_types.specs.Users.{user_of, same_user}
 use Rattle.ck_types.specs.declared.attributes.Attribute.{Attribute}
 use Rattle.ck_types.specs.declared.attributes.Attribute.TheVariants as attribute
 use Rattle.ck_types.specs.declared.pins.Pin.{Pin}
-use Rattle.ck_types.specs.declared.records.Placement.{Placement}
+use Rattle.ck_types.specs.declared.object_flags.Placement.{Placement}
 use Rattle.ck_types.specs.declared.return_codes.Rv.TheVariants as rv
-use Rattle.ck_types.specs.declared.return_codes.RvError.{RvError}
-use Rattle.ck_types.specs.declared.return_codes.RvError.TheVariants as rv_error
-use Rattle.ck_types.specs.declared.templates.Item.{Item}
+use Rattle.ck_types.specs.declared.errors.RvError.{RvError}
+use Rattle.ck_types.specs.declared.errors.RvError.TheVariants as rv_error
+use Rattle.ck_types.specs.declared.items.Item.{Item}
 use Rattle.ck_types.specs.declared.token_flags.TokenFlags.{TokenFlags}
 use Rattle.ck_types.specs.declared.users.SessionState.{SessionState}
 use Rattle.ck_types.specs.declared.users.SessionState.TheVariants as state

@@ -3,7 +3,7 @@ use Rattle.std.specs.Prelude.{ℕ, suc, ◌+◌, ◌*◌, ◌^◌, Bool, true, f
 use Rattle.std.specs.Option.{option_map_or}
 use Rattle.ck_types.specs.Records.{created_items, with_given, is_set}
 use Rattle.ck_types.specs.declared.attributes.Attribute.TheVariants as attribute
-use Rattle.ck_types.specs.declared.templates.Item.{Item}
+use Rattle.ck_types.specs.declared.items.Item.{Item}
 use Rattle.ck_types.specs.declared.users.UserType.TheVariants as user
 use Rattle.ck_journal.specs.declared.views.View.{View}
 use Rattle.ck_journal.specs.declared.calls.Call.{Call}

@@ -4,8 +4,8 @@ use Rattle.std.specs.List.{list_any}
 use Rattle.ck_types.specs.Templates.{given}
 use Rattle.ck_types.specs.declared.return_codes.Rv.{Rv}
 use Rattle.ck_types.specs.declared.return_codes.Rv.TheVariants as rv
-use Rattle.ck_types.specs.declared.return_codes.RvError.TheVariants as rv_error
-use Rattle.ck_types.specs.declared.templates.Item.{Item}
+use Rattle.ck_types.specs.declared.errors.RvError.TheVariants as rv_error
+use Rattle.ck_types.specs.declared.items.Item.{Item}
 use Rattle.ck_journal.specs.declared.replies.Answer.{Answer}
 use Rattle.ck_journal.specs.declared.replies.Answer.TheVariants as answer
 use Rattle.ck_journal.specs.declared.calls.AttributeQuery.{AttributeQuery}

@@ -1,29 +1,26 @@
 -- When objects are what a history says
-use Rattle.std.specs.Prelude.{◌≡◌, ℕ, List, Option, Some, None, map, if◌then◌else◌}
-use Rattle.ck_types.specs.declared.templates.Item.{Item}
-use Rattle.ck_journal.specs.Histories.{History}
-use Rattle.ck_journal.specs.Objects.{creations, session_of, attributes_of, objects, has_object, is_visible, handle_of}
-use Rattle.ck_store.specs.declared.stores.StoredObject.{StoredObject}
+use Rattle.std.specs.Prelude.{◌≡◌, ℕ, List, Option, Some, None, filter_map, option_map, if◌then◌else◌}
+use Rattle.ck_journal.specs.Bases.{IsSound}
+use Rattle.ck_journal.specs.Histories.{History, start_of}
+use Rattle.ck_journal.specs.Objects.{creations, session_of, object_at, is_visible, handle_of}
+use Rattle.ck_journal.specs.Sessions.{numbers}
+use Rattle.ck_store.specs.Rows.{ObjectRow, object_row}
 
 -- the objects that haven't ended, how many have been created, and for how many more there is room
 pub record StoreState : Type 0 where
-  pub rows : List StoredObject
+  pub rows : List ObjectRow
   pub creations : ℕ
   pub spare : ℕ
 
-abbrev pub object_row : ℕ → ℕ → List Item → StoredObject
-object_row number session attributes = record { number = number; session = session; attributes = attributes }
+-- the object of this number, where it has been created and hasn't ended
+abbrev pub row_at : History → ℕ → Option ObjectRow
+row_at h n = option_map (object_row n (session_of h n)) (object_at h n)
 
 pub record StoreAgrees (h : History) (s : StoreState) : Type 0 where
-  pub rows : s.rows ≡ map (λ n. object_row n (session_of h n) (attributes_of h n)) (objects h)
+  pub sound : IsSound (start_of h)
+  pub rows : s.rows ≡ filter_map (row_at h) (numbers (creations h))
   pub creations : s.creations ≡ creations h
-
--- ---- readings by an object's number
-
--- the attributes of an object that hasn't ended
-abbrev pub attributes_at : History → ℕ → Option (List Item)
-attributes_at h number = if has_object h number then Some (attributes_of h number) else None
 
 -- the handle of an object that is visible
 abbrev pub handle_at : History → ℕ → Option ℕ
-handle_at h number = if is_visible h number then Some (handle_of h number) else None
+handle_at h n = if is_visible h n then Some (handle_of h n) else None

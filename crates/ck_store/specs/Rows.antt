@@ -1,40 +1,63 @@
--- An object as the token stores it
-use Rattle.std.specs.Prelude.{ℕ, Bool, true, List, ◌==◌, ◌<◌, ◌&&◌, AllPairs, not, filter, map}
-use Rattle.ck_types.specs.Records.{is_set, matches}
+-- An object as the store has it
+use Rattle.std.specs.Prelude.{ℕ, ◌<◌, Bool, true, false, List, Option, Some, None, ◌==◌, ◌&&◌, AllPairs, filter, is_some, map, if◌then◌else◌}
+use Rattle.std.specs.Option.{option_map_or}
+use Rattle.ck_types.specs.Records.{is_set}
 use Rattle.ck_types.specs.declared.attributes.Attribute.TheVariants as attribute
-use Rattle.ck_types.specs.declared.templates.Item.{Item}
-use Rattle.ck_journal.specs.Objects.{names_with, is_visible_with}
+use Rattle.ck_types.specs.declared.items.Item.{Item}
+use Rattle.ck_journal.specs.Objects.{is_session_object, is_visible_with, handle_with}
+use Rattle.ck_journal.specs.Searches.{is_match_with}
 use Rattle.ck_journal.specs.declared.views.View.{View}
-use Rattle.ck_store.specs.declared.stores.StoredObject.{StoredObject}
 
--- the handle names the object
-abbrev pub is_named : View → ℕ → StoredObject → Bool
-is_named view handle row = names_with view true row.attributes handle row.number
+-- an object's number, the session that created it, where it is a session object, and its attributes
+pub record ObjectRow : Type 0 where
+  pub number : ℕ
+  pub session : Option ℕ
+  pub attributes : List Item
 
--- the object is visible and matches the template
-abbrev pub is_match : View → List Item → StoredObject → Bool
-is_match view template row = is_visible_with view true row.attributes && matches row.attributes template
+-- the session that an object with these attributes belongs to, by the one that created it; a token object is nobody's
+abbrev pub owning_session : ℕ → List Item → Option ℕ
+owning_session session attributes = if is_session_object attributes then Some session else None
 
--- the numbers of the rows that do
-abbrev pub matching_numbers : View → List Item → List StoredObject → List ℕ
-matching_numbers view template rows = map (λ (row : StoredObject). row.number) (filter (is_match view template) rows)
+abbrev pub object_row : ℕ → ℕ → List Item → ObjectRow
+object_row number session attributes =
+    record { number = number; session = owning_session session attributes; attributes = attributes }
 
--- the object ends where the session is closed
-abbrev pub ends_with : ℕ → StoredObject → Bool
-ends_with session row = not (is_set row.attributes attribute.Token) && session == row.session
+-- ---- tests of an object
 
--- the object ends where all sessions are closed
-abbrev pub is_session_object : StoredObject → Bool
-is_session_object row = not (is_set row.attributes attribute.Token)
-
--- the object ends at a logout
-abbrev pub is_private_session_object : StoredObject → Bool
-is_private_session_object row = not (is_set row.attributes attribute.Token) && is_set row.attributes attribute.Private
-
--- the object has this number
-abbrev pub has_number : ℕ → StoredObject → Bool
+abbrev pub has_number : ℕ → ObjectRow → Bool
 has_number number row = row.number == number
 
+-- it is a session object of this session
+abbrev pub is_of_session : ℕ → ObjectRow → Bool
+is_of_session session row = option_map_or (λ owner. session == owner) row.session false
+
+abbrev pub is_session_row : ObjectRow → Bool
+is_session_row row = is_some row.session
+
+abbrev pub is_private_session_row : ObjectRow → Bool
+is_private_session_row row = is_session_row row && is_set row.attributes attribute.Private
+
+-- it is visible and matches the template
+abbrev pub is_match : View → List Item → ObjectRow → Bool
+is_match view template row = is_match_with view template row.attributes
+
+-- ---- readings of an object
+
+-- its handle, where it is visible
+abbrev pub visible_handle : View → ObjectRow → Option ℕ
+visible_handle view row =
+    if is_visible_with view row.attributes then Some (handle_with view row.attributes row.number) else None
+
+-- the object of this number with other attributes; another object as it is
+abbrev pub with_attributes : ℕ → List Item → ObjectRow → ObjectRow
+with_attributes number attributes row = if has_number number row then record row { attributes = attributes } else row
+
+-- ---- lists of objects
+
 -- each number is below all later ones
-abbrev pub NumbersRise : List StoredObject → Type 0
-NumbersRise rows = AllPairs (λ (row : StoredObject) (later : StoredObject). row.number < later.number) rows
+abbrev pub NumbersRise : List ObjectRow → Type 0
+NumbersRise rows = AllPairs (λ (row : ObjectRow) (later : ObjectRow). row.number < later.number) rows
+
+-- the numbers of the objects that are visible and match the template
+abbrev pub matching_numbers : View → List Item → List ObjectRow → List ℕ
+matching_numbers view template rows = map (λ (row : ObjectRow). row.number) (filter (is_match view template) rows)

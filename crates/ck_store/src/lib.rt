@@ -2,8 +2,9 @@
 #![tactic(auto)]
 
 mod rows;
+mod stored_objects;
 mod stores;
 #[cfg(test)]
 mod tests;
 
-pub use stores::{Store, StoredObject};
+pub use stores::Store;

@@ -1,81 +1,31 @@
-ghost use Rattle.std.specs.Prelude.{◌≡◌, ◌<◌, ◌^◌, not, filter, find, position, IfOk};
+ghost use Rattle.std.specs.Prelude.{◌≡◌, ◌<◌, length, map, not, filter, find, position, IfOk, IfSome};
 ghost use Rattle.std.specs.Option.{option_copied};
-ghost use Rattle.ck_journal.specs.Lists.{change_first};
-ghost use Rattle.ck_store.specs.Rows.{is_named, ends_with, is_session_object, is_private_session_object, has_number, NumbersRise, matching_numbers};
-ghost use Rattle.ck_store.specs.declared.stores.StoredObject.{StoredObject};
+ghost use Rattle.ck_store.specs.Rows.{has_number, with_attributes, NumbersRise, matching_numbers};
+ghost use Rattle.ck_store.specs.Rows.{is_of_session, is_session_row, is_private_session_row};
 
-use crate::stores::StoredObject;
+use crate::stored_objects::StoredObject;
 use ck_journal::View;
-use ck_types::{Attribute, NoMemory, Record, Template};
+use ck_types::{NoMemory, Record, Template};
 use std::alloc::Global;
 
-impl StoredObject {
-    ghost use Rattle.std.specs.Prelude.{◌≡◌, ◌==◌, ◌<◌, ◌^◌, true};
-    ghost use Rattle.ck_journal.specs.Objects.{is_visible_with, handle_with};
-    ghost use Rattle.ck_store.specs.Rows.{is_named, is_match, ends_with, is_session_object, is_private_session_object};
-
-    pub(crate) fn is_visible(&self, view: View) -> bool
-        ensures { result ≡ is_visible_with view true self.now.attributes }
-    {
-        !self.attributes.is_set(Attribute::Private) || view.user
-    }
-
-    /// Whether the handle is the object's: by the object's number above that of the number 0.
-    fn has_handle(&self, view: View, handle: u64) -> bool
-        requires { view.logins < 2 ^ 31 }
-        ensures { result ≡ (handle_with view self.now.attributes self.now.number == handle) }
-    {
-        let base = view.handle(&self.attributes, 0);
-        base <= handle && handle - base == self.number
-    }
-
-    /// Whether the handle names the object.
-    pub(crate) fn is_named(&self, view: View, handle: u64) -> bool
-        requires { view.logins < 2 ^ 31 }
-        ensures { result ≡ is_named view handle self.now }
-    {
-        self.is_visible(view) && self.has_handle(view, handle)
-    }
-
-    /// Whether the object is visible and matches the template.
-    fn is_match(&self, view: View, template: &Template) -> bool
-        ensures { result ≡ is_match view template.now.items self.now }
-    {
-        self.is_visible(view) && self.attributes.matches(template)
-    }
-
-    /// Whether the object ends where the session is closed.
-    fn ends_with(&self, session: u64) -> bool
-        ensures { result ≡ ends_with session self.now }
-    {
-        self.is_session_object() && session == self.session
-    }
-
-    fn is_session_object(&self) -> bool
-        ensures { result ≡ is_session_object self.now }
-    {
-        !self.attributes.is_set(Attribute::Token)
-    }
-
-    fn is_private_session_object(&self) -> bool
-        ensures { result ≡ is_private_session_object self.now }
-    {
-        self.is_session_object() && self.attributes.is_set(Attribute::Private)
-    }
+/// The place of the object that has the number, among objects whose numbers rise.
+fn place_of(rows: &[StoredObject], number: u64) -> Option<usize>
+    ensures within { IfSome result (λ place. place < length rows.now) }
+    ensures place { NumbersRise rows.now → result ≡ position (has_number number) rows.now }
+{
+    rows.binary_search_by_key(&number, |row| row.number()).ok()
 }
 
-/// The object that has the number, among rows whose numbers rise.
+/// The object that has the number, among objects whose numbers rise.
 pub(crate) fn find_numbered(rows: &[StoredObject], number: u64) -> Option<&StoredObject>
     ensures { NumbersRise rows.now → option_copied result ≡ find (has_number number) rows.now }
 {
-    match rows.binary_search_by_key(&number, |row| row.number) {
-        Ok(place) => Some(&rows[place]),
-        Err(_) => None,
-    }
+    let place = place_of(rows, number)?;
+    Some(&rows[place])
 }
 
-/// The numbers of the objects that are visible and match the template. Most searches find few objects, so room is made as
-/// they are found.
+/// The numbers of the objects that are visible and match the template. Most searches find few objects, so room is made
+/// as they are found.
 pub(crate) fn find_matching(
     alloc: Global,
     rows: &[StoredObject],
@@ -87,56 +37,46 @@ pub(crate) fn find_matching(
     let mut numbers = Vec::new(alloc);
     for row in rows {
         if row.is_match(view, template) {
-            numbers.push(row.number)?;
+            numbers.push(row.number())?;
         }
     }
     Ok(numbers)
 }
 
-/// The place of the first object that the handle names.
-fn place_of(rows: &[StoredObject], view: View, handle: u64) -> Option<usize>
-    requires { view.logins < 2 ^ 31 }
-    ensures { result ≡ position (is_named view handle) rows.now }
+/// Gives the object that has the number these attributes, among objects whose numbers rise.
+pub(crate) fn set_numbered(rows: &mut Vec<StoredObject>, number: u64, attributes: Record)
+    ensures { NumbersRise rows.old.items
+        → rows.new.items ≡ map (with_attributes number attributes) rows.old.items }
 {
-    rows.iter().position(|row| row.is_named(view, handle))
+    if let Some(place) = place_of(rows.as_slice(), number) {
+        rows[place].set_attributes(attributes);
+    }
 }
 
-/// Gives the first object that the handle names these attributes.
-pub(crate) fn replace_named(
-    rows: &mut Vec<StoredObject>,
-    view: View,
-    handle: u64,
-    attributes: Record,
-)
-    requires { view.logins < 2 ^ 31 }
-    ensures { rows.new.items ≡ change_first (is_named view handle) (λ (row : StoredObject). record row { attributes = attributes }) rows.old.items }
+/// Removes the object that has the number, among objects whose numbers rise.
+pub(crate) fn remove_numbered(rows: &mut Vec<StoredObject>, number: u64)
+    ensures { NumbersRise rows.old.items
+        → rows.new.items ≡ filter (λ row. not (has_number number row)) rows.old.items }
 {
-    if let Some(place) = place_of(rows.as_slice(), view, handle) {
-        rows[place].attributes = attributes;
+    if let Some(place) = place_of(rows.as_slice(), number) {
+        rows.remove(place);
     }
 }
 
 pub(crate) fn remove_of_session(rows: &mut Vec<StoredObject>, session: u64)
-    ensures { rows.new.items ≡ filter (λ row. not (ends_with session row)) rows.old.items }
+    ensures { rows.new.items ≡ filter (λ row. not (is_of_session session row)) rows.old.items }
 {
-    rows.retain(|row| !row.ends_with(session));
+    rows.retain(|row| !row.is_of_session(session));
 }
 
 pub(crate) fn remove_session_objects(rows: &mut Vec<StoredObject>)
-    ensures { rows.new.items ≡ filter (λ row. not (is_session_object row)) rows.old.items }
+    ensures { rows.new.items ≡ filter (λ row. not (is_session_row row)) rows.old.items }
 {
     rows.retain(|row| !row.is_session_object());
 }
 
 pub(crate) fn remove_private_session_objects(rows: &mut Vec<StoredObject>)
-    ensures { rows.new.items ≡ filter (λ row. not (is_private_session_object row)) rows.old.items }
+    ensures { rows.new.items ≡ filter (λ row. not (is_private_session_row row)) rows.old.items }
 {
     rows.retain(|row| !row.is_private_session_object());
-}
-
-pub(crate) fn remove_named(rows: &mut Vec<StoredObject>, view: View, handle: u64)
-    requires { view.logins < 2 ^ 31 }
-    ensures { rows.new.items ≡ filter (λ row. not (is_named view handle row)) rows.old.items }
-{
-    rows.retain(|row| !row.is_named(view, handle));
 }

@@ -1,20 +1,12 @@
 use crate::rows::{
-    find_matching, find_numbered, remove_named, remove_of_session, remove_private_session_objects,
-    remove_session_objects, replace_named,
+    find_matching, find_numbered, remove_numbered, remove_of_session,
+    remove_private_session_objects, remove_session_objects, set_numbered,
 };
+use crate::stored_objects::StoredObject;
 use ck_journal::{View, number_of_handle};
 use ck_types::{NoMemory, Record, Template};
 use std::alloc::Global;
 use std::marker::Model;
-
-/// An object that hasn't ended.
-#[derive(Debug, Drop)]
-pub struct StoredObject {
-    pub number: u64,
-    /// The session that created it.
-    pub session: u64,
-    pub attributes: Record,
-}
 
 /// The token's objects, in the order of their creations.
 #[derive(Debug, Drop)]
@@ -29,28 +21,35 @@ impl Model for Store {
 
     ghost Value = { StoreState };
 
-    ghost view = { λ s. record { rows = s.rows.items; creations = s.creations; spare = vec_capacity s.rows - vec_len s.rows } };
+    ghost view = { λ s. record {
+      rows = s.rows.items;
+      creations = s.creations;
+      spare = vec_capacity s.rows - vec_len s.rows;
+    } };
 
     ghost invariant = { λ s. s.creations < 2 ^ 32 };
 }
 
 impl Store {
-    ghost use Rattle.std.specs.Prelude.{◌≡◌, ◌∷◌, ◌+◌, ◌<◌, ◌^◌, [], ℕ, true, Some, IfOk, OnOk, option_map};
+    ghost use Rattle.std.specs.Prelude.{◌≡◌, ◌+◌, ◌<◌, ◌^◌, ℕ, true, None, Some, IfNone, IfOk, IfSome, OnOk};
     ghost use Rattle.std.specs.Option.{option_copied};
-    ghost use Rattle.ck_types.specs.Records.{with_given};
+    ghost use Rattle.ck_types.specs.Records.{is_set, with_given};
+    ghost use Rattle.ck_types.specs.declared.attributes.Attribute.TheVariants as attribute;
     ghost use Rattle.ck_types.specs.declared.pins.Pin.{Pin};
     ghost use Rattle.ck_types.specs.declared.templates.Template.{Template};
-    ghost use Rattle.ck_journal.specs.Histories.{History, done};
-    ghost use Rattle.ck_journal.specs.Objects.{creates, creation_session, creation_attributes, creations, attributes_of, view_of, object_named, named_attributes};
+    ghost use Rattle.ck_journal.specs.Bases.{empty_base};
+    ghost use Rattle.ck_journal.specs.Histories.{History, start, ◌◁◌, done};
+    ghost use Rattle.ck_journal.specs.Objects.{creates, creation_session, creation_attributes, creations, object_at, view_of};
+    ghost use Rattle.ck_journal.specs.Objects.{attributes_named, named_attributes, object_named};
     ghost use Rattle.ck_journal.specs.Searches.{matching_objects};
     ghost use Rattle.ck_journal.specs.declared.calls.Call.{Call};
     ghost use Rattle.ck_journal.specs.declared.calls.Call.TheVariants as call;
     ghost use Rattle.ck_journal.specs.declared.calls.Entry.{Entry};
-    ghost use Rattle.ck_store.specs.Agreement.{StoreAgrees, attributes_at, handle_at};
+    ghost use Rattle.ck_store.specs.Agreement.{StoreAgrees, handle_at};
 
-    /// No objects, which take no memory.
+    /// The store of a new token, which has no objects and takes no memory.
     pub fn new(alloc: Global) -> Store
-        ensures { StoreAgrees [] result }
+        ensures { StoreAgrees (start empty_base) result }
     {
         Store {
             rows: Vec::new(alloc),
@@ -68,27 +67,31 @@ impl Store {
         self.creations
     }
 
-    /// The attributes of the object that a handle names.
-    pub fn get(&self, view: View, handle: u64) -> Option<&Record>
+    /// The number and the attributes of the object that a handle names.
+    pub fn get(&self, view: View, handle: u64) -> Option<(u64, &Record)>
         requires logins { view.logins < 2 ^ 31 }
-        ensures { (h : History) → StoreAgrees h self.now → view ≡ view_of h → option_copied result ≡ option_map (attributes_of h) (object_named h handle) }
+        ensures none { (h : History) → StoreAgrees h self.now → view ≡ view_of h
+            → IfNone result (attributes_named h handle ≡ None) }
+        ensures number { (h : History) → StoreAgrees h self.now → view ≡ view_of h
+            → IfSome result (λ found. object_named h handle ≡ Some found.0) }
+        ensures attributes { (h : History) → StoreAgrees h self.now → view ≡ view_of h
+            → IfSome result (λ found. attributes_named h handle ≡ Some found.1.now) }
     {
-        let row = find_numbered(self.rows.as_slice(), number_of_handle(handle))?;
-        if row.is_named(view, handle) {
-            Some(&row.attributes)
+        let number = number_of_handle(handle);
+        let object = find_numbered(self.rows.as_slice(), number)?;
+        if object.handle(view) == Some(handle) {
+            Some((number, object.attributes()))
         } else {
             None
         }
     }
 
-    /// The attributes of the object that has the number, where it hasn't ended.
+    /// The attributes of the object that has the number.
     pub fn at(&self, number: u64) -> Option<&Record>
-        ensures { (h : History) → StoreAgrees h self.now → option_copied result ≡ attributes_at h number }
+        ensures { (h : History) → StoreAgrees h self.now → option_copied result ≡ object_at h number }
     {
-        match find_numbered(self.rows.as_slice(), number) {
-            None => None,
-            Some(row) => Some(&row.attributes),
-        }
+        let object = find_numbered(self.rows.as_slice(), number)?;
+        Some(object.attributes())
     }
 
     /// The handle of the object that has the number, where it is visible.
@@ -96,29 +99,23 @@ impl Store {
         requires logins { view.logins < 2 ^ 31 }
         ensures { (h : History) → StoreAgrees h self.now → view ≡ view_of h → result ≡ handle_at h number }
     {
-        if number > self.creations {
-            return None;
-        }
-        let row = find_numbered(self.rows.as_slice(), number)?;
-        if row.is_visible(view) {
-            Some(view.handle(&row.attributes, number))
-        } else {
-            None
-        }
+        find_numbered(self.rows.as_slice(), number)?.handle(view)
     }
 
     /// The numbers, which rise, of the objects that are visible and match the template.
     pub fn find(&self, alloc: Global, view: View, template: &Template) -> Result<Vec<u64>, NoMemory>
-        ensures { IfOk result (λ numbers. (h : History) → StoreAgrees h self.now → view ≡ view_of h → numbers.items ≡ matching_objects h template.now.items) }
+        ensures { IfOk result (λ numbers. (h : History) → StoreAgrees h self.now → view ≡ view_of h
+            → numbers.items ≡ matching_objects h template.now.items) }
     {
         find_matching(alloc, self.rows.as_slice(), view, template)
     }
 
     // ---- changes, each that of a call that is answered OK
 
-    /// Makes room for one more object.
-    pub fn reserve(&mut self) -> Result<(), NoMemory>
-        ensures rows { self.new.rows ≡ self.old.rows }
+    /// Makes room for one more object that the session creates. One list has the objects of all sessions, so the room is
+    /// the same for each; a store in which each session has a list of its own objects makes room in that one too.
+    pub fn reserve(&mut self, _session: u64) -> Result<(), NoMemory>
+        ensures agree { (h : History) → StoreAgrees h self.old → StoreAgrees h self.new }
         ensures creations { self.new.creations ≡ self.old.creations }
         ensures room { OnOk result (0 < self.new.spare) }
     {
@@ -126,68 +123,68 @@ impl Store {
         Ok(())
     }
 
-    /// Adds an object that the session creates or copies, and answers its number.
-    pub fn create(&mut self, session: u64, attributes: Record) -> u64
+    /// Adds an object that the session creates or copies.
+    pub fn create(&mut self, session: u64, attributes: Record)
         requires room { 0 < self.old.spare }
         requires numbers { self.old.creations + 1 < 2 ^ 32 }
-        ensures number { result ≡ self.old.creations + 1 }
-        ensures agree { (h : History) (e : Entry) (c : Call) → done e ≡ Some c → creates (Some c) ≡ true → session ≡ creation_session (Some c)
-            → attributes ≡ creation_attributes (Some c) (named_attributes h) → StoreAgrees h self.old → StoreAgrees (e ∷ h) self.new }
+        ensures agree { (h : History) (e : Entry) (c : Call) → done e ≡ Some c → creates (Some c) ≡ true
+            → session ≡ creation_session (Some c) → attributes ≡ creation_attributes (Some c) (attributes_named h)
+            → StoreAgrees h self.old → StoreAgrees (e ◁ h) self.new }
     {
         self.creations += 1;
-        let number = self.creations;
-        let object = StoredObject {
-            number,
-            session,
-            attributes,
-        };
+        let object = StoredObject::new(self.creations, session, attributes);
         self.rows.push(object).unwrap();
-        number
     }
 
-    /// Gives the object that a handle names these attributes.
-    pub fn set(&mut self, view: View, handle: u64, attributes: Record)
-        requires logins { view.logins < 2 ^ 31 }
-        ensures { (h : History) (e : Entry) (session : ℕ) (template : Template) → done e ≡ Some (call.SetAttributeValue session handle template) → view ≡ view_of h
-            → attributes ≡ with_given template.items (named_attributes h handle) → StoreAgrees h self.old → StoreAgrees (e ∷ h) self.new }
+    /// Gives the object that has the number these attributes. An object keeps its CKA_TOKEN.
+    pub fn set(&mut self, number: u64, attributes: Record)
+        ensures agree { (h : History) (e : Entry) (session object : ℕ) (template : Template)
+            → done e ≡ Some (call.SetAttributeValue session object template) → object_named h object ≡ Some number
+            → attributes ≡ with_given template.items (named_attributes h object)
+            → is_set attributes attribute.Token ≡ is_set (named_attributes h object) attribute.Token
+            → StoreAgrees h self.old → StoreAgrees (e ◁ h) self.new }
     {
-        replace_named(&mut self.rows, view, handle, attributes);
+        set_numbered(&mut self.rows, number, attributes);
+    }
+
+    /// Ends the object that has the number.
+    pub fn destroy(&mut self, number: u64)
+        ensures agree { (h : History) (e : Entry) (session object : ℕ)
+            → done e ≡ Some (call.DestroyObject session object) → object_named h object ≡ Some number
+            → StoreAgrees h self.old → StoreAgrees (e ◁ h) self.new }
+    {
+        remove_numbered(&mut self.rows, number);
     }
 
     /// Ends all objects.
     pub fn clear(&mut self)
-        ensures { (h : History) (e : Entry) (pin : Pin) → done e ≡ Some (call.InitToken pin) → StoreAgrees h self.old → StoreAgrees (e ∷ h) self.new }
+        ensures agree { (h : History) (e : Entry) (pin : Pin) → done e ≡ Some (call.InitToken pin)
+            → StoreAgrees h self.old → StoreAgrees (e ◁ h) self.new }
     {
         self.rows.clear();
     }
 
     /// Ends the session objects that the session created.
     pub fn end_session(&mut self, session: u64)
-        ensures { (h : History) (e : Entry) → done e ≡ Some (call.CloseSession session) → StoreAgrees h self.old → StoreAgrees (e ∷ h) self.new }
+        ensures agree { (h : History) (e : Entry) → done e ≡ Some (call.CloseSession session)
+            → StoreAgrees h self.old → StoreAgrees (e ◁ h) self.new }
     {
         remove_of_session(&mut self.rows, session);
     }
 
     /// Ends all session objects.
     pub fn end_all_sessions(&mut self)
-        ensures { (h : History) (e : Entry) → done e ≡ Some call.CloseAllSessions → StoreAgrees h self.old → StoreAgrees (e ∷ h) self.new }
+        ensures agree { (h : History) (e : Entry) → done e ≡ Some call.CloseAllSessions
+            → StoreAgrees h self.old → StoreAgrees (e ◁ h) self.new }
     {
         remove_session_objects(&mut self.rows);
     }
 
     /// Ends the private session objects.
     pub fn end_private(&mut self)
-        ensures { (h : History) (e : Entry) (session : ℕ) → done e ≡ Some (call.Logout session) → StoreAgrees h self.old → StoreAgrees (e ∷ h) self.new }
+        ensures agree { (h : History) (e : Entry) (session : ℕ) → done e ≡ Some (call.Logout session)
+            → StoreAgrees h self.old → StoreAgrees (e ◁ h) self.new }
     {
         remove_private_session_objects(&mut self.rows);
-    }
-
-    /// Ends the object that a handle names.
-    pub fn destroy(&mut self, view: View, handle: u64)
-        requires logins { view.logins < 2 ^ 31 }
-        ensures { (h : History) (e : Entry) (session : ℕ) → done e ≡ Some (call.DestroyObject session handle) → view ≡ view_of h
-            → StoreAgrees h self.old → StoreAgrees (e ∷ h) self.new }
-    {
-        remove_named(&mut self.rows, view, handle);
     }
 }

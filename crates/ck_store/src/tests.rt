@@ -73,22 +73,24 @@ fn record_of(alloc: Global, items: &[(u64, &[u8])]) -> Result<Record, Refusal> {
     Record::created(alloc, &template)
 }
 
-fn created(
+fn create(
     rt: &impl Abort,
     store: &mut Store,
     session: u64,
     attributes: Record,
-) -> Result<u64, NoMemory> {
+) -> Result<(), NoMemory> {
     assert!(rt; store.creations() < 0xffff_fffe);
-    store.reserve()?;
-    Ok(store.create(session, attributes))
+    store.reserve(session)?;
+    store.create(session, attributes);
+    Ok(())
 }
 
-/// The length of the label of the object that a handle names.
-fn label(store: &Store, view: View, handle: u64) -> Option<u64>
+/// The number of the object that a handle names, and the length of its label.
+fn named(store: &Store, view: View, handle: u64) -> Option<(u64, u64)>
     requires { view.logins ≡ 1 }
 {
-    store.get(view, handle)?.length(0x3)
+    let (number, attributes) = store.get(view, handle)?;
+    Some((number, attributes.length(0x3)?))
 }
 
 /// Two session objects of session 1, the second private, a private token object, and a session object of session 2;
@@ -112,22 +114,23 @@ fn new_store(rt: &impl Abort, alloc: Global) -> Result<Store, Refusal> {
                 alloc,
                 &[(0, DATA), (0x1, &[1]), (0x2, &[1]), (0x3, &[9; 3])],
             )?;
-            assert_eq!(rt; created(rt, &mut store, 1, token)?, 3);
+            create(rt, &mut store, 1, token)?;
         }
         let record = record_of(alloc, &items)?;
-        assert_eq!(rt; created(rt, &mut store, session, record)?, number);
+        create(rt, &mut store, session, record)?;
+        assert_eq!(rt; store.creations(), number);
     }
     Ok(store)
 }
 
-/// The lengths of the labels that the handles of all four objects find.
-fn labels(store: &Store) -> [Option<u64>; 4] {
+/// The objects that the handles of all four name.
+fn all_named(store: &Store) -> [Option<(u64, u64)>; 4] {
     let private = 0x1_0000_0000;
     [
-        label(store, logged_in(), 1),
-        label(store, logged_in(), private + 2),
-        label(store, logged_in(), private + 3),
-        label(store, logged_in(), 4),
+        named(store, logged_in(), 1),
+        named(store, logged_in(), private + 2),
+        named(store, logged_in(), private + 3),
+        named(store, logged_in(), 4),
     ]
 }
 
@@ -135,10 +138,19 @@ fn labels(store: &Store) -> [Option<u64>; 4] {
 fn objects(rt: HostRuntime) -> Result<(), Fail> {
     let mut store = filled(&rt, rt.alloc())?;
     assert_eq!(rt; store.creations(), 4);
-    assert_eq!(rt; labels(&store), [Some(1), Some(2), Some(3), Some(4)]);
-    assert_eq!(rt; label(&store, public(), 1), Some(1));
+    assert_eq!(rt;
+        all_named(&store),
+        [Some((1, 1)), Some((2, 2)), Some((3, 3)), Some((4, 4))]
+    );
+    for handle in [1, 4] {
+        assert_eq!(rt;
+            named(&store, public(), handle),
+            Some((handle, handle)),
+            "{handle}"
+        );
+    }
     for handle in [0, 2, 3, 5, 0x1_0000_0001, 0x1_0000_0002, 0x2_0000_0003] {
-        assert_eq!(rt; label(&store, public(), handle), None, "{handle}");
+        assert_eq!(rt; named(&store, public(), handle), None, "{handle}");
     }
     for (number, length, handle) in [
         (0, None, None),
@@ -159,12 +171,18 @@ fn objects(rt: HostRuntime) -> Result<(), Fail> {
         Ok(longer) => longer,
         Err(_) => record_of(rt.alloc(), items)?,
     };
-    store.set(logged_in(), 4, longer);
-    assert_eq!(rt; labels(&store), [Some(1), Some(2), Some(3), Some(5)]);
-    store.destroy(logged_in(), 4);
-    assert_eq!(rt; labels(&store), [Some(1), Some(2), Some(3), None]);
+    store.set(4, longer);
+    assert_eq!(rt;
+        all_named(&store),
+        [Some((1, 1)), Some((2, 2)), Some((3, 3)), Some((4, 5))]
+    );
+    store.destroy(4);
+    assert_eq!(rt;
+        all_named(&store),
+        [Some((1, 1)), Some((2, 2)), Some((3, 3)), None]
+    );
     store.clear();
-    assert_eq!(rt; labels(&store), [None; 4]);
+    assert_eq!(rt; all_named(&store), [None; 4]);
     assert_eq!(rt; store.creations(), 4);
     Ok(())
 }
@@ -173,11 +191,14 @@ fn objects(rt: HostRuntime) -> Result<(), Fail> {
 fn ends_of_sessions_and_logins(rt: HostRuntime) -> Result<(), Fail> {
     let mut store = filled(&rt, rt.alloc())?;
     store.end_session(2);
-    assert_eq!(rt; labels(&store), [Some(1), Some(2), Some(3), None]);
+    assert_eq!(rt;
+        all_named(&store),
+        [Some((1, 1)), Some((2, 2)), Some((3, 3)), None]
+    );
     store.end_private();
-    assert_eq!(rt; labels(&store), [Some(1), None, Some(3), None]);
+    assert_eq!(rt; all_named(&store), [Some((1, 1)), None, Some((3, 3)), None]);
     store.end_all_sessions();
-    assert_eq!(rt; labels(&store), [None, None, Some(3), None]);
+    assert_eq!(rt; all_named(&store), [None, None, Some((3, 3)), None]);
     Ok(())
 }
 

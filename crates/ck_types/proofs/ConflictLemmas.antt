@@ -5,10 +5,11 @@ use Rattle.std.specs.List.{list_any}
 use Rattle.std.specs.Cmp.Lexicographic.{bytes_decides}
 use Rattle.std.proofs.lemmas.Bool.{eqb-true}
 use Rattle.ck_types.specs.Attributes.{type_of, attribute_of, attributes, same_bytes}
-use Rattle.ck_types.specs.Templates.{given, given_or, first_error, form_error, value_error, has_conflict, has_two_values}
+use Rattle.ck_types.specs.Checks.{first_error}
+use Rattle.ck_types.specs.Templates.{given, given_or, form_error, value_error, has_conflict, has_two_values}
 use Rattle.ck_types.specs.declared.attributes.Attribute.{Attribute}
-use Rattle.ck_types.specs.declared.templates.Item.{Item}
-use Rattle.ck_types.proofs.GivenLemmas.{or_else-none}
+use Rattle.ck_types.specs.declared.items.Item.{Item}
+use Rattle.ck_types.proofs.CheckLemmas.{or_else-none}
 
 -- ---- a test of pairs
 

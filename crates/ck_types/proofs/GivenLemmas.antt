@@ -3,16 +3,22 @@ use Rattle.std.proofs.Common.{◌≡◌, ℕ, Bool, true, false, cond, List, [],
 use Rattle.std.specs.Prelude.{◌==◌, find, option_map, unwrap_or}
 use Rattle.std.specs.Cmp.Lexicographic.{bytes_decides}
 use Rattle.std.proofs.lemmas.Bool.{eqb-true, or_cases, true≢false}
-use Rattle.ck_types.specs.Attributes.{type_of, form_of, is_of_form, standing, attribute_of, same_bytes, flag_bytes, number_bytes}
-use Rattle.ck_types.specs.Templates.{given, given_or, first_error, form_error, value_error, creation_error, class_error, standing_error, template_error, has_conflict, or_else, error_if, created_error}
+use Rattle.ck_types.specs.Attributes.{type_of, form_of, is_of_form, permission, attribute_of, same_bytes, flag_bytes, number_bytes}
+use Rattle.ck_types.specs.Checks.{error_if, first_error}
+use Rattle.ck_types.specs.Templates.{given, given_or, form_error, value_error, creation_error, class_error, permission_error, template_error, has_conflict, created_error}
+use Rattle.ck_types.specs.Records.{copied_error, changed_error}
 use Rattle.ck_types.specs.declared.attributes.Attribute.{Attribute}
 use Rattle.ck_types.specs.declared.attributes.Attribute.TheVariants as attribute
+use Rattle.ck_types.specs.declared.attributes.Class.{Class}
 use Rattle.ck_types.specs.declared.attributes.Class.TheVariants as class
 use Rattle.ck_types.specs.declared.attributes.Form.TheVariants as form
 use Rattle.ck_types.specs.declared.attributes.Purpose.{Purpose}
-use Rattle.ck_types.specs.declared.return_codes.Rv.{Rv}
-use Rattle.ck_types.specs.declared.return_codes.Rv.TheVariants as rv
-use Rattle.ck_types.specs.declared.templates.Item.{Item}
+use Rattle.ck_types.specs.declared.attributes.Purpose.TheVariants as purpose
+use Rattle.ck_types.specs.declared.object_flags.Protections.{Protections}
+use Rattle.ck_types.specs.declared.errors.RvError.{RvError}
+use Rattle.ck_types.specs.declared.errors.RvError.TheVariants as rv_error
+use Rattle.ck_types.specs.declared.items.Item.{Item}
+use Rattle.ck_types.proofs.CheckLemmas.{or_else-none, error_if-none}
 
 -- each attribute has its type
 pub attribute_of-type_of : (a : Attribute) → attribute_of (type_of a) ≡ Some a
@@ -44,15 +50,6 @@ attribute_of-type_of attribute.Copyable = refl
 attribute_of-type_of attribute.Destroyable = refl
 attribute_of-type_of attribute.KeyState = refl
 
--- where neither of two checks finds an error
-pub or_else-none : (first later : Option Rv) → or_else first later ≡ None → (first ≡ None) × (later ≡ None)
-or_else-none None later e = (refl, e)
-or_else-none (Some code) later e = cc
-
-pub error_if-none : (test : Bool) (code : Rv) → error_if test code ≡ None → test ≡ false
-error_if-none false code e = refl
-error_if-none true code e = cc
-
 form_holds : (fits : Bool) → not fits ≡ false → fits ≡ true
 form_holds true e = refl
 form_holds false e = cc
@@ -61,7 +58,7 @@ form_holds false e = cc
 is_of_form-value : (a : Attribute) (value : List ℕ) → value_error (Some a) value ≡ None → is_of_form (form_of a) value ≡ true
 is_of_form-value a value e = form_holds (is_of_form (form_of a) value) (error_if-none _ _ e)
 
-module _ (check : Item → Option Rv) (kind : ℕ) (value : List ℕ) where
+module _ (check : Item → Option RvError) (kind : ℕ) (value : List ℕ) where
   none-first : (test : Bool) (item : Item) (items : List Item)
       → (first_error check items ≡ None → given items kind ≡ Some value → check (record { kind = kind; value = value }) ≡ None)
       → (item.kind == kind) ≡ test
@@ -145,20 +142,39 @@ given_or-class items fine =
 -- ---- a template that passes the checks of a copy or a change
 
 -- it doesn't give the class
-no-class : (p : Purpose) (items : List Item) → standing class.Data p attribute.Class ≡ Some false
-    → first_error (class_error class.Data p) items ≡ None → given items (type_of attribute.Class) ≡ None
-no-class p items read_only fine = no-value (given items (type_of attribute.Class)) refl
+no-class : (c : Class) (p : Purpose) (items : List Item) → permission c p attribute.Class ≡ Some false
+    → first_error (class_error c p) items ≡ None → given items (type_of attribute.Class) ≡ None
+no-class c p items read_only fine = no-value (given items (type_of attribute.Class)) refl
   where
     no-value : (o : Option (List ℕ)) → given items (type_of attribute.Class) ≡ o → o ≡ None
     no-value None e = refl
     no-value (Some value) e =
-        let passes = none-given (class_error class.Data p) (type_of attribute.Class) value items fine e in
-        let refused : standing_error (Some false) ≡ None = subst (λ o. standing_error o ≡ None) read_only passes in
+        let passes = none-given (class_error c p) (type_of attribute.Class) value items fine e in
+        let refused : permission_error (Some false) ≡ None = subst (λ o. permission_error o ≡ None) read_only passes in
         cc
 
-pub given-class : (p : Purpose) (items : List Item) → standing class.Data p attribute.Class ≡ Some false
-    → template_error p items ≡ None → given items (type_of attribute.Class) ≡ None
-given-class p items read_only fine =
-    let unlike = (or_else-none (first_error form_error items) _ fine).1 in
-    let rest = (or_else-none (error_if (has_conflict items) rv.TemplateInconsistent) _ unlike).1 in
-    no-class p items read_only (or_else-none (first_error (class_error class.Data p) items) None rest).0
+-- its items have no fault in form, and it doesn't give the class
+template-passes : (c : Class) (p : Purpose) (items : List Item) → permission c p attribute.Class ≡ Some false
+    → template_error c p items ≡ None → (first_error form_error items ≡ None) × (given items (type_of attribute.Class) ≡ None)
+template-passes c p items read_only fine =
+    let parts = or_else-none (first_error form_error items) _ fine in
+    let rest = (or_else-none (error_if (has_conflict items) rv_error.TemplateInconsistent) _ parts.1).1 in
+    (parts.0, no-class c p items read_only (or_else-none (first_error (class_error c p) items) None rest).0)
+
+copy-class : (c : Class) → permission c purpose.Copy attribute.Class ≡ Some false
+copy-class class.Data = refl
+copy-class class.SecretKey = refl
+
+change-class : (c : Class) → permission c purpose.Set attribute.Class ≡ Some false
+change-class class.Data = refl
+change-class class.SecretKey = refl
+
+pub copy-passes : (c : Class) (protections : Protections) (items : List Item) → copied_error c protections items ≡ None
+    → (first_error form_error items ≡ None) × (given items (type_of attribute.Class) ≡ None)
+copy-passes c protections items fine =
+    template-passes c purpose.Copy items (copy-class c) (or_else-none (template_error c purpose.Copy items) _ fine).0
+
+pub change-passes : (c : Class) (protections : Protections) (items : List Item) → changed_error c protections items ≡ None
+    → (first_error form_error items ≡ None) × (given items (type_of attribute.Class) ≡ None)
+change-passes c protections items fine =
+    template-passes c purpose.Set items (change-class c) (or_else-none (template_error c purpose.Set items) _ fine).0

@@ -1,4 +1,4 @@
--- The attributes that the token knows: their types, the forms of their values, the templates that they may stand in
+-- The attributes that the token knows: their types, the forms of their values, the templates that may give them
 -- and the values that an object has where its template gives none
 -- (PKCS #11 Base 3.0, Common attributes; Current Mechanisms 3.0, Generic secret key)
 use Rattle.std.specs.Prelude.{ℕ, Bool, true, false, List, [], ◌∷◌, Option, Some, None, ◌==◌, ◌||◌, find, length, replicate, option_map}
@@ -36,18 +36,18 @@ is_of_form form.KeyType value = same_bytes value (number_bytes 16)
 is_of_form form.KeyState value = same_bytes value (number_bytes 0) || same_bytes value (number_bytes 1)
 is_of_form form.Bytes value = true
 
--- the templates that an attribute may stand in: those that create, generate, copy or set an object
+-- the templates that may give an attribute: those that create, generate, copy or set an object
 pub record Purposes : Type 0 where
   pub create : Bool
   pub generate : Bool
   pub copy : Bool
   pub set : Bool
 
-abbrev pub may_stand_in : Purposes → Purpose → Bool
-may_stand_in purposes purpose.Create = purposes.create
-may_stand_in purposes purpose.Generate = purposes.generate
-may_stand_in purposes purpose.Copy = purposes.copy
-may_stand_in purposes purpose.Set = purposes.set
+abbrev pub may_give : Purposes → Purpose → Bool
+may_give purposes purpose.Create = purposes.create
+may_give purposes purpose.Generate = purposes.generate
+may_give purposes purpose.Copy = purposes.copy
+may_give purposes purpose.Set = purposes.set
 
 -- the value of an attribute that a template doesn't give: the template must give it, it is these bytes, or the token
 -- computes it from how the object came to be. Data objects aren't generated.
@@ -56,7 +56,8 @@ pub data Default : Type 0 where
   preset : List ℕ → Default
   computed : Default
 
--- an attribute of a class: where it may stand, and its value where it isn't given in a created and in a generated object
+-- an attribute of a class: the templates that may give it, and its value in a created and in a generated object where
+-- they don't
 pub record Column : Type 0 where
   pub purposes : Purposes
   pub created : Default
@@ -90,8 +91,8 @@ G = record { create = false; generate = true; copy = false; set = false }
 abbrev nowhere : Purposes
 nowhere = record { create = false; generate = false; copy = false; set = false }
 
-abbrev stands : Purposes → Default → Default → Option Column
-stands purposes created generated = Some (record { purposes = purposes; created = created; generated = generated })
+abbrev column : Purposes → Default → Default → Option Column
+column purposes created generated = Some (record { purposes = purposes; created = created; generated = generated })
 
 abbrev off : Default
 off = preset (flag_bytes false)
@@ -107,33 +108,33 @@ row number form for_data for_keys = record { number = number; form = form; for_d
 
 -- each line: type, form, for data objects, for secret keys
 abbrev pub table : Attribute → Row
-table attribute.Class = row 0x0 form.Class (stands CG required computed) (stands CG required (preset (number_bytes 4)))
-table attribute.Token = row 0x1 form.Flag (stands CGP off off) (stands CGP off off)
-table attribute.Private = row 0x2 form.Flag (stands CGP off off) (stands CGP on on)
-table attribute.Label = row 0x3 form.Bytes (stands CGPS empty empty) (stands CGPS empty empty)
-table attribute.Application = row 0x10 form.Bytes (stands CPS empty empty) None
-table attribute.Value = row 0x11 form.Bytes (stands CPS empty empty) (stands C required computed)
-table attribute.ObjectId = row 0x12 form.Bytes (stands CPS empty empty) None
-table attribute.KeyType = row 0x100 form.KeyType None (stands CG required (preset (number_bytes 16)))
-table attribute.Id = row 0x102 form.Bytes None (stands CGPS empty empty)
-table attribute.Sensitive = row 0x103 form.Flag None (stands CGPS off off)
-table attribute.Encrypt = row 0x104 form.Flag None (stands CGPS off off)
-table attribute.Decrypt = row 0x105 form.Flag None (stands CGPS off off)
-table attribute.Wrap = row 0x106 form.Flag None (stands CGPS off off)
-table attribute.Unwrap = row 0x107 form.Flag None (stands CGPS off off)
-table attribute.Sign = row 0x108 form.Flag None (stands CGPS on on)
-table attribute.Verify = row 0x10a form.Flag None (stands CGPS on on)
-table attribute.Derive = row 0x10c form.Flag None (stands CGPS off off)
-table attribute.ValueLen = row 0x161 form.Number None (stands G computed required)
-table attribute.Extractable = row 0x162 form.Flag None (stands CGPS on on)
-table attribute.Local = row 0x163 form.Flag None (stands nowhere off on)
-table attribute.NeverExtractable = row 0x164 form.Flag None (stands nowhere off computed)
-table attribute.AlwaysSensitive = row 0x165 form.Flag None (stands nowhere off computed)
-table attribute.KeyGenMechanism = row 0x166 form.Number None (stands nowhere (preset (replicate 8 255)) (preset (number_bytes 0x350)))
-table attribute.Modifiable = row 0x170 form.Flag (stands CGP on on) (stands CGP on on)
-table attribute.Copyable = row 0x171 form.Flag (stands CGP on on) (stands CGP on on)
-table attribute.Destroyable = row 0x172 form.Flag (stands CGP on on) (stands CGP on on)
-table attribute.KeyState = row 0x80000001 form.KeyState None (stands CG (preset (number_bytes 1)) (preset (number_bytes 1)))
+table attribute.Class = row 0x0 form.Class (column CG required computed) (column CG required (preset (number_bytes 4)))
+table attribute.Token = row 0x1 form.Flag (column CGP off off) (column CGP off off)
+table attribute.Private = row 0x2 form.Flag (column CGP off off) (column CGP on on)
+table attribute.Label = row 0x3 form.Bytes (column CGPS empty empty) (column CGPS empty empty)
+table attribute.Application = row 0x10 form.Bytes (column CPS empty empty) None
+table attribute.Value = row 0x11 form.Bytes (column CPS empty empty) (column C required computed)
+table attribute.ObjectId = row 0x12 form.Bytes (column CPS empty empty) None
+table attribute.KeyType = row 0x100 form.KeyType None (column CG required (preset (number_bytes 16)))
+table attribute.Id = row 0x102 form.Bytes None (column CGPS empty empty)
+table attribute.Sensitive = row 0x103 form.Flag None (column CGPS off off)
+table attribute.Encrypt = row 0x104 form.Flag None (column CGPS off off)
+table attribute.Decrypt = row 0x105 form.Flag None (column CGPS off off)
+table attribute.Wrap = row 0x106 form.Flag None (column CGPS off off)
+table attribute.Unwrap = row 0x107 form.Flag None (column CGPS off off)
+table attribute.Sign = row 0x108 form.Flag None (column CGPS on on)
+table attribute.Verify = row 0x10a form.Flag None (column CGPS on on)
+table attribute.Derive = row 0x10c form.Flag None (column CGPS off off)
+table attribute.ValueLen = row 0x161 form.Number None (column G computed required)
+table attribute.Extractable = row 0x162 form.Flag None (column CGPS on on)
+table attribute.Local = row 0x163 form.Flag None (column nowhere off on)
+table attribute.NeverExtractable = row 0x164 form.Flag None (column nowhere off computed)
+table attribute.AlwaysSensitive = row 0x165 form.Flag None (column nowhere off computed)
+table attribute.KeyGenMechanism = row 0x166 form.Number None (column nowhere (preset (replicate 8 255)) (preset (number_bytes 0x350)))
+table attribute.Modifiable = row 0x170 form.Flag (column CGP on on) (column CGP on on)
+table attribute.Copyable = row 0x171 form.Flag (column CGP on on) (column CGP on on)
+table attribute.Destroyable = row 0x172 form.Flag (column CGP on on) (column CGP on on)
+table attribute.KeyState = row 0x80000001 form.KeyState None (column CG (preset (number_bytes 1)) (preset (number_bytes 1)))
 
 -- all attributes, in rising types
 abbrev pub attributes : List Attribute
@@ -155,9 +156,9 @@ abbrev pub column_of : Class → Attribute → Option Column
 column_of class.Data a = (table a).for_data
 column_of class.SecretKey a = (table a).for_keys
 
--- where objects of the class have the attribute: whether it may stand in a template of this purpose
-abbrev pub standing : Class → Purpose → Attribute → Option Bool
-standing c p a = option_map (λ (column : Column). may_stand_in column.purposes p) (column_of c a)
+-- where objects of the class have the attribute: whether a template of this purpose may give it
+abbrev pub permission : Class → Purpose → Attribute → Option Bool
+permission c p a = option_map (λ (entry : Column). may_give entry.purposes p) (column_of c a)
 
 -- the attribute that has this type
 abbrev pub attribute_of : ℕ → Option Attribute

@@ -1,8 +1,8 @@
 -- An attribute's value as an object keeps it
 use Rattle.std.specs.Prelude.{ℕ, Bool, List, Option, Some, None}
 use Rattle.ck_types.specs.Attributes.{flag_bytes, number_bytes}
-use Rattle.ck_types.specs.declared.records.Field.{Field}
-use Rattle.ck_types.specs.declared.records.Field.TheVariants as field
+use Rattle.ck_types.specs.declared.fields.Field.{Field}
+use Rattle.ck_types.specs.declared.fields.Field.TheVariants as field
 
 -- its bytes
 abbrev pub field_bytes : Field → List ℕ

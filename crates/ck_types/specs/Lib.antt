@@ -1,4 +1,5 @@
 pub mod Attributes
+pub mod Checks
 pub mod Fields
 pub mod Pins
 pub mod Records

@@ -1,22 +1,24 @@
 -- The attributes of an object, in the order of the table
-use Rattle.std.specs.Prelude.{◌≡◌, ℕ, Bool, true, List, [], ◌∷◌, Option, Some, None, Result, Ok, Err, map, option_and_then, option_map, not, ◌&&◌, unwrap_or, false}
-use Rattle.ck_types.specs.Attributes.{Default, preset, Column, flag_bytes, number_bytes, same_bytes, type_of, form_of, column_of, attribute_of, attributes}
+use Rattle.std.specs.Prelude.{◌≡◌, ℕ, Bool, true, List, [], ◌∷◌, Option, Some, None, Result, Ok, Err, map, option_and_then, option_map, not, ◌&&◌, ◌||◌, if◌then◌else◌, unwrap_or, false}
+use Rattle.ck_types.specs.Attributes.{Default, preset, Column, flag_bytes, number_bytes, same_bytes, type_of, column_of, attribute_of, attributes}
 use Rattle.std.specs.List.{flat_map, list_all}
-use Rattle.ck_types.specs.Templates.{given, given_or, error_if, first_of, template_error}
+use Rattle.ck_types.specs.Checks.{error_if, first_of}
+use Rattle.ck_types.specs.Templates.{given, given_or, flag_at, template_error}
 use Rattle.ck_types.specs.declared.attributes.Attribute.{Attribute}
 use Rattle.ck_types.specs.declared.attributes.Attribute.TheVariants as attribute
+use Rattle.ck_types.specs.declared.attributes.Class.{Class}
 use Rattle.ck_types.specs.declared.attributes.Class.TheVariants as class
-use Rattle.ck_types.specs.declared.attributes.Form.{Form}
-use Rattle.ck_types.specs.declared.attributes.Form.TheVariants as form
-use Rattle.ck_types.specs.declared.return_codes.Rv.{Rv}
-use Rattle.ck_types.specs.declared.return_codes.Rv.TheVariants as rv
+use Rattle.ck_types.specs.declared.errors.RvError.{RvError}
+use Rattle.ck_types.specs.declared.errors.RvError.TheVariants as rv_error
+use Rattle.ck_types.specs.declared.object_flags.Placement.{Placement}
+use Rattle.ck_types.specs.declared.object_flags.Protections.{Protections}
 use Rattle.ck_types.specs.declared.attributes.Purpose.TheVariants as purpose
-use Rattle.ck_types.specs.declared.records.Refusal.{Refusal}
-use Rattle.ck_types.specs.declared.records.Refusal.TheVariants as refusal
-use Rattle.ck_types.specs.declared.records.Data.{Data}
+use Rattle.ck_types.specs.declared.refusals.Refusal.{Refusal}
+use Rattle.ck_types.specs.declared.refusals.Refusal.TheVariants as refusal
+use Rattle.ck_types.specs.declared.data_objects.Data.{Data}
 use Rattle.ck_types.specs.declared.records.Object.{Object}
 use Rattle.ck_types.specs.declared.records.Object.TheVariants as object
-use Rattle.ck_types.specs.declared.templates.Item.{Item}
+use Rattle.ck_types.specs.declared.items.Item.{Item}
 
 abbrev pub item_of : Attribute → List ℕ → Item
 item_of a value = record { kind = type_of a; value = value }
@@ -65,15 +67,6 @@ created_items template = with_given template (data_defaults)
 
 -- ---- reading an attribute
 
--- a flag's value as a bool
-abbrev pub flag_of : Form → List ℕ → Option Bool
-flag_of form.Flag value = Some (same_bytes value (flag_bytes true))
-flag_of other value = None
-
--- the flag that the items give an attribute
-abbrev pub flag_at : List Item → Attribute → Option Bool
-flag_at items a = option_and_then (flag_of (form_of a)) (given items (type_of a))
-
 -- the flag of this type that the items have
 abbrev pub flag_in : List Item → ℕ → Option Bool
 flag_in items kind = option_and_then (flag_at items) (attribute_of kind)
@@ -82,25 +75,54 @@ flag_in items kind = option_and_then (flag_at items) (attribute_of kind)
 abbrev pub is_set : List Item → Attribute → Bool
 is_set items a = unwrap_or (flag_at items a) false
 
+-- ---- what the checks of a template look at
+
+-- the class of an object with these attributes: a secret key where CLASS is CKO_SECRET_KEY (4), else a data object
+abbrev pub class_of : List Item → Class
+class_of items =
+    if same_bytes (given_or items (type_of attribute.Class) []) (number_bytes 4) then class.SecretKey else class.Data
+
+-- the attributes that a template may not weaken
+abbrev pub protections_of : List Item → Protections
+protections_of items = record {
+  private = is_set items attribute.Private;
+  sensitive = is_set items attribute.Sensitive;
+  extractable = is_set items attribute.Extractable;
+}
+
+-- where an object with these attributes may stand
+abbrev pub placement_of : List Item → Placement
+placement_of items = record { token = is_set items attribute.Token; private = is_set items attribute.Private }
+
 -- ---- templates that make objects
 
--- the items are private, and the template makes them public
-abbrev pub makes_public : List Item → List Item → Bool
-makes_public items template = is_set items attribute.Private && not (unwrap_or (flag_at template attribute.Private) true)
+-- the template makes a sensitive key not sensitive, or a key extractable that isn't
+abbrev pub exposes_key : Protections → List Item → Bool
+exposes_key protections template =
+    (protections.sensitive && not (unwrap_or (flag_at template attribute.Sensitive) true))
+    || (not protections.extractable && unwrap_or (flag_at template attribute.Extractable) false)
 
--- the error of a template that an object with these attributes is copied with
-abbrev pub copied_error : List Item → List Item → Option Rv
-copied_error items template = first_of (
-    template_error purpose.Copy template
-    ∷ error_if (makes_public items template) rv.TemplateInconsistent
+-- the template makes a private object public
+abbrev pub makes_public : Protections → List Item → Bool
+makes_public protections template = protections.private && not (unwrap_or (flag_at template attribute.Private) true)
+
+-- the error of a template that an object of this class with these protections is copied with
+abbrev pub copied_error : Class → Protections → List Item → Option RvError
+copied_error class protections template = first_of (
+    template_error class purpose.Copy template
+    ∷ error_if (exposes_key protections template) rv_error.AttributeReadOnly
+    ∷ error_if (makes_public protections template) rv_error.TemplateInconsistent
     ∷ [])
 
--- the error of a template that an object is changed by
-abbrev pub changed_error : List Item → Option Rv
-changed_error template = template_error purpose.Set template
+-- the error of a template that an object of this class with these protections is changed by
+abbrev pub changed_error : Class → Protections → List Item → Option RvError
+changed_error class protections template = first_of (
+    template_error class purpose.Set template
+    ∷ error_if (exposes_key protections template) rv_error.AttributeReadOnly
+    ∷ [])
 
--- the object with these attributes, or the refusal with this code; want of memory comes where the checks find nothing
-abbrev pub IsRecordUnless : Option Rv → List Item → Result (List Item) Refusal → Type 0
+-- the object with these attributes, or the refusal with this error; out of memory comes where the checks find nothing
+abbrev pub IsRecordUnless : Option RvError → List Item → Result (List Item) Refusal → Type 0
 IsRecordUnless error items (Ok object) = (error ≡ None) × (object ≡ items)
 IsRecordUnless error items (Err (refusal.Code code)) = error ≡ Some code
 IsRecordUnless error items (Err refusal.Memory) = error ≡ None

@@ -1,38 +1,19 @@
 -- Templates and the checks that one must pass
-use Rattle.std.specs.Prelude.{ℕ, Bool, true, false, List, [], ◌∷◌, Option, Some, None, ◌==◌, ◌&&◌, not, find, option_map, unwrap_or, is_none}
+use Rattle.std.specs.Prelude.{ℕ, Bool, true, false, List, [], ◌∷◌, Option, Some, None, ◌==◌, ◌&&◌, not, find, option_map, option_and_then, unwrap_or, is_none}
 use Rattle.std.specs.List.{list_any}
-use Rattle.ck_types.specs.Attributes.{number_bytes, same_bytes, is_of_form, type_of, form_of, standing, attribute_of}
+use Rattle.ck_types.specs.Attributes.{flag_bytes, number_bytes, same_bytes, is_of_form, type_of, form_of, permission, attribute_of}
+use Rattle.ck_types.specs.Checks.{error_if, or_else, first_of, first_error}
 use Rattle.ck_types.specs.declared.attributes.Attribute.{Attribute}
 use Rattle.ck_types.specs.declared.attributes.Attribute.TheVariants as attribute
 use Rattle.ck_types.specs.declared.attributes.Class.{Class}
 use Rattle.ck_types.specs.declared.attributes.Class.TheVariants as class
+use Rattle.ck_types.specs.declared.attributes.Form.{Form}
+use Rattle.ck_types.specs.declared.attributes.Form.TheVariants as form
 use Rattle.ck_types.specs.declared.attributes.Purpose.{Purpose}
 use Rattle.ck_types.specs.declared.attributes.Purpose.TheVariants as purpose
-use Rattle.ck_types.specs.declared.return_codes.Rv.{Rv}
-use Rattle.ck_types.specs.declared.return_codes.Rv.TheVariants as rv
-use Rattle.ck_types.specs.declared.templates.Item.{Item}
-
--- ---- checks in order
-
--- the code, where the test says so
-abbrev pub error_if : Bool → Rv → Option Rv
-error_if false code = None
-error_if true code = Some code
-
--- the error of the first check, else that of the second
-abbrev pub or_else : Option Rv → Option Rv → Option Rv
-or_else None later = later
-or_else (Some code) later = Some code
-
--- the error of the first check that fails
-abbrev pub first_of : List (Option Rv) → Option Rv
-first_of [] = None
-first_of (check ∷ checks) = or_else check (first_of checks)
-
--- the error of the first item that a check refuses
-abbrev pub first_error : (Item → Option Rv) → List Item → Option Rv
-first_error check [] = None
-first_error check (item ∷ items) = or_else (check item) (first_error check items)
+use Rattle.ck_types.specs.declared.errors.RvError.{RvError}
+use Rattle.ck_types.specs.declared.errors.RvError.TheVariants as rv_error
+use Rattle.ck_types.specs.declared.items.Item.{Item}
 
 -- ---- what a template gives
 
@@ -44,14 +25,23 @@ given items kind = option_map (λ (item : Item). item.value) (find (λ item. ite
 abbrev pub given_or : List Item → ℕ → List ℕ → List ℕ
 given_or items kind other = unwrap_or (given items kind) other
 
+-- a flag's value as a bool
+abbrev pub flag_of : Form → List ℕ → Option Bool
+flag_of form.Flag value = Some (same_bytes value (flag_bytes true))
+flag_of other value = None
+
+-- the flag that the items give an attribute
+abbrev pub flag_at : List Item → Attribute → Option Bool
+flag_at items a = option_and_then (flag_of (form_of a)) (given items (type_of a))
+
 -- ---- the checks
 
 -- the type is known, and the value is of its form
-abbrev pub value_error : Option Attribute → List ℕ → Option Rv
-value_error None value = Some rv.AttributeTypeInvalid
-value_error (Some a) value = error_if (not (is_of_form (form_of a) value)) rv.AttributeValueInvalid
+abbrev pub value_error : Option Attribute → List ℕ → Option RvError
+value_error None value = Some rv_error.AttributeTypeInvalid
+value_error (Some a) value = error_if (not (is_of_form (form_of a) value)) rv_error.AttributeValueInvalid
 
-abbrev pub form_error : Item → Option Rv
+abbrev pub form_error : Item → Option RvError
 form_error item = value_error (attribute_of item.kind) item.value
 
 -- the item is the class of secret keys (CKO_SECRET_KEY)
@@ -59,8 +49,8 @@ abbrev pub is_secret_key : Item → Bool
 is_secret_key item = (item.kind == type_of attribute.Class) && same_bytes item.value (number_bytes 4)
 
 -- an item of a creation is well formed, and isn't the class of secret keys, which can't be created yet
-abbrev pub creation_error : Item → Option Rv
-creation_error item = or_else (form_error item) (error_if (is_secret_key item) rv.AttributeValueInvalid)
+abbrev pub creation_error : Item → Option RvError
+creation_error item = or_else (form_error item) (error_if (is_secret_key item) rv_error.AttributeValueInvalid)
 
 -- two items of one type have different values: an item's value isn't that of the first of its type
 abbrev pub has_conflict : List Item → Bool
@@ -70,32 +60,29 @@ has_conflict items = list_any (λ (item : Item). not (same_bytes item.value (giv
 abbrev pub has_two_values : List Item → Attribute → Bool
 has_two_values items a = list_any (λ (item : Item). (type_of a == item.kind) && not (same_bytes item.value (given_or items (type_of a) item.value))) items
 
--- objects of the class have the attribute, and it may stand in a template of this purpose
-abbrev pub standing_error : Option Bool → Option Rv
-standing_error None = Some rv.AttributeTypeInvalid
-standing_error (Some false) = Some rv.AttributeReadOnly
-standing_error (Some true) = None
+-- objects of the class have the attribute, and a template of this purpose may give it
+abbrev pub permission_error : Option Bool → Option RvError
+permission_error None = Some rv_error.AttributeTypeInvalid
+permission_error (Some false) = Some rv_error.AttributeReadOnly
+permission_error (Some true) = None
 
-abbrev pub known_standing_error : Class → Purpose → Option Attribute → Option Rv
-known_standing_error class purpose None = Some rv.AttributeTypeInvalid
-known_standing_error class purpose (Some a) = standing_error (standing class purpose a)
-
-abbrev pub class_error : Class → Purpose → Item → Option Rv
-class_error class purpose item = known_standing_error class purpose (attribute_of item.kind)
+abbrev pub class_error : Class → Purpose → Item → Option RvError
+class_error class purpose item = permission_error (option_and_then (permission class purpose) (attribute_of item.kind))
 
 -- the error of a template that creates an object, by the first check that fails
-abbrev pub created_error : List Item → Option Rv
+abbrev pub created_error : List Item → Option RvError
 created_error items = first_of (
     first_error creation_error items
-    ∷ error_if (has_conflict items) rv.TemplateInconsistent
-    ∷ error_if (is_none (given items (type_of attribute.Class))) rv.TemplateIncomplete
+    ∷ error_if (has_conflict items) rv_error.TemplateInconsistent
+    ∷ error_if (is_none (given items (type_of attribute.Class))) rv_error.TemplateIncomplete
     ∷ first_error (class_error class.Data purpose.Create) items
     ∷ [])
 
--- the error of a template that changes an object, or that a copy is made with: its class is the object's
-abbrev pub template_error : Purpose → List Item → Option Rv
-template_error purpose items = first_of (
+-- the error of a template that changes an object of the class, or that a copy of one is made with, where it doesn't
+-- depend on the object's other attributes
+abbrev pub template_error : Class → Purpose → List Item → Option RvError
+template_error class purpose items = first_of (
     first_error form_error items
-    ∷ error_if (has_conflict items) rv.TemplateInconsistent
-    ∷ first_error (class_error class.Data purpose) items
+    ∷ error_if (has_conflict items) rv_error.TemplateInconsistent
+    ∷ first_error (class_error class purpose) items
     ∷ [])

@@ -94,7 +94,7 @@ fn is_number(value: &[u8], number: u64) -> bool
 }
 
 impl Attribute {
-    ghost use Rattle.ck_types.specs.Attributes.{type_of, form_of, standing, attribute_of};
+    ghost use Rattle.ck_types.specs.Attributes.{type_of, form_of, permission, attribute_of};
     ghost use Rattle.ck_types.specs.declared.attributes.Attribute.{Attribute};
 
     /// Every attribute, in rising types.
@@ -235,19 +235,19 @@ impl Attribute {
         }
     }
 
-    /// Whether the attribute may stand in a template of this purpose for an object of this class, or `None`
-    /// where objects of the class don't have it.
-    pub fn standing(self, class: Class, purpose: Purpose) -> Option<bool>
-        ensures { result ≡ standing class purpose self }
+    /// Whether the attribute may be given in a template of this purpose for an object of this class, or `None` where
+    /// objects of the class don't have it.
+    pub fn permission(self, class: Class, purpose: Purpose) -> Option<bool>
+        ensures { result ≡ permission class purpose self }
     {
         match class {
-            Class::Data => self.standing_in_data(purpose),
-            Class::SecretKey => self.standing_in_keys(purpose),
+            Class::Data => self.data_permission(purpose),
+            Class::SecretKey => self.key_permission(purpose),
         }
     }
 
-    fn standing_in_data(self, purpose: Purpose) -> Option<bool>
-        ensures { result ≡ standing class.Data purpose self }
+    fn data_permission(self, purpose: Purpose) -> Option<bool>
+        ensures { result ≡ permission class.Data purpose self }
     {
         match self {
             Attribute::Class => { Some(matches!(purpose, Purpose::Create | Purpose::Generate)) }
@@ -264,8 +264,8 @@ impl Attribute {
         }
     }
 
-    fn standing_in_keys(self, purpose: Purpose) -> Option<bool>
-        ensures { result ≡ standing class.SecretKey purpose self }
+    fn key_permission(self, purpose: Purpose) -> Option<bool>
+        ensures { result ≡ permission class.SecretKey purpose self }
     {
         match self {
             Attribute::Class | Attribute::KeyType | Attribute::KeyState => {

@@ -2,9 +2,16 @@
 #![tactic(auto)]
 
 mod attributes;
+mod checks;
+mod data_objects;
+mod errors;
+mod fields;
+mod items;
 mod memory;
+mod object_flags;
 mod pins;
 mod records;
+mod refusals;
 mod return_codes;
 mod sequences;
 mod templates;
@@ -13,12 +20,17 @@ mod token_limits;
 mod users;
 
 pub use attributes::{Attribute, Class, Form, Purpose};
+pub use checks::error_if;
+pub use errors::RvError;
+pub use items::Item;
 pub use memory::NoMemory;
+pub use object_flags::{Placement, Protections};
 pub use pins::Pin;
-pub use records::{Record, Refusal};
+pub use records::Record;
+pub use refusals::Refusal;
 pub use return_codes::Rv;
 pub use sequences::{Bytes, Sequence};
-pub use templates::{Item, Template};
+pub use templates::Template;
 pub use token_flags::TokenFlags;
 pub use token_limits::Limits;
 pub use users::{SessionState, UserType};

@@ -1,40 +1,18 @@
 ghost use Rattle.std.specs.Prelude.{◌≡◌, None, IfOk};
-ghost use Rattle.ck_types.specs.Attributes.{type_of, form_of, flag_bytes};
-ghost use Rattle.ck_types.specs.Templates.{given_or, first_error, form_error};
-ghost use Rattle.ck_types.specs.declared.attributes.Form.TheVariants as form;
 
-use crate::attributes::{Attribute, Purpose};
+use crate::attributes::{Attribute, Class, Purpose};
+use crate::checks::error_if;
+use crate::data_objects::Data;
+use crate::errors::RvError;
+use crate::fields::Field;
+use crate::items::Item;
 use crate::memory::NoMemory;
-use crate::return_codes::Rv;
-use crate::sequences::{Bytes, Sequence};
-use crate::templates::{Item, Template, created_error, given, template_error};
+use crate::object_flags::{Placement, Protections};
+use crate::refusals::Refusal;
+use crate::sequences::Bytes;
+use crate::templates::Template;
 use std::alloc::Global;
 use std::marker::Model;
-use thiserror::Error;
-
-/// Why a template made no object.
-#[derive(Clone, Copy, Debug, PartialEq, Eq, Error)]
-pub enum Refusal {
-    /// The code of the first check that the template fails.
-    #[error("the template is refused: {0}")]
-    Code(Rv),
-    #[error("out of memory")]
-    Memory,
-}
-
-/// A data object (PKCS #11 Base 3.0, Data objects). Its class is no field.
-#[derive(Debug, Drop)]
-struct Data {
-    token: bool,
-    private: bool,
-    label: Bytes,
-    application: Bytes,
-    value: Bytes,
-    object_id: Bytes,
-    modifiable: bool,
-    copyable: bool,
-    destroyable: bool,
-}
 
 #[derive(Debug, Drop)]
 enum Object {
@@ -49,7 +27,7 @@ pub struct Record {
 
 impl Model for Record {
     ghost use Rattle.std.specs.Prelude.{List};
-    ghost use Rattle.ck_types.specs.declared.templates.Item.{Item};
+    ghost use Rattle.ck_types.specs.declared.items.Item.{Item};
 
     ghost Value = { List Item };
 
@@ -58,228 +36,116 @@ impl Model for Record {
     ghost view = { λ r. object_items r.object };
 }
 
-/// A value of an attribute as an object has it.
-#[derive(Drop)]
-enum Field<'a> {
-    Flag(bool),
-    Number(u64),
-    Bytes(&'a Bytes),
-}
-
-impl<'a> Field<'a> {
-    ghost use Rattle.std.specs.Prelude.{◌≡◌, IfOk, length};
-    ghost use Rattle.ck_types.specs.Attributes.{same_bytes};
-    ghost use Rattle.ck_types.specs.Fields.{field_bytes, flag_field};
-
-    /// How many bytes the value has.
-    fn len(&self) -> u64
-        ensures { result ≡ length (field_bytes self.now) }
-    {
-        match self {
-            Field::Flag(_) => 1,
-            Field::Number(_) => 8,
-            Field::Bytes(bytes) => bytes.as_slice().len() as u64,
-        }
-    }
-
-    fn has_bytes(&self, bytes: &[u8]) -> bool
-        ensures { result ≡ same_bytes bytes.now (field_bytes self.now) }
-    {
-        match self {
-            Field::Flag(flag) => bytes == [u8::from(*flag)].as_slice(),
-            Field::Number(number) => bytes == number.to_le_bytes().as_slice(),
-            Field::Bytes(value) => bytes == value.as_slice(),
-        }
-    }
-
-    /// The value's bytes.
-    fn to_bytes(&self, alloc: Global) -> Result<Bytes, NoMemory>
-        ensures { IfOk result (λ bytes. bytes ≡ field_bytes self.now) }
-    {
-        match self {
-            Field::Flag(flag) => Bytes::from_slice(alloc, [u8::from(*flag)].as_slice()),
-            Field::Number(number) => Bytes::from_slice(alloc, number.to_le_bytes().as_slice()),
-            Field::Bytes(bytes) => Bytes::from_slice(alloc, bytes.as_slice()),
-        }
-    }
-}
-
-/// The flag that the items give the attribute, else this one. Well-formed items give a flag one byte, 0 or 1.
-fn flag_or(items: &[Item], attribute: Attribute, other: bool) -> bool
-    requires form { form_of attribute ≡ form.Flag }
-    requires well_formed { first_error form_error items.now ≡ None }
-    ensures { flag_bytes result ≡ given_or items.now (type_of attribute) (flag_bytes other) }
-{
-    match given(items, attribute.number()) {
-        None => other,
-        Some(value) => value.as_slice() == [1].as_slice(),
-    }
-}
-
-/// A copy of the bytes that the items give the attribute, else of these.
-fn bytes_or(
-    alloc: Global,
-    items: &[Item],
-    attribute: Attribute,
-    other: &Bytes,
-) -> Result<Bytes, NoMemory>
-    ensures { IfOk result (λ bytes. bytes ≡ given_or items.now (type_of attribute) other.now) }
-{
-    match given(items, attribute.number()) {
-        None => Bytes::from_slice(alloc, other.as_slice()),
-        Some(value) => Bytes::from_slice(alloc, value.as_slice()),
-    }
-}
-
-impl Data {
-    ghost use Rattle.std.specs.Prelude.{◌≡◌, None, IfOk, option_map};
-    ghost use Rattle.ck_types.specs.Attributes.{type_of, number_bytes};
-    ghost use Rattle.ck_types.specs.Templates.{given, given_or, first_error, form_error};
-    ghost use Rattle.ck_types.specs.declared.attributes.Attribute.TheVariants as attribute;
-    ghost use Rattle.ck_types.specs.Records.{data_items, with_given, data_defaults, flag_at};
-    ghost use Rattle.ck_types.specs.Fields.{field_bytes, flag_field};
-
-    /// A data object with the table's defaults.
-    fn blank(alloc: Global) -> Data
-        ensures { data_items result ≡ data_defaults }
-    {
-        Data {
-            token: false,
-            private: false,
-            label: Bytes::new(alloc),
-            application: Bytes::new(alloc),
-            value: Bytes::new(alloc),
-            object_id: Bytes::new(alloc),
-            modifiable: true,
-            copyable: true,
-            destroyable: true,
-        }
-    }
-
-    /// A copy with the items' values of the attributes that they give.
-    fn with(&self, alloc: Global, items: &[Item]) -> Result<Data, NoMemory>
-        requires well_formed { first_error form_error items.now ≡ None }
-        requires class { given_or items.now (type_of attribute.Class) (number_bytes 0) ≡ number_bytes 0 }
-        ensures { IfOk result (λ made. data_items made ≡ with_given items.now (data_items self.now)) }
-    {
-        let label = bytes_or(alloc, items, Attribute::Label, &self.label)?;
-        let application = bytes_or(alloc, items, Attribute::Application, &self.application)?;
-        let value = bytes_or(alloc, items, Attribute::Value, &self.value)?;
-        let object_id = bytes_or(alloc, items, Attribute::ObjectId, &self.object_id)?;
-        Ok(Data {
-            token: flag_or(items, Attribute::Token, self.token),
-            private: flag_or(items, Attribute::Private, self.private),
-            label,
-            application,
-            value,
-            object_id,
-            modifiable: flag_or(items, Attribute::Modifiable, self.modifiable),
-            copyable: flag_or(items, Attribute::Copyable, self.copyable),
-            destroyable: flag_or(items, Attribute::Destroyable, self.destroyable),
-        })
-    }
-
-    /// The value of an attribute, or `None` where data objects don't have it.
-    #[tactic(auto, using(crate::proofs::FlagLemmas::flags))]
-    fn field(&self, attribute: Attribute) -> Option<Field>
-        ensures value { option_map field_bytes result ≡ given (data_items self.now) (type_of attribute) }
-        ensures flag { flag_field result ≡ flag_at (data_items self.now) attribute }
-    {
-        match attribute {
-            Attribute::Class => Some(Field::Number(0)),
-            Attribute::Token => Some(Field::Flag(self.token)),
-            Attribute::Private => Some(Field::Flag(self.private)),
-            Attribute::Label => Some(Field::Bytes(&self.label)),
-            Attribute::Application => Some(Field::Bytes(&self.application)),
-            Attribute::Value => Some(Field::Bytes(&self.value)),
-            Attribute::ObjectId => Some(Field::Bytes(&self.object_id)),
-            Attribute::Modifiable => Some(Field::Flag(self.modifiable)),
-            Attribute::Copyable => Some(Field::Flag(self.copyable)),
-            Attribute::Destroyable => Some(Field::Flag(self.destroyable)),
-            _ => None,
-        }
-    }
-}
-
 impl Record {
-    ghost use Rattle.std.specs.Prelude.{◌≡◌, None, IfOk, option_map, length};
+    ghost use Rattle.std.specs.Prelude.{option_map, length};
     ghost use Rattle.ck_types.specs.Attributes.{type_of};
-    ghost use Rattle.ck_types.specs.Templates.{given};
-    ghost use Rattle.ck_types.specs.Templates.{created_error, first_error, form_error};
+    ghost use Rattle.ck_types.specs.Checks.{check_of, first_error};
+    ghost use Rattle.ck_types.specs.Templates.{given, created_error, form_error};
     ghost use Rattle.ck_types.specs.declared.attributes.Attribute.TheVariants as attribute;
-    ghost use Rattle.ck_types.specs.Records.{IsRecordUnless, created_items, copied_error, changed_error, with_given, flag_in, is_set, has_item, matches};
+    ghost use Rattle.ck_types.specs.Records.{IsRecordUnless, created_items, with_given, class_of, protections_of, placement_of};
+    ghost use Rattle.ck_types.specs.Records.{copied_error, changed_error, flag_in, is_set, has_item, matches};
     ghost use Rattle.ck_types.specs.Fields.{field_bytes, flag_field};
 
     /// The object that a template of C_CreateObject makes (PKCS #11 Base 3.0, Object management functions). It is
-    /// refused with the code of the first check that fails: a type that the token doesn't know
-    /// (CKR_ATTRIBUTE_TYPE_INVALID) or a value that isn't of its form or, for now, is the class of secret keys
-    /// (CKR_ATTRIBUTE_VALUE_INVALID), item by item; two values of one type (CKR_TEMPLATE_INCONSISTENT); no class
-    /// (CKR_TEMPLATE_INCOMPLETE); an attribute that the class doesn't have (CKR_ATTRIBUTE_TYPE_INVALID) or that may not
-    /// be given (CKR_ATTRIBUTE_READ_ONLY), item by item.
-    #[tactic(auto, unfolding(crate::specs::Records::created_items))]
+    /// refused with the error of `Template::check_creation`.
     pub fn created(alloc: Global, template: &Template) -> Result<Record, Refusal>
         ensures { IsRecordUnless (created_error template.now.items) (created_items template.now.items) result }
     {
-        let items = template.items.as_slice();
-        match created_error(items) {
-            Some(code) => Err(Refusal::Code(code)),
-            None => {
-                let data = Data::blank(alloc).with(alloc, items)?;
-                Ok(Record {
-                    object: Object::Data(data),
-                })
-            }
-        }
+        template.check_creation()?;
+        Ok(Record::create_with(alloc, template)?)
+    }
+
+    /// The object that a template makes which passes the checks of a creation.
+    #[tactic(auto, unfolding(crate::specs::Records::created_items))]
+    pub fn create_with(alloc: Global, template: &Template) -> Result<Record, NoMemory>
+        requires { created_error template.now.items ≡ None }
+        ensures { IfOk result (λ made. made ≡ created_items template.now.items) }
+    {
+        let data = Data::blank(alloc).with(alloc, template.items.as_slice())?;
+        Ok(Record {
+            object: Object::Data(data),
+        })
     }
 
     /// A copy of the object with the values that a template of C_CopyObject gives (PKCS #11 Base 3.0, Object management
-    /// functions). The template is refused with the code of the first check that fails: a type that the token doesn't know
-    /// (CKR_ATTRIBUTE_TYPE_INVALID) or a value that isn't of its form (CKR_ATTRIBUTE_VALUE_INVALID), item by item; two
-    /// values of one type (CKR_TEMPLATE_INCONSISTENT); an attribute that the object's class doesn't have
-    /// (CKR_ATTRIBUTE_TYPE_INVALID) or that a copy may not be given (CKR_ATTRIBUTE_READ_ONLY), item by item; CKA_PRIVATE
-    /// false for a private object (CKR_TEMPLATE_INCONSISTENT).
+    /// functions). The template is refused with the error of `check_copy`.
     pub fn copied(&self, alloc: Global, template: &Template) -> Result<Record, Refusal>
-        ensures { IsRecordUnless (copied_error self.now template.now.items) (with_given template.now.items self.now) result }
+        ensures { IsRecordUnless (copied_error (class_of self.now) (protections_of self.now) template.now.items)
+            (with_given template.now.items self.now) result }
+    {
+        self.check_copy(template)?;
+        Ok(self.copy_with(alloc, template)?)
+    }
+
+    /// The checks of a template of C_CopyObject for this object, of which the first that fails answers: a type that the
+    /// token doesn't know (CKR_ATTRIBUTE_TYPE_INVALID) or a value that isn't of its form
+    /// (CKR_ATTRIBUTE_VALUE_INVALID), item by item; two values of one type (CKR_TEMPLATE_INCONSISTENT); an attribute
+    /// that the object's class doesn't have (CKR_ATTRIBUTE_TYPE_INVALID) or that a copy may not be given
+    /// (CKR_ATTRIBUTE_READ_ONLY), item by item; CKA_SENSITIVE false for a sensitive key or CKA_EXTRACTABLE true for a
+    /// key that isn't extractable (CKR_ATTRIBUTE_READ_ONLY); CKA_PRIVATE false for a private object
+    /// (CKR_TEMPLATE_INCONSISTENT).
+    pub fn check_copy(&self, template: &Template) -> Result<(), RvError>
+        ensures { result ≡ check_of (copied_error (class_of self.now) (protections_of self.now) template.now.items) }
     {
         let items = template.items.as_slice();
-        match self.copied_error(items) {
-            Some(code) => Err(Refusal::Code(code)),
-            None => {
-                let copy = self.with(alloc, items)?;
-                Ok(copy)
-            }
-        }
+        let protections = self.protections();
+        template.check(self.class(), Purpose::Copy)?;
+        error_if(
+            protections.is_key_exposed_by(items),
+            RvError::AttributeReadOnly,
+        )?;
+        error_if(
+            protections.is_made_public_by(items),
+            RvError::TemplateInconsistent,
+        )
+    }
+
+    /// Where a copy stands that is made with the template.
+    pub fn copy_placement(&self, template: &Template) -> Placement
+        requires { copied_error (class_of self.now) (protections_of self.now) template.now.items ≡ None }
+        ensures { result ≡ placement_of (with_given template.now.items self.now) }
+    {
+        let Object::Data(data) = &self.object;
+        data.placement().with(template.items.as_slice())
+    }
+
+    /// A copy of the object with the values that a template gives which passes the checks of a copy.
+    pub fn copy_with(&self, alloc: Global, template: &Template) -> Result<Record, NoMemory>
+        requires { copied_error (class_of self.now) (protections_of self.now) template.now.items ≡ None }
+        ensures { IfOk result (λ made. made ≡ with_given template.now.items self.now) }
+    {
+        self.with(alloc, template.items.as_slice())
     }
 
     /// The object with the values that a template of C_SetAttributeValue gives (PKCS #11 Base 3.0, Object management
-    /// functions). The template is refused with the code of the first check that fails: those of `copied` but the last, for
-    /// the attributes that may be set (else CKR_ATTRIBUTE_READ_ONLY).
+    /// functions). The template is refused with the error of `check_change`.
     pub fn changed(&self, alloc: Global, template: &Template) -> Result<Record, Refusal>
-        ensures { IsRecordUnless (changed_error template.now.items) (with_given template.now.items self.now) result }
+        ensures { IsRecordUnless (changed_error (class_of self.now) (protections_of self.now) template.now.items)
+            (with_given template.now.items self.now) result }
     {
-        let items = template.items.as_slice();
-        match template_error(items, Purpose::Set) {
-            Some(code) => Err(Refusal::Code(code)),
-            None => {
-                let changed = self.with(alloc, items)?;
-                Ok(changed)
-            }
-        }
+        self.check_change(template)?;
+        Ok(self.change_with(alloc, template)?)
     }
 
-    fn copied_error(&self, items: &[Item]) -> Option<Rv>
-        ensures { result ≡ copied_error self.now items.now }
+    /// The checks of a template of C_SetAttributeValue for this object: those of `check_copy` but the last, for the
+    /// attributes that may be set (else CKR_ATTRIBUTE_READ_ONLY).
+    pub fn check_change(&self, template: &Template) -> Result<(), RvError>
+        ensures { result ≡ check_of (changed_error (class_of self.now) (protections_of self.now) template.now.items) }
     {
-        let error = template_error(items, Purpose::Copy);
-        if error.is_some() {
-            return error;
-        }
-        let stays_private = flag_or(items, Attribute::Private, true);
-        if self.is_set(Attribute::Private) && !stays_private {
-            Some(Rv::TemplateInconsistent)
-        } else {
-            None
-        }
+        let items = template.items.as_slice();
+        template.check(self.class(), Purpose::Set)?;
+        error_if(
+            self.protections().is_key_exposed_by(items),
+            RvError::AttributeReadOnly,
+        )
+    }
+
+    /// The object with the values that a template gives which passes the checks of a change.
+    pub fn change_with(&self, alloc: Global, template: &Template) -> Result<Record, NoMemory>
+        requires { changed_error (class_of self.now) (protections_of self.now) template.now.items ≡ None }
+        ensures { IfOk result (λ made. made ≡ with_given template.now.items self.now) }
+    {
+        self.with(alloc, template.items.as_slice())
     }
 
     fn with(&self, alloc: Global, items: &[Item]) -> Result<Record, NoMemory>
@@ -292,6 +158,34 @@ impl Record {
         Ok(Record {
             object: Object::Data(data),
         })
+    }
+
+    /// The object's class (CKA_CLASS).
+    pub fn class(&self) -> Class
+        ensures { result ≡ class_of self.now }
+    {
+        match &self.object {
+            Object::Data(_) => Class::Data,
+        }
+    }
+
+    /// The attributes of the object that a template may not weaken.
+    pub fn protections(&self) -> Protections
+        ensures { result ≡ protections_of self.now }
+    {
+        Protections {
+            private: self.is_set(Attribute::Private),
+            sensitive: self.is_set(Attribute::Sensitive),
+            extractable: self.is_set(Attribute::Extractable),
+        }
+    }
+
+    /// Where the object stands.
+    pub fn placement(&self) -> Placement
+        ensures { result ≡ placement_of self.now }
+    {
+        let Object::Data(data) = &self.object;
+        data.placement()
     }
 
     /// Whether the object matches a template of C_FindObjectsInit (PKCS #11 Base 3.0, Object management functions): it
@@ -362,16 +256,5 @@ impl Record {
             None => None,
             Some(attribute) => data.field(attribute),
         }
-    }
-}
-
-impl From<NoMemory> for Refusal {
-    ghost use Rattle.std.specs.Prelude.{◌≡◌};
-    ghost use Rattle.ck_types.specs.declared.records.Refusal.TheVariants as refusal;
-
-    ghost from_gives = { λ _ made. made ≡ refusal.Memory };
-
-    fn from(_error: NoMemory) -> Refusal {
-        Refusal::Memory
     }
 }

@@ -1,5 +1,6 @@
 use crate::{
-    Attribute, Bytes, Item, Limits, NoMemory, Pin, Record, Refusal, Rv, Sequence, Template,
+    Attribute, Bytes, Class, Item, Limits, NoMemory, Pin, Placement, Protections, Record, Refusal,
+    Rv, RvError, Sequence, Template, error_if,
 };
 use std::alloc::Global;
 use std::process::Abort;
@@ -156,6 +157,45 @@ fn copies_and_changes(rt: HostRuntime) -> Result<(), Fail> {
     }
     assert!(rt; record.is_set(Attribute::Private));
     assert!(rt; !record.is_set(Attribute::Token));
+    assert_eq!(rt; record.class(), Class::Data);
+    let protections = Protections {
+        private: true,
+        sensitive: false,
+        extractable: false,
+    };
+    assert_eq!(rt; record.protections(), protections);
+    Ok(())
+}
+
+/// Where an object stands that a template of C_CreateObject or of C_CopyObject makes.
+#[test]
+fn placements(rt: HostRuntime) -> Result<(), Fail> {
+    for (created, copied, token, private) in [
+        ("0=0000000000000000", "", false, false),
+        ("0=0000000000000000,1=01", "", true, false),
+        ("0=0000000000000000,2=01", "1=01", true, true),
+        ("0=0000000000000000,1=01,2=01", "1=00", false, true),
+        ("0=0000000000000000,1=01", "1=01,2=01", true, true),
+    ] {
+        let template = template_of(rt.alloc(), created)?;
+        template.check_creation()?;
+        let record = Record::created(rt.alloc(), &template)?;
+        assert_eq!(rt;
+            record.placement(),
+            template.creation_placement(),
+            "{created}"
+        );
+        let template = template_of(rt.alloc(), copied)?;
+        record.check_copy(&template)?;
+        let placement = Placement { token, private };
+        assert_eq!(rt;
+            record.copy_placement(&template),
+            placement,
+            "{created} {copied}"
+        );
+        let copy = record.copy_with(rt.alloc(), &template)?;
+        assert_eq!(rt; copy.placement(), placement, "{created} {copied}");
+    }
     Ok(())
 }
 
@@ -171,7 +211,7 @@ fn many_items(rt: HostRuntime) -> Result<(), Fail> {
     }
     let items = Sequence::from_vec(items);
     let refused = Record::created(rt.alloc(), &Template { items }).err();
-    assert_eq!(rt; refused, Some(Refusal::Code(Rv::TemplateIncomplete)));
+    assert_eq!(rt; refused, Some(Refusal::Code(RvError::TemplateIncomplete)));
     Ok(())
 }
 
@@ -319,88 +359,125 @@ fn limits(rt: HostRuntime) {
 
 #[test]
 fn return_codes(rt: HostRuntime) -> Result<(), Fail> {
-    for (number, code, name) in [
-        (0x0, Rv::Ok, "CKR_OK"),
-        (0x2, Rv::HostMemory, "CKR_HOST_MEMORY"),
-        (0x7, Rv::ArgumentsBad, "CKR_ARGUMENTS_BAD"),
-        (0x10, Rv::AttributeReadOnly, "CKR_ATTRIBUTE_READ_ONLY"),
-        (0x11, Rv::AttributeSensitive, "CKR_ATTRIBUTE_SENSITIVE"),
-        (0x12, Rv::AttributeTypeInvalid, "CKR_ATTRIBUTE_TYPE_INVALID"),
+    for (number, error, name) in [
+        (0x2, RvError::HostMemory, "CKR_HOST_MEMORY"),
+        (0x7, RvError::ArgumentsBad, "CKR_ARGUMENTS_BAD"),
+        (0x10, RvError::AttributeReadOnly, "CKR_ATTRIBUTE_READ_ONLY"),
+        (0x11, RvError::AttributeSensitive, "CKR_ATTRIBUTE_SENSITIVE"),
+        (
+            0x12,
+            RvError::AttributeTypeInvalid,
+            "CKR_ATTRIBUTE_TYPE_INVALID",
+        ),
         (
             0x13,
-            Rv::AttributeValueInvalid,
+            RvError::AttributeValueInvalid,
             "CKR_ATTRIBUTE_VALUE_INVALID",
         ),
-        (0x1b, Rv::ActionProhibited, "CKR_ACTION_PROHIBITED"),
-        (0x21, Rv::DataLenRange, "CKR_DATA_LEN_RANGE"),
-        (0x31, Rv::DeviceMemory, "CKR_DEVICE_MEMORY"),
-        (0x60, Rv::KeyHandleInvalid, "CKR_KEY_HANDLE_INVALID"),
-        (0x62, Rv::KeySizeRange, "CKR_KEY_SIZE_RANGE"),
-        (0x63, Rv::KeyTypeInconsistent, "CKR_KEY_TYPE_INCONSISTENT"),
+        (0x1b, RvError::ActionProhibited, "CKR_ACTION_PROHIBITED"),
+        (0x21, RvError::DataLenRange, "CKR_DATA_LEN_RANGE"),
+        (0x31, RvError::DeviceMemory, "CKR_DEVICE_MEMORY"),
+        (0x60, RvError::KeyHandleInvalid, "CKR_KEY_HANDLE_INVALID"),
+        (0x62, RvError::KeySizeRange, "CKR_KEY_SIZE_RANGE"),
+        (
+            0x63,
+            RvError::KeyTypeInconsistent,
+            "CKR_KEY_TYPE_INCONSISTENT",
+        ),
         (
             0x68,
-            Rv::KeyFunctionNotPermitted,
+            RvError::KeyFunctionNotPermitted,
             "CKR_KEY_FUNCTION_NOT_PERMITTED",
         ),
-        (0x70, Rv::MechanismInvalid, "CKR_MECHANISM_INVALID"),
+        (0x70, RvError::MechanismInvalid, "CKR_MECHANISM_INVALID"),
         (
             0x71,
-            Rv::MechanismParamInvalid,
+            RvError::MechanismParamInvalid,
             "CKR_MECHANISM_PARAM_INVALID",
         ),
-        (0x82, Rv::ObjectHandleInvalid, "CKR_OBJECT_HANDLE_INVALID"),
-        (0x90, Rv::OperationActive, "CKR_OPERATION_ACTIVE"),
+        (
+            0x82,
+            RvError::ObjectHandleInvalid,
+            "CKR_OBJECT_HANDLE_INVALID",
+        ),
+        (0x90, RvError::OperationActive, "CKR_OPERATION_ACTIVE"),
         (
             0x91,
-            Rv::OperationNotInitialized,
+            RvError::OperationNotInitialized,
             "CKR_OPERATION_NOT_INITIALIZED",
         ),
-        (0xa0, Rv::PinIncorrect, "CKR_PIN_INCORRECT"),
-        (0xa2, Rv::PinLenRange, "CKR_PIN_LEN_RANGE"),
-        (0xa4, Rv::PinLocked, "CKR_PIN_LOCKED"),
-        (0xb1, Rv::SessionCount, "CKR_SESSION_COUNT"),
-        (0xb3, Rv::SessionHandleInvalid, "CKR_SESSION_HANDLE_INVALID"),
+        (0xa0, RvError::PinIncorrect, "CKR_PIN_INCORRECT"),
+        (0xa2, RvError::PinLenRange, "CKR_PIN_LEN_RANGE"),
+        (0xa4, RvError::PinLocked, "CKR_PIN_LOCKED"),
+        (0xb1, RvError::SessionCount, "CKR_SESSION_COUNT"),
+        (
+            0xb3,
+            RvError::SessionHandleInvalid,
+            "CKR_SESSION_HANDLE_INVALID",
+        ),
         (
             0xb4,
-            Rv::SessionParallelNotSupported,
+            RvError::SessionParallelNotSupported,
             "CKR_SESSION_PARALLEL_NOT_SUPPORTED",
         ),
-        (0xb5, Rv::SessionReadOnly, "CKR_SESSION_READ_ONLY"),
-        (0xb6, Rv::SessionExists, "CKR_SESSION_EXISTS"),
+        (0xb5, RvError::SessionReadOnly, "CKR_SESSION_READ_ONLY"),
+        (0xb6, RvError::SessionExists, "CKR_SESSION_EXISTS"),
         (
             0xb7,
-            Rv::SessionReadOnlyExists,
+            RvError::SessionReadOnlyExists,
             "CKR_SESSION_READ_ONLY_EXISTS",
         ),
         (
             0xb8,
-            Rv::SessionReadWriteSoExists,
+            RvError::SessionReadWriteSoExists,
             "CKR_SESSION_READ_WRITE_SO_EXISTS",
         ),
-        (0xc0, Rv::SignatureInvalid, "CKR_SIGNATURE_INVALID"),
-        (0xc1, Rv::SignatureLenRange, "CKR_SIGNATURE_LEN_RANGE"),
-        (0xd0, Rv::TemplateIncomplete, "CKR_TEMPLATE_INCOMPLETE"),
-        (0xd1, Rv::TemplateInconsistent, "CKR_TEMPLATE_INCONSISTENT"),
-        (0xe1, Rv::TokenNotRecognized, "CKR_TOKEN_NOT_RECOGNIZED"),
-        (0x100, Rv::UserAlreadyLoggedIn, "CKR_USER_ALREADY_LOGGED_IN"),
-        (0x101, Rv::UserNotLoggedIn, "CKR_USER_NOT_LOGGED_IN"),
+        (0xc0, RvError::SignatureInvalid, "CKR_SIGNATURE_INVALID"),
+        (0xc1, RvError::SignatureLenRange, "CKR_SIGNATURE_LEN_RANGE"),
+        (0xd0, RvError::TemplateIncomplete, "CKR_TEMPLATE_INCOMPLETE"),
+        (
+            0xd1,
+            RvError::TemplateInconsistent,
+            "CKR_TEMPLATE_INCONSISTENT",
+        ),
+        (
+            0xe1,
+            RvError::TokenNotRecognized,
+            "CKR_TOKEN_NOT_RECOGNIZED",
+        ),
+        (
+            0x100,
+            RvError::UserAlreadyLoggedIn,
+            "CKR_USER_ALREADY_LOGGED_IN",
+        ),
+        (0x101, RvError::UserNotLoggedIn, "CKR_USER_NOT_LOGGED_IN"),
         (
             0x102,
-            Rv::UserPinNotInitialized,
+            RvError::UserPinNotInitialized,
             "CKR_USER_PIN_NOT_INITIALIZED",
         ),
-        (0x103, Rv::UserTypeInvalid, "CKR_USER_TYPE_INVALID"),
+        (0x103, RvError::UserTypeInvalid, "CKR_USER_TYPE_INVALID"),
         (
             0x104,
-            Rv::UserAnotherAlreadyLoggedIn,
+            RvError::UserAnotherAlreadyLoggedIn,
             "CKR_USER_ANOTHER_ALREADY_LOGGED_IN",
         ),
-        (0x150, Rv::BufferTooSmall, "CKR_BUFFER_TOO_SMALL"),
+        (0x150, RvError::BufferTooSmall, "CKR_BUFFER_TOO_SMALL"),
     ] {
+        let code = Rv::from(error);
+        assert_eq!(rt; RvError::of(number), Some(error), "{number:x}");
         assert_eq!(rt; Rv::of(number), Some(code), "{number:x}");
+        assert_eq!(rt; error.number(), number);
         assert_eq!(rt; code.number(), number);
+        assert_eq!(rt; format!(in rt.alloc(); "{error}")?.as_str(), name);
         assert_eq!(rt; format!(in rt.alloc(); "{code}")?.as_str(), name);
     }
+    assert_eq!(rt; Rv::of(0), Some(Rv::Ok));
+    assert_eq!(rt; Rv::Ok.number(), 0);
+    assert_eq!(rt; format!(in rt.alloc(); "{}", Rv::Ok)?.as_str(), "CKR_OK");
+    assert_eq!(rt; RvError::of(0), None);
+    assert_eq!(rt; error_if(true, RvError::PinLocked), Err(RvError::PinLocked));
+    assert_eq!(rt; error_if(false, RvError::PinLocked), Ok(()));
     for number in [0x1, 0x5, 0x151] {
         assert_eq!(rt; Rv::of(number), None, "{number:x}");
     }

@@ -1,8 +1,10 @@
-use Rattle.std.proofs.Common.{refl, sym}
-use Rattle.ck_types.specs.declared.attributes.Purpose.TheVariants as purpose
-use Rattle.ck_types.proofs.GivenLemmas.{given-class}
+use Rattle.std.proofs.Common.{rules, ◌≡◌, Err, sym}
+use Rattle.ck_types.specs.declared.refusals.Refusal.TheVariants as refusal
+use Rattle.ck_types.proofs.CheckLemmas.{record-refused}
 use Rattle.ck_types.proofs.records.Record.changed.Goals as goal
 
--- a template that passes the checks doesn't give the class
-pub with-requires-clause-class : goal.with-requires-clause-class
-with-requires-clause-class c = given-class purpose.Set c.as_slice-items.result.now refl (sym c.in-None.ensures)
+-- the error of the check is the refusal's
+pub returns-in_err-check_change : goal.returns-in_err-check_change
+returns-in_err-check_change c =
+    let refused : c.from_residual.result ≡ Err (refusal.Code c.in_err-check_change.field-0.0) = search rules in
+    record-refused _ _ c.from_residual.result _ (sym c.in_err-check_change.ensures) refused

@@ -1,11 +1,10 @@
-use Rattle.std.proofs.Common.{refl, sym}
-use Rattle.ck_types.specs.Templates.{template_error}
-use Rattle.ck_types.specs.declared.attributes.Purpose.TheVariants as purpose
-use Rattle.ck_types.proofs.GivenLemmas.{given-class, or_else-none}
+use Rattle.std.proofs.Common.{rules, ◌≡◌, Err, sym}
+use Rattle.ck_types.specs.declared.refusals.Refusal.TheVariants as refusal
+use Rattle.ck_types.proofs.CheckLemmas.{record-refused}
 use Rattle.ck_types.proofs.records.Record.copied.Goals as goal
 
--- a template that passes the checks doesn't give the class
-pub with-requires-clause-class : goal.with-requires-clause-class
-with-requires-clause-class c =
-    let items = c.as_slice-items.result.now in
-    given-class purpose.Copy items refl (or_else-none (template_error purpose.Copy items) _ (sym c.in-None.ensures)).0
+-- the error of the check is the refusal's
+pub returns-in_err-check_copy : goal.returns-in_err-check_copy
+returns-in_err-check_copy c =
+    let refused : c.from_residual.result ≡ Err (refusal.Code c.in_err-check_copy.field-0.0) = search rules in
+    record-refused _ _ c.from_residual.result _ (sym c.in_err-check_copy.ensures) refused

@@ -1,0 +1,109 @@
+use ck_journal::View;
+use ck_types::{Attribute, Record, Template};
+use std::marker::Model;
+
+/// An object that hasn't ended.
+#[derive(Debug, Drop)]
+pub(crate) struct StoredObject {
+    number: u64,
+    /// The session that created it; a token object is nobody's.
+    session: Option<u64>,
+    attributes: Record,
+}
+
+impl Model for StoredObject {
+    ghost use Rattle.std.specs.Prelude.{◌<◌, ◌^◌};
+    ghost use Rattle.ck_store.specs.Rows.{ObjectRow};
+
+    ghost Value = { ObjectRow };
+
+    ghost view = { λ o. record { number = o.number; session = o.session; attributes = o.attributes } };
+
+    ghost invariant = { λ o. o.number < 2 ^ 32 };
+}
+
+impl StoredObject {
+    ghost use Rattle.std.specs.Prelude.{◌≡◌, ◌<◌, ◌^◌};
+    ghost use Rattle.ck_journal.specs.Objects.{is_visible_with};
+    ghost use Rattle.ck_store.specs.Rows.{object_row, is_of_session, is_session_row, is_private_session_row};
+    ghost use Rattle.ck_store.specs.Rows.{is_match, visible_handle};
+
+    /// An object that the session creates.
+    pub(crate) fn new(number: u64, session: u64, attributes: Record) -> StoredObject
+        requires { number < 2 ^ 32 }
+        ensures { result ≡ object_row number session attributes }
+    {
+        let session = if attributes.is_set(Attribute::Token) {
+            None
+        } else {
+            Some(session)
+        };
+        StoredObject {
+            number,
+            session,
+            attributes,
+        }
+    }
+
+    pub(crate) fn number(&self) -> u64
+        ensures { result ≡ self.now.number }
+    {
+        self.number
+    }
+
+    pub(crate) fn attributes(&self) -> &Record
+        ensures { result.now ≡ self.now.attributes }
+    {
+        &self.attributes
+    }
+
+    pub(crate) fn set_attributes(&mut self, attributes: Record)
+        ensures { self.new ≡ record self.old { attributes = attributes } }
+    {
+        self.attributes = attributes;
+    }
+
+    fn is_visible(&self, view: View) -> bool
+        ensures { result ≡ is_visible_with view self.now.attributes }
+    {
+        !self.attributes.is_set(Attribute::Private) || view.user
+    }
+
+    /// The object's handle, where it is visible.
+    pub(crate) fn handle(&self, view: View) -> Option<u64>
+        requires { view.logins < 2 ^ 31 }
+        ensures { result ≡ visible_handle view self.now }
+    {
+        if self.is_visible(view) {
+            Some(view.handle(&self.attributes, self.number))
+        } else {
+            None
+        }
+    }
+
+    /// Whether the object is visible and matches the template.
+    pub(crate) fn is_match(&self, view: View, template: &Template) -> bool
+        ensures { result ≡ is_match view template.now.items self.now }
+    {
+        self.is_visible(view) && self.attributes.matches(template)
+    }
+
+    /// Whether it is a session object of this session.
+    pub(crate) fn is_of_session(&self, session: u64) -> bool
+        ensures { result ≡ is_of_session session self.now }
+    {
+        self.session == Some(session)
+    }
+
+    pub(crate) fn is_session_object(&self) -> bool
+        ensures { result ≡ is_session_row self.now }
+    {
+        self.session.is_some()
+    }
+
+    pub(crate) fn is_private_session_object(&self) -> bool
+        ensures { result ≡ is_private_session_row self.now }
+    {
+        self.is_session_object() && self.attributes.is_set(Attribute::Private)
+    }
+}

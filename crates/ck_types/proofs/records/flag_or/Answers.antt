@@ -1,8 +1,0 @@
-use Rattle.ck_types.proofs.GivenLemmas.{flag_bytes-given_or}
-use Rattle.ck_types.proofs.records.flag_or.Goals as goal
-
--- a given value of the form of a flag is that flag's bytes
-pub returns-in-Some : goal.returns-in-Some
-returns-in-Some c =
-    let test = rw (c.as_slice.ensures, c.as_slice-in-Some.ensures) at c.eq.ensures in
-    flag_bytes-given_or _ c.args.attribute _ c.in-Some.value.now _ c.eq.result c.requires.form c.requires.well_formed c.in-Some.ensures c.number.ensures test

@@ -1,9 +1,0 @@
-use Rattle.std.proofs.Common.{◌≡◌, drop}
-use Rattle.ck_types.specs.Templates.{class_error, first_error}
-use Rattle.ck_types.proofs.templates.first_class_error.Given as goal
-
--- what is left decides
-abbrev pub invariant-loop-item : goal.invariant-loop-item
-invariant-loop-item l =
-    first_error (class_error l.class l.purpose) l.items
-    ≡ first_error (class_error l.class l.purpose) (drop l.item-index l.items)

@@ -1,7 +1,0 @@
-use Rattle.std.proofs.Common.{◌≡◌, drop}
-use Rattle.ck_types.specs.Templates.{form_error, first_error}
-use Rattle.ck_types.proofs.templates.first_form_error.Given as goal
-
--- what is left decides
-abbrev pub invariant-loop-item : goal.invariant-loop-item
-invariant-loop-item l = first_error form_error l.items ≡ first_error form_error (drop l.item-index l.items)

@@ -1,0 +1,102 @@
+use crate::attributes::Attribute;
+use crate::fields::Field;
+use crate::items::{Item, bytes_or, flag_or};
+use crate::memory::NoMemory;
+use crate::object_flags::Placement;
+use crate::sequences::Bytes;
+use std::alloc::Global;
+
+/// A data object (PKCS #11 Base 3.0, Data objects). Its class is no field.
+#[derive(Debug, Drop)]
+pub(crate) struct Data {
+    token: bool,
+    private: bool,
+    label: Bytes,
+    application: Bytes,
+    value: Bytes,
+    object_id: Bytes,
+    modifiable: bool,
+    copyable: bool,
+    destroyable: bool,
+}
+
+impl Data {
+    ghost use Rattle.std.specs.Prelude.{◌≡◌, None, IfOk, option_map};
+    ghost use Rattle.ck_types.specs.Attributes.{type_of, number_bytes};
+    ghost use Rattle.ck_types.specs.Checks.{first_error};
+    ghost use Rattle.ck_types.specs.Templates.{given, given_or, form_error, flag_at};
+    ghost use Rattle.ck_types.specs.declared.attributes.Attribute.TheVariants as attribute;
+    ghost use Rattle.ck_types.specs.Records.{data_items, with_given, data_defaults, placement_of};
+    ghost use Rattle.ck_types.specs.Fields.{field_bytes, flag_field};
+
+    /// A data object with the table's defaults.
+    pub(crate) fn blank(alloc: Global) -> Data
+        ensures { data_items result ≡ data_defaults }
+    {
+        Data {
+            token: false,
+            private: false,
+            label: Bytes::new(alloc),
+            application: Bytes::new(alloc),
+            value: Bytes::new(alloc),
+            object_id: Bytes::new(alloc),
+            modifiable: true,
+            copyable: true,
+            destroyable: true,
+        }
+    }
+
+    /// A copy with the items' values of the attributes that they give.
+    pub(crate) fn with(&self, alloc: Global, items: &[Item]) -> Result<Data, NoMemory>
+        requires well_formed { first_error form_error items.now ≡ None }
+        requires class { given_or items.now (type_of attribute.Class) (number_bytes 0) ≡ number_bytes 0 }
+        ensures { IfOk result (λ made. data_items made ≡ with_given items.now (data_items self.now)) }
+    {
+        let label = bytes_or(alloc, items, Attribute::Label, &self.label)?;
+        let application = bytes_or(alloc, items, Attribute::Application, &self.application)?;
+        let value = bytes_or(alloc, items, Attribute::Value, &self.value)?;
+        let object_id = bytes_or(alloc, items, Attribute::ObjectId, &self.object_id)?;
+        Ok(Data {
+            token: flag_or(items, Attribute::Token, self.token),
+            private: flag_or(items, Attribute::Private, self.private),
+            label,
+            application,
+            value,
+            object_id,
+            modifiable: flag_or(items, Attribute::Modifiable, self.modifiable),
+            copyable: flag_or(items, Attribute::Copyable, self.copyable),
+            destroyable: flag_or(items, Attribute::Destroyable, self.destroyable),
+        })
+    }
+
+    /// The value of an attribute, or `None` where data objects don't have it.
+    #[tactic(auto, using(crate::proofs::FlagLemmas::flags))]
+    pub(crate) fn field(&self, attribute: Attribute) -> Option<Field>
+        ensures value { option_map field_bytes result ≡ given (data_items self.now) (type_of attribute) }
+        ensures flag { flag_field result ≡ flag_at (data_items self.now) attribute }
+    {
+        match attribute {
+            Attribute::Class => Some(Field::Number(0)),
+            Attribute::Token => Some(Field::Flag(self.token)),
+            Attribute::Private => Some(Field::Flag(self.private)),
+            Attribute::Label => Some(Field::Bytes(&self.label)),
+            Attribute::Application => Some(Field::Bytes(&self.application)),
+            Attribute::Value => Some(Field::Bytes(&self.value)),
+            Attribute::ObjectId => Some(Field::Bytes(&self.object_id)),
+            Attribute::Modifiable => Some(Field::Flag(self.modifiable)),
+            Attribute::Copyable => Some(Field::Flag(self.copyable)),
+            Attribute::Destroyable => Some(Field::Flag(self.destroyable)),
+            _ => None,
+        }
+    }
+
+    /// Where the object stands.
+    pub(crate) fn placement(&self) -> Placement
+        ensures { result ≡ placement_of (data_items self.now) }
+    {
+        Placement {
+            token: self.token,
+            private: self.private,
+        }
+    }
+}

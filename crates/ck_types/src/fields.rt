@@ -1,0 +1,49 @@
+use crate::memory::NoMemory;
+use crate::sequences::Bytes;
+use std::alloc::Global;
+
+/// A value of an attribute as an object has it.
+#[derive(Drop)]
+pub(crate) enum Field<'a> {
+    Flag(bool),
+    Number(u64),
+    Bytes(&'a Bytes),
+}
+
+impl<'a> Field<'a> {
+    ghost use Rattle.std.specs.Prelude.{◌≡◌, IfOk, length};
+    ghost use Rattle.ck_types.specs.Attributes.{same_bytes};
+    ghost use Rattle.ck_types.specs.Fields.{field_bytes, flag_field};
+
+    /// How many bytes the value has.
+    pub(crate) fn len(&self) -> u64
+        ensures { result ≡ length (field_bytes self.now) }
+    {
+        match self {
+            Field::Flag(_) => 1,
+            Field::Number(_) => 8,
+            Field::Bytes(bytes) => bytes.as_slice().len() as u64,
+        }
+    }
+
+    pub(crate) fn has_bytes(&self, bytes: &[u8]) -> bool
+        ensures { result ≡ same_bytes bytes.now (field_bytes self.now) }
+    {
+        match self {
+            Field::Flag(flag) => bytes == [u8::from(*flag)].as_slice(),
+            Field::Number(number) => bytes == number.to_le_bytes().as_slice(),
+            Field::Bytes(value) => bytes == value.as_slice(),
+        }
+    }
+
+    /// The value's bytes.
+    pub(crate) fn to_bytes(&self, alloc: Global) -> Result<Bytes, NoMemory>
+        ensures { IfOk result (λ bytes. bytes ≡ field_bytes self.now) }
+    {
+        match self {
+            Field::Flag(flag) => Bytes::from_slice(alloc, [u8::from(*flag)].as_slice()),
+            Field::Number(number) => Bytes::from_slice(alloc, number.to_le_bytes().as_slice()),
+            Field::Bytes(bytes) => Bytes::from_slice(alloc, bytes.as_slice()),
+        }
+    }
+}

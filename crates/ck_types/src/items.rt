@@ -1,0 +1,177 @@
+ghost use Rattle.std.specs.Prelude.{◌≡◌, ◌==◌, ◌&&◌, None, IfOk, not, unwrap_or};
+ghost use Rattle.std.specs.List.{list_any};
+ghost use Rattle.std.specs.Option.{option_copied};
+ghost use Rattle.ck_types.specs.Attributes.{type_of, form_of, same_bytes, flag_bytes};
+ghost use Rattle.ck_types.specs.Checks.{check_of, first_error};
+ghost use Rattle.ck_types.specs.Templates.{given, given_or, flag_at, form_error, creation_error, class_error, has_two_values, has_conflict};
+ghost use Rattle.ck_types.specs.declared.attributes.Form.TheVariants as form;
+
+use crate::attributes::{Attribute, Class, Purpose};
+use crate::checks::error_if;
+use crate::errors::RvError;
+use crate::memory::NoMemory;
+use crate::sequences::Bytes;
+use std::alloc::Global;
+
+/// One attribute of a template or of an object (CK_ATTRIBUTE): its type and the bytes of its value.
+#[derive(Debug, Drop)]
+pub struct Item {
+    /// The attribute's type (CK_ATTRIBUTE_TYPE), known to the token or not.
+    pub kind: u64,
+    pub value: Bytes,
+}
+
+impl Item {
+    ghost use Rattle.ck_types.specs.Templates.{is_secret_key};
+
+    /// CKR_ATTRIBUTE_TYPE_INVALID for a type that the token doesn't know, CKR_ATTRIBUTE_VALUE_INVALID for a value
+    /// that isn't of the type's form.
+    fn check_form(&self) -> Result<(), RvError>
+        ensures { result ≡ check_of (form_error self.now) }
+    {
+        match Attribute::of(self.kind) {
+            None => Err(RvError::AttributeTypeInvalid),
+            Some(attribute) => {
+                let is_of_form = attribute.form().admits(self.value.as_slice());
+                error_if(!is_of_form, RvError::AttributeValueInvalid)
+            }
+        }
+    }
+
+    /// Whether the item is the class of secret keys (CKO_SECRET_KEY).
+    fn is_secret_key(&self) -> bool
+        ensures { result ≡ is_secret_key self.now }
+    {
+        self.kind == Attribute::Class.number()
+            && self.value.as_slice() == 4u64.to_le_bytes().as_slice()
+    }
+
+    /// The check of the form, and CKR_ATTRIBUTE_VALUE_INVALID for the class of secret keys, which can't be created yet.
+    fn check_creation(&self) -> Result<(), RvError>
+        ensures { result ≡ check_of (creation_error self.now) }
+    {
+        self.check_form()?;
+        error_if(self.is_secret_key(), RvError::AttributeValueInvalid)
+    }
+
+    /// CKR_ATTRIBUTE_TYPE_INVALID for an attribute that objects of the class don't have, CKR_ATTRIBUTE_READ_ONLY for
+    /// one that may not stand in a template of this purpose.
+    fn check_permission(&self, class: Class, purpose: Purpose) -> Result<(), RvError>
+        ensures { result ≡ check_of (class_error class purpose self.now) }
+    {
+        match Attribute::of(self.kind) {
+            None => Err(RvError::AttributeTypeInvalid),
+            Some(attribute) => match attribute.permission(class, purpose) {
+                None => Err(RvError::AttributeTypeInvalid),
+                Some(is_permitted) => error_if(!is_permitted, RvError::AttributeReadOnly),
+            },
+        }
+    }
+
+    /// Whether the item is of the attribute's type and has another value than this one.
+    fn differs(&self, attribute: Attribute, value: &Bytes) -> bool
+        ensures { result ≡ (type_of attribute == self.now.kind) && not (same_bytes self.now.value value.now) }
+    {
+        attribute.number() == self.kind && self.value.as_slice() != value.as_slice()
+    }
+}
+
+pub(crate) fn check_forms(items: &[Item]) -> Result<(), RvError>
+    ensures { result ≡ check_of (first_error form_error items.now) }
+{
+    for item in items {
+        item.check_form()?;
+    }
+    Ok(())
+}
+
+pub(crate) fn check_creations(items: &[Item]) -> Result<(), RvError>
+    ensures { result ≡ check_of (first_error creation_error items.now) }
+{
+    for item in items {
+        item.check_creation()?;
+    }
+    Ok(())
+}
+
+pub(crate) fn check_permissions(
+    class: Class,
+    purpose: Purpose,
+    items: &[Item],
+) -> Result<(), RvError>
+    ensures { result ≡ check_of (first_error (class_error class purpose) items.now) }
+{
+    for item in items {
+        item.check_permission(class, purpose)?;
+    }
+    Ok(())
+}
+
+/// The value that the items give a type: that of the first item of the type.
+pub(crate) fn given(items: &[Item], kind: u64) -> Option<&Bytes>
+    ensures { option_copied result ≡ given items.now kind }
+{
+    for item in items {
+        if item.kind == kind {
+            return Some(&item.value);
+        }
+    }
+    None
+}
+
+/// The flag that the items give the attribute, else this one. Well-formed items give a flag one byte, 0 or 1.
+pub(crate) fn flag_or(items: &[Item], attribute: Attribute, other: bool) -> bool
+    requires form { form_of attribute ≡ form.Flag }
+    requires well_formed { first_error form_error items.now ≡ None }
+    ensures flag { result ≡ unwrap_or (flag_at items.now attribute) other }
+    ensures bytes { flag_bytes result ≡ given_or items.now (type_of attribute) (flag_bytes other) }
+{
+    match given(items, attribute.number()) {
+        None => other,
+        Some(value) => value.as_slice() == [1].as_slice(),
+    }
+}
+
+/// A copy of the bytes that the items give the attribute, else of these.
+pub(crate) fn bytes_or(
+    alloc: Global,
+    items: &[Item],
+    attribute: Attribute,
+    other: &Bytes,
+) -> Result<Bytes, NoMemory>
+    ensures { IfOk result (λ bytes. bytes ≡ given_or items.now (type_of attribute) other.now) }
+{
+    match given(items, attribute.number()) {
+        None => Bytes::from_slice(alloc, other.as_slice()),
+        Some(value) => Bytes::from_slice(alloc, value.as_slice()),
+    }
+}
+
+/// Whether items of the attribute's type have different values.
+#[tactic(auto, using(crate::proofs::ConflictLemmas::not_given))]
+fn has_two_values(items: &[Item], attribute: Attribute) -> bool
+    ensures { result ≡ has_two_values items.now attribute }
+{
+    match given(items, attribute.number()) {
+        None => false,
+        Some(first) => items.iter().any(|item| item.differs(attribute, first)),
+    }
+}
+
+/// Whether items of one of the attributes' types have different values.
+fn has_conflict_in(attributes: &[Attribute], items: &[Item]) -> bool
+    ensures { result ≡ list_any (has_two_values items.now) attributes.now }
+{
+    attributes
+        .iter()
+        .any(|attribute| has_two_values(items, *attribute))
+}
+
+/// Whether two items of one type have different values. Each attribute takes one walk over the items, so that the
+/// time stays in proportion to their number.
+pub(crate) fn has_conflict(items: &[Item]) -> bool
+    requires well_formed { first_error form_error items.now ≡ None }
+    ensures { result ≡ has_conflict items.now }
+{
+    has_conflict_in(Attribute::ALL.as_slice(), items)
+}

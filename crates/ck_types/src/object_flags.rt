@@ -1,0 +1,60 @@
+ghost use Rattle.std.specs.Prelude.{◌≡◌, None, unwrap_or};
+ghost use Rattle.ck_types.specs.Checks.{first_error};
+ghost use Rattle.ck_types.specs.Templates.{form_error};
+
+use crate::attributes::Attribute;
+use crate::items::{Item, flag_or};
+
+/// The attributes of an object that a template may not weaken: CKA_PRIVATE, CKA_SENSITIVE and CKA_EXTRACTABLE, each
+/// false where the object doesn't have it.
+#[derive(Clone, Copy, Debug, PartialEq, Eq)]
+pub struct Protections {
+    pub private: bool,
+    pub sensitive: bool,
+    pub extractable: bool,
+}
+
+impl Protections {
+    ghost use Rattle.ck_types.specs.Records.{exposes_key, makes_public};
+
+    /// Whether the items make a sensitive key not sensitive, or a key extractable that isn't.
+    pub(crate) fn is_key_exposed_by(&self, items: &[Item]) -> bool
+        requires { first_error form_error items.now ≡ None }
+        ensures { result ≡ exposes_key self.now items.now }
+    {
+        (self.sensitive && !flag_or(items, Attribute::Sensitive, true))
+            || (!self.extractable && flag_or(items, Attribute::Extractable, false))
+    }
+
+    /// Whether the items make a private object public.
+    pub(crate) fn is_made_public_by(&self, items: &[Item]) -> bool
+        requires { first_error form_error items.now ≡ None }
+        ensures { result ≡ makes_public self.now items.now }
+    {
+        self.private && !flag_or(items, Attribute::Private, true)
+    }
+}
+
+/// CKA_TOKEN and CKA_PRIVATE of an object: where it may stand.
+#[derive(Clone, Copy, Debug, PartialEq, Eq)]
+pub struct Placement {
+    pub token: bool,
+    pub private: bool,
+}
+
+impl Placement {
+    ghost use Rattle.ck_types.specs.Templates.{flag_at};
+    ghost use Rattle.ck_types.specs.declared.attributes.Attribute.TheVariants as attribute;
+
+    /// The placement with the flags that the items give.
+    pub(crate) fn with(self, items: &[Item]) -> Placement
+        requires { first_error form_error items.now ≡ None }
+        ensures token { result.token ≡ unwrap_or (flag_at items.now attribute.Token) self.token }
+        ensures private { result.private ≡ unwrap_or (flag_at items.now attribute.Private) self.private }
+    {
+        Placement {
+            token: flag_or(items, Attribute::Token, self.token),
+            private: flag_or(items, Attribute::Private, self.private),
+        }
+    }
+}
