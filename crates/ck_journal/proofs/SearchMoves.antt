@@ -1,5 +1,5 @@
 -- How searches move by one entry
-use Rattle.std.proofs.Common.{◌≡◌, ℕ, suc, Bool, true, false, cond, List, [], ◌∷◌, Option, Some, None, refl, ap, ◌∙◌}
+use Rattle.std.proofs.Common.{◌≡◌, ℕ, suc, false, cond, List, Option, Some, None, refl, ap, ◌∙◌}
 use Rattle.std.specs.Prelude.{◌==◌, ◌&&◌, filter, option_and_then}
 use Rattle.std.proofs.lemmas.List.Elements.{filter_agree}
 use Rattle.ck_types.specs.declared.items.Item.{Item}

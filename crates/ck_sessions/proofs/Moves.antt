@@ -1,6 +1,6 @@
 -- How sessions, the login and PINs keep agreeing with the history
-use Rattle.std.proofs.Common.{◌≡◌, ℕ, suc, ◌+◌, ◌-◌, Bool, true, false, not, cond, subst, ◌||◌, ◌&&◌, List, [], ◌∷◌, ◌++◌, Option, Some, None, refl, sym, ap, ◌∙◌, add-one, arith}
-use Rattle.std.specs.Prelude.{◌==◌, filter, length, map, is_some, slice_get, unwrap_or}
+use Rattle.std.proofs.Common.{◌≡◌, ℕ, suc, ◌+◌, Bool, true, false, not, cond, ◌||◌, ◌&&◌, List, [], ◌∷◌, ◌++◌, Option, Some, None, refl, sym, ap, ◌∙◌, add-one, arith}
+use Rattle.std.specs.Prelude.{◌==◌, filter, length, map, is_some, unwrap_or}
 use Rattle.std.proofs.Math.Bool.{and-false}
 use Rattle.std.proofs.lemmas.Bool.{eq-eqb, eqb-true, eqb-false, ne_eqb, false≢true}
 use Rattle.std.proofs.lemmas.Option.{same_Some}
@@ -14,16 +14,16 @@ use Rattle.ck_journal.specs.declared.calls.Call.TheVariants as call
 use Rattle.ck_journal.specs.declared.calls.Entry.{Entry}
 use Rattle.ck_journal.specs.Histories.{History, ◌◁◌, done, wrong_try, effects_of, effects}
 use Rattle.ck_journal.specs.Lists.{change_first}
-use Rattle.ck_journal.specs.Searches.{is_searching, matching_objects, handles_in, number_of_handle}
+use Rattle.ck_journal.specs.Searches.{is_searching, matching_objects, handles_in, number_of_handle, last_or, last_number}
 use Rattle.ck_journal.specs.Pins.{so_pin, so_pin_after, user_pin, user_pin_after, named_owner, pin_owner, is_initialized, initializes, about, is_about, is_user, resets, tries}
 use Rattle.ck_journal.specs.Sessions.{opens, openings, closes, is_open, open_sessions, login, login_after, user_logins, logs_user_in, state_of}
 use Rattle.ck_journal.proofs.LoginMoves.{wrong_try-done, login-none, login-open, login-same, login-logged_out, user_logins-step, so_pin-step, user_pin-step, tries-step, tries-done, openings-left, opens-left, session_rows-left, login-left, user_logins-left, so_pin-left, user_pin-left, is_initialized-left, tries-left}
-use Rattle.ck_journal.proofs.Selections.{selected, selected-same, filter-selected, selected-none}
+use Rattle.ck_journal.proofs.Selections.{selected-same, filter-selected, selected-none}
 use Rattle.ck_journal.proofs.SessionMoves.{session_rows, openings-opened, session_rows-opened, openings-later, session_rows-later, session_rows-changed, session_rows-same, open_sessions-rows, length-session_rows}
 use Rattle.ck_sessions.specs.Agreement.{SessionsState, SessionsAgree, CredentialAgrees, session_row}
 use Rattle.ck_types.specs.declared.templates.Template.{Template}
 use Rattle.ck_sessions.proofs.Readings.{list_any-open}
-use Rattle.ck_sessions.proofs.SearchRows.{row-left, row-below, row-opened, row-other, row-logged_out, session_rows-started, session_rows-found, session_rows-none_found, session_rows-ended, last_or-last, no_last}
+use Rattle.ck_sessions.proofs.SearchRows.{row-left, row-below, row-opened, row-other, row-logged_out, session_rows-started, session_rows-found, session_rows-ended}
 use Rattle.ck_sessions.specs.Rows.{SessionRow, is_session, with_search, with_last_found}
 use Rattle.ck_sessions.specs.declared.credentials.Credential.{Credential}
 
@@ -361,20 +361,13 @@ module _ (h : History) (old : SessionsState) (agree : SessionsAgree h old) (e : 
         (rows ∙ ap (change_first (is_session session) (with_search (Some (record { found = found; last = 0 })))) agree.rows
         ∙ session_rows-started e h session template found d matching) count log logs so us
 
-    pub SessionsAgree-found : (session max handle : ℕ) (handles : List ℕ) → done e ≡ Some (call.FindObjects session max) → handles ≡ handles_in e.reply.body
-        → Some handle ≡ slice_get handles (length handles - 1) → new.rows ≡ change_first (is_session session) (with_last_found (number_of_handle handle)) old.rows
-        → SessionsAgree (e ◁ h) new
-    SessionsAgree-found session max handle handles d same last rows =
+    pub SessionsAgree-found : (session max number : ℕ) → done e ≡ Some (call.FindObjects session max)
+        → number ≡ last_or (last_number h session) (map number_of_handle (handles_in e.reply.body))
+        → new.rows ≡ change_first (is_session session) (with_last_found number) old.rows → SessionsAgree (e ◁ h) new
+    SessionsAgree-found session max number d last rows =
         SessionsAgree-searched (call.FindObjects session max) d refl new
-        (rows ∙ ap (change_first (is_session session) (with_last_found (number_of_handle handle))) agree.rows
-        ∙ session_rows-found e h session max d (number_of_handle handle)
-        (last_or-last (handles_in e.reply.body) handle (subst (λ hs. Some handle ≡ slice_get hs (length hs - 1)) same last))) count log logs so us
-
-    pub SessionsAgree-none_found : (session max : ℕ) (handles : List ℕ) → done e ≡ Some (call.FindObjects session max) → handles ≡ handles_in e.reply.body
-        → None ≡ slice_get handles (length handles - 1) → new.rows ≡ old.rows → SessionsAgree (e ◁ h) new
-    SessionsAgree-none_found session max handles d same none rows =
-        SessionsAgree-searched (call.FindObjects session max) d refl new
-        (rows ∙ agree.rows ∙ session_rows-none_found e h session max d (sym same ∙ no_last handles none)) count log logs so us
+        (rows ∙ ap (change_first (is_session session) (with_last_found number)) agree.rows
+        ∙ session_rows-found e h session max d number last) count log logs so us
 
     pub SessionsAgree-search_ended : (session : ℕ) → done e ≡ Some (call.FindObjectsFinal session) → new.rows ≡ change_first (is_session session) (with_search None) old.rows
         → SessionsAgree (e ◁ h) new

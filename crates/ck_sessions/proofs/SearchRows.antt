@@ -1,9 +1,8 @@
 -- How the rows of sessions move with their searches
-use Rattle.std.proofs.Common.{◌≡◌, ℕ, suc, ◌≤◌, ◌-◌, Bool, true, false, cond, not, ◌&&◌, List, [], ◌∷◌, ◌++◌, length, take, drop, Option, Some, None, refl, sym, ap, ◌∙◌, subst, arith}
-use Rattle.std.specs.Prelude.{◌==◌, map, option_map, slice_get}
+use Rattle.std.proofs.Common.{◌≡◌, ℕ, suc, ◌≤◌, Bool, true, false, cond, not, ◌&&◌, List, [], ◌++◌, length, take, drop, Option, Some, None, refl, sym, ap, ◌∙◌, subst, arith}
+use Rattle.std.specs.Prelude.{◌==◌, map, option_map}
 use Rattle.std.proofs.lemmas.Bool.{eqb-true, eqb-false, eq-eqb, ne_eqb, and_parts, not-true}
 use Rattle.std.proofs.lemmas.List.{append-nil, length-map, take_all, drop_all}
-use Rattle.std.proofs.lemmas.Option.{same_Some}
 use Rattle.ck_types.specs.declared.templates.Template.{Template}
 use Rattle.ck_journal.specs.declared.calls.Call.{Call}
 use Rattle.ck_journal.specs.declared.calls.Call.TheVariants as call
@@ -14,7 +13,6 @@ use Rattle.ck_journal.specs.Searches.{starts_search, ends_search, asks_search, i
 use Rattle.ck_journal.specs.Sessions.{opens, openings, closes, is_open, flags_of}
 use Rattle.ck_journal.proofs.Changes.{selected-replaced}
 use Rattle.ck_journal.proofs.SearchMoves.{is_searching-left, found_objects-left, last_number-left, matching_objects-left}
-use Rattle.ck_journal.proofs.Selections.{selected-same}
 use Rattle.ck_journal.proofs.SessionMoves.{session_rows, session_rows-changed, flags_of-below, flags_of-opened, flags_of-later}
 use Rattle.ck_sessions.specs.Agreement.{search_of, session_row}
 use Rattle.ck_sessions.specs.Rows.{Search, SessionRow, is_session, with_search, with_last, with_last_found}
@@ -134,35 +132,19 @@ module _ (e : Entry) (h : History) where
     last_step true found last n after same = ap (λ l. Some (record { found = found; last = l })) same
     last_step false found last n after same = refl
 
-    found-here : (n : ℕ) → ((before : ℕ) → last_or before (map number_of_handle (handles_in e.reply.body)) ≡ n) → (k : ℕ) → session == k ≡ true
+    found-here : (n : ℕ) → n ≡ last_or (last_number h session) (map number_of_handle (handles_in e.reply.body)) → (k : ℕ) → session == k ≡ true
         → session_row (e ◁ h) k ≡ with_last_found n (session_row h k)
     found-here n last k same =
         row-moved k (option_map (with_last n) (search_of h k)) (ap opens d)
         (search_of-step k (Some (call.FindObjects session max)) d
         ∙ ap (λ t. found_search t (is_searching h k) (handles_in e.reply.body) (found_objects h k) (last_number h k)) same
-        ∙ last_step (is_searching h k) (found_objects h k) (last_number h k) n (last_or (last_number h k) (map number_of_handle (handles_in e.reply.body))) (last (last_number h k)))
+        ∙ last_step (is_searching h k) (found_objects h k) (last_number h k) n (last_or (last_number h k) (map number_of_handle (handles_in e.reply.body)))
+        (ap (λ s. last_or (last_number h s) (map number_of_handle (handles_in e.reply.body))) (sym (eqb-true session k same)) ∙ sym last))
 
-    pub session_rows-found : (n : ℕ) → ((before : ℕ) → last_or before (map number_of_handle (handles_in e.reply.body)) ≡ n)
+    pub session_rows-found : (n : ℕ) → n ≡ last_or (last_number h session) (map number_of_handle (handles_in e.reply.body))
         → change_first (is_session session) (with_last_found n) (session_rows session_row h) ≡ session_rows session_row (e ◁ h)
     session_rows-found n last =
         session_rows-searched (call.FindObjects session max) d refl (λ s. refl) session (with_last_found n) (found-here n last) found-there
-
-    -- no objects
-    found-none : handles_in e.reply.body ≡ [] → (k : ℕ) → session_row (e ◁ h) k ≡ session_row h k
-    found-none none k =
-        row-moved k (search_of h k) (ap opens d)
-        (search_of-step k (Some (call.FindObjects session max)) d
-        ∙ ap (λ hs. found_search (session == k) (is_searching h k) hs (found_objects h k) (last_number h k)) none
-        ∙ none_step (session == k))
-      where
-        none_step : (t : Bool) → found_search t (is_searching h k) [] (found_objects h k) (last_number h k) ≡ search_of h k
-        none_step true = refl
-        none_step false = refl
-
-    pub session_rows-none_found : handles_in e.reply.body ≡ [] → session_rows session_row h ≡ session_rows session_row (e ◁ h)
-    session_rows-none_found none =
-        selected-same (is_open h) (is_open h) (session_row h) (session_row (e ◁ h)) (openings h) (λ k b. refl) (λ k b. sym (found-none none k))
-        ∙ sym (session_rows-changed e h (ap opens d) session_row (λ s. ap (λ x. closes x s) d))
 
   -- ---- a search ends
 
@@ -182,22 +164,11 @@ module _ (e : Entry) (h : History) where
         session_rows-searched (call.FindObjectsFinal session) d refl (λ s. refl) session (with_search None)
         (λ k same. row-moved k None (ap opens d) (ended_step k true same)) (λ k other. row-moved k (search_of h k) (ap opens d) (ended_step k false other))
 
--- ---- the last handle
-
-place-cons : (x y : ℕ) (handles : List ℕ) → length (x ∷ (y ∷ handles)) - 1 ≡ suc (length (y ∷ handles) - 1)
-place-cons x y handles = omega arith
-
--- that of a list with a last one, whatever was before
-pub last_or-last : (handles : List ℕ) (handle : ℕ) → Some handle ≡ slice_get handles (length handles - 1) → (before : ℕ)
-    → last_or before (map number_of_handle handles) ≡ number_of_handle handle
-last_or-last [] handle e before = cc
-last_or-last (x ∷ []) handle e before = ap number_of_handle (sym (same_Some handle x e))
-last_or-last (x ∷ (y ∷ handles)) handle e before =
-    last_or-last (y ∷ handles) handle (subst (λ n. Some handle ≡ slice_get (x ∷ (y ∷ handles)) n) (place-cons x y handles) e) (number_of_handle x)
-
-pub no_last : (handles : List ℕ) → None ≡ slice_get handles (length handles - 1) → handles ≡ []
-no_last [] e = refl
-no_last (x ∷ []) e = cc
-no_last (x ∷ (y ∷ handles)) e =
-    let none = no_last (y ∷ handles) (subst (λ n. None ≡ slice_get (x ∷ (y ∷ handles)) n) (place-cons x y handles) e) in
-    cc
+-- all rows written over
+pub written_over : (change : SessionRow → SessionRow) (n : ℕ) (new old items : List SessionRow) → new ≡ map change old → old ≡ items → length old ≡ n
+    → take n (new ++ drop (length new) items) ≡ map change items
+written_over change n new old items is same count =
+    let all : length new ≡ length items = ap length is ∙ length-map old change ∙ ap length same in
+    let count' : length items ≡ n = ap length (sym same) ∙ count in
+    ap (λ rest. take n (new ++ rest)) (drop_all (length new) items (omega arith))
+    ∙ ap (take n) (append-nil new) ∙ take_all n new (omega arith) ∙ is ∙ ap (map change) same
