@@ -4,7 +4,6 @@ pub mod LegalLemmas
 pub mod LoginMoves
 pub mod NumberTests
 pub mod ObjectMoves
-pub mod RefusalLemmas
 pub mod RisingLemmas
 pub mod SearchMoves
 pub mod Selections

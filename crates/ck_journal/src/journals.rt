@@ -51,6 +51,7 @@ impl Journal {
     }
 
     /// What the journal starts from.
+    #[tactic(auto, using(crate::proofs::EntryLemmas::entries))]
     pub fn base(&self) -> &Base
         ensures base { result.now ≡ start_of self.now.history }
         ensures sound { IsSound result.now }
@@ -86,6 +87,7 @@ impl Journal {
     }
 
     /// The entry of this number, from 1.
+    #[tactic(auto, using(crate::proofs::EntryLemmas::entries))]
     pub fn entry(&self, number: u64) -> Option<&Entry>
         ensures { option_copied result ≡ entry_at self.now.history number }
     {
@@ -96,6 +98,7 @@ impl Journal {
     }
 
     /// How many entries there are.
+    #[tactic(auto, using(crate::proofs::EntryLemmas::entries))]
     pub fn len(&self) -> u64
         ensures { result ≡ entry_count self.now.history }
     {
