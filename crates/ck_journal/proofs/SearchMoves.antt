@@ -14,6 +14,7 @@ use Rattle.ck_journal.specs.Pins.{is_user}
 use Rattle.ck_journal.specs.Searches.{starts_search, ends_search, asks_search, is_searching, is_match_with, matching_objects, search_template, found_objects, last_number}
 use Rattle.ck_journal.specs.Sessions.{numbers, login, user_logins}
 use Rattle.ck_journal.proofs.LoginMoves.{login-left, user_logins-left}
+use Rattle.ck_journal.proofs.ObjectMoves.{creations-left, object_at-left}
 
 -- ---- an entry that leaves searches as they are
 
@@ -45,40 +46,7 @@ module _ (e : Entry) (h : History) (l : (effects e).operations ≡ false) (s : �
 
 -- ---- an entry that leaves what a search would find
 
-creates-left : (c : Option Call) → (effects_of c).objects ≡ false → creates c ≡ false
-creates-left (Some (call.CreateObject session template)) l = cc
-creates-left (Some (call.CopyObject session object template)) l = cc
-creates-left other l = refl
-
-object_after-left : (c : Option Call) (view : View) (n creator : ℕ) (attributes : List Item) → (effects_of c).objects ≡ false
-    → object_after c view n creator attributes ≡ Some attributes
-object_after-left (Some (call.DestroyObject session object)) view n creator attributes l = cc
-object_after-left (Some (call.SetAttributeValue session object template)) view n creator attributes l = cc
-object_after-left (Some (call.InitToken pin)) view n creator attributes l = cc
-object_after-left (Some (call.CloseSession session)) view n creator attributes l = cc
-object_after-left (Some call.CloseAllSessions) view n creator attributes l = cc
-object_after-left (Some (call.Logout session)) view n creator attributes l = cc
-object_after-left other view n creator attributes l = refl
-
-same_after : (after : List Item → Option (List Item)) (object : Option (List Item)) → ((attributes : List Item) → after attributes ≡ Some attributes)
-    → option_and_then after object ≡ object
-same_after after None same = refl
-same_after after (Some attributes) same = same attributes
-
 module _ (e : Entry) (h : History) where
-  module _ (l : (effects e).objects ≡ false) where
-    pub creations-left : creations (e ◁ h) ≡ creations h
-    creations-left = ap (λ t. cond t (suc (creations h)) (creations h)) (creates-left (done e) l)
-
-    pub object_at-left : (n : ℕ) → object_at (e ◁ h) n ≡ object_at h n
-    object_at-left n =
-        ap
-        (λ t. cond (t && n == suc (creations h)) (Some (creation_attributes (done e) (attributes_among (view_of h) (object_at h) (creations h))))
-        (option_and_then (object_after (done e) (view_of h) n (session_of h n)) (object_at h n)))
-        (creates-left (done e) l)
-        ∙ same_after (object_after (done e) (view_of h) n (session_of h n)) (object_at h n)
-        (λ attributes. object_after-left (done e) (view_of h) n (session_of h n) attributes l)
-
   module _ (l : (effects e).sessions ≡ false) where
     pub view_of-left : view_of (e ◁ h) ≡ view_of h
     view_of-left =
@@ -88,9 +56,9 @@ module _ (e : Entry) (h : History) where
   module _ (lo : (effects e).objects ≡ false) (ls : (effects e).sessions ≡ false) where
     pub matching_objects-left : (template : List Item) → matching_objects (e ◁ h) template ≡ matching_objects h template
     matching_objects-left template =
-        ap (λ n. filter (λ k. is_some_with (is_match_with (view_of (e ◁ h)) template) (object_at (e ◁ h) k)) (numbers n)) (creations-left lo)
+        ap (λ n. filter (λ k. is_some_with (is_match_with (view_of (e ◁ h)) template) (object_at (e ◁ h) k)) (numbers n)) (creations-left e h lo)
         ∙ filter_agree (λ k. is_some_with (is_match_with (view_of (e ◁ h)) template) (object_at (e ◁ h) k))
         (λ k. is_some_with (is_match_with (view_of h) template) (object_at h k))
         (λ k. ap (λ (v : View). is_some_with (is_match_with v template) (object_at (e ◁ h) k)) (view_of-left ls)
-        ∙ ap (is_some_with (is_match_with (view_of h) template)) (object_at-left lo k))
+        ∙ ap (is_some_with (is_match_with (view_of h) template)) (object_at-left e h lo k))
         (numbers (creations h))

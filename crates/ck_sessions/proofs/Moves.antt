@@ -53,12 +53,14 @@ eqb-sym k s = by_case (k == s) refl
     by_case false e = e ∙ sym (ne_eqb s k (λ same. eqb-false k s e (sym same)))
 
 -- where a session is open there are open sessions
-not_empty : (test : ℕ → Bool) (ks : List ℕ) → list_any test ks ≡ true → length ks == 0 ≡ false
+not_empty : (test : SessionRow → Bool) (rows : List SessionRow) → list_any test rows ≡ true → length rows == 0 ≡ false
 not_empty test [] e = cc
-not_empty test (k ∷ ks) e = ne_eqb (suc (length ks)) 0 (λ z. omega arith)
+not_empty test (row ∷ rows) e = ne_eqb (suc (length rows)) 0 (λ z. omega arith)
 
 some_open : (h : History) (session : ℕ) → is_open h session ≡ true → length (open_sessions h) == 0 ≡ false
-some_open h session opened = not_empty (λ k. k == session) (open_sessions h) (list_any-open h session ∙ opened)
+some_open h session opened =
+    ap (λ n. n == 0) (sym (length-session_rows session_row h))
+    ∙ not_empty (is_session session) (session_rows session_row h) (list_any-open h session ∙ opened)
 
 -- the normal user's number is 1
 user_case : (u : UserType) (number : ℕ) (so us : Bool) → number == 0 ≡ so → number == 1 ≡ us

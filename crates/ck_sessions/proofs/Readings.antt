@@ -9,8 +9,8 @@ use Rattle.ck_types.specs.declared.users.UserType.{UserType}
 use Rattle.ck_types.specs.declared.users.UserType.TheVariants as user
 use Rattle.ck_journal.specs.Histories.{History}
 use Rattle.ck_journal.specs.Sessions.{numbers, openings, is_open, open_sessions, is_read_write, rw_sessions}
-use Rattle.ck_journal.proofs.Selections.{list_any-passing, list_any-at, length-selected, find-map, is_some-find, find-passes}
-use Rattle.ck_journal.proofs.SessionMoves.{is_open-within}
+use Rattle.ck_journal.proofs.Selections.{list_any-selected, list_any-at, length-selected, find-map, is_some-find, find-passes}
+use Rattle.ck_journal.proofs.SessionMoves.{session_rows, is_open-within}
 use Rattle.ck_journal.specs.Searches.{is_searching, found_objects, last_number, remaining_objects}
 use Rattle.ck_journal.proofs.RisingLemmas.{found_objects-rise}
 use Rattle.ck_sessions.specs.Agreement.{SessionsState, SessionsAgree, CredentialAgrees, credential_of, session_row, session_at, search_of, search_left}
@@ -32,10 +32,10 @@ list_any-map : (test : ℕ → Bool) (row : ℕ → SessionRow) (again : Session
 list_any-map test row again same [] = refl
 list_any-map test row again same (k ∷ ks) = rw (same k, list_any-map test row again same ks)
 
--- whether a session is among those that are open
-pub list_any-open : (h : History) (session : ℕ) → list_any (λ k. k == session) (open_sessions h) ≡ is_open h session
+-- whether the row of a session is among those of the open sessions
+pub list_any-open : (h : History) (session : ℕ) → list_any (is_session session) (session_rows session_row h) ≡ is_open h session
 list_any-open h session =
-    list_any-passing (λ k. k == session) (is_open h) (numbers (openings h))
+    list_any-selected (is_session session) (is_open h) (session_row h) (openings h)
     ∙ list_any-at (is_open h) session (openings h) (is_open-within h session)
 
 module _ (h : History) (s : SessionsState) (agree : SessionsAgree h s) where
@@ -58,7 +58,7 @@ module _ (h : History) (s : SessionsState) (agree : SessionsAgree h s) where
   -- ---- a session's row
 
   at_handle : (session : ℕ) (found : Option ℕ) → find (λ k. k == session) (open_sessions h) ≡ found
-      → is_some found ≡ is_open h session → option_map row_of found ≡ session_at h session
+      → is_some (option_map row_of found) ≡ is_open h session → option_map row_of found ≡ session_at h session
   at_handle session None f e = ap (λ t. cond t (Some (row_of session)) None) e
   at_handle session (Some k) f e =
       let same : k ≡ session = eqb-true k session (find-passes (λ j. j == session) (open_sessions h) k f) in
@@ -67,10 +67,11 @@ module _ (h : History) (s : SessionsState) (agree : SessionsAgree h s) where
   -- the first row with the handle is that of the open session, if it is open
   pub find-session : (session : ℕ) → find (is_session session) s.rows ≡ session_at h session
   find-session session =
-      ap (find (is_session session)) agree.rows
-      ∙ find-map (is_session session) row_of (open_sessions h)
+      let found : find (is_session session) (session_rows session_row h) ≡ option_map row_of (find (λ k. k == session) (open_sessions h)) =
+      find-map (is_session session) row_of (open_sessions h) in
+      ap (find (is_session session)) agree.rows ∙ found
       ∙ at_handle session (find (λ k. k == session) (open_sessions h)) refl
-      (is_some-find (λ k. k == session) (open_sessions h) ∙ list_any-open h session)
+      (ap is_some (sym found) ∙ is_some-find (is_session session) (session_rows session_row h) ∙ list_any-open h session)
 
 -- ---- a session's search
 
