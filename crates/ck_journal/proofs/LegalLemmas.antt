@@ -1,22 +1,19 @@
 -- What is so in every legal history that starts from a sound base, where the limits are in range
-use Rattle.std.proofs.Common.{◌≡◌, ℕ, zero, suc, ◌<◌, ◌≤◌, ◌^◌, Bool, true, false, cond, not, ◌&&◌, List, [], ◌∷◌, Option, Some, None, get_or, length, refl, sym, ap, ◌∙◌, subst, arith}
-use Rattle.std.specs.Prelude.{◌==◌, find, is_none, nat_le, bit_and, option_and_then, option_map}
-use Rattle.std.specs.List.{All}
+use Rattle.std.proofs.Common.{◌≡◌, ◌≢◌, ℕ, suc, ◌<◌, ◌≤◌, ◌^◌, Bool, true, false, cond, not, ◌&&◌, List, [], ◌∷◌, Option, Some, None, length, refl, sym, ap, ◌∙◌, subst, arith}
+use Rattle.std.specs.Prelude.{◌==◌, is_none, nat_le, bit_and, option_and_then}
+use Rattle.std.specs.List.{list_any}
 use Rattle.std.specs.Option.{option_map_or}
-use Rattle.std.proofs.lemmas.Bool.{eqb-true, eqb-false, ne_eqb, leb-false, not-false, false_from_ne_true}
+use Rattle.std.proofs.lemmas.Bool.{eqb-true, eqb-false, ne_eqb, leb-false, not-false, false_from_ne_true, false≢true}
 use Rattle.std.proofs.lemmas.Option.{same_Some}
-use Rattle.ck_types.specs.Attributes.{permission}
 use Rattle.ck_types.specs.Checks.{error_if, or_else, first_of}
 use Rattle.ck_types.specs.Pins.{fits_a_pin}
 use Rattle.ck_types.specs.Records.{created_items, with_given, is_set, class_of, protections_of, placement_of, copied_error, changed_error}
 use Rattle.ck_types.specs.Templates.{created_error}
 use Rattle.ck_types.specs.TokenLimits.{Ranges, AreInRange}
-use Rattle.ck_types.specs.Users.{user_of, same_user}
+use Rattle.ck_types.specs.Users.{user_of}
 use Rattle.ck_types.specs.declared.attributes.Attribute.{Attribute}
 use Rattle.ck_types.specs.declared.attributes.Attribute.TheVariants as attribute
 use Rattle.ck_types.specs.declared.attributes.Class.{Class}
-use Rattle.ck_types.specs.declared.attributes.Class.TheVariants as class
-use Rattle.ck_types.specs.declared.attributes.Purpose.TheVariants as purpose
 use Rattle.ck_types.specs.declared.errors.RvError.{RvError}
 use Rattle.ck_types.specs.declared.errors.RvError.TheVariants as rv_error
 use Rattle.ck_types.specs.declared.items.Item.{Item}
@@ -24,20 +21,24 @@ use Rattle.ck_types.specs.declared.pins.Pin.{Pin}
 use Rattle.ck_types.specs.declared.return_codes.Rv.TheVariants as rv
 use Rattle.ck_types.specs.declared.users.UserType.{UserType}
 use Rattle.ck_types.specs.declared.users.UserType.TheVariants as user
+use Rattle.ck_types.specs.declared.object_flags.Protections.{Protections}
+use Rattle.ck_types.proofs.ChangeLemmas.{token-kept, private-kept}
 use Rattle.ck_types.proofs.CheckLemmas.{or_else-none, error_if-none}
 use Rattle.ck_journal.specs.declared.bases.Base.{Base}
-use Rattle.ck_journal.specs.declared.bases.KeptObject.{KeptObject}
 use Rattle.ck_journal.specs.declared.calls.Call.{Call}
 use Rattle.ck_journal.specs.declared.calls.Call.TheVariants as call
 use Rattle.ck_journal.specs.declared.calls.Entry.{Entry}
 use Rattle.ck_journal.specs.declared.replies.Reply.{Reply}
-use Rattle.ck_journal.specs.Answers.{unless, refusal, session_error, pin_error, init_token_error, init_pin_error, set_pin_error, login_error, known_login_error, user_login_error, logged_in_error, read_only_error, logins_error, object_error, prohibited_error, placement_error, read_only_session_error, creations_error, open_session_error, call_error, allowed_reply, answer, IsLegal, is_so, is_so_state}
-use Rattle.ck_journal.specs.Bases.{base_tries, kept_attributes, IsCreated, IsSound}
+use Rattle.ck_journal.specs.Answers.{unless, refusal, session_error, pin_error, init_token_error, init_pin_error, set_pin_error, known_login_error, user_login_error, logged_in_error, read_only_error, logins_error, object_error, prohibited_error, placement_error, read_only_session_error, creations_error, call_error, allowed_reply, answer, IsLegal, is_so, is_so_state}
+use Rattle.ck_journal.specs.Bases.{base_tries, IsSound}
 use Rattle.ck_journal.specs.Histories.{History, start, ◌◁◌, start_of, done, wrong_try, is_ok, is_wrong_pin}
-use Rattle.ck_journal.specs.Objects.{creates, creations, object_at, object_after, attributes_named, session_of, view_of, names_with, is_session_object}
+use Rattle.ck_journal.specs.Objects.{creates, creations, object_at, object_after, attributes_named, named_attributes, session_of, view_of, names_with, is_session_object}
 use Rattle.ck_journal.specs.Pins.{about, is_about, is_user, is_locked, is_initialized, is_pin, pin_owner, present_pin, resets, tries}
+use Rattle.ck_journal.specs.Queries.{is_missing, lacks_room}
 use Rattle.ck_journal.specs.Searches.{starts_search, ends_search, is_searching}
 use Rattle.ck_journal.specs.Sessions.{opens, openings, closes, is_open, open_sessions, has_rw_flag, is_read_write, login, logs_user_in, user_logins, state_of}
+use Rattle.ck_journal.proofs.ObjectMoves.{object_at-within}
+use Rattle.ck_journal.proofs.SessionMoves.{is_open-within}
 
 -- ---- what was answered OK passed its checks
 
@@ -267,3 +268,160 @@ unlocked limits h (call.Login session number pin) u e same =
     unlocked-known h limits (user_of number) u pin
     (last-wrong (known_login_error limits h (user_of number) pin) (later-wrong (session_error h session) _ (session-other h session) e)) same
 unlocked limits h other u e same = cc
+
+-- ---- wrong tries
+
+wrong_code : (code : RvError) → is_wrong_pin (rv.Error code) ≡ true → code ≡ rv_error.PinIncorrect
+wrong_code rv_error.PinIncorrect w = refl
+wrong_code other w = cc
+
+queries-other : (missing longer : Bool)
+    → is_wrong_pin (cond missing (rv.Error rv_error.AttributeTypeInvalid) (cond longer (rv.Error rv_error.BufferTooSmall) rv.Ok)) ≡ false
+queries-other true longer = refl
+queries-other false true = refl
+queries-other false false = refl
+
+allowed-other : (limits : Ranges) (h : History) (c : Call) → is_wrong_pin (allowed_reply limits h c).rv ≡ false
+allowed-other limits h (call.GetAttributeValue session object queries) =
+    queries-other (list_any (is_missing (named_attributes h object)) queries) (list_any (lacks_room (named_attributes h object)) queries)
+allowed-other limits h other = refl
+
+wrong_answer : (limits : Ranges) (h : History) (c : Call) → is_wrong_pin (answer limits h c).rv ≡ true → call_error limits h c ≡ Some rv_error.PinIncorrect
+wrong_answer limits h c w = cases (call_error limits h c) w
+  where
+    cases : (error : Option RvError) → is_wrong_pin (unless error (allowed_reply limits h c)).rv ≡ true → error ≡ Some rv_error.PinIncorrect
+    cases None w = absurd (false≢true (sym (allowed-other limits h c) ∙ w))
+    cases (Some code) w = ap Some (wrong_code code w)
+
+wrong_try-about : (wrong : Bool) (u : UserType) (h : History) (c : Call) → is_about u h (cond wrong (Some c) None) ≡ true
+    → (wrong ≡ true) × (is_about u h (Some c) ≡ true)
+wrong_try-about true u h c a = (refl, a)
+wrong_try-about false u h c a = cc
+
+is_user-some : (u : UserType) (o : Option UserType) → is_user u o ≡ true → o ≡ Some u
+is_user-some u None e = cc
+is_user-some user.So (Some user.So) e = refl
+is_user-some user.So (Some user.User) e = cc
+is_user-some user.User (Some user.So) e = cc
+is_user-some user.User (Some user.User) e = refl
+
+tries-below : (reset wrong : Bool) (n : ℕ) → n ≤ 3 → (wrong ≡ true → n == 3 ≡ false) → cond reset 0 (cond wrong (suc n) n) ≤ 3
+tries-below true wrong n below free = omega arith
+tries-below false true n below free = let fewer : n ≢ 3 = eqb-false n 3 (free refl) in omega arith
+tries-below false false n below free = below
+
+base_tries-bound : (u : UserType) (b : Base) → IsSound b → base_tries u b ≤ 3
+base_tries-bound user.So b sound = sound.so_tries
+base_tries-bound user.User b sound = sound.user_tries
+
+pub tries-bound : (limits : Ranges) (h : History) → IsSound (start_of h) → IsLegal limits h → (u : UserType) → tries u h ≤ 3
+tries-bound limits (start b) sound legal u = base_tries-bound u b sound
+tries-bound limits (e ◁ h) sound legal u =
+    tries-below (resets u h (done e)) (is_about u h (wrong_try e)) (tries u h) (tries-bound limits h sound legal.1 u)
+    (λ w. let tried = wrong_try-about (is_wrong_pin e.reply.rv) u h e.call w in
+    unlocked limits h e.call u (wrong_answer limits h e.call (subst (λ (reply : Reply). is_wrong_pin reply.rv ≡ true) legal.0 tried.0))
+    (is_user-some u (about h (Some e.call)) tried.1))
+
+-- ---- searches
+
+opened-or : (opened was_open : Bool) → was_open ≡ true → cond opened true was_open ≡ true
+opened-or true was_open e = refl
+opened-or false was_open e = e
+
+unless-ended : (ended searching is_so : Bool) → (searching ≡ true → is_so ≡ true) → cond ended false searching ≡ true → is_so ≡ true
+unless-ended true searching is_so before e = cc
+unless-ended false searching is_so before e = before e
+
+unless-closed : (closed searching was_open : Bool) → (searching ≡ true → was_open ≡ true) → cond closed false searching ≡ true
+    → cond closed false was_open ≡ true
+unless-closed true searching was_open before e = cc
+unless-closed false searching was_open before e = before e
+
+started-or : (started searching was_open : Bool) → (started ≡ true → was_open ≡ true) → (searching ≡ true → was_open ≡ true) → cond started true searching ≡ true
+    → was_open ≡ true
+started-or true searching was_open now before e = now refl
+started-or false searching was_open now before e = before e
+
+module _ (h : History) (s : ℕ) (before : is_searching h s ≡ true → is_open h s ≡ true) where
+  abbrev StaysOpen : Option Call → Type 0
+  StaysOpen d =
+      cond (starts_search d s) true (cond (ends_search d s) false (is_searching h s)) ≡ true
+      → cond (opens d && s == suc (openings h)) true (cond (closes d s) false (is_open h s)) ≡ true
+
+  stays-open : (limits : Ranges) (c : Call) → call_error limits h c ≡ None → StaysOpen (Some c)
+  stays-open limits (call.OpenSession flags) p active = opened-or (s == suc (openings h)) (is_open h s) (before active)
+  stays-open limits (call.CloseSession session) p active = unless-closed (session == s) (is_searching h s) (is_open h s) before active
+  stays-open limits call.CloseAllSessions p active = cc
+  stays-open limits (call.Logout session) p active = cc
+  stays-open limits (call.FindObjectsInit session template) p active =
+      let named = session-open h session (or_else-none (session_error h session) _ p).0 in
+      started-or (session == s) (is_searching h s) (is_open h s)
+      (λ same. subst (λ k. is_open h k ≡ true) (eqb-true session s same) named) before active
+  stays-open limits (call.FindObjectsFinal session) p active = unless-ended (session == s) (is_searching h s) (is_open h s) before active
+  stays-open limits other p active = before active
+
+-- a session with an active search is open
+pub is_searching-open : (limits : Ranges) (h : History) → IsLegal limits h → (s : ℕ) → is_searching h s ≡ true → is_open h s ≡ true
+is_searching-open limits (start b) legal s active = cc
+is_searching-open limits (e ◁ h) legal s active =
+    let before = is_searching-open limits h legal.1 s in
+    by-done limits e h legal (StaysOpen h s before) before (stays-open h s before limits) active
+
+-- the next session has none
+pub is_searching-next : (limits : Ranges) (h : History) → IsLegal limits h → is_searching h (suc (openings h)) ≡ false
+is_searching-next limits h legal =
+    false_from_ne_true (is_searching h (suc (openings h)))
+    (λ active. let within = is_open-within h (suc (openings h)) (is_searching-open limits h legal (suc (openings h)) active) in omega arith)
+
+-- ---- an object keeps CKA_TOKEN and CKA_PRIVATE
+
+unless-ends : (ends : Bool) (a b : List Item) (flag : Attribute) → cond ends None (Some a) ≡ Some b → is_set b flag ≡ is_set a flag
+unless-ends true a b flag e = cc
+unless-ends false a b flag e = ap (λ items. is_set items flag) (sym (same_Some a b e))
+
+where-named : (named : Bool) (changed a b : List Item) (flag : Attribute) → is_set changed flag ≡ is_set a flag → Some (cond named changed a) ≡ Some b
+    → is_set b flag ≡ is_set a flag
+where-named true changed a b flag same e = ap (λ items. is_set items flag) (sym (same_Some changed b e)) ∙ same
+where-named false changed a b flag same e = ap (λ items. is_set items flag) (sym (same_Some a b e))
+
+not-created : (created same : Bool) (fresh later : Option (List Item)) (b : List Item) → same ≡ false → cond (created && same) fresh later ≡ Some b → later ≡ Some b
+not-created true true fresh later b n e = cc
+not-created true false fresh later b n e = e
+not-created false same fresh later b n e = e
+
+module _ (limits : Ranges) (flag : Attribute)
+    (kept : (c : Class) (protections : Protections) (template items : List Item) → changed_error c protections template ≡ None
+    → is_set (with_given template items) flag ≡ is_set items flag) where
+  call-keeps : (h : History) (c : Call) → call_error limits h c ≡ None → (n creator : ℕ) (a b : List Item)
+      → object_after (Some c) (view_of h) n creator a ≡ Some b → is_set b flag ≡ is_set a flag
+  call-keeps h (call.DestroyObject session object) p n creator a b e = unless-ends (names_with (view_of h) a object n) a b flag e
+  call-keeps h (call.SetAttributeValue session object template) p n creator a b e =
+      let found = object-found (attributes_named h object) _ rv_error.ObjectHandleInvalid
+          (last-passes (object_error h object _) (later-passes (session_error h session) _ p)) in
+      let passes = last-passes (changed_error (class_of found.0) (protections_of found.0) template.items)
+          (later-passes (prohibited_error attribute.Modifiable found.0) _
+          (later-passes (read_only_session_error h session (placement_of found.0)) _ found.1)) in
+      where-named (names_with (view_of h) a object n) (with_given template.items a) a b flag
+      (kept (class_of found.0) (protections_of found.0) template.items a passes) e
+  call-keeps h (call.InitToken pin) p n creator a b e = cc
+  call-keeps h (call.CloseSession session) p n creator a b e = unless-ends (is_session_object a && session == creator) a b flag e
+  call-keeps h call.CloseAllSessions p n creator a b e = unless-ends (is_session_object a) a b flag e
+  call-keeps h (call.Logout session) p n creator a b e = unless-ends (is_session_object a && is_set a attribute.Private) a b flag e
+  call-keeps h other p n creator a b e = unless-ends false a b flag e
+
+  flag_stays : (e : Entry) (h : History) → IsSound (start_of h) → IsLegal limits (e ◁ h) → (n : ℕ) (a b : List Item)
+      → object_at h n ≡ Some a → object_at (e ◁ h) n ≡ Some b → is_set b flag ≡ is_set a flag
+  flag_stays e h sound legal n a b was now =
+      let within = object_at-within h sound n a was in
+      let old = not-created (creates (done e)) (n == suc (creations h)) _ _ b (ne_eqb n (suc (creations h)) (λ e. omega arith)) now in
+      by-done limits e h legal (λ d. object_after d (view_of h) n (session_of h n) a ≡ Some b → is_set b flag ≡ is_set a flag)
+      (unless-ends false a b flag) (λ c p. call-keeps h c p n (session_of h n) a b)
+      (subst (λ o. option_and_then (object_after (done e) (view_of h) n (session_of h n)) o ≡ Some b) was old)
+
+pub token_stays : (limits : Ranges) (e : Entry) (h : History) → IsSound (start_of h) → IsLegal limits (e ◁ h) → (n : ℕ) (a b : List Item)
+    → object_at h n ≡ Some a → object_at (e ◁ h) n ≡ Some b → is_set b attribute.Token ≡ is_set a attribute.Token
+token_stays limits = flag_stays limits attribute.Token token-kept
+
+pub private_stays : (limits : Ranges) (e : Entry) (h : History) → IsSound (start_of h) → IsLegal limits (e ◁ h) → (n : ℕ) (a b : List Item)
+    → object_at h n ≡ Some a → object_at (e ◁ h) n ≡ Some b → is_set b attribute.Private ≡ is_set a attribute.Private
+private_stays limits = flag_stays limits attribute.Private private-kept

@@ -1,6 +1,6 @@
 -- What items with no fault in form give
 use Rattle.std.proofs.Common.{◌≡◌, ℕ, Bool, true, false, cond, List, [], ◌∷◌, Option, Some, None, not, ◌||◌, refl, inl, inr, sym, subst}
-use Rattle.std.specs.Prelude.{◌==◌, find, option_map, unwrap_or}
+use Rattle.std.specs.Prelude.{◌==◌, find, option_and_then, option_map, unwrap_or}
 use Rattle.std.specs.Cmp.Lexicographic.{bytes_decides}
 use Rattle.std.proofs.lemmas.Bool.{eqb-true, or_cases, true≢false}
 use Rattle.ck_types.specs.Attributes.{type_of, form_of, is_of_form, permission, attribute_of, same_bytes, flag_bytes, number_bytes}
@@ -141,16 +141,18 @@ given_or-class items fine =
 
 -- ---- a template that passes the checks of a copy or a change
 
--- it doesn't give the class
-no-class : (c : Class) (p : Purpose) (items : List Item) → permission c p attribute.Class ≡ Some false
-    → first_error (class_error c p) items ≡ None → given items (type_of attribute.Class) ≡ None
-no-class c p items read_only fine = no-value (given items (type_of attribute.Class)) refl
+-- it doesn't give an attribute that it may not give
+pub no-value : (c : Class) (p : Purpose) (a : Attribute) (items : List Item) → permission c p a ≡ Some false
+    → first_error (class_error c p) items ≡ None → given items (type_of a) ≡ None
+no-value c p a items read_only fine = cases (given items (type_of a)) refl
   where
-    no-value : (o : Option (List ℕ)) → given items (type_of attribute.Class) ≡ o → o ≡ None
-    no-value None e = refl
-    no-value (Some value) e =
-        let passes = none-given (class_error c p) (type_of attribute.Class) value items fine e in
-        let refused : permission_error (Some false) ≡ None = subst (λ o. permission_error o ≡ None) read_only passes in
+    cases : (o : Option (List ℕ)) → given items (type_of a) ≡ o → o ≡ None
+    cases None e = refl
+    cases (Some value) e =
+        let passes = none-given (class_error c p) (type_of a) value items fine e in
+        let refused : permission_error (Some false) ≡ None =
+            subst (λ o. permission_error o ≡ None) read_only
+            (subst (λ o. permission_error (option_and_then (permission c p) o) ≡ None) (attribute_of-type_of a) passes) in
         cc
 
 -- its items have no fault in form, and it doesn't give the class
@@ -159,7 +161,7 @@ template-passes : (c : Class) (p : Purpose) (items : List Item) → permission c
 template-passes c p items read_only fine =
     let parts = or_else-none (first_error form_error items) _ fine in
     let rest = (or_else-none (error_if (has_conflict items) rv_error.TemplateInconsistent) _ parts.1).1 in
-    (parts.0, no-class c p items read_only (or_else-none (first_error (class_error c p) items) None rest).0)
+    (parts.0, no-value c p attribute.Class items read_only (or_else-none (first_error (class_error c p) items) None rest).0)
 
 copy-class : (c : Class) → permission c purpose.Copy attribute.Class ≡ Some false
 copy-class class.Data = refl

@@ -1,3 +1,4 @@
+pub mod ChangeLemmas
 pub mod CheckLemmas
 pub mod ConflictLemmas
 pub mod FlagLemmas
