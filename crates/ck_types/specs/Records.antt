@@ -3,7 +3,7 @@ use Rattle.std.specs.Prelude.{◌≡◌, ℕ, Bool, true, List, [], ◌∷◌, O
 use Rattle.ck_types.specs.Attributes.{Default, preset, Column, flag_bytes, number_bytes, same_bytes, type_of, column_of, attribute_of, attributes}
 use Rattle.std.specs.List.{flat_map, list_all}
 use Rattle.ck_types.specs.Checks.{error_if, first_of}
-use Rattle.ck_types.specs.Templates.{given, given_or, flag_at, template_error}
+use Rattle.ck_types.specs.Templates.{value_at, value_or, flag_at, template_error}
 use Rattle.ck_types.specs.declared.attributes.Attribute.{Attribute}
 use Rattle.ck_types.specs.declared.attributes.Attribute.TheVariants as attribute
 use Rattle.ck_types.specs.declared.attributes.Class.{Class}
@@ -46,7 +46,7 @@ object_items (object.Data d) = data_items d
 
 -- the items, with the template's values of the types that it gives
 abbrev pub with_given : List Item → List Item → List Item
-with_given template items = map (λ (item : Item). record { kind = item.kind; value = given_or template item.kind item.value }) items
+with_given template items = map (λ (item : Item). record { kind = item.kind; value = value_or template item.kind item.value }) items
 
 -- the value of an attribute of a data object where the template gives none; the class, which it must give, is CKO_DATA (0)
 abbrev pub data_default : Default → List ℕ
@@ -80,7 +80,7 @@ is_set items a = unwrap_or (flag_at items a) false
 -- the class of an object with these attributes: a secret key where CLASS is CKO_SECRET_KEY (4), else a data object
 abbrev pub class_of : List Item → Class
 class_of items =
-    if same_bytes (given_or items (type_of attribute.Class) []) (number_bytes 4) then class.SecretKey else class.Data
+    if same_bytes (value_or items (type_of attribute.Class) []) (number_bytes 4) then class.SecretKey else class.Data
 
 -- the attributes that a template may not weaken
 abbrev pub protections_of : List Item → Protections
@@ -131,7 +131,7 @@ IsRecordUnless error items (Err refusal.Memory) = error ≡ None
 
 -- the items have this item's attribute with equal bytes
 abbrev pub has_item : List Item → Item → Bool
-has_item items item = unwrap_or (option_map (same_bytes item.value) (given items item.kind)) false
+has_item items item = unwrap_or (option_map (same_bytes item.value) (value_at items item.kind)) false
 
 -- an object with these attributes matches a search template: it has each attribute of the template with equal bytes. The
 -- template isn't checked, so a type that the object doesn't have, or two values of one type, match nothing.
