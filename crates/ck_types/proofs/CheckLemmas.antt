@@ -1,5 +1,6 @@
 -- Checks that find no error
 use Rattle.std.proofs.Common.{◌≡◌, Bool, true, false, List, Option, Some, None, Result, Ok, Err, refl, drop-cons}
+use Rattle.std.proofs.lemmas.Grind.{common_steps}
 use Rattle.std.specs.Result.{result_and}
 use Rattle.ck_types.specs.Checks.{error_if, or_else, check_of}
 use Rattle.ck_types.specs.Records.{IsRecordUnless}
@@ -34,7 +35,7 @@ check_of-or_else (Some error) later = refl
 
 pub ruleset checks = (check_of-or_else)
 
-pub ruleset item_checks = (check_of-or_else, drop-cons)
+pub ruleset item_checks = (check_of-or_else, drop-cons, common_steps)
 
 -- what makes an object is refused with the error of its check
 pub record-refused : (check : Option RvError) (items : List Item) (r : Result (List Item) Refusal) (error : RvError)

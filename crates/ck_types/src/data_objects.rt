@@ -50,7 +50,8 @@ impl Data {
     pub(crate) fn with(&self, alloc: Global, items: &[Item]) -> Result<Data, NoMemory>
         requires well_formed { first_error form_error items.now ≡ None }
         requires class { value_or items.now (type_of attribute.Class) (number_bytes 0) ≡ number_bytes 0 }
-        ensures { IfOk result (λ made. data_items made ≡ with_given items.now (data_items self.now)) }
+        ensures { IfOk result (λ made.
+            data_items made ≡ with_given items.now (data_items self.now)) }
     {
         let label = bytes_or(alloc, items, Attribute::Label, &self.label)?;
         let application = bytes_or(alloc, items, Attribute::Application, &self.application)?;

@@ -72,13 +72,14 @@ impl Item {
 
     /// Whether the item is of the attribute's type and has another value than this one.
     fn differs(&self, attribute: Attribute, value: &Bytes) -> bool
-        ensures { result ≡ (type_of attribute == self.now.kind) && not (same_bytes self.now.value value.now) }
+        ensures { result ≡ (type_of attribute == self.now.kind)
+            && not (same_bytes self.now.value value.now) }
     {
         attribute.number() == self.kind && self.value.as_slice() != value.as_slice()
     }
 }
 
-#[tactic(auto, using(std::proofs::lemmas::Grind::common_steps, crate::proofs::CheckLemmas::item_checks))]
+#[tactic(auto, using(crate::proofs::CheckLemmas::item_checks))]
 pub(crate) fn check_forms(items: &[Item]) -> Result<(), RvError>
     ensures { result ≡ check_of (first_error form_error items.now) }
 {
@@ -88,7 +89,7 @@ pub(crate) fn check_forms(items: &[Item]) -> Result<(), RvError>
     Ok(())
 }
 
-#[tactic(auto, using(std::proofs::lemmas::Grind::common_steps, crate::proofs::CheckLemmas::item_checks))]
+#[tactic(auto, using(crate::proofs::CheckLemmas::item_checks))]
 pub(crate) fn check_creation_forms(items: &[Item]) -> Result<(), RvError>
     ensures { result ≡ check_of (first_error creation_form_error items.now) }
 {
@@ -98,7 +99,7 @@ pub(crate) fn check_creation_forms(items: &[Item]) -> Result<(), RvError>
     Ok(())
 }
 
-#[tactic(auto, using(std::proofs::lemmas::Grind::common_steps, crate::proofs::CheckLemmas::item_checks))]
+#[tactic(auto, using(crate::proofs::CheckLemmas::item_checks))]
 pub(crate) fn check_permissions(
     class: Class,
     purpose: Purpose,

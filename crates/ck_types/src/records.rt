@@ -51,7 +51,8 @@ impl Record {
     /// The object that a template of C_CreateObject makes (PKCS #11 Base 3.0, Object management functions). It is
     /// refused with the error of `Template::check_creation`.
     pub fn created(alloc: Global, template: &Template) -> Result<Record, Refusal>
-        ensures { IsRecordUnless (created_error template.now.items) (created_items template.now.items) result }
+        ensures { IsRecordUnless (created_error template.now.items)
+            (created_items template.now.items) result }
     {
         template.check_creation()?;
         Ok(Record::create_with(alloc, template)?)
@@ -72,7 +73,8 @@ impl Record {
     /// A copy of the object with the values that a template of C_CopyObject gives (PKCS #11 Base 3.0, Object management
     /// functions). The template is refused with the error of `check_copy`.
     pub fn copied(&self, alloc: Global, template: &Template) -> Result<Record, Refusal>
-        ensures { IsRecordUnless (copied_error (class_of self.now) (protections_of self.now) template.now.items)
+        ensures { IsRecordUnless
+            (copied_error (class_of self.now) (protections_of self.now) template.now.items)
             (with_given template.now.items self.now) result }
     {
         self.check_copy(template)?;
@@ -88,7 +90,8 @@ impl Record {
     /// (CKR_TEMPLATE_INCONSISTENT).
     #[tactic(auto, using(crate::proofs::CheckLemmas::checks))]
     pub fn check_copy(&self, template: &Template) -> Result<(), RvError>
-        ensures { result ≡ check_of (copied_error (class_of self.now) (protections_of self.now) template.now.items) }
+        ensures { result ≡ check_of
+            (copied_error (class_of self.now) (protections_of self.now) template.now.items) }
     {
         let protections = self.protections();
         template.check(self.class(), Purpose::Copy)?;
@@ -122,7 +125,8 @@ impl Record {
     /// The object with the values that a template of C_SetAttributeValue gives (PKCS #11 Base 3.0, Object management
     /// functions). The template is refused with the error of `check_change`.
     pub fn changed(&self, alloc: Global, template: &Template) -> Result<Record, Refusal>
-        ensures { IsRecordUnless (changed_error (class_of self.now) (protections_of self.now) template.now.items)
+        ensures { IsRecordUnless
+            (changed_error (class_of self.now) (protections_of self.now) template.now.items)
             (with_given template.now.items self.now) result }
     {
         self.check_change(template)?;
@@ -133,7 +137,8 @@ impl Record {
     /// attributes that may be set (else CKR_ATTRIBUTE_READ_ONLY).
     #[tactic(auto, using(crate::proofs::CheckLemmas::checks))]
     pub fn check_change(&self, template: &Template) -> Result<(), RvError>
-        ensures { result ≡ check_of (changed_error (class_of self.now) (protections_of self.now) template.now.items) }
+        ensures { result ≡ check_of
+            (changed_error (class_of self.now) (protections_of self.now) template.now.items) }
     {
         template.check(self.class(), Purpose::Set)?;
         error_if(

@@ -15,11 +15,21 @@ impl Model for Limits {
 
     ghost Value = { Ranges };
 
-    ghost view = { λ l. record { sessions = l.sessions; openings = l.openings; creations = l.creations; logins = l.logins } };
+    ghost view = { λ l. record {
+      sessions = l.sessions;
+      openings = l.openings;
+      creations = l.creations;
+      logins = l.logins;
+    } };
 
     ghost invariant = { λ l. AreInRange l.sessions l.openings l.creations l.logins };
 
-    ghost inverse = { λ r. record { sessions = r.sessions; openings = r.openings; creations = r.creations; logins = r.logins } };
+    ghost inverse = { λ r. record {
+      sessions = r.sessions;
+      openings = r.openings;
+      creations = r.creations;
+      logins = r.logins;
+    } };
 }
 
 impl Limits {
