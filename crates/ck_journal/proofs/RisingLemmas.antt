@@ -8,8 +8,8 @@ use Rattle.std.proofs.lemmas.List.Elements.{All-push}
 use Rattle.std.proofs.lemmas.List.Kept.{IsNonDecreasingBy-filter}
 use Rattle.std.proofs.lemmas.List.Quantifiers.{all_pairs_push}
 use Rattle.std.proofs.lemmas.List.Sorted.{IsNonDecreasingBy-short}
-use Rattle.ck_journal.specs.Histories.{History, done}
-use Rattle.ck_journal.specs.Objects.{objects, has_object, creations}
+use Rattle.ck_journal.specs.Histories.{History, start, ◌◁◌, done}
+use Rattle.ck_journal.specs.Objects.{creations}
 use Rattle.ck_journal.specs.Searches.{starts_search, matching_objects, search_template, found_objects}
 use Rattle.ck_journal.specs.Sessions.{numbers}
 
@@ -35,19 +35,17 @@ rises ks below i j d le within = place_case (nat_lt i j) refl
 numbers-rise : (n : ℕ) → IsNonDecreasingBy (λ k. k) (numbers n)
 numbers-rise n = rises (numbers n) (AllPairs-numbers n)
 
-objects-rise : (h : History) → IsNonDecreasingBy (λ k. k) (objects h)
-objects-rise h = IsNonDecreasingBy-filter (λ k. k) (has_object h) (numbers (creations h)) (numbers-rise (creations h))
-
 found_step : (t : Bool) (fresh before : List ℕ) → IsNonDecreasingBy (λ k. k) fresh → IsNonDecreasingBy (λ k. k) before → IsNonDecreasingBy (λ k. k) (cond t fresh before)
 found_step true fresh before f b = f
 found_step false fresh before f b = b
 
 -- what a search found rises
 pub found_objects-rise : (h : History) (s : ℕ) → IsNonDecreasingBy (λ k. k) (found_objects h s)
-found_objects-rise [] s = IsNonDecreasingBy-short (λ k. k) [] (omega arith)
-found_objects-rise (e ∷ h) s =
-    found_step (starts_search (done e) s) (matching_objects (e ∷ h) (search_template (done e))) (found_objects h s)
-    (IsNonDecreasingBy-filter (λ k. k) _ (objects (e ∷ h)) (objects-rise (e ∷ h))) (found_objects-rise h s)
+found_objects-rise (start b) s = IsNonDecreasingBy-short (λ k. k) [] (omega arith)
+found_objects-rise (e ◁ h) s =
+    found_step (starts_search (done e) s) (matching_objects (e ◁ h) (search_template (done e))) (found_objects h s)
+    (IsNonDecreasingBy-filter (λ k. k) _ (numbers (creations (e ◁ h))) (numbers-rise (creations (e ◁ h))))
+    (found_objects-rise h s)
 
 -- ---- what stands after a place
 

@@ -1,12 +1,14 @@
 -- Lists of rows that are read off the numbers from 1 to n: those that pass a test, each as its row
-use Rattle.std.proofs.Common.{◌≡◌, ◌≢◌, ℕ, zero, suc, ◌<◌, ◌≤◌, Bool, true, false, cond, ◌&&◌, ◌||◌, List, [], ◌∷◌, ◌++◌, Option, Some, length, subst, refl, sym, ap, ◌∙◌, arith, inl, inr}
-use Rattle.std.specs.Prelude.{◌==◌, map, filter, find, option_map, is_some}
+use Rattle.std.proofs.Common.{◌≡◌, ◌≢◌, ℕ, zero, suc, ◌<◌, ◌≤◌, Bool, true, false, cond, not, ◌&&◌, ◌||◌, List, [], ◌∷◌, ◌++◌, Option, Some, None, All, AllPairs, length, subst, refl, sym, ap, ◌∙◌, arith, inl, inr}
+use Rattle.std.specs.Prelude.{◌==◌, map, filter, filter_map, find, option_map, option_and_then, is_some}
 use Rattle.std.proofs.Math.Bool.{and-true, and-false, or-false}
 use Rattle.std.proofs.lemmas.Option.{same_Some}
-use Rattle.std.specs.List.{list_any}
+use Rattle.std.specs.List.{list_any, cons_option}
+use Rattle.std.specs.Option.{option_map_or}
 use Rattle.std.proofs.lemmas.Bool.{eqb-true, eqb-false, ne_eqb, cases_Bool}
-use Rattle.std.proofs.lemmas.List.{map-append, length-map}
-use Rattle.std.proofs.lemmas.List.Elements.{filter-append}
+use Rattle.std.proofs.lemmas.List.{append-nil, map-append, length-map}
+use Rattle.std.proofs.lemmas.List.Elements.{filter-append, filter_map-append, All-append, All-cons, All-nil, All-weaker}
+use Rattle.std.proofs.lemmas.List.Quantifiers.{all_pairs_push}
 use Rattle.ck_journal.specs.Sessions.{numbers}
 
 module _ {X : Type 0} where
@@ -139,26 +141,6 @@ module _ {X : Type 0} where
   find-map wanted row [] = refl
   find-map wanted row (k ∷ ks) = find-map_step wanted row k ks (wanted (row k)) (find-map wanted row ks)
 
-find-filter_step : (p q test : ℕ → Bool) (k : ℕ) (ks : List ℕ) (passes : Bool) → (passes ≡ true → p k ≡ q k) → find p (filter test ks) ≡ find q (filter test ks)
-    → find p (cond passes (k ∷ filter test ks) (filter test ks)) ≡ find q (cond passes (k ∷ filter test ks) (filter test ks))
-find-filter_step p q test k ks true same later = rw (same refl, later)
-find-filter_step p q test k ks false same later = later
-
--- two tests that agree on what passes find the same
-pub find-filter_same : (p q test : ℕ → Bool) → ((k : ℕ) → test k ≡ true → p k ≡ q k) → (ks : List ℕ) → find p (filter test ks) ≡ find q (filter test ks)
-find-filter_same p q test same [] = refl
-find-filter_same p q test same (k ∷ ks) = find-filter_step p q test k ks (test k) (same k) (find-filter_same p q test same ks)
-
-filter-filter_step_same : (p q test : ℕ → Bool) (k : ℕ) (ks : List ℕ) (passes : Bool) → (passes ≡ true → p k ≡ q k) → filter p (filter test ks) ≡ filter q (filter test ks)
-    → filter p (cond passes (k ∷ filter test ks) (filter test ks)) ≡ filter q (cond passes (k ∷ filter test ks) (filter test ks))
-filter-filter_step_same p q test k ks true same later = rw (same refl, later)
-filter-filter_step_same p q test k ks false same later = later
-
--- and keep the same
-pub filter-filter_same : (p q test : ℕ → Bool) → ((k : ℕ) → test k ≡ true → p k ≡ q k) → (ks : List ℕ) → filter p (filter test ks) ≡ filter q (filter test ks)
-filter-filter_same p q test same [] = refl
-filter-filter_same p q test same (k ∷ ks) = filter-filter_step_same p q test k ks (test k) (same k) (filter-filter_same p q test same ks)
-
 module _ {X : Type 0} where
   last_row-same : (p : Bool) (x y : X) → (p ≡ true → x ≡ y) → last_row p x ≡ last_row p y
   last_row-same true x y same = ap (λ r. r ∷ []) (same refl)
@@ -212,12 +194,118 @@ list_any-member test k zero low high t = absurd (omega arith)
 list_any-member test k (suc n) low high t =
     list_any_last test n ∙ member_step test k n (k == suc n) refl high t (λ b. list_any-member test k n low b t)
 
-passing_step : (wanted : ℕ → Bool) (passes : Bool) (k : ℕ) (ks : List ℕ) → list_any wanted (cond passes (k ∷ ks) ks) ≡ (passes && wanted k) || list_any wanted ks
-passing_step wanted true k ks = refl
-passing_step wanted false k ks = refl
+-- where only one number can pass, and is among those up to n if it does
+pub find-only : (test : ℕ → Bool) (k n : ℕ) → ((j : ℕ) → test j ≡ true → j ≡ k) → (test k ≡ true → (1 ≤ k) × (k ≤ n)) → find test (numbers n) ≡ cond (test k) (Some k) None
+find-only test k n only within = only_case (find test (numbers n)) (test k) refl refl
+  where
+    only_case : (found : Option ℕ) (t : Bool) → find test (numbers n) ≡ found → test k ≡ t → found ≡ cond t (Some k) None
+    only_case None true f e =
+        let some : is_some (find test (numbers n)) ≡ true = is_some-find test (numbers n) ∙ list_any-member test k n (within e).0 (within e).1 e in
+        let wrong : false ≡ true = ap is_some (sym f) ∙ some in
+        cc
+    only_case None false f e = refl
+    only_case (Some j) t f e =
+        let passes = find-passes test (numbers n) j f in
+        let same = only j passes in
+        let here : t ≡ true = sym e ∙ ap test (sym same) ∙ passes in
+        ap Some same ∙ sym (ap (λ b. cond b (Some k) None) here)
 
--- whether a number that passes is wanted
-pub list_any-passing : (wanted test : ℕ → Bool) (ks : List ℕ) → list_any wanted (filter test ks) ≡ list_any (λ k. test k && wanted k) ks
-list_any-passing wanted test [] = refl
-list_any-passing wanted test (k ∷ ks) =
-    passing_step wanted (test k) k (filter test ks) ∙ ap (λ b. (test k && wanted k) || b) (list_any-passing wanted test ks)
+-- ---- rows of the numbers that have one
+
+module _ {X : Type 0} where
+  -- one more number
+  pub filter_map-suc : (row : ℕ → Option X) (n : ℕ) → filter_map row (numbers (suc n)) ≡ filter_map row (numbers n) ++ cons_option (row (suc n)) []
+  filter_map-suc row n = filter_map-append row (numbers n) (suc n ∷ [])
+
+  -- rows that agree on the numbers up to n
+  pub filter_map-same : (row row' : ℕ → Option X) (n : ℕ) → ((k : ℕ) → k ≤ n → row k ≡ row' k) → filter_map row (numbers n) ≡ filter_map row' (numbers n)
+  filter_map-same row row' zero same = refl
+  filter_map-same row row' (suc n) same =
+      filter_map-suc row n
+      ∙ ap (λ xs. xs ++ cons_option (row (suc n)) []) (filter_map-same row row' n (λ k below. same k (omega arith)))
+      ∙ ap (λ found. filter_map row' (numbers n) ++ cons_option found []) (same (suc n) (omega arith))
+      ∙ sym (filter_map-suc row' n)
+
+  then_step : (change : X → Option X) (found : Option X) (xs : List X) → filter_map change (cons_option found xs) ≡ cons_option (option_and_then change found) (filter_map change xs)
+  then_step change None xs = refl
+  then_step change (Some x) xs = refl
+
+  -- a change or an end of each row alone
+  pub filter_map-then : (change : X → Option X) (row : ℕ → Option X) (ks : List ℕ) → filter_map change (filter_map row ks) ≡ filter_map (λ k. option_and_then change (row k)) ks
+  filter_map-then change row [] = refl
+  filter_map-then change row (k ∷ ks) =
+      then_step change (row k) (filter_map row ks) ∙ ap (cons_option (option_and_then change (row k))) (filter_map-then change row ks)
+
+  kept_step : (passes : Bool) (x : X) (xs : List X) → cond (not passes) (x ∷ xs) xs ≡ cons_option (cond passes None (Some x)) xs
+  kept_step true x xs = refl
+  kept_step false x xs = refl
+
+  -- the end of the rows of a test, and of no others
+  pub filter_map-kept : (test : X → Bool) (xs : List X) → filter (λ x. not (test x)) xs ≡ filter_map (λ x. cond (test x) None (Some x)) xs
+  filter_map-kept test [] = refl
+  filter_map-kept test (x ∷ xs) = kept_step (test x) x (filter (λ y. not (test y)) xs) ∙ ap (cons_option (cond (test x) None (Some x))) (filter_map-kept test xs)
+
+  -- a change of rows that ends none
+  pub filter_map-changed : (change : X → X) (xs : List X) → map change xs ≡ filter_map (λ x. Some (change x)) xs
+  filter_map-changed change [] = refl
+  filter_map-changed change (x ∷ xs) = ap (λ rest. change x ∷ rest) (filter_map-changed change xs)
+
+  module _ (wanted : X → Bool) (row : ℕ → Option X) where
+    wanted_found : (k : ℕ) (x : X) (rest : Option ℕ) (rows : List X) → row k ≡ Some x → find wanted rows ≡ option_and_then row rest → (t : Bool)
+        → cond t (Some x) (find wanted rows) ≡ option_and_then row (cond t (Some k) rest)
+    wanted_found k x rest rows e later true = sym e
+    wanted_found k x rest rows e later false = later
+
+    found_step : (k : ℕ) (rest : Option ℕ) (rows : List X) → find wanted rows ≡ option_and_then row rest → (found : Option X) → row k ≡ found
+        → find wanted (cons_option found rows) ≡ option_and_then row (cond (option_map_or wanted found false) (Some k) rest)
+    found_step k rest rows later None e = later
+    found_step k rest rows later (Some x) e = wanted_found k x rest rows e later (wanted x)
+
+    -- the first row that is wanted is that of the first number whose row is
+    pub find-filter_map : (ks : List ℕ) → find wanted (filter_map row ks) ≡ option_and_then row (find (λ k. option_map_or wanted (row k) false) ks)
+    find-filter_map [] = refl
+    find-filter_map (k ∷ ks) = found_step k (find (λ j. option_map_or wanted (row j) false) ks) (filter_map row ks) (find-filter_map ks) (row k) refl
+
+  module _ (number : X → ℕ) (row : ℕ → Option X) (numbered : (k : ℕ) (x : X) → row k ≡ Some x → number x ≡ k) where
+    wanted_number : (wanted : X → Bool) (k : ℕ) (x : X) (rest : List ℕ) (rows : List X) → number x ≡ k → map number (filter wanted rows) ≡ rest → (t : Bool)
+        → map number (cond t (x ∷ filter wanted rows) (filter wanted rows)) ≡ cond t (k ∷ rest) rest
+    wanted_number wanted k x rest rows same later true = rw (same, later)
+    wanted_number wanted k x rest rows same later false = later
+
+    number_step : (wanted : X → Bool) (k : ℕ) (rest : List ℕ) (rows : List X) → map number (filter wanted rows) ≡ rest → (found : Option X) → row k ≡ found
+        → map number (filter wanted (cons_option found rows)) ≡ cond (option_map_or wanted found false) (k ∷ rest) rest
+    number_step wanted k rest rows later None e = later
+    number_step wanted k rest rows later (Some x) e = wanted_number wanted k x rest rows (numbered k x e) later (wanted x)
+
+    -- the numbers of the rows that are wanted
+    pub map-filter_map : (wanted : X → Bool) (ks : List ℕ) → map number (filter wanted (filter_map row ks)) ≡ filter (λ k. option_map_or wanted (row k) false) ks
+    map-filter_map wanted [] = refl
+    map-filter_map wanted (k ∷ ks) =
+        number_step wanted k (filter (λ j. option_map_or wanted (row j) false) ks) (filter_map row ks) (map-filter_map wanted ks) (row k) refl
+
+    last_below : (n : ℕ) (found : Option X) → row (suc n) ≡ found → All (λ x. number x < suc (suc n)) (cons_option found [])
+    last_below n None e = All-nil (λ x. number x < suc (suc n))
+    last_below n (Some y) e =
+        let same = numbered (suc n) y e in
+        All-cons (λ x. number x < suc (suc n)) y [] (omega arith) (All-nil (λ x. number x < suc (suc n)))
+
+    rows-below : (n : ℕ) → All (λ x. number x < suc n) (filter_map row (numbers n))
+    rows-below zero = All-nil (λ x. number x < 1)
+    rows-below (suc n) =
+        subst (All (λ x. number x < suc (suc n))) (sym (filter_map-suc row n))
+        (All-append (λ x. number x < suc (suc n)) (filter_map row (numbers n)) (cons_option (row (suc n)) [])
+        (All-weaker (λ x. number x < suc n) (λ x. number x < suc (suc n)) (λ x below. omega arith) (filter_map row (numbers n)) (rows-below n))
+        (last_below n (row (suc n)) refl))
+
+    push_case : (n : ℕ) (found : Option X) → row (suc n) ≡ found → AllPairs (λ x y. number x < number y) (filter_map row (numbers n))
+        → AllPairs (λ x y. number x < number y) (filter_map row (numbers n) ++ cons_option found [])
+    push_case n None e rise = subst (AllPairs (λ x y. number x < number y)) (sym (append-nil (filter_map row (numbers n)))) rise
+    push_case n (Some y) e rise =
+        let same = numbered (suc n) y e in
+        all_pairs_push (λ x y. number x < number y) (filter_map row (numbers n)) y rise (λ k d within. omega (arith, rows-below n k d within))
+
+    -- the rows stand in the order of their numbers
+    pub AllPairs-filter_map : (n : ℕ) → AllPairs (λ x y. number x < number y) (filter_map row (numbers n))
+    AllPairs-filter_map zero = λ i j d low within. absurd (omega arith)
+    AllPairs-filter_map (suc n) =
+        subst (AllPairs (λ x y. number x < number y)) (sym (filter_map-suc row n)) (push_case n (row (suc n)) refl (AllPairs-filter_map n))

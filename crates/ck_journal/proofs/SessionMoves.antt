@@ -6,7 +6,7 @@ use Rattle.std.proofs.lemmas.Bool.{eqb-true}
 use Rattle.ck_journal.specs.declared.calls.Call.{Call}
 use Rattle.ck_journal.specs.declared.calls.Call.TheVariants as call
 use Rattle.ck_journal.specs.declared.calls.Entry.{Entry}
-use Rattle.ck_journal.specs.Histories.{History, done}
+use Rattle.ck_journal.specs.Histories.{History, start, ◌◁◌, done}
 use Rattle.ck_journal.specs.Sessions.{opens, openings, closes, is_open, opening_flags, flags_of, open_sessions}
 use Rattle.ck_journal.proofs.NumberTests.{below_suc, same_number, ended_test}
 use Rattle.ck_journal.proofs.Selections.{selected, selected-suc, selected-same, selected-rows_same, length-selected}
@@ -30,70 +30,70 @@ module _ (e : Entry) (h : History) where
   -- ---- an opening
 
   module _ (flags : ℕ) (d : done e ≡ Some (call.OpenSession flags)) where
-    pub openings-opened : openings (e ∷ h) ≡ suc (openings h)
+    pub openings-opened : openings (e ◁ h) ≡ suc (openings h)
     openings-opened = ap (λ o. openings_step o (openings h)) d
 
-    is_open-below : (k : ℕ) → k ≤ openings h → is_open (e ∷ h) k ≡ is_open h k
+    is_open-below : (k : ℕ) → k ≤ openings h → is_open (e ◁ h) k ≡ is_open h k
     is_open-below k below =
         ap (λ o. is_open_step o (openings h) k (is_open h k)) d ∙ ap (λ t. cond t true (is_open h k)) (below_suc k (openings h) below)
 
-    pub flags_of-below : (k : ℕ) → k ≤ openings h → flags_of (e ∷ h) k ≡ flags_of h k
+    pub flags_of-below : (k : ℕ) → k ≤ openings h → flags_of (e ◁ h) k ≡ flags_of h k
     flags_of-below k below =
         ap (λ o. flags_step o (openings h) k (flags_of h k)) d ∙ ap (λ t. cond t flags (flags_of h k)) (below_suc k (openings h) below)
 
-    is_open-opened : is_open (e ∷ h) (suc (openings h)) ≡ true
+    is_open-opened : is_open (e ◁ h) (suc (openings h)) ≡ true
     is_open-opened =
         ap (λ o. is_open_step o (openings h) (suc (openings h)) (is_open h (suc (openings h)))) d
         ∙ ap (λ t. cond t true (is_open h (suc (openings h)))) (same_number (suc (openings h)))
 
-    pub flags_of-opened : flags_of (e ∷ h) (suc (openings h)) ≡ flags
+    pub flags_of-opened : flags_of (e ◁ h) (suc (openings h)) ≡ flags
     flags_of-opened =
         ap (λ o. flags_step o (openings h) (suc (openings h)) (flags_of h (suc (openings h)))) d
         ∙ ap (λ t. cond t flags (flags_of h (suc (openings h)))) (same_number (suc (openings h)))
 
     -- the new session's row stands last
-    pub session_rows-opened : {X : Type 0} (row : History → ℕ → X) → ((k : ℕ) → k ≤ openings h → row (e ∷ h) k ≡ row h k)
-        → session_rows row (e ∷ h) ≡ session_rows row h ++ row (e ∷ h) (suc (openings h)) ∷ []
+    pub session_rows-opened : {X : Type 0} (row : History → ℕ → X) → ((k : ℕ) → k ≤ openings h → row (e ◁ h) k ≡ row h k)
+        → session_rows row (e ◁ h) ≡ session_rows row h ++ row (e ◁ h) (suc (openings h)) ∷ []
     session_rows-opened row same =
-        ap (λ n. selected (is_open (e ∷ h)) (row (e ∷ h)) n) openings-opened
-        ∙ selected-suc (is_open (e ∷ h)) (row (e ∷ h)) (openings h)
+        ap (λ n. selected (is_open (e ◁ h)) (row (e ◁ h)) n) openings-opened
+        ∙ selected-suc (is_open (e ◁ h)) (row (e ◁ h)) (openings h)
         ∙ rw is_open-opened
-        (ap (λ rows. rows ++ row (e ∷ h) (suc (openings h)) ∷ []) (selected-same (is_open (e ∷ h)) (is_open h) (row (e ∷ h)) (row h) (openings h) is_open-below same))
+        (ap (λ rows. rows ++ row (e ◁ h) (suc (openings h)) ∷ []) (selected-same (is_open (e ◁ h)) (is_open h) (row (e ◁ h)) (row h) (openings h) is_open-below same))
 
   -- ---- an entry that opens nothing
 
   module _ (no_opening : opens (done e) ≡ false) where
-    pub openings-later : openings (e ∷ h) ≡ openings h
+    pub openings-later : openings (e ◁ h) ≡ openings h
     openings-later = ap (λ t. cond t (suc (openings h)) (openings h)) no_opening
 
-    is_open-later : (k : ℕ) → is_open (e ∷ h) k ≡ is_open h k && not (closes (done e) k)
+    is_open-later : (k : ℕ) → is_open (e ◁ h) k ≡ is_open h k && not (closes (done e) k)
     is_open-later k =
         ap (λ t. cond (t && k == suc (openings h)) true (cond (closes (done e) k) false (is_open h k))) no_opening
         ∙ ended_test (closes (done e) k) (is_open h k)
 
-    pub flags_of-later : (k : ℕ) → flags_of (e ∷ h) k ≡ flags_of h k
+    pub flags_of-later : (k : ℕ) → flags_of (e ◁ h) k ≡ flags_of h k
     flags_of-later k = ap (λ t. cond (t && k == suc (openings h)) (opening_flags (done e)) (flags_of h k)) no_opening
 
     -- the rows of the sessions that it doesn't close stay
-    pub session_rows-later : {X : Type 0} (row : History → ℕ → X) → ((k : ℕ) → k ≤ openings h → (is_open h k && not (closes (done e) k)) ≡ true → row (e ∷ h) k ≡ row h k)
-        → session_rows row (e ∷ h) ≡ selected (λ k. is_open h k && not (closes (done e) k)) (row h) (openings h)
+    pub session_rows-later : {X : Type 0} (row : History → ℕ → X) → ((k : ℕ) → k ≤ openings h → (is_open h k && not (closes (done e) k)) ≡ true → row (e ◁ h) k ≡ row h k)
+        → session_rows row (e ◁ h) ≡ selected (λ k. is_open h k && not (closes (done e) k)) (row h) (openings h)
     session_rows-later row same =
-        ap (λ n. selected (is_open (e ∷ h)) (row (e ∷ h)) n) openings-later
-        ∙ selected-same (is_open (e ∷ h)) (λ k. is_open h k && not (closes (done e) k)) (row (e ∷ h)) (row (e ∷ h)) (openings h) (λ k below. is_open-later k) (λ k below. refl)
-        ∙ selected-rows_same (λ k. is_open h k && not (closes (done e) k)) (row (e ∷ h)) (row h) (openings h) same
+        ap (λ n. selected (is_open (e ◁ h)) (row (e ◁ h)) n) openings-later
+        ∙ selected-same (is_open (e ◁ h)) (λ k. is_open h k && not (closes (done e) k)) (row (e ◁ h)) (row (e ◁ h)) (openings h) (λ k below. is_open-later k) (λ k below. refl)
+        ∙ selected-rows_same (λ k. is_open h k && not (closes (done e) k)) (row (e ◁ h)) (row h) (openings h) same
 
     -- where it closes nothing either all stay, with what it makes of their rows
     pub session_rows-changed : {X : Type 0} (row : History → ℕ → X) → ((s : ℕ) → closes (done e) s ≡ false)
-        → session_rows row (e ∷ h) ≡ selected (is_open h) (row (e ∷ h)) (openings h)
+        → session_rows row (e ◁ h) ≡ selected (is_open h) (row (e ◁ h)) (openings h)
     session_rows-changed row no_closing =
-        ap (λ n. selected (is_open (e ∷ h)) (row (e ∷ h)) n) openings-later
-        ∙ selected-same (is_open (e ∷ h)) (is_open h) (row (e ∷ h)) (row (e ∷ h)) (openings h)
+        ap (λ n. selected (is_open (e ◁ h)) (row (e ◁ h)) n) openings-later
+        ∙ selected-same (is_open (e ◁ h)) (is_open h) (row (e ◁ h)) (row (e ◁ h)) (openings h)
         (λ k below. is_open-later k ∙ ap (λ t. is_open h k && not t) (no_closing k) ∙ and-true (is_open h k)) (λ k below. refl)
 
-    pub session_rows-same : {X : Type 0} (row : History → ℕ → X) → ((k : ℕ) → row (e ∷ h) k ≡ row h k) → ((s : ℕ) → closes (done e) s ≡ false)
-        → session_rows row (e ∷ h) ≡ session_rows row h
+    pub session_rows-same : {X : Type 0} (row : History → ℕ → X) → ((k : ℕ) → row (e ◁ h) k ≡ row h k) → ((s : ℕ) → closes (done e) s ≡ false)
+        → session_rows row (e ◁ h) ≡ session_rows row h
     session_rows-same row same no_closing =
-        session_rows-changed row no_closing ∙ selected-rows_same (is_open h) (row (e ∷ h)) (row h) (openings h) (λ k below passes. same k)
+        session_rows-changed row no_closing ∙ selected-rows_same (is_open h) (row (e ◁ h)) (row h) (openings h) (λ k below passes. same k)
 
 -- ---- an open session is one of those opened
 
@@ -107,8 +107,8 @@ within_step e h s below false true same o n is_so = cc
 within_step e h s below false false same o n is_so = below is_so
 
 pub is_open-within : (h : History) (s : ℕ) → is_open h s ≡ true → (1 ≤ s) × (s ≤ openings h)
-is_open-within [] s is_so = cc
-is_open-within (e ∷ h) s is_so =
+is_open-within (start b) s is_so = cc
+is_open-within (e ◁ h) s is_so =
     within_step e h s (is_open-within h s) (opens (done e)) (closes (done e) s) (s == suc (openings h)) refl refl is_so
 
 -- ---- handles alone

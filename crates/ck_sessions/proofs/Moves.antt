@@ -1,29 +1,31 @@
 -- How sessions, the login and PINs keep agreeing with the history
-use Rattle.std.proofs.Common.{◌≡◌, ℕ, suc, ◌+◌, ◌-◌, true, false, not, cond, subst, ◌||◌, ◌&&◌, List, [], ◌∷◌, ◌++◌, Option, Some, None, refl, sym, ap, ◌∙◌, add-one, arith}
-use Rattle.std.specs.Prelude.{◌==◌, filter, length, map, is_some, slice_get, unwrap_or}
+use Rattle.std.proofs.Common.{◌≡◌, ℕ, suc, ◌+◌, Bool, true, false, not, cond, ◌||◌, ◌&&◌, List, [], ◌∷◌, ◌++◌, Option, Some, None, refl, sym, ap, ◌∙◌, add-one, arith}
+use Rattle.std.specs.Prelude.{◌==◌, filter, length, map, is_some, unwrap_or}
 use Rattle.std.proofs.Math.Bool.{and-false}
-use Rattle.std.proofs.lemmas.Bool.{ne_eqb, false≢true}
-use Rattle.ck_types.specs.Users.{same_user}
+use Rattle.std.proofs.lemmas.Bool.{eq-eqb, eqb-true, eqb-false, ne_eqb, false≢true}
+use Rattle.std.proofs.lemmas.Option.{same_Some}
+use Rattle.std.specs.List.{list_any}
+use Rattle.ck_types.specs.Users.{user_of, same_user}
 use Rattle.ck_types.specs.declared.pins.Pin.{Pin}
 use Rattle.ck_types.specs.declared.users.UserType.{UserType}
 use Rattle.ck_types.specs.declared.users.UserType.TheVariants as user
 use Rattle.ck_journal.specs.declared.calls.Call.{Call}
 use Rattle.ck_journal.specs.declared.calls.Call.TheVariants as call
 use Rattle.ck_journal.specs.declared.calls.Entry.{Entry}
-use Rattle.ck_journal.specs.Histories.{History, done, wrong_try, leaves_sessions, leaves_searches}
+use Rattle.ck_journal.specs.Histories.{History, ◌◁◌, done, wrong_try, effects_of, effects}
 use Rattle.ck_journal.specs.Lists.{change_first}
-use Rattle.ck_journal.specs.Searches.{is_searching, matching_objects, handles_in, number_of_handle}
+use Rattle.ck_journal.specs.Searches.{is_searching, matching_objects, handles_in, number_of_handle, last_or, last_number}
 use Rattle.ck_journal.specs.Pins.{so_pin, so_pin_after, user_pin, user_pin_after, named_owner, pin_owner, is_initialized, initializes, about, is_about, is_user, resets, tries}
 use Rattle.ck_journal.specs.Sessions.{opens, openings, closes, is_open, open_sessions, login, login_after, user_logins, logs_user_in, state_of}
 use Rattle.ck_journal.proofs.LoginMoves.{wrong_try-done, login-none, login-open, login-same, login-logged_out, user_logins-step, so_pin-step, user_pin-step, tries-step, tries-done, openings-left, opens-left, session_rows-left, login-left, user_logins-left, so_pin-left, user_pin-left, is_initialized-left, tries-left}
-use Rattle.ck_journal.proofs.Selections.{selected, selected-same, filter-selected, selected-none}
+use Rattle.ck_journal.proofs.Selections.{selected-same, filter-selected, selected-none}
 use Rattle.ck_journal.proofs.SessionMoves.{session_rows, openings-opened, session_rows-opened, openings-later, session_rows-later, session_rows-changed, session_rows-same, open_sessions-rows, length-session_rows}
 use Rattle.ck_sessions.specs.Agreement.{SessionsState, SessionsAgree, CredentialAgrees, session_row}
 use Rattle.ck_types.specs.declared.templates.Template.{Template}
-use Rattle.ck_sessions.proofs.SearchRows.{row-left, row-below, row-opened, row-other, row-logged_out, session_rows-started, session_rows-handed, session_rows-none_handed, session_rows-ended, last_or-last, no_last}
-use Rattle.ck_sessions.specs.Rows.{is_session, with_search, with_last}
-use Rattle.ck_sessions.specs.declared.session_table.Credential.{Credential}
-use Rattle.ck_sessions.specs.declared.session_table.Session.{Session}
+use Rattle.ck_sessions.proofs.Readings.{list_any-open}
+use Rattle.ck_sessions.proofs.SearchRows.{row-left, row-below, row-opened, row-other, row-logged_out, session_rows-started, session_rows-found, session_rows-ended}
+use Rattle.ck_sessions.specs.Rows.{SessionRow, is_session, with_search, with_last_found}
+use Rattle.ck_sessions.specs.declared.credentials.Credential.{Credential}
 
 abbrev so_pin_of : History → Option Pin
 so_pin_of h = so_pin h
@@ -39,52 +41,83 @@ some_after pin None = refl
 some_after pin (Some before) = refl
 
 -- a list with one more item isn't empty
-more : (rows : List Session) (row : Session) → length (rows ++ row ∷ []) ≡ 0 → ⊥
+more : (rows : List SessionRow) (row : SessionRow) → length (rows ++ row ∷ []) ≡ 0 → ⊥
 more [] row e = omega arith
 more (r ∷ rows) row e = omega arith
 
-map-map : (change : Session → Session) (row : ℕ → Session) (ks : List ℕ) → map change (map row ks) ≡ map (λ k. change (row k)) ks
+eqb-sym : (k s : ℕ) → k == s ≡ s == k
+eqb-sym k s = by_case (k == s) refl
+  where
+    by_case : (t : Bool) → k == s ≡ t → k == s ≡ s == k
+    by_case true e = e ∙ sym (eq-eqb s k (sym (eqb-true k s e)))
+    by_case false e = e ∙ sym (ne_eqb s k (λ same. eqb-false k s e (sym same)))
+
+-- where a session is open there are open sessions
+not_empty : (test : SessionRow → Bool) (rows : List SessionRow) → list_any test rows ≡ true → length rows == 0 ≡ false
+not_empty test [] e = cc
+not_empty test (row ∷ rows) e = ne_eqb (suc (length rows)) 0 (λ z. omega arith)
+
+some_open : (h : History) (session : ℕ) → is_open h session ≡ true → length (open_sessions h) == 0 ≡ false
+some_open h session opened =
+    ap (λ n. n == 0) (sym (length-session_rows session_row h))
+    ∙ not_empty (is_session session) (session_rows session_row h) (list_any-open h session ∙ opened)
+
+-- the normal user's number is 1
+user_case : (u : UserType) (number : ℕ) (so us : Bool) → number == 0 ≡ so → number == 1 ≡ us
+    → cond so (Some user.So) (cond us (Some user.User) None) ≡ Some u → us ≡ same_user user.User u
+user_case u number true true a b e =
+    let zero : number ≡ 0 = eqb-true number 0 a in
+    let one : number ≡ 1 = eqb-true number 1 b in
+    absurd (omega arith)
+user_case u number true false a b e = ap (same_user user.User) (same_Some user.So u e)
+user_case u number false true a b e = ap (same_user user.User) (same_Some user.User u e)
+user_case u number false false a b e = cc
+
+user_number : (u : UserType) (number : ℕ) → user_of number ≡ Some u → number == 1 ≡ same_user user.User u
+user_number u number = user_case u number (number == 0) (number == 1) refl refl
+
+map-map : (change : SessionRow → SessionRow) (row : ℕ → SessionRow) (ks : List ℕ) → map change (map row ks) ≡ map (λ k. change (row k)) ks
 map-map change row [] = refl
 map-map change row (k ∷ ks) = ap (λ rows. change (row k) ∷ rows) (map-map change row ks)
 
 module _ (h : History) (old : SessionsState) (agree : SessionsAgree h old) (e : Entry) where
   -- ---- rows of a call that opens and closes nothing
 
-  openings-stay : (c : Call) → done e ≡ Some c → opens (Some c) ≡ false → old.openings ≡ openings (e ∷ h)
+  openings-stay : (c : Call) → done e ≡ Some c → opens (Some c) ≡ false → old.openings ≡ openings (e ◁ h)
   openings-stay c d o = agree.openings ∙ sym (openings-later e h (ap opens d ∙ o))
 
-  module _ (c : Call) (d : done e ≡ Some c) (o : opens (Some c) ≡ false) (cl : (s : ℕ) → closes (Some c) s ≡ false) (ls : leaves_searches (Some c) ≡ true) where
+  module _ (c : Call) (d : done e ≡ Some c) (o : opens (Some c) ≡ false) (cl : (s : ℕ) → closes (Some c) s ≡ false) (ls : (effects_of (Some c)).operations ≡ false) where
     no_opening : opens (done e) ≡ false
     no_opening = ap opens d ∙ o
 
     no_closing : (s : ℕ) → closes (done e) s ≡ false
     no_closing s = ap (λ x. closes x s) d ∙ cl s
 
-    rows-stay : old.rows ≡ session_rows session_row (e ∷ h)
-    rows-stay = agree.rows ∙ sym (session_rows-same e h no_opening session_row (row-left e h no_opening (ap leaves_searches d ∙ ls)) no_closing)
+    rows-stay : old.rows ≡ session_rows session_row (e ◁ h)
+    rows-stay = agree.rows ∙ sym (session_rows-same e h no_opening session_row (row-left e h no_opening (ap (λ o. (effects_of o).operations) d ∙ ls)) no_closing)
 
-    sessions-stay : open_sessions (e ∷ h) ≡ open_sessions h
-    sessions-stay = sym (open_sessions-rows (e ∷ h)) ∙ session_rows-same e h no_opening (λ h s. s) (λ k. refl) no_closing ∙ open_sessions-rows h
+    sessions-stay : open_sessions (e ◁ h) ≡ open_sessions h
+    sessions-stay = sym (open_sessions-rows (e ◁ h)) ∙ session_rows-same e h no_opening (λ h s. s) (λ k. refl) no_closing ∙ open_sessions-rows h
 
-    login-stays : ((before : Option UserType) → login_after (Some c) before ≡ before) → old.login ≡ login (e ∷ h)
+    login-stays : ((before : Option UserType) → login_after (Some c) before ≡ before) → old.login ≡ login (e ◁ h)
     login-stays left = agree.login ∙ sym (login-same e h sessions-stay (ap (λ x. login_after x (login h)) d ∙ left (login h)))
 
-  logins-stay : (c : Call) → done e ≡ Some c → logs_user_in (Some c) ≡ false → old.logins ≡ user_logins (e ∷ h)
+  logins-stay : (c : Call) → done e ≡ Some c → logs_user_in (Some c) ≡ false → old.logins ≡ user_logins (e ◁ h)
   logins-stay c d n = agree.logins ∙ sym (user_logins-step e h (Some c) d ∙ ap (λ t. cond t (suc (user_logins h)) (user_logins h)) n)
 
-  initialized-stays : (c : Call) → done e ≡ Some c → initializes (Some c) ≡ false → is_some old.so.pin ≡ is_initialized (e ∷ h)
+  initialized-stays : (c : Call) → done e ≡ Some c → initializes (Some c) ≡ false → is_some old.so.pin ≡ is_initialized (e ◁ h)
   initialized-stays c d n = agree.initialized ∙ sym (ap (λ x. initializes x || is_initialized h) d ∙ ap (λ t. t || is_initialized h) n)
 
   -- a credential that a call leaves
   so-stays : (c : Call) → done e ≡ Some c → ((owner : UserType) (before : Option Pin) → so_pin_after (Some c) (named_owner h (Some c)) before ≡ before)
-      → resets user.So h (Some c) ≡ false → CredentialAgrees user.So (e ∷ h) old.so
+      → resets user.So h (Some c) ≡ false → CredentialAgrees user.So (e ◁ h) old.so
   so-stays c d pin r = record {
     pin = agree.so.pin ∙ sym (so_pin-step e h (Some c) d ∙ pin user.So (so_pin h));
     tries = agree.so.tries ∙ sym (tries-done e h user.So c d ∙ ap (λ t. cond t 0 (tries user.So h)) r);
   }
 
   user-stays : (c : Call) → done e ≡ Some c → ((owner : UserType) (before : Option Pin) → user_pin_after (Some c) (named_owner h (Some c)) before ≡ before)
-      → resets user.User h (Some c) ≡ false → CredentialAgrees user.User (e ∷ h) old.user
+      → resets user.User h (Some c) ≡ false → CredentialAgrees user.User (e ◁ h) old.user
   user-stays c d pin r = record {
     pin = agree.user.pin ∙ sym (user_pin-step e h (Some c) d ∙ pin user.User (user_pin h));
     tries = agree.user.tries ∙ sym (tries-done e h user.User c d ∙ ap (λ t. cond t 0 (tries user.User h)) r);
@@ -93,9 +126,9 @@ module _ (h : History) (old : SessionsState) (agree : SessionsAgree h old) (e : 
   -- ---- an entry that leaves all of it as it is
 
   -- the list of sessions, the login and PINs stay
-  pub SessionsAgree-same : leaves_sessions (done e) ≡ true → ((u : UserType) → is_about u h (wrong_try e) ≡ false) → (new : SessionsState)
-      → new.rows ≡ session_rows session_row (e ∷ h) → new.openings ≡ old.openings → new.login ≡ old.login → new.logins ≡ old.logins → new.so ≡ old.so → new.user ≡ old.user
-      → SessionsAgree (e ∷ h) new
+  pub SessionsAgree-same : (effects e).sessions ≡ false → ((u : UserType) → is_about u h (wrong_try e) ≡ false) → (new : SessionsState)
+      → new.rows ≡ session_rows session_row (e ◁ h) → new.openings ≡ old.openings → new.login ≡ old.login → new.logins ≡ old.logins → new.so ≡ old.so → new.user ≡ old.user
+      → SessionsAgree (e ◁ h) new
   SessionsAgree-same l w new rows count log logs so us = record {
     rows = rows;
     openings = count ∙ agree.openings ∙ sym (openings-left e h l);
@@ -106,35 +139,35 @@ module _ (h : History) (old : SessionsState) (agree : SessionsAgree h old) (e : 
     initialized = ap (λ (c : Credential). is_some c.pin) so ∙ agree.initialized ∙ sym (is_initialized-left e h l);
   }
 
-  rows-left : leaves_sessions (done e) ≡ true → leaves_searches (done e) ≡ true → session_rows session_row (e ∷ h) ≡ session_rows session_row h
+  rows-left : (effects e).sessions ≡ false → (effects e).operations ≡ false → session_rows session_row (e ◁ h) ≡ session_rows session_row h
   rows-left l ls = session_rows-left e h l session_row (row-left e h (opens-left (done e) l) ls)
 
-  pub SessionsAgree-left : leaves_sessions (done e) ≡ true → leaves_searches (done e) ≡ true → ((u : UserType) → is_about u h (wrong_try e) ≡ false) → SessionsAgree (e ∷ h) old
-  SessionsAgree-left l ls w = SessionsAgree-same l w old (agree.rows ∙ sym (rows-left l ls)) refl refl refl refl refl
+  pub sessions-left : (effects e).sessions ≡ false → (effects e).operations ≡ false → ((u : UserType) → is_about u h (wrong_try e) ≡ false) → SessionsAgree (e ◁ h) old
+  sessions-left l ls w = SessionsAgree-same l w old (agree.rows ∙ sym (rows-left l ls)) refl refl refl refl refl
 
   -- a call about searches, which is answered OK
-  SessionsAgree-searched : (c : Call) → done e ≡ Some c → leaves_sessions (Some c) ≡ true → (new : SessionsState) → new.rows ≡ session_rows session_row (e ∷ h)
-      → new.openings ≡ old.openings → new.login ≡ old.login → new.logins ≡ old.logins → new.so ≡ old.so → new.user ≡ old.user → SessionsAgree (e ∷ h) new
+  SessionsAgree-searched : (c : Call) → done e ≡ Some c → (effects_of (Some c)).sessions ≡ false → (new : SessionsState) → new.rows ≡ session_rows session_row (e ◁ h)
+      → new.openings ≡ old.openings → new.login ≡ old.login → new.logins ≡ old.logins → new.so ≡ old.so → new.user ≡ old.user → SessionsAgree (e ◁ h) new
   SessionsAgree-searched c d l new rows count log logs so us =
-      SessionsAgree-same (ap leaves_sessions d ∙ l) (λ u. ap (is_about u h) (wrong_try-done e c d)) new rows count log logs so us
+      SessionsAgree-same (ap (λ o. (effects_of o).sessions) d ∙ l) (λ u. ap (is_about u h) (wrong_try-done e c d)) new rows count log logs so us
 
   -- ---- a wrong try
 
   other_user : (u v : UserType) (a : Option UserType) → a ≡ Some u → is_user v a ≡ same_user v u
   other_user u v a x = ap (is_user v) x
 
-  tries-wrong : (u v : UserType) → done e ≡ None → about h (wrong_try e) ≡ Some u → tries v (e ∷ h) ≡ cond (same_user v u) (suc (tries v h)) (tries v h)
+  tries-wrong : (u v : UserType) → done e ≡ None → about h (wrong_try e) ≡ Some u → tries v (e ◁ h) ≡ cond (same_user v u) (suc (tries v h)) (tries v h)
   tries-wrong u v d a =
       tries-step e h v None (wrong_try e) d refl ∙ ap (λ t. cond t (suc (tries v h)) (tries v h)) (other_user u v (about h (wrong_try e)) a)
 
   pub SessionsAgree-wrong : (u : UserType) (new : SessionsState) → done e ≡ None → about h (wrong_try e) ≡ Some u
       → new.rows ≡ old.rows → new.openings ≡ old.openings → new.login ≡ old.login → new.logins ≡ old.logins → new.so.pin ≡ old.so.pin → new.user.pin ≡ old.user.pin
       → new.so.tries ≡ cond (same_user user.So u) (suc old.so.tries) old.so.tries → new.user.tries ≡ cond (same_user user.User u) (suc old.user.tries) old.user.tries
-      → SessionsAgree (e ∷ h) new
+      → SessionsAgree (e ◁ h) new
   SessionsAgree-wrong u new d a rows count login logins so_pin user_pin so_tries user_tries =
-      let l : leaves_sessions (done e) ≡ true = ap leaves_sessions d in
+      let l : (effects e).sessions ≡ false = ap (λ o. (effects_of o).sessions) d in
       record {
-        rows = rows ∙ agree.rows ∙ sym (rows-left l (ap leaves_searches d));
+        rows = rows ∙ agree.rows ∙ sym (rows-left l (ap (λ o. (effects_of o).operations) d));
         openings = count ∙ agree.openings ∙ sym (openings-left e h l);
         login = login ∙ agree.login ∙ sym (login-left e h l);
         logins = logins ∙ agree.logins ∙ sym (user_logins-left e h l);
@@ -147,14 +180,14 @@ module _ (h : History) (old : SessionsState) (agree : SessionsAgree h old) (e : 
 
   pub SessionsAgree-opened : (flags : ℕ) (new : SessionsState) → done e ≡ Some (call.OpenSession flags) → is_searching h (suc (openings h)) ≡ false
       → new.rows ≡ old.rows ++ record { handle = old.openings + 1; flags = flags; search = None } ∷ []
-      → new.openings ≡ old.openings + 1 → new.login ≡ old.login → new.logins ≡ old.logins → new.so ≡ old.so → new.user ≡ old.user → SessionsAgree (e ∷ h) new
+      → new.openings ≡ old.openings + 1 → new.login ≡ old.login → new.logins ≡ old.logins → new.so ≡ old.so → new.user ≡ old.user → SessionsAgree (e ◁ h) new
   SessionsAgree-opened flags new d none rows count log logs so us =
       let c = call.OpenSession flags in
-      let all : session_rows session_row (e ∷ h) ≡ session_rows session_row h ++ record { handle = suc (openings h); flags = flags; search = None } ∷ [] =
+      let all : session_rows session_row (e ◁ h) ≡ session_rows session_row h ++ record { handle = suc (openings h); flags = flags; search = None } ∷ [] =
       session_rows-opened e h flags d session_row (row-below e h flags d) ∙ ap (λ r. session_rows session_row h ++ r ∷ []) (row-opened e h flags d none) in
-      let some : length (open_sessions (e ∷ h)) == 0 ≡ false =
-      ne_eqb (length (open_sessions (e ∷ h))) 0 (λ z. more (session_rows session_row h) (record { handle = suc (openings h); flags = flags; search = None })
-      (sym (ap length all) ∙ length-session_rows session_row (e ∷ h) ∙ z)) in
+      let some : length (open_sessions (e ◁ h)) == 0 ≡ false =
+      ne_eqb (length (open_sessions (e ◁ h))) 0 (λ z. more (session_rows session_row h) (record { handle = suc (openings h); flags = flags; search = None })
+      (sym (ap length all) ∙ length-session_rows session_row (e ◁ h) ∙ z)) in
       record {
         rows = rows ∙ rw (agree.rows, agree.openings, add-one) (sym all);
         openings = count ∙ rw (agree.openings, add-one) (sym (openings-opened e h flags d));
@@ -162,27 +195,28 @@ module _ (h : History) (old : SessionsState) (agree : SessionsAgree h old) (e : 
         logins = logs ∙ logins-stay c d refl;
         so = rw so (so-stays c d (λ owner before. refl) refl);
         user = rw us (user-stays c d (λ owner before. refl) refl);
-        initialized = ap (λ (s : Credential). is_some s.pin) so ∙ initialized-stays c d refl;
+        initialized = ap (λ (c : Credential). is_some c.pin) so ∙ initialized-stays c d refl;
       }
 
   -- a call that opens nothing, closes some sessions and leaves the rest
   closed : (c : Call) (new : SessionsState) → done e ≡ Some c → opens (Some c) ≡ false → ((before : Option UserType) → login_after (Some c) before ≡ before)
-      → new.rows ≡ session_rows session_row (e ∷ h) → new.openings ≡ old.openings → new.login ≡ cond (length new.rows == 0) None old.login
-      → new.login ≡ login (e ∷ h)
+      → new.rows ≡ session_rows session_row (e ◁ h) → new.openings ≡ old.openings → new.login ≡ cond (length new.rows == 0) None old.login
+      → new.login ≡ login (e ◁ h)
   closed c new d o left rows count log =
       log ∙ ap (λ rs. cond (length rs == 0) None old.login) rows
-      ∙ ap (λ n. cond (n == 0) None old.login) (length-session_rows session_row (e ∷ h))
-      ∙ ap (cond (length (open_sessions (e ∷ h)) == 0) None) (agree.login ∙ sym (ap (λ x. login_after x (login h)) d ∙ left (login h)))
+      ∙ ap (λ n. cond (n == 0) None old.login) (length-session_rows session_row (e ◁ h))
+      ∙ ap (cond (length (open_sessions (e ◁ h)) == 0) None) (agree.login ∙ sym (ap (λ x. login_after x (login h)) d ∙ left (login h)))
 
   pub SessionsAgree-closed : (session : ℕ) (new : SessionsState) → done e ≡ Some (call.CloseSession session)
-      → new.rows ≡ filter (λ (row : Session). not (session == row.handle)) old.rows → new.openings ≡ old.openings → new.login ≡ cond (length new.rows == 0) None old.login
-      → new.logins ≡ old.logins → new.so ≡ old.so → new.user ≡ old.user → SessionsAgree (e ∷ h) new
+      → new.rows ≡ filter (λ (row : SessionRow). not (is_session session row)) old.rows → new.openings ≡ old.openings → new.login ≡ cond (length new.rows == 0) None old.login
+      → new.logins ≡ old.logins → new.so ≡ old.so → new.user ≡ old.user → SessionsAgree (e ◁ h) new
   SessionsAgree-closed session new d rows count log logs so us =
       let c = call.CloseSession session in
-      let all : new.rows ≡ session_rows session_row (e ∷ h) =
-      rows ∙ ap (filter (λ (row : Session). not (session == row.handle))) agree.rows
-      ∙ filter-selected (λ (row : Session). not (session == row.handle)) (is_open h) (session_row h) (openings h)
-      ∙ ap (λ x. selected (λ k. is_open h k && not (closes x k)) (session_row h) (openings h)) (sym d)
+      let all : new.rows ≡ session_rows session_row (e ◁ h) =
+      rows ∙ ap (filter (λ (row : SessionRow). not (is_session session row))) agree.rows
+      ∙ filter-selected (λ (row : SessionRow). not (is_session session row)) (is_open h) (session_row h) (openings h)
+      ∙ selected-same (λ k. is_open h k && not (k == session)) (λ k. is_open h k && not (closes (done e) k)) (session_row h) (session_row h) (openings h)
+      (λ k below. ap (λ t. is_open h k && not t) (eqb-sym k session ∙ ap (λ x. closes x k) (sym d))) (λ k below. refl)
       ∙ sym (session_rows-later e h (ap opens d) session_row (λ k below passes. row-other e h session d k passes)) in
       record {
         rows = all;
@@ -191,34 +225,65 @@ module _ (h : History) (old : SessionsState) (agree : SessionsAgree h old) (e : 
         logins = logs ∙ logins-stay c d refl;
         so = rw so (so-stays c d (λ owner before. refl) refl);
         user = rw us (user-stays c d (λ owner before. refl) refl);
-        initialized = ap (λ (s : Credential). is_some s.pin) so ∙ initialized-stays c d refl;
+        initialized = ap (λ (c : Credential). is_some c.pin) so ∙ initialized-stays c d refl;
       }
 
   pub SessionsAgree-all_closed : (new : SessionsState) → done e ≡ Some call.CloseAllSessions → new.rows ≡ [] → new.openings ≡ old.openings → new.login ≡ None
-      → new.logins ≡ old.logins → new.so ≡ old.so → new.user ≡ old.user → SessionsAgree (e ∷ h) new
+      → new.logins ≡ old.logins → new.so ≡ old.so → new.user ≡ old.user → SessionsAgree (e ◁ h) new
   SessionsAgree-all_closed new d rows count log logs so us =
       let c = call.CloseAllSessions in
-      let all : session_rows session_row (e ∷ h) ≡ [] =
+      let all : session_rows session_row (e ◁ h) ≡ [] =
       session_rows-later e h (ap opens d) session_row
       (λ k below passes. absurd (false≢true (sym (ap (λ x. is_open h k && not (closes x k)) d ∙ and-false (is_open h k)) ∙ passes)))
       ∙ selected-none (λ k. is_open h k && not (closes (done e) k)) (session_row h) (openings h)
       (λ k below. ap (λ x. is_open h k && not (closes x k)) d ∙ and-false (is_open h k)) in
-      let none : length (open_sessions (e ∷ h)) == 0 ≡ true = rw (sym (length-session_rows session_row (e ∷ h)), all) in
+      let none : length (open_sessions (e ◁ h)) == 0 ≡ true = rw (sym (length-session_rows session_row (e ◁ h)), all) in
       record {
         rows = rows ∙ sym all;
         openings = count ∙ openings-stay c d refl;
-        login = log ∙ sym (login-none (e ∷ h) none);
+        login = log ∙ sym (login-none (e ◁ h) none);
         logins = logs ∙ logins-stay c d refl;
         so = rw so (so-stays c d (λ owner before. refl) refl);
         user = rw us (user-stays c d (λ owner before. refl) refl);
-        initialized = ap (λ (s : Credential). is_some s.pin) so ∙ initialized-stays c d refl;
+        initialized = ap (λ (c : Credential). is_some c.pin) so ∙ initialized-stays c d refl;
+      }
+
+  -- ---- a login
+
+  pub SessionsAgree-logged_in : (session number : ℕ) (pin : Pin) (u : UserType) (new : SessionsState) → done e ≡ Some (call.Login session number pin)
+      → is_open h session ≡ true → user_of number ≡ Some u → new.rows ≡ old.rows → new.openings ≡ old.openings → new.login ≡ Some u
+      → new.logins ≡ cond (same_user user.User u) (suc old.logins) old.logins → new.so.pin ≡ old.so.pin → new.user.pin ≡ old.user.pin
+      → new.so.tries ≡ cond (same_user user.So u || false) 0 old.so.tries → new.user.tries ≡ cond (same_user user.User u || false) 0 old.user.tries
+      → SessionsAgree (e ◁ h) new
+  SessionsAgree-logged_in session number pin u new d opened known rows count log logs so_pin user_pin so_tries user_tries =
+      let c = call.Login session number pin in
+      let same = sessions-stay c d refl (λ s. refl) refl in
+      let some : length (open_sessions (e ◁ h)) == 0 ≡ false = ap (λ ss. length ss == 0) same ∙ some_open h session opened in
+      record {
+        rows = rows ∙ rows-stay c d refl (λ s. refl) refl;
+        openings = count ∙ openings-stay c d refl;
+        login = log ∙ sym known ∙ sym (login-open e h (Some c) d some);
+        logins =
+            logs ∙ ap (λ t. cond t (suc old.logins) old.logins) (sym (user_number u number known))
+            ∙ ap (λ n. cond (number == 1) (suc n) n) agree.logins ∙ sym (user_logins-step e h (Some c) d);
+        so = record {
+          pin = so_pin ∙ agree.so.pin ∙ sym (so_pin-step e h (Some c) d);
+          tries = so_tries ∙ ap (cond (same_user user.So u || false) 0) agree.so.tries
+              ∙ sym (tries-done e h user.So c d ∙ ap (λ a. cond (is_user user.So a || false) 0 (tries user.So h)) known);
+        };
+        user = record {
+          pin = user_pin ∙ agree.user.pin ∙ sym (user_pin-step e h (Some c) d);
+          tries = user_tries ∙ ap (cond (same_user user.User u || false) 0) agree.user.tries
+              ∙ sym (tries-done e h user.User c d ∙ ap (λ a. cond (is_user user.User a || false) 0 (tries user.User h)) known);
+        };
+        initialized = ap is_some so_pin ∙ initialized-stays c d refl;
       }
 
   -- ---- PINs
 
   pub SessionsAgree-initialized : (pin : Pin) (new : SessionsState) → done e ≡ Some (call.InitToken pin) → new.rows ≡ old.rows → new.openings ≡ old.openings
       → new.login ≡ old.login → new.logins ≡ old.logins → new.so.pin ≡ so_pin_after (Some (call.InitToken pin)) user.User old.so.pin → new.so.tries ≡ 0
-      → new.user.pin ≡ None → new.user.tries ≡ 0 → SessionsAgree (e ∷ h) new
+      → new.user.pin ≡ None → new.user.tries ≡ 0 → SessionsAgree (e ◁ h) new
   SessionsAgree-initialized pin new d rows count log logs so_pin so_tries user_pin user_tries =
       let c = call.InitToken pin in
       record {
@@ -232,7 +297,7 @@ module _ (h : History) (old : SessionsState) (agree : SessionsAgree h old) (e : 
       }
 
   pub SessionsAgree-pin_initialized : (session : ℕ) (pin : Pin) (new : SessionsState) → done e ≡ Some (call.InitPin session pin) → new.rows ≡ old.rows
-      → new.openings ≡ old.openings → new.login ≡ old.login → new.logins ≡ old.logins → new.so ≡ old.so → new.user.pin ≡ Some pin → new.user.tries ≡ 0 → SessionsAgree (e ∷ h) new
+      → new.openings ≡ old.openings → new.login ≡ old.login → new.logins ≡ old.logins → new.so ≡ old.so → new.user.pin ≡ Some pin → new.user.tries ≡ 0 → SessionsAgree (e ◁ h) new
   SessionsAgree-pin_initialized session pin new d rows count log logs so user_pin user_tries =
       let c = call.InitPin session pin in
       record {
@@ -242,7 +307,7 @@ module _ (h : History) (old : SessionsState) (agree : SessionsAgree h old) (e : 
         logins = logs ∙ logins-stay c d refl;
         so = rw so (so-stays c d (λ owner before. refl) refl);
         user = record { pin = user_pin ∙ sym (user_pin-step e h (Some c) d); tries = user_tries ∙ sym (tries-done e h user.User c d) };
-        initialized = ap (λ (s : Credential). is_some s.pin) so ∙ initialized-stays c d refl;
+        initialized = ap (λ (c : Credential). is_some c.pin) so ∙ initialized-stays c d refl;
       }
 
   -- the owner of the session's PIN sets it
@@ -252,7 +317,7 @@ module _ (h : History) (old : SessionsState) (agree : SessionsAgree h old) (e : 
     c = call.SetPin session before pin
 
     pub SessionsAgree-so_pin_set : pin_owner (state_of h session) ≡ user.So → is_some old.so.pin ≡ true → new.so.pin ≡ Some pin → new.so.tries ≡ 0 → new.user ≡ old.user
-        → SessionsAgree (e ∷ h) new
+        → SessionsAgree (e ◁ h) new
     SessionsAgree-so_pin_set owner had so_pin so_tries us = record {
       rows = rows ∙ rows-stay c d refl (λ s. refl) refl;
       openings = count ∙ openings-stay c d refl;
@@ -269,7 +334,7 @@ module _ (h : History) (old : SessionsState) (agree : SessionsAgree h old) (e : 
       initialized = ap is_some so_pin ∙ sym had ∙ initialized-stays c d refl;
     }
 
-    pub SessionsAgree-user_pin_set : pin_owner (state_of h session) ≡ user.User → new.so ≡ old.so → new.user.pin ≡ Some pin → new.user.tries ≡ 0 → SessionsAgree (e ∷ h) new
+    pub SessionsAgree-user_pin_set : pin_owner (state_of h session) ≡ user.User → new.so ≡ old.so → new.user.pin ≡ Some pin → new.user.tries ≡ 0 → SessionsAgree (e ◁ h) new
     SessionsAgree-user_pin_set owner so us_pin us_tries = record {
       rows = rows ∙ rows-stay c d refl (λ s. refl) refl;
       openings = count ∙ openings-stay c d refl;
@@ -283,7 +348,7 @@ module _ (h : History) (old : SessionsState) (agree : SessionsAgree h old) (e : 
         pin = us_pin ∙ sym (user_pin-step e h (Some c) d ∙ ap (λ o. user_pin_after (Some c) o (user_pin h)) owner);
         tries = us_tries ∙ sym (tries-done e h user.User c d ∙ ap (λ o. cond (is_user user.User (Some o) || false) 0 (tries user.User h)) owner);
       };
-      initialized = ap (λ (s : Credential). is_some s.pin) so ∙ initialized-stays c d refl;
+      initialized = ap (λ (c : Credential). is_some c.pin) so ∙ initialized-stays c d refl;
     }
 
   -- ---- searches
@@ -292,42 +357,35 @@ module _ (h : History) (old : SessionsState) (agree : SessionsAgree h old) (e : 
       (us : new.user ≡ old.user) where
     pub SessionsAgree-started : (session : ℕ) (template : Template) (found : List ℕ) → done e ≡ Some (call.FindObjectsInit session template)
         → found ≡ matching_objects h template.items
-        → new.rows ≡ change_first (is_session session) (with_search (Some (record { found = found; last = 0 }))) old.rows → SessionsAgree (e ∷ h) new
+        → new.rows ≡ change_first (is_session session) (with_search (Some (record { found = found; last = 0 }))) old.rows → SessionsAgree (e ◁ h) new
     SessionsAgree-started session template found d matching rows =
         SessionsAgree-searched (call.FindObjectsInit session template) d refl new
         (rows ∙ ap (change_first (is_session session) (with_search (Some (record { found = found; last = 0 })))) agree.rows
         ∙ session_rows-started e h session template found d matching) count log logs so us
 
-    pub SessionsAgree-handed : (session max handle : ℕ) (handles : List ℕ) → done e ≡ Some (call.FindObjects session max) → handles ≡ handles_in e.reply.body
-        → Some handle ≡ slice_get handles (length handles - 1) → new.rows ≡ change_first (is_session session) (with_last (number_of_handle handle)) old.rows
-        → SessionsAgree (e ∷ h) new
-    SessionsAgree-handed session max handle handles d same last rows =
+    pub SessionsAgree-found : (session max number : ℕ) → done e ≡ Some (call.FindObjects session max)
+        → number ≡ last_or (last_number h session) (map number_of_handle (handles_in e.reply.body))
+        → new.rows ≡ change_first (is_session session) (with_last_found number) old.rows → SessionsAgree (e ◁ h) new
+    SessionsAgree-found session max number d last rows =
         SessionsAgree-searched (call.FindObjects session max) d refl new
-        (rows ∙ ap (change_first (is_session session) (with_last (number_of_handle handle))) agree.rows
-        ∙ session_rows-handed e h session max d (number_of_handle handle)
-        (last_or-last (handles_in e.reply.body) handle (subst (λ hs. Some handle ≡ slice_get hs (length hs - 1)) same last))) count log logs so us
-
-    pub SessionsAgree-none_handed : (session max : ℕ) (handles : List ℕ) → done e ≡ Some (call.FindObjects session max) → handles ≡ handles_in e.reply.body
-        → None ≡ slice_get handles (length handles - 1) → new.rows ≡ old.rows → SessionsAgree (e ∷ h) new
-    SessionsAgree-none_handed session max handles d same none rows =
-        SessionsAgree-searched (call.FindObjects session max) d refl new
-        (rows ∙ agree.rows ∙ session_rows-none_handed e h session max d (sym same ∙ no_last handles none)) count log logs so us
+        (rows ∙ ap (change_first (is_session session) (with_last_found number)) agree.rows
+        ∙ session_rows-found e h session max d number last) count log logs so us
 
     pub SessionsAgree-search_ended : (session : ℕ) → done e ≡ Some (call.FindObjectsFinal session) → new.rows ≡ change_first (is_session session) (with_search None) old.rows
-        → SessionsAgree (e ∷ h) new
+        → SessionsAgree (e ◁ h) new
     SessionsAgree-search_ended session d rows =
         SessionsAgree-searched (call.FindObjectsFinal session) d refl new
         (rows ∙ ap (change_first (is_session session) (with_search None)) agree.rows ∙ session_rows-ended e h session d) count log logs so us
 
   -- a logout ends the login and all searches
   pub SessionsAgree-logged_out : (session : ℕ) (new : SessionsState) → done e ≡ Some (call.Logout session) → new.rows ≡ map (with_search None) old.rows
-      → new.openings ≡ old.openings → new.login ≡ None → new.logins ≡ old.logins → new.so ≡ old.so → new.user ≡ old.user → SessionsAgree (e ∷ h) new
+      → new.openings ≡ old.openings → new.login ≡ None → new.logins ≡ old.logins → new.so ≡ old.so → new.user ≡ old.user → SessionsAgree (e ◁ h) new
   SessionsAgree-logged_out session new d rows count log logs so us =
       let c = call.Logout session in
       record {
         rows =
             rows ∙ ap (map (with_search None)) agree.rows ∙ map-map (with_search None) (session_row h) (open_sessions h)
-            ∙ selected-same (is_open h) (is_open h) (λ k. with_search None (session_row h k)) (session_row (e ∷ h)) (openings h) (λ k b. refl)
+            ∙ selected-same (is_open h) (is_open h) (λ k. with_search None (session_row h k)) (session_row (e ◁ h)) (openings h) (λ k b. refl)
             (λ k b. sym (row-logged_out e h session d k))
             ∙ sym (session_rows-changed e h (ap opens d) session_row (λ s. ap (λ x. closes x s) d));
         openings = count ∙ openings-stay c d refl;
@@ -335,5 +393,5 @@ module _ (h : History) (old : SessionsState) (agree : SessionsAgree h old) (e : 
         logins = logs ∙ logins-stay c d refl;
         so = rw so (so-stays c d (λ owner before. refl) refl);
         user = rw us (user-stays c d (λ owner before. refl) refl);
-        initialized = ap (λ (s : Credential). is_some s.pin) so ∙ initialized-stays c d refl;
+        initialized = ap (λ (c : Credential). is_some c.pin) so ∙ initialized-stays c d refl;
       }

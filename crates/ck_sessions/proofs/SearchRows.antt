@@ -1,38 +1,34 @@
 -- How the rows of sessions move with their searches
-use Rattle.std.proofs.Common.{◌≡◌, ℕ, suc, ◌≤◌, ◌-◌, Bool, true, false, cond, not, ◌&&◌, List, [], ◌∷◌, ◌++◌, length, take, drop, Option, Some, None, refl, sym, ap, ◌∙◌, subst, arith}
-use Rattle.std.specs.Prelude.{◌==◌, map, option_map, slice_get}
+use Rattle.std.proofs.Common.{◌≡◌, ℕ, suc, ◌≤◌, Bool, true, false, cond, not, ◌&&◌, List, [], ◌++◌, length, take, drop, Option, Some, None, refl, sym, ap, ◌∙◌, subst, arith}
+use Rattle.std.specs.Prelude.{◌==◌, map, option_map}
 use Rattle.std.proofs.lemmas.Bool.{eqb-true, eqb-false, eq-eqb, ne_eqb, and_parts, not-true}
 use Rattle.std.proofs.lemmas.List.{append-nil, length-map, take_all, drop_all}
-use Rattle.std.proofs.lemmas.Option.{same_Some}
 use Rattle.ck_types.specs.declared.templates.Template.{Template}
 use Rattle.ck_journal.specs.declared.calls.Call.{Call}
 use Rattle.ck_journal.specs.declared.calls.Call.TheVariants as call
 use Rattle.ck_journal.specs.declared.calls.Entry.{Entry}
-use Rattle.ck_journal.specs.Histories.{History, done, leaves_sessions, leaves_objects, leaves_searches}
+use Rattle.ck_journal.specs.Histories.{History, ◌◁◌, done, effects_of, effects}
 use Rattle.ck_journal.specs.Lists.{change_first}
 use Rattle.ck_journal.specs.Searches.{starts_search, ends_search, asks_search, is_searching, matching_objects, search_template, found_objects, number_of_handle, handles_in, last_or, last_number}
 use Rattle.ck_journal.specs.Sessions.{opens, openings, closes, is_open, flags_of}
 use Rattle.ck_journal.proofs.Changes.{selected-replaced}
 use Rattle.ck_journal.proofs.SearchMoves.{is_searching-left, found_objects-left, last_number-left, matching_objects-left}
-use Rattle.ck_journal.proofs.Selections.{selected-same}
 use Rattle.ck_journal.proofs.SessionMoves.{session_rows, session_rows-changed, flags_of-below, flags_of-opened, flags_of-later}
 use Rattle.ck_sessions.specs.Agreement.{search_of, session_row}
-use Rattle.ck_sessions.specs.Rows.{is_session, with_search, with_last}
-use Rattle.ck_sessions.specs.declared.session_table.Search.{Search}
-use Rattle.ck_sessions.specs.declared.session_table.Session.{Session}
+use Rattle.ck_sessions.specs.Rows.{Search, SessionRow, is_session, with_search, with_last, with_last_found}
 
 -- ---- one session's search after an entry
 
 abbrev active_search : Bool → List ℕ → ℕ → Option Search
 active_search active found last = cond active (Some (record { found = found; last = last })) None
 
--- by what was done, what matches now, what is handed out, and the search before
+-- by what was done, what matches now, what is returned, and the search before
 abbrev search_step : Option Call → List ℕ → List ℕ → ℕ → Bool → List ℕ → ℕ → Option Search
 search_step o matching handles k active found last =
     active_search (cond (starts_search o k) true (cond (ends_search o k) false active)) (cond (starts_search o k) matching found)
     (cond (starts_search o k) 0 (last_or last (map number_of_handle (cond (asks_search o k) handles []))))
 
-abbrev row : ℕ → ℕ → Option Search → Session
+abbrev row : ℕ → ℕ → Option Search → SessionRow
 row k flags search = record { handle = k; flags = flags; search = search }
 
 same_number : (k s : ℕ) (t : Bool) → k == s ≡ t → s == k ≡ t
@@ -41,39 +37,39 @@ same_number k s false e = ne_eqb s k (λ same. eqb-false k s e (sym same))
 
 module _ (e : Entry) (h : History) where
   search_of-step : (k : ℕ) (o : Option Call) → done e ≡ o
-      → search_of (e ∷ h) k ≡ search_step o (matching_objects (e ∷ h) (search_template o)) (handles_in e.reply.body) k (is_searching h k) (found_objects h k) (last_number h k)
+      → search_of (e ◁ h) k ≡ search_step o (matching_objects (e ◁ h) (search_template o)) (handles_in e.reply.body) k (is_searching h k) (found_objects h k) (last_number h k)
   search_of-step k o d =
-      ap (λ x. search_step x (matching_objects (e ∷ h) (search_template x)) (handles_in e.reply.body) k (is_searching h k) (found_objects h k) (last_number h k)) d
+      ap (λ x. search_step x (matching_objects (e ◁ h) (search_template x)) (handles_in e.reply.body) k (is_searching h k) (found_objects h k) (last_number h k)) d
 
-  search_of-left : leaves_searches (done e) ≡ true → (k : ℕ) → search_of (e ∷ h) k ≡ search_of h k
+  search_of-left : (effects e).operations ≡ false → (k : ℕ) → search_of (e ◁ h) k ≡ search_of h k
   search_of-left l k =
-      ap (λ t. active_search t (found_objects (e ∷ h) k) (last_number (e ∷ h) k)) (is_searching-left e h l k)
-      ∙ ap (λ f. active_search (is_searching h k) f (last_number (e ∷ h) k)) (found_objects-left e h l k)
+      ap (λ t. active_search t (found_objects (e ◁ h) k) (last_number (e ◁ h) k)) (is_searching-left e h l k)
+      ∙ ap (λ f. active_search (is_searching h k) f (last_number (e ◁ h) k)) (found_objects-left e h l k)
       ∙ ap (active_search (is_searching h k) (found_objects h k)) (last_number-left e h l k)
 
   -- ---- one session's row
 
-  row-moved : (k : ℕ) (search : Option Search) → opens (done e) ≡ false → search_of (e ∷ h) k ≡ search → session_row (e ∷ h) k ≡ row k (flags_of h k) search
-  row-moved k search o s = ap (λ f. row k f (search_of (e ∷ h) k)) (flags_of-later e h o k) ∙ ap (row k (flags_of h k)) s
+  row-moved : (k : ℕ) (search : Option Search) → opens (done e) ≡ false → search_of (e ◁ h) k ≡ search → session_row (e ◁ h) k ≡ row k (flags_of h k) search
+  row-moved k search o s = ap (λ f. row k f (search_of (e ◁ h) k)) (flags_of-later e h o k) ∙ ap (row k (flags_of h k)) s
 
   -- a call that opens nothing and leaves searches
-  pub row-left : opens (done e) ≡ false → leaves_searches (done e) ≡ true → (k : ℕ) → session_row (e ∷ h) k ≡ session_row h k
+  pub row-left : opens (done e) ≡ false → (effects e).operations ≡ false → (k : ℕ) → session_row (e ◁ h) k ≡ session_row h k
   row-left o l k = row-moved k (search_of h k) o (search_of-left l k)
 
   -- an opening: the sessions before it, and the new one
   module _ (flags : ℕ) (d : done e ≡ Some (call.OpenSession flags)) where
-    pub row-below : (k : ℕ) → k ≤ openings h → session_row (e ∷ h) k ≡ session_row h k
+    pub row-below : (k : ℕ) → k ≤ openings h → session_row (e ◁ h) k ≡ session_row h k
     row-below k below =
-        ap (λ f. row k f (search_of (e ∷ h) k)) (flags_of-below e h flags d k below) ∙ ap (row k (flags_of h k)) (search_of-left (ap leaves_searches d) k)
+        ap (λ f. row k f (search_of (e ◁ h) k)) (flags_of-below e h flags d k below) ∙ ap (row k (flags_of h k)) (search_of-left (ap (λ o. (effects_of o).operations) d) k)
 
-    pub row-opened : is_searching h (suc (openings h)) ≡ false → session_row (e ∷ h) (suc (openings h)) ≡ row (suc (openings h)) flags None
+    pub row-opened : is_searching h (suc (openings h)) ≡ false → session_row (e ◁ h) (suc (openings h)) ≡ row (suc (openings h)) flags None
     row-opened none =
         let n = suc (openings h) in
-        ap (λ f. row n f (search_of (e ∷ h) n)) (flags_of-opened e h flags d)
-        ∙ ap (row n flags) (search_of-left (ap leaves_searches d) n ∙ ap (λ t. active_search t (found_objects h n) (last_number h n)) none)
+        ap (λ f. row n f (search_of (e ◁ h) n)) (flags_of-opened e h flags d)
+        ∙ ap (row n flags) (search_of-left (ap (λ o. (effects_of o).operations) d) n ∙ ap (λ t. active_search t (found_objects h n) (last_number h n)) none)
 
   -- the closing of another session
-  pub row-other : (session : ℕ) → done e ≡ Some (call.CloseSession session) → (k : ℕ) → (is_open h k && not (closes (done e) k)) ≡ true → session_row (e ∷ h) k ≡ session_row h k
+  pub row-other : (session : ℕ) → done e ≡ Some (call.CloseSession session) → (k : ℕ) → (is_open h k && not (closes (done e) k)) ≡ true → session_row (e ◁ h) k ≡ session_row h k
   row-other session d k passes =
       let other : session == k ≡ false = not-true (session == k) ((and_parts (is_open h k) _ (subst (λ o. (is_open h k && not (closes o k)) ≡ true) d passes)).1) in
       row-moved k (search_of h k) (ap opens d)
@@ -81,17 +77,17 @@ module _ (e : Entry) (h : History) where
       ∙ ap (λ t. active_search (cond t false (is_searching h k)) (found_objects h k) (last_number h k)) other)
 
   -- a logout
-  pub row-logged_out : (session : ℕ) → done e ≡ Some (call.Logout session) → (k : ℕ) → session_row (e ∷ h) k ≡ with_search None (session_row h k)
+  pub row-logged_out : (session : ℕ) → done e ≡ Some (call.Logout session) → (k : ℕ) → session_row (e ◁ h) k ≡ with_search None (session_row h k)
   row-logged_out session d k = row-moved k None (ap opens d) (search_of-step k (Some (call.Logout session)) d)
 
   -- ---- the rows after a call about the search of one session
 
-  module _ (c : Call) (d : done e ≡ Some c) (o : opens (Some c) ≡ false) (cl : (s : ℕ) → closes (Some c) s ≡ false) (session : ℕ) (change : Session → Session)
-      (here : (k : ℕ) → session == k ≡ true → session_row (e ∷ h) k ≡ change (session_row h k))
-      (there : (k : ℕ) → session == k ≡ false → session_row (e ∷ h) k ≡ session_row h k) where
-    pub session_rows-searched : change_first (is_session session) change (session_rows session_row h) ≡ session_rows session_row (e ∷ h)
+  module _ (c : Call) (d : done e ≡ Some c) (o : opens (Some c) ≡ false) (cl : (s : ℕ) → closes (Some c) s ≡ false) (session : ℕ) (change : SessionRow → SessionRow)
+      (here : (k : ℕ) → session == k ≡ true → session_row (e ◁ h) k ≡ change (session_row h k))
+      (there : (k : ℕ) → session == k ≡ false → session_row (e ◁ h) k ≡ session_row h k) where
+    pub session_rows-searched : change_first (is_session session) change (session_rows session_row h) ≡ session_rows session_row (e ◁ h)
     session_rows-searched =
-        selected-replaced (is_session session) change (is_open h) (session_row h) (session_row (e ∷ h)) (openings h)
+        selected-replaced (is_session session) change (is_open h) (session_row h) (session_row (e ◁ h)) (openings h)
         (λ j k bj bk nj nk. eqb-true j session nj ∙ sym (eqb-true k session nk))
         (λ k b is n. here k (same_number k session true n)) (λ k b n. there k (same_number k session false n))
         ∙ sym (session_rows-changed e h (ap opens d ∙ o) session_row (λ s. ap (λ x. closes x s) d ∙ cl s))
@@ -99,77 +95,61 @@ module _ (e : Entry) (h : History) where
   -- ---- a search starts
 
   module _ (session : ℕ) (template : Template) (found : List ℕ) (d : done e ≡ Some (call.FindObjectsInit session template)) where
-    started-here : found ≡ matching_objects (e ∷ h) template.items → (k : ℕ) → session == k ≡ true
-        → session_row (e ∷ h) k ≡ with_search (Some (record { found = found; last = 0 })) (session_row h k)
+    started-here : found ≡ matching_objects (e ◁ h) template.items → (k : ℕ) → session == k ≡ true
+        → session_row (e ◁ h) k ≡ with_search (Some (record { found = found; last = 0 })) (session_row h k)
     started-here matching k same =
         row-moved k (Some (record { found = found; last = 0 })) (ap opens d)
         (search_of-step k (Some (call.FindObjectsInit session template)) d
-        ∙ ap (λ t. active_search (cond t true (is_searching h k)) (cond t (matching_objects (e ∷ h) template.items) (found_objects h k)) (cond t 0 (last_number h k))) same
+        ∙ ap (λ t. active_search (cond t true (is_searching h k)) (cond t (matching_objects (e ◁ h) template.items) (found_objects h k)) (cond t 0 (last_number h k))) same
         ∙ ap (λ f. active_search true f 0) (sym matching))
 
-    started-there : (k : ℕ) → session == k ≡ false → session_row (e ∷ h) k ≡ session_row h k
+    started-there : (k : ℕ) → session == k ≡ false → session_row (e ◁ h) k ≡ session_row h k
     started-there k other =
         row-moved k (search_of h k) (ap opens d)
         (search_of-step k (Some (call.FindObjectsInit session template)) d
-        ∙ ap (λ t. active_search (cond t true (is_searching h k)) (cond t (matching_objects (e ∷ h) template.items) (found_objects h k)) (cond t 0 (last_number h k))) other)
+        ∙ ap (λ t. active_search (cond t true (is_searching h k)) (cond t (matching_objects (e ◁ h) template.items) (found_objects h k)) (cond t 0 (last_number h k))) other)
 
     pub session_rows-started : found ≡ matching_objects h template.items
-        → change_first (is_session session) (with_search (Some (record { found = found; last = 0 }))) (session_rows session_row h) ≡ session_rows session_row (e ∷ h)
+        → change_first (is_session session) (with_search (Some (record { found = found; last = 0 }))) (session_rows session_row h) ≡ session_rows session_row (e ◁ h)
     session_rows-started matching =
         session_rows-searched (call.FindObjectsInit session template) d refl (λ s. refl) session (with_search (Some (record { found = found; last = 0 })))
-        (started-here (matching ∙ sym (matching_objects-left e h (ap leaves_objects d) (ap leaves_sessions d) template.items))) started-there
+        (started-here (matching ∙ sym (matching_objects-left e h (ap (λ o. (effects_of o).objects) d) (ap (λ o. (effects_of o).sessions) d) template.items))) started-there
 
-  -- ---- a search hands out
+  -- ---- a search returns objects
 
   module _ (session max : ℕ) (d : done e ≡ Some (call.FindObjects session max)) where
-    abbrev handed_search : Bool → Bool → List ℕ → List ℕ → ℕ → Option Search
-    handed_search t active handles found last = active_search active found (last_or last (map number_of_handle (cond t handles [])))
+    abbrev found_search : Bool → Bool → List ℕ → List ℕ → ℕ → Option Search
+    found_search t active handles found last = active_search active found (last_or last (map number_of_handle (cond t handles [])))
 
-    handed-there : (k : ℕ) → session == k ≡ false → session_row (e ∷ h) k ≡ session_row h k
-    handed-there k other =
+    found-there : (k : ℕ) → session == k ≡ false → session_row (e ◁ h) k ≡ session_row h k
+    found-there k other =
         row-moved k (search_of h k) (ap opens d)
         (search_of-step k (Some (call.FindObjects session max)) d
-        ∙ ap (λ t. handed_search t (is_searching h k) (handles_in e.reply.body) (found_objects h k) (last_number h k)) other)
+        ∙ ap (λ t. found_search t (is_searching h k) (handles_in e.reply.body) (found_objects h k) (last_number h k)) other)
 
     last_step : (active : Bool) (found : List ℕ) (last n after : ℕ) → after ≡ n
-        → active_search active found after ≡ option_map (λ (s : Search). record s { last = n }) (active_search active found last)
+        → active_search active found after ≡ option_map (with_last n) (active_search active found last)
     last_step true found last n after same = ap (λ l. Some (record { found = found; last = l })) same
     last_step false found last n after same = refl
 
-    handed-here : (n : ℕ) → ((before : ℕ) → last_or before (map number_of_handle (handles_in e.reply.body)) ≡ n) → (k : ℕ) → session == k ≡ true
-        → session_row (e ∷ h) k ≡ with_last n (session_row h k)
-    handed-here n last k same =
-        row-moved k (option_map (λ (s : Search). record s { last = n }) (search_of h k)) (ap opens d)
+    found-here : (n : ℕ) → n ≡ last_or (last_number h session) (map number_of_handle (handles_in e.reply.body)) → (k : ℕ) → session == k ≡ true
+        → session_row (e ◁ h) k ≡ with_last_found n (session_row h k)
+    found-here n last k same =
+        row-moved k (option_map (with_last n) (search_of h k)) (ap opens d)
         (search_of-step k (Some (call.FindObjects session max)) d
-        ∙ ap (λ t. handed_search t (is_searching h k) (handles_in e.reply.body) (found_objects h k) (last_number h k)) same
-        ∙ last_step (is_searching h k) (found_objects h k) (last_number h k) n (last_or (last_number h k) (map number_of_handle (handles_in e.reply.body))) (last (last_number h k)))
+        ∙ ap (λ t. found_search t (is_searching h k) (handles_in e.reply.body) (found_objects h k) (last_number h k)) same
+        ∙ last_step (is_searching h k) (found_objects h k) (last_number h k) n (last_or (last_number h k) (map number_of_handle (handles_in e.reply.body)))
+        (ap (λ s. last_or (last_number h s) (map number_of_handle (handles_in e.reply.body))) (sym (eqb-true session k same)) ∙ sym last))
 
-    pub session_rows-handed : (n : ℕ) → ((before : ℕ) → last_or before (map number_of_handle (handles_in e.reply.body)) ≡ n)
-        → change_first (is_session session) (with_last n) (session_rows session_row h) ≡ session_rows session_row (e ∷ h)
-    session_rows-handed n last =
-        session_rows-searched (call.FindObjects session max) d refl (λ s. refl) session (with_last n) (handed-here n last) handed-there
-
-    -- nothing is handed out
-    handed-none : handles_in e.reply.body ≡ [] → (k : ℕ) → session_row (e ∷ h) k ≡ session_row h k
-    handed-none none k =
-        row-moved k (search_of h k) (ap opens d)
-        (search_of-step k (Some (call.FindObjects session max)) d
-        ∙ ap (λ hs. handed_search (session == k) (is_searching h k) hs (found_objects h k) (last_number h k)) none
-        ∙ none_step (session == k))
-      where
-        none_step : (t : Bool) → handed_search t (is_searching h k) [] (found_objects h k) (last_number h k) ≡ search_of h k
-        none_step true = refl
-        none_step false = refl
-
-    pub session_rows-none_handed : handles_in e.reply.body ≡ [] → session_rows session_row h ≡ session_rows session_row (e ∷ h)
-    session_rows-none_handed none =
-        selected-same (is_open h) (is_open h) (session_row h) (session_row (e ∷ h)) (openings h) (λ k b. refl) (λ k b. sym (handed-none none k))
-        ∙ sym (session_rows-changed e h (ap opens d) session_row (λ s. ap (λ x. closes x s) d))
+    pub session_rows-found : (n : ℕ) → n ≡ last_or (last_number h session) (map number_of_handle (handles_in e.reply.body))
+        → change_first (is_session session) (with_last_found n) (session_rows session_row h) ≡ session_rows session_row (e ◁ h)
+    session_rows-found n last =
+        session_rows-searched (call.FindObjects session max) d refl (λ s. refl) session (with_last_found n) (found-here n last) found-there
 
   -- ---- a search ends
 
   module _ (session : ℕ) (d : done e ≡ Some (call.FindObjectsFinal session)) where
-    ended_step : (k : ℕ) (t : Bool) → session == k ≡ t → search_of (e ∷ h) k ≡ cond t None (search_of h k)
+    ended_step : (k : ℕ) (t : Bool) → session == k ≡ t → search_of (e ◁ h) k ≡ cond t None (search_of h k)
     ended_step k t same =
         search_of-step k (Some (call.FindObjectsFinal session)) d
         ∙ ap (λ t. active_search (cond t false (is_searching h k)) (found_objects h k) (last_number h k)) same
@@ -179,43 +159,13 @@ module _ (e : Entry) (h : History) where
         ended_case true = refl
         ended_case false = refl
 
-    pub session_rows-ended : change_first (is_session session) (with_search None) (session_rows session_row h) ≡ session_rows session_row (e ∷ h)
+    pub session_rows-ended : change_first (is_session session) (with_search None) (session_rows session_row h) ≡ session_rows session_row (e ◁ h)
     session_rows-ended =
         session_rows-searched (call.FindObjectsFinal session) d refl (λ s. refl) session (with_search None)
         (λ k same. row-moved k None (ap opens d) (ended_step k true same)) (λ k other. row-moved k (search_of h k) (ap opens d) (ended_step k false other))
 
--- ---- the last handle
-
-place-cons : (x y : ℕ) (handles : List ℕ) → length (x ∷ (y ∷ handles)) - 1 ≡ suc (length (y ∷ handles) - 1)
-place-cons x y handles = omega arith
-
--- that of a list with a last one, whatever was before
-pub last_or-last : (handles : List ℕ) (handle : ℕ) → Some handle ≡ slice_get handles (length handles - 1) → (before : ℕ)
-    → last_or before (map number_of_handle handles) ≡ number_of_handle handle
-last_or-last [] handle e before = cc
-last_or-last (x ∷ []) handle e before = ap number_of_handle (sym (same_Some handle x e))
-last_or-last (x ∷ (y ∷ handles)) handle e before =
-    last_or-last (y ∷ handles) handle (subst (λ n. Some handle ≡ slice_get (x ∷ (y ∷ handles)) n) (place-cons x y handles) e) (number_of_handle x)
-
-pub no_last : (handles : List ℕ) → None ≡ slice_get handles (length handles - 1) → handles ≡ []
-no_last [] e = refl
-no_last (x ∷ []) e = cc
-no_last (x ∷ (y ∷ handles)) e =
-    let none = no_last (y ∷ handles) (subst (λ n. None ≡ slice_get (x ∷ (y ∷ handles)) n) (place-cons x y handles) e) in
-    cc
-
--- ---- one row changed in its place
-
-pub with_last-some : (x : Session) (s : Search) (number : ℕ) → x.search ≡ Some s
-    → record { handle = x.handle; flags = x.flags; search = Some (record { found = s.found; last = number }) } ≡ with_last number x
-with_last-some x s number e = ap (λ (o : Option Search). row x.handle x.flags (option_map (λ (s : Search). record s { last = number }) o)) (sym e)
-
-pub with_last-none : (x : Session) (number : ℕ) → x.search ≡ None → record { handle = x.handle; flags = x.flags; search = x.search } ≡ with_last number x
-with_last-none x number e =
-    ap (row x.handle x.flags) e ∙ ap (λ (o : Option Search). row x.handle x.flags (option_map (λ (s : Search). record s { last = number }) o)) (sym e)
-
 -- all rows written over
-pub written_over : (change : Session → Session) (n : ℕ) (new old items : List Session) → new ≡ map change old → old ≡ items → length old ≡ n
+pub written_over : (change : SessionRow → SessionRow) (n : ℕ) (new old items : List SessionRow) → new ≡ map change old → old ≡ items → length old ≡ n
     → take n (new ++ drop (length new) items) ≡ map change items
 written_over change n new old items is same count =
     let all : length new ≡ length items = ap length is ∙ length-map old change ∙ ap length same in

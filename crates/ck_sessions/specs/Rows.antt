@@ -1,5 +1,6 @@
 -- A session as contracts see it
 use Rattle.std.specs.Prelude.{ℕ, Bool, List, Option, ◌==◌, not, option_map}
+use Rattle.std.specs.Option.{option_map_or}
 use Rattle.ck_journal.specs.Sessions.{has_rw_flag}
 
 -- a search: the numbers of the objects that it found when it started, and the number of the object that it returned last,
@@ -22,6 +23,10 @@ is_rw_row row = has_rw_flag row.flags
 
 abbrev pub is_read_only_row : SessionRow → Bool
 is_read_only_row row = not (has_rw_flag row.flags)
+
+-- the number of the object that the session's search, if it has one, returned last
+abbrev pub last_found : SessionRow → ℕ
+last_found row = option_map_or (λ (s : Search). s.last) row.search 0
 
 -- the session with this search, or none
 abbrev pub with_search : Option Search → SessionRow → SessionRow

@@ -1,10 +1,10 @@
-ghost use Rattle.std.specs.Prelude.{◌≡◌, ℕ, None, is_some};
+ghost use Rattle.std.specs.Prelude.{◌≡◌, ℕ, true, None, is_some};
 ghost use Rattle.std.specs.Option.{option_copied};
 ghost use Rattle.ck_journal.specs.Histories.{History};
-ghost use Rattle.ck_journal.specs.Searches.{is_searching};
+ghost use Rattle.ck_journal.specs.Searches.{is_searching, last_number};
 ghost use Rattle.ck_journal.specs.Sessions.{has_rw_flag};
 ghost use Rattle.ck_sessions.specs.Agreement.{session_row, search_left};
-ghost use Rattle.ck_sessions.specs.Rows.{is_session, with_search, with_last_found};
+ghost use Rattle.ck_sessions.specs.Rows.{is_session, last_found, with_search, with_last_found};
 
 use crate::searches::Search;
 use std::marker::Model;
@@ -77,6 +77,18 @@ impl Session {
         }
     }
 
+    /// The number of the object that its search returned last, 0 where none.
+    pub fn last_found(&self) -> u64
+        ensures value { result ≡ last_found self.now }
+        ensures last { (h : History) (s : ℕ) → self.now ≡ session_row h s → is_searching h s ≡ true
+            → result ≡ last_number h s }
+    {
+        match &self.search {
+            None => 0,
+            Some(search) => search.last(),
+        }
+    }
+
     /// Gives it this search, or none.
     pub(crate) fn set_search(&mut self, search: Option<Search>)
         ensures { self.new ≡ with_search search self.old }
@@ -85,7 +97,7 @@ impl Session {
     }
 
     /// Notes the number of the object that its search, if it has one, returned last.
-    pub(crate) fn note_last(&mut self, number: u64)
+    pub(crate) fn set_last_found(&mut self, number: u64)
         ensures { self.new ≡ with_last_found number self.old }
     {
         if let Some(search) = &mut self.search {

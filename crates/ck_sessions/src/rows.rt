@@ -1,4 +1,4 @@
-ghost use Rattle.std.specs.Prelude.{◌≡◌, not, filter, find, length, map, position, vec_capacity, None};
+ghost use Rattle.std.specs.Prelude.{◌≡◌, not, filter, find, length, map, position, None};
 ghost use Rattle.std.specs.List.{list_any};
 ghost use Rattle.std.specs.Option.{option_copied};
 ghost use Rattle.ck_journal.specs.Lists.{change_first};
@@ -50,12 +50,12 @@ pub(crate) fn set_search(rows: &mut Vec<Session>, session: u64, search: Option<S
 }
 
 /// Notes the number of the object that the session's search returned last.
-pub(crate) fn note_last(rows: &mut Vec<Session>, session: u64, number: u64)
+pub(crate) fn set_last_found(rows: &mut Vec<Session>, session: u64, number: u64)
     ensures { rows.new.items ≡ change_first (is_session session) (with_last_found number) rows.old.items }
 {
     if let Some(place) = place_of(rows.as_slice(), session) {
         let row = &mut rows[place];
-        row.note_last(number);
+        row.set_last_found(number);
     }
 }
 

@@ -39,6 +39,13 @@ impl Search {
         &found[place..]
     }
 
+    /// The number of the object that it returned last, 0 where none.
+    pub(crate) fn last(&self) -> u64
+        ensures { result ≡ self.now.last }
+    {
+        self.last
+    }
+
     /// Notes the number of the object that it returned last.
     pub(crate) fn set_last(&mut self, number: u64)
         ensures { self.new ≡ with_last number self.old }

@@ -1,11 +1,10 @@
 use crate::credentials::{Credential, NO_PIN};
 use crate::open_sessions::Session;
 use crate::rows::{
-    count_read_write, end_searches, find_session, has_read_only, note_last, remove_session,
+    count_read_write, end_searches, find_session, has_read_only, remove_session, set_last_found,
     set_search,
 };
 use crate::searches::Search;
-use ck_journal::number_of_handle;
 use ck_types::{NoMemory, Pin, UserType};
 use std::alloc::Global;
 use std::marker::Model;
@@ -42,7 +41,7 @@ impl Model for Sessions {
 }
 
 impl Sessions {
-    ghost use Rattle.std.specs.Prelude.{◌≡◌, ◌+◌, ◌<◌, ◌^◌, ℕ, suc, true, false, not, Some, None, OnOk, IsOk, is_some, length};
+    ghost use Rattle.std.specs.Prelude.{◌≡◌, ◌+◌, ◌<◌, ◌^◌, ℕ, suc, true, false, not, Some, None, OnOk, IsOk, is_some, length, map};
     ghost use Rattle.std.specs.List.{list_any};
     ghost use Rattle.std.specs.Option.{option_copied};
     ghost use Rattle.ck_types.specs.Users.{user_of};
@@ -52,7 +51,7 @@ impl Sessions {
     ghost use Rattle.ck_journal.specs.Bases.{empty_base};
     ghost use Rattle.ck_journal.specs.Histories.{History, start, ◌◁◌, done, wrong_try};
     ghost use Rattle.ck_journal.specs.Pins.{is_initialized, present_pin, tries, pin_owner, about};
-    ghost use Rattle.ck_journal.specs.Searches.{is_searching, matching_objects, handles_in};
+    ghost use Rattle.ck_journal.specs.Searches.{is_searching, matching_objects, number_of_handle, handles_in, last_or, last_number};
     ghost use Rattle.ck_journal.specs.Sessions.{openings, is_open, open_sessions, is_read_write, rw_sessions, login, user_logins, state_of};
     ghost use Rattle.ck_journal.specs.declared.calls.Call.TheVariants as call;
     ghost use Rattle.ck_journal.specs.declared.calls.Entry.{Entry};
@@ -257,15 +256,13 @@ impl Sessions {
         set_search(&mut self.rows, session, Some(Search::new(found)));
     }
 
-    /// Notes that the session's search returns these handles: the last of them, where there is one.
-    pub fn note_found(&mut self, session: u64, handles: &[u64])
+    /// Notes the number of the object that the session's search returned last.
+    pub fn advance_search(&mut self, session: u64, number: u64)
         ensures agree { (h : History) (e : Entry) (max : ℕ) → done e ≡ Some (call.FindObjects session max)
-            → handles.now ≡ handles_in e.reply.body
+            → number ≡ last_or (last_number h session) (map number_of_handle (handles_in e.reply.body))
             → SessionsAgree h self.old → SessionsAgree (e ◁ h) self.new }
     {
-        if let Some(handle) = handles.last() {
-            note_last(&mut self.rows, session, number_of_handle(*handle));
-        }
+        set_last_found(&mut self.rows, session, number);
     }
 
     /// Ends the session's search.

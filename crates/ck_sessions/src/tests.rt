@@ -111,10 +111,7 @@ fn searches(rt: HostRuntime) -> Result<(), Fail> {
     let none: &[u64] = &[];
     assert_eq!(rt; left(&sessions, 1), Some(all));
     assert_eq!(rt; left(&sessions, 2), Some(none));
-    // private handles after two logins, of the objects 2 and 5
-    sessions.note_found(1, &[0x2_0000_0002, 0x2_0000_0005]);
-    assert_eq!(rt; left(&sessions, 1), Some(&all[3..]));
-    sessions.note_found(1, &[]);
+    sessions.advance_search(1, 5);
     assert_eq!(rt; left(&sessions, 1), Some(&all[3..]));
     sessions.end_search(1);
     assert_eq!(rt; left(&sessions, 1), None);

@@ -1,13 +1,16 @@
+use Rattle.std.proofs.Common.{◌∙◌, ap, set}
 use Rattle.ck_sessions.specs.Rows.{is_session, with_search}
 use Rattle.ck_journal.proofs.Changes.{change_first-place, change_first-no_place}
 use Rattle.ck_sessions.proofs.rows.set_search.Goals as goal
 
-pub returns-in-Some-clause-rows : goal.returns-in-Some-clause-rows
-returns-in-Some-clause-rows c =
-    change_first-place (is_session c.args.session) (with_search c.args.search) c.args.rows.now.items c.in-Some.place
-    c.index_mut.result.now (rw c.as_slice.ensures.value at c.in-Some.ensures) c.index_mut.ensures.value
+pub returns-in-Some : goal.returns-in-Some
+returns-in-Some c =
+    ap (set c.args.rows.now.items c.in-Some.place) c.set_search.ensures
+    ∙ change_first-place (is_session c.args.session) (with_search c.args.search) c.args.rows.now.items
+    c.in-Some.place c.index_mut-row.result.now (rw c.as_slice.ensures.value at c.in-Some.ensures)
+    c.index_mut-row.ensures.value
 
-pub returns-in_default-clause-rows : goal.returns-in_default-clause-rows
-returns-in_default-clause-rows c =
+pub returns-in_default : goal.returns-in_default
+returns-in_default c =
     change_first-no_place (is_session c.args.session) (with_search c.args.search) c.args.rows.now.items
     (rw c.as_slice.ensures.value at c.in_default.ensures)

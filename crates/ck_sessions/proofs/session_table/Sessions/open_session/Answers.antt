@@ -2,6 +2,8 @@ use Rattle.std.proofs.Common.{refl}
 use Rattle.ck_sessions.proofs.Moves.{SessionsAgree-opened}
 use Rattle.ck_sessions.proofs.session_table.Sessions.open_session.Goals as goal
 
-pub returns-clause-agree : goal.returns-clause-agree
-returns-clause-agree c = λ h e d none agree.
-    SessionsAgree-opened h _ (rw (← c.self.view_is) at agree) e c.args.flags _ d none (rw c.unwrap.ensures at c.push.ensures.items) refl refl refl refl refl
+pub returns : goal.returns
+returns c = record {
+  agree = λ h e d none agree.
+      SessionsAgree-opened h _ (rw (← c.self.view_is) at agree) e c.args.flags _ d none (rw (c.unwrap.ensures, c.new-session.ensures) at c.push.ensures.items) refl refl refl refl refl;
+}
