@@ -111,10 +111,10 @@ module _ (limits : Ranges) where
       → logs_user_in (Some c) ≡ true → user_logins h < limits.logins
   login-free h (call.Login session number pin) p one =
       let known = last-passes (known_login_error limits h (user_of number) pin)
-          (later-passes (session_error h session) _ p) in
+      (later-passes (session_error h session) _ p) in
       let checks : user_login_error limits h user.User pin ≡ None =
-          subst (λ n. known_login_error limits h (user_of n) pin ≡ None)
-          (eqb-true number 1 one) known in
+      subst (λ n. known_login_error limits h (user_of n) pin ≡ None)
+      (eqb-true number 1 one) known in
       count-free limits.logins (user_logins h) rv_error.DeviceMemory
       (last-passes (logins_error limits user.User h)
       (later-passes (pin_error user.User h pin) _
@@ -146,7 +146,7 @@ module _ (limits : Ranges) where
       (later-passes (session_error h session) _ p))))
   creation-free h (call.CopyObject session object template) p t =
       let found = object-found (attributes_named h object) _ rv_error.ObjectHandleInvalid
-          (last-passes (object_error h object _) (later-passes (session_error h session) _ p)) in
+      (last-passes (object_error h object _) (later-passes (session_error h session) _ p)) in
       count-free limits.creations (creations h) rv_error.DeviceMemory
       (last-passes (creations_error limits h)
       (later-passes (placement_error h session (placement_of (with_given template.items found.0))) _
@@ -480,11 +480,11 @@ module _ (limits : Ranges) (flag : Attribute)
       unless-ends (names_with (view_of h) a object n) a b flag e
   call-keeps h (call.SetAttributeValue session object template) p n creator a b e =
       let found = object-found (attributes_named h object) _ rv_error.ObjectHandleInvalid
-          (last-passes (object_error h object _) (later-passes (session_error h session) _ p)) in
+      (last-passes (object_error h object _) (later-passes (session_error h session) _ p)) in
       let passes = last-passes
-          (changed_error (class_of found.0) (protections_of found.0) template.items)
-          (later-passes (prohibited_error attribute.Modifiable found.0) _
-          (later-passes (read_only_session_error h session (placement_of found.0)) _ found.1)) in
+      (changed_error (class_of found.0) (protections_of found.0) template.items)
+      (later-passes (prohibited_error attribute.Modifiable found.0) _
+      (later-passes (read_only_session_error h session (placement_of found.0)) _ found.1)) in
       where-named (names_with (view_of h) a object n) (with_given template.items a) a b flag
       (kept (class_of found.0) (protections_of found.0) template.items a passes) e
   call-keeps h (call.InitToken pin) p n creator a b e = cc

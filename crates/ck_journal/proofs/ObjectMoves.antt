@@ -5,13 +5,12 @@ use Rattle.std.specs.List.{cons_option}
 use Rattle.std.proofs.lemmas.Bool.{eqb-true}
 use Rattle.std.proofs.lemmas.List.Elements.{All-head, All-tail}
 use Rattle.ck_types.specs.declared.items.Item.{Item}
-use Rattle.ck_journal.specs.declared.bases.Base.{Base}
 use Rattle.ck_journal.specs.declared.bases.KeptObject.{KeptObject}
 use Rattle.ck_journal.specs.declared.calls.Call.{Call}
 use Rattle.ck_journal.specs.declared.calls.Call.TheVariants as call
 use Rattle.ck_journal.specs.declared.calls.Entry.{Entry}
 use Rattle.ck_journal.specs.declared.views.View.{View}
-use Rattle.ck_journal.specs.Bases.{kept_attributes, IsCreated, IsSound}
+use Rattle.ck_journal.specs.Bases.{IsCreated, IsSound}
 use Rattle.ck_journal.specs.Histories.{History, start, ◌◁◌, start_of, done, effects, effects_of}
 use Rattle.ck_journal.specs.Objects.{creates, creations, creation_session, session_of, creation_attributes, object_after, object_at, view_of, attributes_named}
 use Rattle.ck_journal.specs.Sessions.{numbers}

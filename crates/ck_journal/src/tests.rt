@@ -77,13 +77,25 @@ fn base_of_a_new_token(rt: HostRuntime) -> Result<(), Fail> {
 fn copies_of_replies(rt: HostRuntime) -> Result<(), Fail> {
     let alloc = rt.alloc();
     let value = Bytes::from_slice(alloc, [1, 2].as_slice())?;
-    let answers = vec![in alloc; Answer::Value(value), Answer::Length(3), Answer::Unavailable]?;
+    let answers = vec![in alloc;
+        Answer::Value(value),
+        Answer::Length(3),
+        Answer::Unavailable,
+    ]?;
     let handles = Vec::from_slice(alloc, [2, 0x1_0000_0003].as_slice())?;
     let bodies = vec![in alloc;
         Body::Empty,
         Body::Handle(7),
-        Body::Session { state: SessionState::RwUser, flags: 6 },
-        Body::Token { flags: TokenFlags::of(true, false, 1, 2), limit: 64, sessions: 3, rw_sessions: 2 },
+        Body::Session {
+            state: SessionState::RwUser,
+            flags: 6
+        },
+        Body::Token {
+            flags: TokenFlags::of(true, false, 1, 2),
+            limit: 64,
+            sessions: 3,
+            rw_sessions: 2
+        },
         Body::Attributes(Sequence::from_vec(answers)),
         Body::Handles(Sequence::from_vec(handles)),
     ]?;
@@ -93,7 +105,10 @@ fn copies_of_replies(rt: HostRuntime) -> Result<(), Fail> {
             body,
         };
         let copy = reply.duplicate(alloc)?;
-        assert_eq!(rt; format!(in alloc; "{copy:?}")?, format!(in alloc; "{reply:?}")?);
+        assert_eq!(rt;
+            format!(in alloc; "{copy:?}")?,
+            format!(in alloc; "{reply:?}")?
+        );
     }
     Ok(())
 }
