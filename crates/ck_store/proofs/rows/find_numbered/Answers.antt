@@ -1,15 +1,13 @@
-use Rattle.std.proofs.Common.{rules}
-use Rattle.std.proofs.lemmas.List.Sorted.{answers_always}
-use Rattle.ck_store.specs.declared.stores.StoredObject.{StoredObject}
-use Rattle.ck_store.proofs.Numbered.{find_numbered-at, find_numbered-none}
+use Rattle.std.proofs.Common.{◌∙◌, ap}
+use Rattle.std.specs.Option.{option_copied}
+use Rattle.ck_store.specs.Rows.{has_number}
+use Rattle.ck_store.proofs.Places.{find-place, find-no_place}
 use Rattle.ck_store.proofs.rows.find_numbered.Goals as goal
 
-pub returns-in-Ok : goal.returns-in-Ok
-returns-in-Ok c = λ rise.
-    let found = c.in-Ok.ensures.position (λ (row : StoredObject). row.number) (answers_always _ _ _ (λ f a r g called. search rules)) in
-    find_numbered-at _ rise c.args.number c.in-Ok.place c.index-rows-place.result c.in-Ok.ensures.bound c.index-rows-place.is found
+pub returns-in_err-place : goal.returns-in_err-place
+returns-in_err-place c = λ rise.
+    ap option_copied c.from_residual.ensures ∙ find-no_place (has_number c.args.number) c.args.rows.now (c.in_err-place.ensures.place rise)
 
-pub returns-in-Err : goal.returns-in-Err
-returns-in-Err c = λ rise.
-    let parted = c.in-Err.ensures.position (λ (row : StoredObject). row.number) (answers_always _ _ _ (λ f a r g called. search rules)) in
-    find_numbered-none _ rise c.args.number c.in-Err.field-0 c.in-Err.ensures.bound parted
+pub returns : goal.returns
+returns c = λ rise.
+    find-place (has_number c.args.number) c.args.rows.now c.in_ok-place.place c.index-rows-place.result (c.in_ok-place.ensures.place rise) c.index-rows-place.is

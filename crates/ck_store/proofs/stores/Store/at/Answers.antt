@@ -1,17 +1,22 @@
-use Rattle.std.proofs.Common.{◌∙◌, ap}
+use Rattle.std.proofs.Common.{Some, ◌∙◌, ap}
+use Rattle.std.specs.Option.{option_copied}
 use Rattle.std.specs.Prelude.{option_map}
-use Rattle.ck_store.specs.declared.stores.StoredObject.{StoredObject}
-use Rattle.ck_store.proofs.Moves.{numbers_rise, at-agree}
+use Rattle.ck_store.specs.Rows.{ObjectRow}
+use Rattle.ck_store.proofs.Readings.{numbers_rise, find-numbered, row_at-attributes}
 use Rattle.ck_store.proofs.stores.Store.at.Goals as goal
 
-pub returns-in-None : goal.returns-in-None
-returns-in-None c = λ h agree.
+pub returns-in_err-object : goal.returns-in_err-object
+returns-in_err-object c = λ h agree.
     let here = rw (← c.self.view_is) at agree in
-    let missing = rw c.as_slice.ensures.value at c.in-None.ensures in
-    ap (option_map (λ (row : StoredObject). row.attributes)) (missing (numbers_rise h _ here)) ∙ at-agree h _ here c.args.number
+    let missing = rw c.as_slice.ensures.value at c.in_err-object.ensures in
+    ap option_copied c.from_residual.ensures
+    ∙ ap (option_map (λ (row : ObjectRow). row.attributes)) (missing (numbers_rise h _ here) ∙ find-numbered h _ here c.args.number)
+    ∙ row_at-attributes h c.args.number
 
-pub returns-in-Some : goal.returns-in-Some
-returns-in-Some c = λ h agree.
+pub returns : goal.returns
+returns c = λ h agree.
     let here = rw (← c.self.view_is) at agree in
-    let found = rw c.as_slice.ensures.value at c.in-Some.ensures in
-    ap (option_map (λ (row : StoredObject). row.attributes)) (found (numbers_rise h _ here)) ∙ at-agree h _ here c.args.number
+    let found = rw c.as_slice.ensures.value at c.in_ok-object.ensures in
+    ap Some c.attributes.ensures
+    ∙ ap (option_map (λ (row : ObjectRow). row.attributes)) (found (numbers_rise h _ here) ∙ find-numbered h _ here c.args.number)
+    ∙ row_at-attributes h c.args.number

@@ -3,4 +3,4 @@ use Rattle.ck_store.proofs.Moves.{StoreAgrees-logged_out}
 use Rattle.ck_store.proofs.stores.Store.end_private.Goals as goal
 
 pub returns : goal.returns
-returns c = λ h e session d agree. StoreAgrees-logged_out h _ (rw (← c.self.view_is) at agree) e _ session d c.remove_private_session_objects.ensures refl
+returns c = record { agree = λ h e session d agree. StoreAgrees-logged_out h _ (rw (← c.self.view_is) at agree) e _ refl session d c.remove_private_session_objects.ensures }

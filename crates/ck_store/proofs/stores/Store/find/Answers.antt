@@ -1,6 +1,6 @@
 use Rattle.std.proofs.Common.{◌∙◌}
 use Rattle.std.proofs.lemmas.Result.{IfOk-weaker}
-use Rattle.ck_store.proofs.Moves.{matching-agree}
+use Rattle.ck_store.proofs.Readings.{matching-agree}
 use Rattle.ck_store.proofs.stores.Store.find.Goals as goal
 
 pub returns : goal.returns

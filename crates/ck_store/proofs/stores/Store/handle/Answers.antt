@@ -1,25 +1,22 @@
-use Rattle.std.proofs.Common.{◌∙◌, ap, true, false, Some}
-use Rattle.ck_store.proofs.Moves.{numbers_rise, handle-beyond, handle-found, handle-missing}
+use Rattle.std.proofs.Common.{◌∙◌, ap}
+use Rattle.std.specs.Prelude.{option_and_then}
+use Rattle.ck_journal.specs.Objects.{view_of}
+use Rattle.ck_store.specs.Rows.{visible_handle}
+use Rattle.ck_store.proofs.Readings.{numbers_rise, find-numbered, row_at-handle}
 use Rattle.ck_store.proofs.stores.Store.handle.Goals as goal
 
-pub returns-then-number-self : goal.returns-then-number-self
-returns-then-number-self c = λ h agree view. handle-beyond h _ (rw (← c.self.view_is) at agree) c.args.number c.if-number-self.true
-
-pub returns-in_err-row : goal.returns-in_err-row
-returns-in_err-row c = λ h agree view.
+pub returns-in_err-find_numbered : goal.returns-in_err-find_numbered
+returns-in_err-find_numbered c = λ h agree view.
     let here = rw (← c.self.view_is) at agree in
-    let missing = rw c.as_slice.ensures.value at c.in_err-row.ensures in
-    c.from_residual.ensures ∙ handle-missing h _ here c.args.number (missing (numbers_rise h _ here))
+    let missing = rw c.as_slice.ensures.value at c.in_err-find_numbered.ensures in
+    c.from_residual.ensures
+    ∙ ap (option_and_then (visible_handle (view_of h))) (missing (numbers_rise h _ here) ∙ find-numbered h _ here c.args.number)
+    ∙ row_at-handle h c.args.number
 
-pub returns-then-is_visible : goal.returns-then-is_visible
-returns-then-is_visible c = λ h agree view.
+pub returns : goal.returns
+returns c = λ h agree view.
     let here = rw (← c.self.view_is) at agree in
-    let found = rw c.as_slice.ensures.value at c.in_ok-row.ensures in
-    ap Some (rw view at c.handle.ensures)
-    ∙ handle-found h _ here c.args.number _ true (rw view at c.if-is_visible.ensures) (found (numbers_rise h _ here))
-
-pub returns-else-is_visible : goal.returns-else-is_visible
-returns-else-is_visible c = λ h agree view.
-    let here = rw (← c.self.view_is) at agree in
-    let found = rw c.as_slice.ensures.value at c.in_ok-row.ensures in
-    handle-found h _ here c.args.number _ false (rw view at c.if-is_visible.ensures) (found (numbers_rise h _ here))
+    let found = rw c.as_slice.ensures.value at c.in_ok-find_numbered.ensures in
+    (rw view at c.handle.ensures)
+    ∙ ap (option_and_then (visible_handle (view_of h))) (found (numbers_rise h _ here) ∙ find-numbered h _ here c.args.number)
+    ∙ row_at-handle h c.args.number
