@@ -151,8 +151,9 @@ no-value c p a items read_only fine = cases (given items (type_of a)) refl
     cases (Some value) e =
         let passes = none-given (class_error c p) (type_of a) value items fine e in
         let refused : permission_error (Some false) ≡ None =
-            subst (λ o. permission_error o ≡ None) read_only
-            (subst (λ o. permission_error (option_and_then (permission c p) o) ≡ None) (attribute_of-type_of a) passes) in
+        subst (λ o. permission_error o ≡ None) read_only
+        (subst (λ o. permission_error (option_and_then (permission c p) o) ≡ None)
+        (attribute_of-type_of a) passes) in
         cc
 
 -- its items have no fault in form, and it doesn't give the class
