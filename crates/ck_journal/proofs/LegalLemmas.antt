@@ -136,8 +136,9 @@ module _ (limits : Ranges) where
       (later-passes (error_if (not (is_initialized h)) rv_error.TokenNotRecognized) _ p))))))
   opening-free h other p t = cc
 
-  creation-free : (h : History) (c : Call) → call_error limits h c ≡ None → creates (Some c) ≡ true
-      → creations h < limits.creations
+  -- a creation that passes its checks is within the limit
+  pub creation-free : (h : History) (c : Call) → call_error limits h c ≡ None
+      → creates (Some c) ≡ true → creations h < limits.creations
   creation-free h (call.CreateObject session template) p t =
       count-free limits.creations (creations h) rv_error.DeviceMemory
       (last-passes (creations_error limits h)
