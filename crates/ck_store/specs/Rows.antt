@@ -14,7 +14,8 @@ pub record ObjectRow : Type 0 where
   pub session : Option ℕ
   pub attributes : List Item
 
--- the session that an object with these attributes belongs to, by the one that created it; a token object is nobody's
+-- the session of an object with these attributes, by the one that created it; a token object is
+-- nobody's
 abbrev pub owning_session : ℕ → List Item → Option ℕ
 owning_session session attributes = if is_session_object attributes then Some session else None
 
@@ -46,18 +47,23 @@ is_match view template row = is_match_with view template row.attributes
 -- its handle, where it is visible
 abbrev pub visible_handle : View → ObjectRow → Option ℕ
 visible_handle view row =
-    if is_visible_with view row.attributes then Some (handle_with view row.attributes row.number) else None
+    if is_visible_with view row.attributes
+    then Some (handle_with view row.attributes row.number)
+    else None
 
 -- the object of this number with other attributes; another object as it is
 abbrev pub with_attributes : ℕ → List Item → ObjectRow → ObjectRow
-with_attributes number attributes row = if has_number number row then record row { attributes = attributes } else row
+with_attributes number attributes row =
+    if has_number number row then record row { attributes = attributes } else row
 
 -- ---- lists of objects
 
 -- each number is below all later ones
 abbrev pub NumbersRise : List ObjectRow → Type 0
-NumbersRise rows = AllPairs (λ (row : ObjectRow) (later : ObjectRow). row.number < later.number) rows
+NumbersRise rows =
+    AllPairs (λ (row : ObjectRow) (later : ObjectRow). row.number < later.number) rows
 
 -- the numbers of the objects that are visible and match the template
 abbrev pub matching_numbers : View → List Item → List ObjectRow → List ℕ
-matching_numbers view template rows = map (λ (row : ObjectRow). row.number) (filter (is_match view template) rows)
+matching_numbers view template rows =
+    map (λ (row : ObjectRow). row.number) (filter (is_match view template) rows)

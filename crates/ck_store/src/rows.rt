@@ -1,4 +1,5 @@
-ghost use Rattle.std.specs.Prelude.{◌≡◌, ◌<◌, length, map, not, filter, find, position, IfOk, IfSome};
+ghost use Rattle.std.specs.Prelude.{◌≡◌, ◌<◌, length, map, not, filter, find, position};
+ghost use Rattle.std.specs.Prelude.{IfOk, IfSome};
 ghost use Rattle.std.specs.Option.{option_copied};
 ghost use Rattle.ck_store.specs.Rows.{has_number, with_attributes, NumbersRise, matching_numbers};
 ghost use Rattle.ck_store.specs.Rows.{is_of_session, is_session_row, is_private_session_row};
@@ -24,15 +25,16 @@ pub(crate) fn find_numbered(rows: &[StoredObject], number: u64) -> Option<&Store
     Some(&rows[place])
 }
 
-/// The numbers of the objects that are visible and match the template. Most searches find few objects, so room is made
-/// as they are found.
+/// The numbers of the objects that are visible and match the template. Most searches find few
+/// objects, so room is made as they are found.
 pub(crate) fn find_matching(
     alloc: Global,
     rows: &[StoredObject],
     view: View,
     template: &Template,
 ) -> Result<Vec<u64>, NoMemory>
-    ensures { IfOk result (λ numbers. numbers.items ≡ matching_numbers view template.now.items rows.now) }
+    ensures { IfOk result (λ numbers.
+        numbers.items ≡ matching_numbers view template.now.items rows.now) }
 {
     let mut numbers = Vec::new(alloc);
     for row in rows {

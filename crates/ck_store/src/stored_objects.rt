@@ -17,7 +17,11 @@ impl Model for StoredObject {
 
     ghost Value = { ObjectRow };
 
-    ghost view = { λ o. record { number = o.number; session = o.session; attributes = o.attributes } };
+    ghost view = { λ o. record {
+      number = o.number;
+      session = o.session;
+      attributes = o.attributes;
+    } };
 
     ghost invariant = { λ o. o.number < 2 ^ 32 };
 }
@@ -25,8 +29,8 @@ impl Model for StoredObject {
 impl StoredObject {
     ghost use Rattle.std.specs.Prelude.{◌≡◌, ◌<◌, ◌^◌};
     ghost use Rattle.ck_journal.specs.Objects.{is_visible_with};
-    ghost use Rattle.ck_store.specs.Rows.{object_row, is_of_session, is_session_row, is_private_session_row};
-    ghost use Rattle.ck_store.specs.Rows.{is_match, visible_handle};
+    ghost use Rattle.ck_store.specs.Rows.{is_of_session, is_session_row, is_private_session_row};
+    ghost use Rattle.ck_store.specs.Rows.{object_row, is_match, visible_handle};
 
     /// An object that the session creates.
     pub(crate) fn new(number: u64, session: u64, attributes: Record) -> StoredObject

@@ -31,7 +31,8 @@ impl Model for Store {
 }
 
 impl Store {
-    ghost use Rattle.std.specs.Prelude.{◌≡◌, ◌+◌, ◌<◌, ◌^◌, ℕ, true, None, Some, IfNone, IfOk, IfSome, OnOk};
+    ghost use Rattle.std.specs.Prelude.{◌≡◌, ◌+◌, ◌<◌, ◌^◌, ℕ, true, None, Some};
+    ghost use Rattle.std.specs.Prelude.{IfNone, IfOk, IfSome, OnOk};
     ghost use Rattle.std.specs.Option.{option_copied};
     ghost use Rattle.ck_types.specs.Records.{is_set, with_given};
     ghost use Rattle.ck_types.specs.declared.attributes.Attribute.TheVariants as attribute;
@@ -39,7 +40,8 @@ impl Store {
     ghost use Rattle.ck_types.specs.declared.templates.Template.{Template};
     ghost use Rattle.ck_journal.specs.Bases.{empty_base};
     ghost use Rattle.ck_journal.specs.Histories.{History, start, ◌◁◌, done};
-    ghost use Rattle.ck_journal.specs.Objects.{creates, creation_session, creation_attributes, creations, object_at, view_of};
+    ghost use Rattle.ck_journal.specs.Objects.{creates, creation_session, creation_attributes};
+    ghost use Rattle.ck_journal.specs.Objects.{creations, object_at, view_of};
     ghost use Rattle.ck_journal.specs.Objects.{attributes_named, named_attributes, object_named};
     ghost use Rattle.ck_journal.specs.Searches.{matching_objects};
     ghost use Rattle.ck_journal.specs.declared.calls.Call.{Call};
@@ -88,7 +90,8 @@ impl Store {
 
     /// The attributes of the object that has the number.
     pub fn at(&self, number: u64) -> Option<&Record>
-        ensures { (h : History) → StoreAgrees h self.now → option_copied result ≡ object_at h number }
+        ensures { (h : History) → StoreAgrees h self.now
+            → option_copied result ≡ object_at h number }
     {
         let object = find_numbered(self.rows.as_slice(), number)?;
         Some(object.attributes())
@@ -97,23 +100,25 @@ impl Store {
     /// The handle of the object that has the number, where it is visible.
     pub fn handle(&self, view: View, number: u64) -> Option<u64>
         requires logins { view.logins < 2 ^ 31 }
-        ensures { (h : History) → StoreAgrees h self.now → view ≡ view_of h → result ≡ handle_at h number }
+        ensures { (h : History) → StoreAgrees h self.now → view ≡ view_of h
+            → result ≡ handle_at h number }
     {
         find_numbered(self.rows.as_slice(), number)?.handle(view)
     }
 
     /// The numbers, which rise, of the objects that are visible and match the template.
     pub fn find(&self, alloc: Global, view: View, template: &Template) -> Result<Vec<u64>, NoMemory>
-        ensures { IfOk result (λ numbers. (h : History) → StoreAgrees h self.now → view ≡ view_of h
-            → numbers.items ≡ matching_objects h template.now.items) }
+        ensures { IfOk result (λ numbers. (h : History) → StoreAgrees h self.now
+            → view ≡ view_of h → numbers.items ≡ matching_objects h template.now.items) }
     {
         find_matching(alloc, self.rows.as_slice(), view, template)
     }
 
     // ---- changes, each that of a call that is answered OK
 
-    /// Makes room for one more object that the session creates. One list has the objects of all sessions, so the room is
-    /// the same for each; a store in which each session has a list of its own objects makes room in that one too.
+    /// Makes room for one more object that the session creates. One list has the objects of all
+    /// sessions, so the room is the same for each; a store in which each session has a list of its
+    /// own objects makes room in that one too.
     pub fn reserve(&mut self, _session: u64) -> Result<(), NoMemory>
         ensures agree { (h : History) → StoreAgrees h self.old → StoreAgrees h self.new }
         ensures creations { self.new.creations ≡ self.old.creations }
@@ -127,8 +132,9 @@ impl Store {
     pub fn create(&mut self, session: u64, attributes: Record)
         requires room { 0 < self.old.spare }
         requires numbers { self.old.creations + 1 < 2 ^ 32 }
-        ensures agree { (h : History) (e : Entry) (c : Call) → done e ≡ Some c → creates (Some c) ≡ true
-            → session ≡ creation_session (Some c) → attributes ≡ creation_attributes (Some c) (attributes_named h)
+        ensures agree { (h : History) (e : Entry) (c : Call) → done e ≡ Some c
+            → creates (Some c) ≡ true → session ≡ creation_session (Some c)
+            → attributes ≡ creation_attributes (Some c) (attributes_named h)
             → StoreAgrees h self.old → StoreAgrees (e ◁ h) self.new }
     {
         self.creations += 1;
@@ -139,7 +145,8 @@ impl Store {
     /// Gives the object that has the number these attributes. An object keeps its CKA_TOKEN.
     pub fn set(&mut self, number: u64, attributes: Record)
         ensures agree { (h : History) (e : Entry) (session object : ℕ) (template : Template)
-            → done e ≡ Some (call.SetAttributeValue session object template) → object_named h object ≡ Some number
+            → done e ≡ Some (call.SetAttributeValue session object template)
+            → object_named h object ≡ Some number
             → attributes ≡ with_given template.items (named_attributes h object)
             → is_set attributes attribute.Token ≡ is_set (named_attributes h object) attribute.Token
             → StoreAgrees h self.old → StoreAgrees (e ◁ h) self.new }
@@ -150,7 +157,8 @@ impl Store {
     /// Ends the object that has the number.
     pub fn destroy(&mut self, number: u64)
         ensures agree { (h : History) (e : Entry) (session object : ℕ)
-            → done e ≡ Some (call.DestroyObject session object) → object_named h object ≡ Some number
+            → done e ≡ Some (call.DestroyObject session object)
+            → object_named h object ≡ Some number
             → StoreAgrees h self.old → StoreAgrees (e ◁ h) self.new }
     {
         remove_numbered(&mut self.rows, number);
@@ -182,7 +190,8 @@ impl Store {
 
     /// Ends the private session objects.
     pub fn end_private(&mut self)
-        ensures agree { (h : History) (e : Entry) (session : ℕ) → done e ≡ Some (call.Logout session)
+        ensures agree { (h : History) (e : Entry) (session : ℕ)
+            → done e ≡ Some (call.Logout session)
             → StoreAgrees h self.old → StoreAgrees (e ◁ h) self.new }
     {
         remove_private_session_objects(&mut self.rows);

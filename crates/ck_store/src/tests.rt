@@ -93,8 +93,8 @@ fn named(store: &Store, view: View, handle: u64) -> Option<(u64, u64)>
     Some((number, attributes.length(0x3)?))
 }
 
-/// Two session objects of session 1, the second private, a private token object, and a session object of session 2;
-/// their labels have 1 to 4 bytes. Where memory is refused, they are made again.
+/// Two session objects of session 1, the second private, a private token object, and a session
+/// object of session 2; their labels have 1 to 4 bytes. Where memory is refused, they are made again.
 fn filled(rt: &impl Abort, alloc: Global) -> Result<Store, Refusal> {
     match new_store(rt, alloc) {
         Err(Refusal::Memory) => new_store(rt, alloc),
@@ -202,7 +202,8 @@ fn ends_of_sessions_and_logins(rt: HostRuntime) -> Result<(), Fail> {
     Ok(())
 }
 
-/// Passes too where one growth is refused, whichever it is: `rt try --test --fail-alloc N` refuses the Nth of each test.
+/// Passes too where one growth is refused, whichever it is: `rt try --test --fail-alloc N` refuses
+/// the Nth of each test.
 #[test]
 fn searches(rt: HostRuntime) -> Result<(), Fail> {
     let alloc = rt.alloc();
