@@ -1,5 +1,7 @@
 pub mod Attributes
 pub mod Fields
+pub mod Hashes
+pub mod Mechanisms
 pub mod Pins
 pub mod Records
 pub mod ReturnCodes

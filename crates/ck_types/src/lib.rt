@@ -2,6 +2,8 @@
 #![tactic(auto)]
 
 mod attributes;
+mod hashes;
+mod mechanisms;
 mod memory;
 mod pins;
 mod records;
@@ -13,6 +15,8 @@ mod token_limits;
 mod users;
 
 pub use attributes::{Attribute, Class, Form, Purpose};
+pub use hashes::Hash;
+pub use mechanisms::{MECHANISMS, Mechanism, digest_of, mac_of};
 pub use memory::NoMemory;
 pub use pins::Pin;
 pub use records::{Record, Refusal};
