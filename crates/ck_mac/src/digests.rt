@@ -77,3 +77,14 @@ impl Clone for Running {
         Ok(Running { hasher })
     }
 }
+
+ghost use Rattle.ck_mac.specs.Digests.{digest_of};
+
+/// The digest of the message.
+pub(crate) fn digest(hash: Hash, message: &[u8]) -> Tag
+    ensures { result ≡ digest_of hash message.now }
+{
+    let mut running = Running::new(hash);
+    running.update(message);
+    running.finish()
+}

@@ -2,7 +2,9 @@
 #![tactic(auto)]
 
 mod digests;
+mod macs;
 mod tags;
 
 pub use digests::Running;
+pub use macs::Mac;
 pub use tags::Tag;

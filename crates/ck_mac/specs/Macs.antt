@@ -1,0 +1,51 @@
+-- The keyed-hash message authentication code (HMAC, FIPS 198-1) of messages that come in pieces
+use Rattle.std.specs.Prelude.{◌≡◌, ℕ, ◌-◌, ◌≤◌, List, ◌++◌, Option, Some, None, Result, Ok, Err, ◌==◌, nat_le, if◌then◌else◌, length, replicate, map, bit_xor}
+use Rattle.ck_types.specs.Attributes.{same_bytes}
+use Rattle.ck_types.specs.Hashes.{block_length, digest_length}
+use Rattle.ck_types.specs.declared.hashes.Hash.{Hash}
+use Rattle.ck_types.specs.declared.return_codes.Rv.{Rv}
+use Rattle.ck_types.specs.declared.return_codes.Rv.TheVariants as rv
+use Rattle.ck_mac.specs.Digests.{digest_of, Holds}
+use Rattle.ck_mac.specs.declared.macs.Mac.{Mac}
+
+-- the bytes, followed by zeros up to n bytes
+abbrev pub with_zeros : ℕ → List ℕ → List ℕ
+with_zeros n bytes = bytes ++ replicate (n - length bytes) 0
+
+-- the key, or its digest where it is longer than a block, followed by zeros up to the block (K0, section 4, steps 1 to 3)
+unfoldable pub block_key : Hash → List ℕ → List ℕ
+block_key h key = with_zeros (block_length h) (if nat_le (length key) (block_length h) then key else digest_of h key)
+
+-- each byte combined with the pad by exclusive or
+abbrev pub xor_each : ℕ → List ℕ → List ℕ
+xor_each pad bytes = map (λ byte. bit_xor byte pad) bytes
+
+-- what the inner and the outer digest begin with
+abbrev pub inner_key : Hash → List ℕ → List ℕ
+inner_key h key = xor_each 0x36 (block_key h key)
+
+abbrev pub outer_key : Hash → List ℕ → List ℕ
+outer_key h key = xor_each 0x5c (block_key h key)
+
+-- H((K0 xor opad) || H((K0 xor ipad) || message))
+unfoldable pub hmac : Hash → List ℕ → List ℕ → List ℕ
+hmac h key message = digest_of h (outer_key h key ++ digest_of h (inner_key h key ++ message))
+
+-- the running HMAC is of this hash function and key, its tag has so many bytes, and it has taken in the message
+pub record HoldsMac (h : Hash) (key : List ℕ) (n : ℕ) (mac : Mac) (message : List ℕ) : Type 0 where
+  pub inner : Holds h mac.inner (inner_key h key ++ message)
+  pub outer : Holds h mac.outer (outer_key h key)
+  pub len : mac.len ≡ n
+  pub fits : n ≤ digest_length h
+
+-- what a signature that is checked against a tag is refused with: its length is looked at first, then its bytes
+abbrev pub signature_error : List ℕ → List ℕ → Option Rv
+signature_error tag signature =
+    if length signature == length tag
+    then (if same_bytes signature tag then None else Some rv.SignatureInvalid)
+    else Some rv.SignatureLenRange
+
+-- the error, or OK where there is none
+abbrev pub ok_unless : Option Rv → Result (Unit {0}) Rv
+ok_unless None = Ok tt
+ok_unless (Some error) = Err error
