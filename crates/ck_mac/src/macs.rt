@@ -1,4 +1,4 @@
-ghost use Rattle.std.specs.Prelude.{◌≡◌, ◌≤◌, ℕ, List, [], ◌++◌, length, take};
+ghost use Rattle.std.specs.Prelude.{◌≡◌, ⊤, ◌≤◌, ℕ, List, [], ◌++◌, length, take};
 ghost use Rattle.ck_types.specs.Attributes.{same_bytes};
 ghost use Rattle.ck_types.specs.Hashes.{block_length, digest_length};
 ghost use Rattle.ck_types.specs.declared.hashes.Hash.{Hash};
@@ -6,6 +6,7 @@ ghost use Rattle.ck_types.specs.declared.hashes.Hash.{Hash};
 use crate::digests::{Running, digest};
 use crate::tags::{Tag, with_zeros};
 use ck_types::{Hash, Rv};
+use std::alloc::AllocError;
 
 /// The length in bytes of the longest block.
 const LONGEST_BLOCK: usize = 128;
@@ -16,7 +17,7 @@ const INNER_PAD: u8 = 0x36;
 const OUTER_PAD: u8 = 0x5c;
 
 /// The HMAC of a message that comes in pieces (FIPS 198-1), or its first bytes.
-#[derive(Drop)]
+#[derive(Debug, Drop)]
 pub struct Mac {
     /// Of the key combined with the inner pad, and then the message.
     inner: Running,
@@ -91,6 +92,21 @@ impl Mac {
             return Err(Rv::SignatureInvalid);
         }
         Ok(())
+    }
+}
+
+/// A clone takes no memory and never fails.
+impl Clone for Mac {
+    ghost is_clone = { λ mac clone. clone ≡ mac };
+
+    ghost is_infallible = { λ _. ⊤ };
+
+    fn clone(&self) -> Result<Mac, AllocError> {
+        Ok(Mac {
+            inner: self.inner.clone()?,
+            outer: self.outer.clone()?,
+            len: self.len,
+        })
     }
 }
 
