@@ -8,3 +8,6 @@ mod tags;
 pub use digests::Running;
 pub use macs::Mac;
 pub use tags::Tag;
+
+#[cfg(test)]
+mod tests;

@@ -38,6 +38,7 @@ impl Mac {
     }
 
     /// The first `n` bytes of the HMAC of the empty message under this key, of any length.
+    #[tactic(auto, unfolding(crate::specs::Macs::HoldsMac))]
     pub fn general(hash: Hash, key: &[u8], n: u64) -> Mac
         requires at_least_one { 1 ≤ n }
         requires at_most_all { n ≤ digest_length hash }
@@ -52,6 +53,7 @@ impl Mac {
     }
 
     /// Adds the bytes to the end of the message.
+    #[tactic(auto, unfolding(crate::specs::Macs::HoldsMac))]
     pub fn update(&mut self, bytes: &[u8])
         ensures { (hash : Hash) (key : List ℕ) (n : ℕ) (message : List ℕ)
             → HoldsMac hash key n self.old message → HoldsMac hash key n self.new (message ++ bytes.now) }
@@ -60,6 +62,7 @@ impl Mac {
     }
 
     /// The HMAC of the message, or its first bytes.
+    #[tactic(auto, unfolding(crate::specs::Macs::HoldsMac))]
     pub fn finish(self) -> Tag
         ensures first { (hash : Hash) (key : List ℕ) (n : ℕ) (message : List ℕ)
             → HoldsMac hash key n self message → result ≡ take n (hmac hash key message) }
