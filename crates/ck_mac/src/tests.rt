@@ -1,3 +1,4 @@
+use crate::digests::digest;
 use crate::{Mac, Running, Tag};
 use ck_types::{Hash, Rv};
 use std::alloc::{AllocError, Global};
@@ -24,72 +25,84 @@ fn counted_bytes(alloc: Global, len: usize) -> Result<Vec<u8>, AllocError> {
     (0..len).map(|i| (i % 251) as u8).collect(alloc)
 }
 
-/// The digest of the message in two pieces, cut at each place, and a byte a piece.
+/// The digest begins with these bytes, and is the same in two pieces, cut at each place, and a byte a piece.
 fn digest_in_pieces(rt: &impl Abort, hash: Hash, message: &[u8], expected: &[u8]) {
+    let whole = digest(hash, message);
+    assert_eq!(rt; whole.bytes().len() as u64, hash.len());
+    assert!(rt; whole.bytes().starts_with(expected));
     for cut in 0..message.len() + 1 {
         let mut running = Running::new(hash);
         running.update(&message[..cut]);
         running.update(&message[cut..]);
-        assert!(rt; running.finish().bytes() == expected);
+        assert!(rt; running.finish().bytes() == whole.bytes());
     }
     let mut running = Running::new(hash);
     for byte in message {
         running.update(slice::from_ref(byte));
     }
-    assert!(rt; running.finish().bytes() == expected);
+    assert!(rt; running.finish().bytes() == whole.bytes());
 }
 
-/// The HMAC of the message in two pieces, cut at each place, and a byte a piece.
+/// The HMAC begins with these bytes, and is the same in two pieces, cut at each place, and a byte a piece.
 fn hmac_in_pieces(rt: &impl Abort, hash: Hash, key: &[u8], message: &[u8], expected: &[u8]) {
+    let mut mac = Mac::new(hash, key);
+    mac.update(message);
+    let whole = mac.finish();
+    assert_eq!(rt; whole.bytes().len() as u64, hash.len());
+    assert!(rt; whole.bytes().starts_with(expected));
     for cut in 0..message.len() + 1 {
         let mut mac = Mac::new(hash, key);
         mac.update(&message[..cut]);
         mac.update(&message[cut..]);
-        assert!(rt; mac.finish().bytes() == expected);
+        assert!(rt; mac.finish().bytes() == whole.bytes());
     }
     let mut mac = Mac::new(hash, key);
     for byte in message {
         mac.update(slice::from_ref(byte));
     }
-    assert!(rt; mac.finish().bytes() == expected);
+    assert!(rt; mac.finish().bytes() == whole.bytes());
 }
 
-/// A row has a number of bytes and what is expected of each hash function.
-fn digests_of(rt: &impl Abort, alloc: Global, rows: &[(usize, [&str; 4])]) -> Result<(), Fail> {
+/// A row has a number of bytes and the first 8 bytes that are expected of each hash function.
+fn digests_of(rt: &impl Abort, alloc: Global, rows: &[(usize, [u64; 4])]) -> Result<(), Fail> {
     for (len, expected) in rows {
         let message = counted_bytes(alloc, *len)?;
-        for (hash, digits) in HASHES.iter().zip(expected) {
-            let digest = bytes_of(alloc, digits)?;
-            digest_in_pieces(rt, *hash, message.as_slice(), digest.as_slice());
-        }
-    }
-    Ok(())
-}
-
-fn hmacs_of(rt: &impl Abort, alloc: Global, rows: &[(usize, [&str; 4])]) -> Result<(), Fail> {
-    let key = counted_bytes(alloc, 20)?;
-    for (len, expected) in rows {
-        let message = counted_bytes(alloc, *len)?;
-        for (hash, digits) in HASHES.iter().zip(expected) {
-            let hmac = bytes_of(alloc, digits)?;
-            hmac_in_pieces(
+        for (hash, first) in HASHES.iter().zip(expected) {
+            digest_in_pieces(
                 rt,
                 *hash,
-                key.as_slice(),
                 message.as_slice(),
-                hmac.as_slice(),
+                first.to_be_bytes().as_slice(),
             );
         }
     }
     Ok(())
 }
 
-fn hmacs_under(rt: &impl Abort, alloc: Global, rows: &[(usize, [&str; 4])]) -> Result<(), Fail> {
+fn hmacs_of(rt: &impl Abort, alloc: Global, rows: &[(usize, [u64; 4])]) -> Result<(), Fail> {
+    let key = counted_bytes(alloc, 20)?;
+    for (len, expected) in rows {
+        let message = counted_bytes(alloc, *len)?;
+        for (hash, first) in HASHES.iter().zip(expected) {
+            let first = first.to_be_bytes();
+            hmac_in_pieces(
+                rt,
+                *hash,
+                key.as_slice(),
+                message.as_slice(),
+                first.as_slice(),
+            );
+        }
+    }
+    Ok(())
+}
+
+fn hmacs_under(rt: &impl Abort, alloc: Global, rows: &[(usize, [u64; 4])]) -> Result<(), Fail> {
     for (len, expected) in rows {
         let key = counted_bytes(alloc, *len)?;
-        for (hash, digits) in HASHES.iter().zip(expected) {
-            let hmac = bytes_of(alloc, digits)?;
-            hmac_in_pieces(rt, *hash, key.as_slice(), b"Hi There", hmac.as_slice());
+        for (hash, first) in HASHES.iter().zip(expected) {
+            let first = first.to_be_bytes();
+            hmac_in_pieces(rt, *hash, key.as_slice(), b"Hi There", first.as_slice());
         }
     }
     Ok(())
