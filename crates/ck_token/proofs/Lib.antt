@@ -1,3 +1,7 @@
+pub mod Counts
+pub mod DecisionLemmas
+pub mod Entering
+pub mod Inversions
+pub mod PartMoves
 pub mod RunLemmas
 pub mod SearchLemmas
-pub mod TokenLemmas

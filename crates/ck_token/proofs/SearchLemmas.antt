@@ -1,7 +1,10 @@
--- What a search hands out
-use Rattle.std.proofs.Common.{◌≡◌, ℕ, zero, suc, ◌+◌, ◌-◌, ◌<◌, Bool, true, false, List, [], ◌∷◌, ◌++◌, length, drop, get_or, Some, None, refl, sym, ap, ◌∙◌, add-one, arith}
+-- What a search gives next
+use Rattle.std.proofs.Common.{◌≡◌, ℕ, zero, suc, ◌+◌, ◌-◌, ◌<◌, Bool, true, false, cond, List, [], ◌∷◌, ◌++◌, length, drop, get_or, Some, None, refl, sym, ap, ◌∙◌, add-one, arith}
 use Rattle.std.proofs.Math.Seq.{drop-cons}
 use Rattle.std.specs.Prelude.{filter, map, take}
+use Rattle.std.specs.List.{slice_get}
+use Rattle.std.proofs.lemmas.Option.{same_Some}
+use Rattle.ck_journal.specs.Searches.{last_or, number_of_handle}
 use Rattle.ck_journal.specs.Histories.{History}
 use Rattle.ck_journal.specs.Objects.{handle_of, is_visible}
 use Rattle.ck_store.specs.Agreement.{handle_at}
@@ -47,10 +50,10 @@ module _ (h : History) where
     one_more : total ≡ handles ++ next h room (get_or numbers i 0 ∷ drop (i + 1) numbers)
     one_more = is ∙ ap (λ ns. handles ++ next h room ns) (drop-cons numbers i 0 below ∙ ap (λ k. get_or numbers i 0 ∷ drop k numbers) (sym (add-one i)))
 
-    -- it is visible and is handed out
-    pub handed_out-next : (handles' : List ℕ) (room' handle : ℕ) → (room ≡ 0 → ⊥) → Some handle ≡ handle_at h (get_or numbers i 0) → handles' ≡ handles ++ handle ∷ []
+    -- it is visible and is given
+    pub given-next : (handles' : List ℕ) (room' handle : ℕ) → (room ≡ 0 → ⊥) → Some handle ≡ handle_at h (get_or numbers i 0) → handles' ≡ handles ++ handle ∷ []
         → room' ≡ room - 1 → total ≡ handles' ++ next h room' (drop (i + 1) numbers)
-    handed_out-next handles' room' handle some found more less =
+    given-next handles' room' handle some found more less =
         one_more
         ∙ ap (λ hs. handles ++ hs) (next-visible room (get_or numbers i 0) handle (drop (i + 1) numbers) (omega arith) found)
         ∙ append-one handles handle (next h (room - 1) (drop (i + 1) numbers))
@@ -63,3 +66,33 @@ module _ (h : History) where
         one_more
         ∙ ap (λ hs. handles ++ hs) (next-hidden room (get_or numbers i 0) (drop (i + 1) numbers) hidden)
         ∙ rw (same, same_room) refl
+
+-- ---- where a search stands
+
+-- a session's search that has something left is active
+pub left-found : (searching : Bool) (numbers rest : List ℕ) → Some numbers ≡ cond searching (Some rest) None → (searching ≡ true) × (numbers ≡ rest)
+left-found true numbers rest e = (refl, same_Some numbers rest e)
+left-found false numbers rest e = cc
+
+-- the number of the last object that is given
+pub last_or-some : (handles : List ℕ) (handle before : ℕ) → Some handle ≡ slice_get handles (length handles - 1)
+    → last_or before (map number_of_handle handles) ≡ number_of_handle handle
+last_or-some [] handle before e = cc
+last_or-some (only ∷ []) handle before e = ap number_of_handle (sym (same_Some handle only e))
+last_or-some (first ∷ next ∷ handles) handle before e =
+    let step : suc (suc (length handles)) - 1 ≡ suc (suc (length handles) - 1) = omega arith in
+    last_or-some (next ∷ handles) handle (number_of_handle first) (e ∙ ap (slice_get (first ∷ next ∷ handles)) step)
+
+-- where none is given it stays
+pub last_or-none : (handles : List ℕ) (before : ℕ) → None ≡ slice_get handles (length handles - 1) → last_or before (map number_of_handle handles) ≡ before
+last_or-none [] before e = refl
+last_or-none (only ∷ []) before e = cc
+last_or-none (first ∷ next ∷ handles) before e =
+    let step : suc (suc (length handles)) - 1 ≡ suc (suc (length handles) - 1) = omega arith in
+    absurd (never next handles (e ∙ ap (slice_get (first ∷ next ∷ handles)) step))
+  where
+    never : (handle : ℕ) (more : List ℕ) → None ≡ slice_get (handle ∷ more) (suc (length more) - 1) → ⊥
+    never handle [] e = cc
+    never handle (next ∷ more) e =
+        let step : suc (suc (length more)) - 1 ≡ suc (suc (length more) - 1) = omega arith in
+        never next more (e ∙ ap (slice_get (handle ∷ next ∷ more)) step)

@@ -1,14 +1,44 @@
 -- When a token's parts are what its history says
-use Rattle.std.specs.Prelude.{◌≡◌}
-use Rattle.ck_types.specs.TokenLimits.{Ranges}
+use Rattle.std.specs.Prelude.{◌≡◌, ◌+◌, ◌<◌, ◌^◌, Bool, true, false, is_some}
+use Rattle.ck_types.specs.TokenLimits.{Ranges, AreInRange}
+use Rattle.ck_types.specs.declared.users.UserType.TheVariants as user
 use Rattle.ck_journal.specs.Answers.{IsLegal}
 use Rattle.ck_journal.specs.Histories.{History}
-use Rattle.ck_sessions.specs.Agreement.{SessionsState, SessionsAgree}
-use Rattle.ck_store.specs.Agreement.{StoreState, StoreAgrees}
+use Rattle.ck_sessions.specs.Agreement.{SessionsAgree, credential_of}
+use Rattle.ck_store.specs.Agreement.{StoreAgrees}
+use Rattle.ck_token.specs.declared.changes.Change.{Change}
+use Rattle.ck_token.specs.declared.changes.Change.TheVariants as change
+use Rattle.ck_token.specs.declared.parts.Parts.{Parts}
 
--- the history is legal, and the token's parts are what it says
-pub record TokenAgrees (limits : Ranges) (h : History) (s : SessionsState) (o : StoreState) : Type 0 where
+pub record PartsAgree (h : History) (p : Parts) : Type 0 where
+  pub sessions : SessionsAgree h p.sessions
+  pub objects : StoreAgrees h p.objects
+
+-- the limits are in range, the history is legal, and the token's parts are what it says
+pub record TokenAgrees (limits : Ranges) (h : History) (p : Parts) : Type 0 where
+  pub ranges : AreInRange limits.sessions limits.openings limits.creations limits.logins
   pub legal : IsLegal limits h
-  pub sessions : SessionsAgree h s
-  pub objects : StoreAgrees h o
-  pub room : s.limit ≡ limits.sessions
+  pub parts : PartsAgree h p
+
+-- ---- what a change needs of the parts
+
+-- the change adds a session or an object
+abbrev pub adds : Change → Bool
+adds (change.OpenSession flags) = true
+adds (change.CreateObject session attributes) = true
+adds other = false
+
+-- room for one more session or object, where the change adds one
+abbrev pub HasRoom : Parts → Change → Type 0
+HasRoom p (change.OpenSession flags) = 0 < p.sessions.spare
+HasRoom p (change.CreateObject session attributes) = 0 < p.objects.spare
+HasRoom p other = Unit {0}
+
+-- the count that it raises stays in range, and a PIN that is changed is there
+abbrev pub IsCounted : Parts → Change → Type 0
+IsCounted p (change.OpenSession flags) = p.sessions.openings + 1 < 2 ^ 64
+IsCounted p (change.CreateObject session attributes) = p.objects.creations + 1 < 2 ^ 32
+IsCounted p (change.LogIn user.User) = p.sessions.logins + 1 < 2 ^ 64
+IsCounted p (change.SetPin owner pin) = is_some (credential_of owner p.sessions).pin ≡ true
+IsCounted p (change.WrongTry u) = (credential_of u p.sessions).tries + 1 < 2 ^ 64
+IsCounted p other = Unit {0}

@@ -1,13 +1,11 @@
--- What a run of a list of calls gives
+-- What a run of a list of calls does to the token that it is lent
 use Rattle.std.specs.Prelude.{ℕ, ◌<◌, List, Result, Ok, Err, length, take}
-use Rattle.ck_types.specs.TokenLimits.{Ranges}
 use Rattle.ck_journal.specs.declared.calls.Call.{Call}
 use Rattle.ck_token.specs.TokenStates.{TokenState, HasAnswered}
 use Rattle.ck_token.specs.declared.runs.Stopped.{Stopped}
-use Rattle.ck_token.specs.declared.runs.Stopped.TheVariants as stopped
 
--- a run answers all calls, or stops for want of memory before the first or after some of them
-abbrev pub IsRun : Ranges → List (ℕ × Call) → Result TokenState Stopped → Type 0
-IsRun limits calls (Ok token) = HasAnswered limits calls token
-IsRun limits calls (Err stopped.NotMade) = Unit {0}
-IsRun limits calls (Err (stopped.At done token)) = (done < length calls) × HasAnswered limits (take done calls) token
+-- all calls were answered, or the first of them, fewer than all
+abbrev pub IsRun : {T : Type 0} → TokenState → TokenState → List (ℕ × Call) → Result T Stopped → Type 0
+IsRun old new calls (Ok finished) = HasAnswered old new calls
+IsRun old new calls (Err stopped) =
+    (stopped.answered < length calls) × HasAnswered old new (take stopped.answered calls)

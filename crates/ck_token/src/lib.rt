@@ -1,10 +1,11 @@
 //! One token: each call is answered as the journal of the calls before it says, and stands in the journal itself.
 #![tactic(auto)]
 
+mod changes;
+mod decisions;
+mod parts;
 mod queries;
 mod runs;
-#[cfg(test)]
-mod tests;
 mod tokens;
 
 pub use runs::{Stopped, run};

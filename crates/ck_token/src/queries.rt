@@ -3,7 +3,7 @@ ghost use Rattle.std.specs.List.{list_any};
 ghost use Rattle.ck_journal.specs.Queries.{query_answer, is_missing, lacks_room, queries_code, queries_reply};
 
 use ck_journal::{Answer, AttributeQuery, Body, Reply};
-use ck_types::{NoMemory, Record, Rv, Sequence};
+use ck_types::{NoMemory, Record, Rv, RvError, Sequence};
 use std::alloc::Global;
 
 fn is_missing(attributes: &Record, query: &AttributeQuery) -> bool
@@ -41,9 +41,9 @@ fn queries_code(attributes: &Record, queries: &[AttributeQuery]) -> Rv
     ensures { result ≡ queries_code attributes.now queries.now }
 {
     if any_is_missing(attributes, queries) {
-        Rv::AttributeTypeInvalid
+        Rv::Error(RvError::AttributeTypeInvalid)
     } else if any_lacks_room(attributes, queries) {
-        Rv::BufferTooSmall
+        Rv::Error(RvError::BufferTooSmall)
     } else {
         Rv::Ok
     }

@@ -5,39 +5,34 @@ ghost use Rattle.ck_token.specs.TokenStates.{IsAnswered, IsUnchanged};
 
 use crate::tokens::Token;
 use ck_journal::Call;
-use ck_types::{Limits, NoMemory};
+use ck_types::NoMemory;
 use std::alloc::Global;
 use thiserror::Error;
 
-/// A run that found no memory.
-#[derive(Debug, Drop, Error)]
-pub enum Stopped {
-    /// There was no memory for a token, and no call was made.
-    #[error("out of memory before the first call")]
-    NotMade,
-    /// The first `done` calls were answered, and the next one found no memory. The token is as they left it.
-    #[error("out of memory after {done} calls")]
-    At { done: u64, token: Token },
+/// A run that found no memory for a call: so many calls before it were answered.
+#[derive(Clone, Copy, Debug, PartialEq, Eq, Error)]
+#[error("out of memory after {answered} calls")]
+pub struct Stopped {
+    pub answered: u64,
 }
 
-/// Makes these calls, each with its caller, of a new token, one after the other.
-pub fn run(alloc: Global, limits: Limits, calls: Vec<(u32, Call)>) -> Result<Token, Stopped>
-    ensures { IsRun limits calls.items result }
+/// Makes these calls, each with its caller, one after the other. Where one finds no memory, the token is as the calls before
+/// it left it.
+pub fn run(token: &mut Token, alloc: Global, calls: Vec<(u32, Call)>) -> Result<(), Stopped>
+    ensures { IsRun token.old token.new calls.items result }
 {
-    let mut token = match Token::new(alloc, limits) {
-        Ok(token) => token,
-        Err(NoMemory) => return Err(Stopped::NotMade),
-    };
+    // Tells the prover that the journal is legal before the first call.
+    let _journal = token.journal();
     let mut left = calls;
     left.reverse();
-    let mut done = 0u64;
+    let mut answered = 0u64;
     while let Some((caller, call)) = left.pop() {
-        match step(&mut token, alloc, caller, call) {
-            Ok(()) => done += 1,
-            Err(NoMemory) => return Err(Stopped::At { done, token }),
+        match step(token, alloc, caller, call) {
+            Ok(()) => answered += 1,
+            Err(NoMemory) => return Err(Stopped { answered }),
         }
     }
-    Ok(token)
+    Ok(())
 }
 
 /// Makes a call whose reply nobody waits for: the journal has it.

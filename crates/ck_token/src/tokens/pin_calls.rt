@@ -1,10 +1,15 @@
-ghost use Rattle.std.specs.Prelude.{◌≡◌};
-ghost use Rattle.ck_journal.specs.Answers.{is_so_state, logged_in_error};
+ghost use Rattle.std.specs.Prelude.{◌≡◌, ◌==◌, ◌∷◌, [], not, Some, Option};
+ghost use Rattle.ck_types.specs.Checks.{check_of, error_if, first_of};
+ghost use Rattle.ck_types.specs.declared.errors.RvError.TheVariants as rv_error;
+ghost use Rattle.ck_journal.specs.Answers.{logged_in_error};
 ghost use Rattle.ck_journal.specs.Pins.{is_pin, pin_owner};
+ghost use Rattle.ck_token.specs.Decisions.{IsCheckAbout};
 
-use super::{Token, enter_done};
-use ck_journal::{Call, Reply};
-use ck_types::{NoMemory, Pin, Rv, SessionState, UserType};
+use super::Token;
+use crate::changes::Change;
+use crate::decisions::{Decision, Refused};
+use ck_sessions::Credential;
+use ck_types::{Pin, RvError, SessionState, UserType, error_if};
 
 /// How many wrong tries lock a user.
 const MOST_TRIES: u64 = 3;
@@ -19,7 +24,7 @@ fn is_pin(known: Option<Pin>, given: Pin) -> bool
     }
 }
 
-/// Whose PIN the session's is.
+/// Whose PIN C_SetPIN changes in a session of this state.
 fn pin_owner(state: SessionState) -> UserType
     ensures { result ≡ pin_owner state }
 {
@@ -29,322 +34,138 @@ fn pin_owner(state: SessionState) -> UserType
     }
 }
 
+/// CKR_PIN_LOCKED after three wrong tries.
+fn check_lock(credential: Credential) -> Result<(), RvError>
+    ensures { result ≡ check_of (error_if (credential.tries == 3) rv_error.PinLocked) }
+{
+    error_if(credential.tries == MOST_TRIES, RvError::PinLocked)
+}
+
+/// CKR_PIN_INCORRECT, and a wrong try of the user's, where the PIN is another one.
+fn check_pin(user: UserType, credential: Credential, pin: Pin) -> Result<(), Refused>
+    ensures { IsCheckAbout (Some user) (error_if (not (is_pin credential.pin pin)) rv_error.PinIncorrect) result }
+{
+    if is_pin(credential.pin, pin) {
+        Ok(())
+    } else {
+        Err(Refused::Error {
+            error: RvError::PinIncorrect,
+            change: Change::WrongTry { user },
+        })
+    }
+}
+
 /// CKR_USER_ALREADY_LOGGED_IN where the user is logged in, CKR_USER_ANOTHER_ALREADY_LOGGED_IN where another one is.
-fn logged_in_error(user: UserType, login: Option<UserType>) -> Option<Rv>
-    ensures { result ≡ logged_in_error user login }
+fn check_nobody_in(user: UserType, login: Option<UserType>) -> Result<(), RvError>
+    ensures { result ≡ check_of (logged_in_error user login) }
 {
     match login {
-        None => None,
-        Some(other) if other == user => Some(Rv::UserAlreadyLoggedIn),
-        Some(_) => Some(Rv::UserAnotherAlreadyLoggedIn),
+        None => Ok(()),
+        Some(other) if other == user => Err(RvError::UserAlreadyLoggedIn),
+        Some(_) => Err(RvError::UserAnotherAlreadyLoggedIn),
     }
 }
 
 /// Initializing the token, setting PINs, and logging in and out.
 impl Token {
-    ghost use Rattle.std.specs.Prelude.{◌≡◌, true, None, Some, IfOk, OnErr};
-    ghost use Rattle.ck_types.specs.Users.{user_of};
-    ghost use Rattle.ck_journal.specs.Answers.{pin_error, init_token_error, init_pin_error, set_pin_error, read_only_error, logins_error, user_login_error, login_error, logout_error};
-    ghost use Rattle.ck_journal.specs.Pins.{is_locked, pin_owner};
-    ghost use Rattle.ck_journal.specs.Sessions.{is_open, state_of};
+    ghost use Rattle.std.specs.Prelude.{◌≡◌, ◌∷◌, [], Some};
+    ghost use Rattle.ck_types.specs.Checks.{check_of};
+    ghost use Rattle.ck_journal.specs.Answers.{pin_error, user_login_error, read_only_error, logins_error};
     ghost use Rattle.ck_journal.specs.declared.calls.Call.TheVariants as call;
-    ghost use Rattle.ck_token.specs.TokenStates.{IsAnswered, IsUnchanged};
+    ghost use Rattle.ck_token.specs.Decisions.{IsDecision, IsCheckAbout};
 
-    // ---- checks
-
-    fn is_locked(&self, user: UserType) -> bool
-        ensures { result ≡ is_locked user self.now.history }
+    pub(super) fn init_token(&self, pin: Pin) -> Result<Decision, Refused>
+        ensures { IsDecision self.now.limits self.now.history (call.InitToken pin) result }
     {
-        self.credential(user).tries == MOST_TRIES
-    }
-
-    /// CKR_PIN_LOCKED where the user is locked, CKR_PIN_INCORRECT where the PIN isn't the user's.
-    fn pin_error(&self, user: UserType, pin: Pin) -> Option<Rv>
-        ensures { result ≡ pin_error user self.now.history pin }
-    {
-        if self.is_locked(user) {
-            Some(Rv::PinLocked)
-        } else if !is_pin(self.credential(user).pin, pin) {
-            Some(Rv::PinIncorrect)
+        error_if(self.session_count() != 0, RvError::SessionExists)?;
+        if self.is_initialized() {
+            let so = self.credential(UserType::So);
+            check_lock(so)?;
+            check_pin(UserType::So, so, pin)?;
         } else {
-            None
+            error_if(!pin.fits(), RvError::PinLenRange)?;
         }
+        Ok(Decision::of_change(Change::InitToken { pin }))
     }
 
-    fn init_token_error(&self, pin: Pin) -> Option<Rv>
-        ensures { result ≡ init_token_error self.now.history pin }
+    pub(super) fn init_pin(&self, session: u64, pin: Pin) -> Result<Decision, Refused>
+        ensures { IsDecision self.now.limits self.now.history (call.InitPin session pin) result }
     {
-        if self.session_count() != 0 {
-            Some(Rv::SessionExists)
-        } else if self.is_initialized() {
-            self.pin_error(UserType::So, pin)
-        } else if !pin.fits() {
-            Some(Rv::PinLenRange)
-        } else {
-            None
-        }
+        let row = self.session(session)?;
+        error_if(
+            !matches!(self.state(row), SessionState::RwSo),
+            RvError::UserNotLoggedIn,
+        )?;
+        error_if(!pin.fits(), RvError::PinLenRange)?;
+        Ok(Decision::of_change(Change::InitPin { pin }))
     }
 
-    fn init_pin_error(&self, session: u64, pin: Pin) -> Option<Rv>
-        ensures { result ≡ init_pin_error self.now.history session pin }
+    pub(super) fn set_pin(&self, session: u64, old: Pin, new: Pin) -> Result<Decision, Refused>
+        ensures { IsDecision self.now.limits self.now.history (call.SetPin session old new) result }
     {
-        match self.session_state(session) {
-            None => Some(Rv::SessionHandleInvalid),
-            Some(state) => {
-                if !is_so_state(state) {
-                    Some(Rv::UserNotLoggedIn)
-                } else if !pin.fits() {
-                    Some(Rv::PinLenRange)
-                } else {
-                    None
-                }
-            }
-        }
+        let row = self.session(session)?;
+        error_if(!row.is_read_write(), RvError::SessionReadOnly)?;
+        let owner = pin_owner(self.state(row));
+        let credential = self.credential(owner);
+        error_if(credential.pin.is_none(), RvError::UserPinNotInitialized)?;
+        check_lock(credential)?;
+        error_if(!new.fits(), RvError::PinLenRange)?;
+        check_pin(owner, credential, old)?;
+        Ok(Decision::of_change(Change::SetPin { owner, pin: new }))
     }
 
-    fn set_pin_error(&self, session: u64, owner: UserType, old: Pin, new: Pin) -> Option<Rv>
-        requires { owner ≡ pin_owner (state_of self.now.history session) }
-        ensures { result ≡ set_pin_error self.now.history session old new }
+    pub(super) fn login(&self, session: u64, user: u64, pin: Pin) -> Result<Decision, Refused>
+        ensures { IsDecision self.now.limits self.now.history (call.Login session user pin) result }
     {
-        match self.is_read_write(session) {
-            None => Some(Rv::SessionHandleInvalid),
-            Some(false) => Some(Rv::SessionReadOnly),
-            Some(true) => {
-                let known = self.credential(owner).pin;
-                if known.is_none() {
-                    Some(Rv::UserPinNotInitialized)
-                } else if self.is_locked(owner) {
-                    Some(Rv::PinLocked)
-                } else if !new.fits() {
-                    Some(Rv::PinLenRange)
-                } else if !is_pin(known, old) {
-                    Some(Rv::PinIncorrect)
-                } else {
-                    None
-                }
-            }
-        }
+        self.session(session)?;
+        let Some(user) = UserType::of(user) else {
+            return Err(Refused::from(RvError::UserTypeInvalid));
+        };
+        self.check_login(user, pin)?;
+        Ok(Decision::of_change(Change::LogIn { user }))
+    }
+
+    fn check_login(&self, user: UserType, pin: Pin) -> Result<(), Refused>
+        ensures { IsCheckAbout (Some user) (user_login_error self.now.limits self.now.history user pin) result }
+    {
+        check_nobody_in(user, self.logged_in())?;
+        self.check_read_write(user)?;
+        let credential = self.credential(user);
+        error_if(credential.pin.is_none(), RvError::UserPinNotInitialized)?;
+        check_lock(credential)?;
+        check_pin(user, credential, pin)?;
+        self.check_logins(user)?;
+        Ok(())
     }
 
     /// CKR_SESSION_READ_ONLY_EXISTS for the security officer beside a read-only session.
-    fn read_only_error(&self, user: UserType) -> Option<Rv>
-        ensures { result ≡ read_only_error user self.now.history }
+    fn check_read_write(&self, user: UserType) -> Result<(), RvError>
+        ensures { result ≡ check_of (read_only_error user self.now.history) }
     {
         match user {
-            UserType::So if self.has_read_only() => Some(Rv::SessionReadOnlyExists),
-            _ => None,
+            UserType::So => error_if(self.has_read_only(), RvError::SessionReadOnlyExists),
+            UserType::User => Ok(()),
         }
     }
 
     /// CKR_DEVICE_MEMORY where the user has logged in as often as the token allows.
-    fn logins_error(&self, user: UserType) -> Option<Rv>
-        ensures { result ≡ logins_error self.now.limits user self.now.history }
+    fn check_logins(&self, user: UserType) -> Result<(), RvError>
+        ensures { result ≡ check_of (logins_error self.now.limits user self.now.history) }
     {
         match user {
-            UserType::User if self.limits.logins() <= self.user_logins() => Some(Rv::DeviceMemory),
-            _ => None,
+            UserType::So => Ok(()),
+            UserType::User => error_if(
+                self.limits.logins() <= self.user_logins(),
+                RvError::DeviceMemory,
+            ),
         }
     }
 
-    fn user_login_error(&self, user: UserType, pin: Pin) -> Option<Rv>
-        ensures { result ≡ user_login_error self.now.limits self.now.history user pin }
+    pub(super) fn logout(&self, session: u64) -> Result<Decision, Refused>
+        ensures { IsDecision self.now.limits self.now.history (call.Logout session) result }
     {
-        let error = logged_in_error(user, self.logged_in());
-        if error.is_some() {
-            return error;
-        }
-        let error = self.read_only_error(user);
-        if error.is_some() {
-            return error;
-        }
-        if self.credential(user).pin.is_none() {
-            return Some(Rv::UserPinNotInitialized);
-        }
-        let error = self.pin_error(user, pin);
-        if error.is_some() {
-            return error;
-        }
-        self.logins_error(user)
+        self.session(session)?;
+        error_if(self.logged_in().is_none(), RvError::UserNotLoggedIn)?;
+        Ok(Decision::of_change(Change::LogOut))
     }
-
-    fn logout_error(&self, session: u64) -> Option<Rv>
-        ensures { result ≡ logout_error self.now.history session }
-    {
-        if !self.has_session(session) {
-            Some(Rv::SessionHandleInvalid)
-        } else if self.logged_in().is_none() {
-            Some(Rv::UserNotLoggedIn)
-        } else {
-            None
-        }
-    }
-
-    // ---- the calls
-
-    pub(super) fn init_token(&mut self, caller: u32, pin: Pin) -> Result<Reply, NoMemory>
-        ensures answered { IfOk result (λ reply. IsAnswered self.old self.new caller (call.InitToken pin) reply) }
-        ensures unchanged { OnErr result (IsUnchanged self.old self.new) }
-    {
-        match self.init_token_error(pin) {
-            Some(code) => self.refuse_pin(caller, Call::InitToken { pin }, code, UserType::So),
-            None => self.initialize(caller, pin),
-        }
-    }
-
-    fn initialize(&mut self, caller: u32, pin: Pin) -> Result<Reply, NoMemory>
-        requires { init_token_error self.old.history pin ≡ None }
-        ensures answered { IfOk result (λ reply. IsAnswered self.old self.new caller (call.InitToken pin) reply) }
-        ensures unchanged { OnErr result (IsUnchanged self.old self.new) }
-    {
-        self.journal.reserve(1)?;
-        self.sessions.init_token(pin);
-        self.objects.clear();
-        let call = Call::InitToken { pin };
-        Ok(enter_done(&mut self.journal, caller, call))
-    }
-
-    pub(super) fn init_pin(
-        &mut self,
-        caller: u32,
-        session: u64,
-        pin: Pin,
-    ) -> Result<Reply, NoMemory>
-        ensures answered { IfOk result (λ reply. IsAnswered self.old self.new caller (call.InitPin session pin) reply) }
-        ensures unchanged { OnErr result (IsUnchanged self.old self.new) }
-    {
-        match self.init_pin_error(session, pin) {
-            Some(code) => {
-                let call = Call::InitPin { session, pin };
-                self.refuse_pin(caller, call, code, UserType::User)
-            }
-            None => self.set_user_pin(caller, session, pin),
-        }
-    }
-
-    fn set_user_pin(&mut self, caller: u32, session: u64, pin: Pin) -> Result<Reply, NoMemory>
-        requires { init_pin_error self.old.history session pin ≡ None }
-        ensures answered { IfOk result (λ reply. IsAnswered self.old self.new caller (call.InitPin session pin) reply) }
-        ensures unchanged { OnErr result (IsUnchanged self.old self.new) }
-    {
-        self.journal.reserve(1)?;
-        self.sessions.init_pin(pin);
-        let call = Call::InitPin { session, pin };
-        Ok(enter_done(&mut self.journal, caller, call))
-    }
-
-    pub(super) fn set_pin(
-        &mut self,
-        caller: u32,
-        session: u64,
-        old: Pin,
-        new: Pin,
-    ) -> Result<Reply, NoMemory>
-        ensures answered { IfOk result (λ reply. IsAnswered self.old self.new caller (call.SetPin session old new) reply) }
-        ensures unchanged { OnErr result (IsUnchanged self.old self.new) }
-    {
-        let owner = match self.session_state(session) {
-            Some(state) => pin_owner(state),
-            None => {
-                let call = Call::SetPin { session, old, new };
-                return self.refuse_unknown_session(caller, call);
-            }
-        };
-        match self.set_pin_error(session, owner, old, new) {
-            Some(code) => {
-                let call = Call::SetPin { session, old, new };
-                self.refuse_pin(caller, call, code, owner)
-            }
-            None => self.change_pin(caller, session, owner, old, new),
-        }
-    }
-
-    fn change_pin(
-        &mut self,
-        caller: u32,
-        session: u64,
-        owner: UserType,
-        old: Pin,
-        new: Pin,
-    ) -> Result<Reply, NoMemory>
-        requires owner { owner ≡ pin_owner (state_of self.old.history session) }
-        requires error { set_pin_error self.old.history session old new ≡ None }
-        ensures answered { IfOk result (λ reply. IsAnswered self.old self.new caller (call.SetPin session old new) reply) }
-        ensures unchanged { OnErr result (IsUnchanged self.old self.new) }
-    {
-        self.journal.reserve(1)?;
-        self.sessions.set_pin(owner, new);
-        let call = Call::SetPin { session, old, new };
-        Ok(enter_done(&mut self.journal, caller, call))
-    }
-
-    pub(super) fn login(
-        &mut self,
-        caller: u32,
-        session: u64,
-        user: u64,
-        pin: Pin,
-    ) -> Result<Reply, NoMemory>
-        ensures answered { IfOk result (λ reply. IsAnswered self.old self.new caller (call.Login session user pin) reply) }
-        ensures unchanged { OnErr result (IsUnchanged self.old self.new) }
-    {
-        let call = Call::Login { session, user, pin };
-        if !self.has_session(session) {
-            return self.refuse_unknown_session(caller, call);
-        }
-        match UserType::of(user) {
-            None => self.refuse(caller, call, Rv::UserTypeInvalid),
-            Some(user_type) => match self.user_login_error(user_type, pin) {
-                Some(code) => self.refuse_pin(caller, call, code, user_type),
-                None => self.log_in(caller, session, user, user_type, pin),
-            },
-        }
-    }
-
-    fn log_in(
-        &mut self,
-        caller: u32,
-        session: u64,
-        user: u64,
-        user_type: UserType,
-        pin: Pin,
-    ) -> Result<Reply, NoMemory>
-        requires session { is_open self.old.history session ≡ true }
-        requires user { user_of user ≡ Some user_type }
-        requires error { user_login_error self.old.limits self.old.history user_type pin ≡ None }
-        ensures answered { IfOk result (λ reply. IsAnswered self.old self.new caller (call.Login session user pin) reply) }
-        ensures unchanged { OnErr result (IsUnchanged self.old self.new) }
-    {
-        self.journal.reserve(1)?;
-        self.sessions.log_in(user_type);
-        let call = Call::Login { session, user, pin };
-        Ok(enter_done(&mut self.journal, caller, call))
-    }
-
-    pub(super) fn logout(&mut self, caller: u32, session: u64) -> Result<Reply, NoMemory>
-        ensures answered { IfOk result (λ reply. IsAnswered self.old self.new caller (call.Logout session) reply) }
-        ensures unchanged { OnErr result (IsUnchanged self.old self.new) }
-    {
-        match self.logout_error(session) {
-            Some(code) => self.refuse(caller, Call::Logout { session }, code),
-            None => self.log_out(caller, session),
-        }
-    }
-
-    fn log_out(&mut self, caller: u32, session: u64) -> Result<Reply, NoMemory>
-        requires { logout_error self.old.history session ≡ None }
-        ensures answered { IfOk result (λ reply. IsAnswered self.old self.new caller (call.Logout session) reply) }
-        ensures unchanged { OnErr result (IsUnchanged self.old self.new) }
-    {
-        self.journal.reserve(1)?;
-        self.sessions.log_out();
-        self.objects.end_private();
-        let call = Call::Logout { session };
-        Ok(enter_done(&mut self.journal, caller, call))
-    }
-}
-
-fn is_so_state(state: SessionState) -> bool
-    ensures { result ≡ is_so_state state }
-{
-    matches!(state, SessionState::RwSo)
 }

@@ -2,8 +2,8 @@ use Rattle.ck_token.proofs.RunLemmas.{Answers-none, Answers-more}
 use Rattle.ck_token.proofs.runs.run.Goals as goal
 
 pub loop-caller-init : goal.loop-caller-init
-loop-caller-init c = Answers-none _ _ _ _ c.reverse.ensures.items c.in-Ok.ensures
+loop-caller-init c = Answers-none _ _ _ c.reverse.ensures.items c.journal-journal.ensures.legal
 
 pub loop-caller-preserved : goal.loop-caller-preserved
 loop-caller-preserved c =
-    Answers-more _ _ _ c.pop.new.self.items (c.in-Some.caller, c.in-Some.call) _ _ _ _ c.in-Some.ensures.items c.loop-caller.invariant c.in-Ok-step.ensures.answered c.step.ensures.legal
+    Answers-more _ _ _ c.pop.new.self.items (c.in-Some.caller, c.in-Some.call) _ _ _ _ c.in-Some.ensures.items c.loop-caller.invariant c.in-Ok.ensures.answered c.step.ensures.legal

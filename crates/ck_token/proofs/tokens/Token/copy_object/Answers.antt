@@ -1,13 +1,90 @@
-use Rattle.ck_journal.proofs.RefusalLemmas.{is_ok-refusal, is_refusal-copy_object_error, creations-copied}
+use Rattle.std.proofs.Common.{List, [], None, refl, sym, ap, ◌∙◌}
+use Rattle.std.specs.Prelude.{unwrap_or}
+use Rattle.ck_types.specs.Records.{with_given, class_of, protections_of, copied_error}
+use Rattle.ck_types.specs.declared.attributes.Attribute.TheVariants as attribute
+use Rattle.ck_types.specs.declared.items.Item.{Item}
+use Rattle.ck_types.specs.declared.object_flags.Placement.{Placement}
+use Rattle.ck_types.proofs.CheckLemmas.{check_of-ok, check_of-err}
+use Rattle.ck_journal.specs.Answers.{ok, new_handle, placement_error, prohibited_error}
+use Rattle.ck_journal.specs.declared.calls.Call.TheVariants as call
+use Rattle.ck_journal.specs.declared.replies.Body.TheVariants as body
+use Rattle.ck_token.specs.declared.changes.Change.TheVariants as change
+use Rattle.ck_token.proofs.DecisionLemmas.{refused-decision, memory-decision, object-checks, second-fails, third-fails, fourth-fails, four-pass}
 use Rattle.ck_token.proofs.tokens.Token.copy_object.Goals as goal
 
--- the error of a copy isn't CKR_OK
-pub refuse-requires-clause-fails : goal.refuse-requires-clause-fails
-refuse-requires-clause-fails c =
-    is_ok-refusal _ _ (rw c.in-Err-Code.field-0-is at c.in-Err-Code.ensures)
-    (is_refusal-copy_object_error c.args.self.now.limits c.args.self.now.history c.args.session c.args.object c.args.template.items)
+pub returns-in_err-check_copy : goal.returns-in_err-check_copy
+returns-in_err-check_copy c =
+    let h = c.args.self.now.history in
+    let code = c.in_err-check_copy.field-0.0 in
+    let source = c.in_ok-source.source.now in
+    let allowed = check_of-ok (prohibited_error attribute.Copyable source) _ (sym c.check_flag.ensures ∙ c.in_ok-check_flag.was) in
+    let fails = check_of-err (copied_error (class_of source) (protections_of source) c.args.template.now.items) code
+        (sym c.check_copy.ensures ∙ c.in_err-check_copy.was) in
+    refused-decision c.args.self.now.limits h (call.CopyObject c.args.session c.args.object c.args.template.now) _ code
+    c.from_residual-in_err-check_copy.ensures.1
+    (object-checks h c.args.session c.args.object _ source _ c.in_ok-row.ensures.open c.in_ok-source.ensures.attributes
+    (second-fails _ _ _ code allowed fails)) refl
 
--- a copy that is let through finds another creation free
-pub add_object-requires-clause-room : goal.add_object-requires-clause-room
-add_object-requires-clause-room c =
-    creations-copied c.args.self.now.limits c.args.self.now.history c.args.session c.args.object c.args.template.items c.in-Ok.ensures.0
+pub returns-in_err-check_placement : goal.returns-in_err-check_placement
+returns-in_err-check_placement c =
+    let h = c.args.self.now.history in
+    let code = c.in_err-check_placement.field-0.0 in
+    let source = c.in_ok-source.source.now in
+    let allowed = check_of-ok (prohibited_error attribute.Copyable source) _ (sym c.check_flag.ensures ∙ c.in_ok-check_flag.was) in
+    let copied = check_of-ok (copied_error (class_of source) (protections_of source) c.args.template.now.items) _
+        (sym c.check_copy.ensures ∙ c.in_ok-check_copy.was) in
+    let fails = check_of-err (placement_error h c.args.session c.copy_placement.result) code
+        (sym (c.check_placement.ensures c.args.session c.in_ok-row.ensures.row) ∙ c.in_err-check_placement.was) in
+    refused-decision c.args.self.now.limits h (call.CopyObject c.args.session c.args.object c.args.template.now) _ code
+    c.from_residual-in_err-check_placement.ensures.1
+    (object-checks h c.args.session c.args.object _ source _ c.in_ok-row.ensures.open c.in_ok-source.ensures.attributes
+    (third-fails _ _ _ _ code allowed copied
+    (ap (λ (p : Placement). placement_error h c.args.session p) (sym c.copy_placement.ensures) ∙ fails))) refl
+
+pub returns-in_err-number : goal.returns-in_err-number
+returns-in_err-number c =
+    let h = c.args.self.now.history in
+    let code = c.in_err-number.field-0.0 in
+    let source = c.in_ok-source.source.now in
+    let allowed = check_of-ok (prohibited_error attribute.Copyable source) _ (sym c.check_flag.ensures ∙ c.in_ok-check_flag.was) in
+    let copied = check_of-ok (copied_error (class_of source) (protections_of source) c.args.template.now.items) _
+        (sym c.check_copy.ensures ∙ c.in_ok-check_copy.was) in
+    let placed = check_of-ok (placement_error h c.args.session c.copy_placement.result) _
+        (sym (c.check_placement.ensures c.args.session c.in_ok-row.ensures.row) ∙ c.in_ok-check_placement.was) in
+    refused-decision c.args.self.now.limits h (call.CopyObject c.args.session c.args.object c.args.template.now) _ code
+    c.from_residual-in_err-number.ensures.1
+    (object-checks h c.args.session c.args.object _ source _ c.in_ok-row.ensures.open c.in_ok-source.ensures.attributes
+    (fourth-fails _ _ _ _ _ code allowed copied
+    (ap (λ (p : Placement). placement_error h c.args.session p) (sym c.copy_placement.ensures) ∙ placed) c.in_err-number.ensures.used_up)) refl
+
+pub returns-in_err-attributes : goal.returns-in_err-attributes
+returns-in_err-attributes c =
+    let h = c.args.self.now.history in
+    let source = c.in_ok-source.source.now in
+    let allowed = check_of-ok (prohibited_error attribute.Copyable source) _ (sym c.check_flag.ensures ∙ c.in_ok-check_flag.was) in
+    let copied = check_of-ok (copied_error (class_of source) (protections_of source) c.args.template.now.items) _
+        (sym c.check_copy.ensures ∙ c.in_ok-check_copy.was) in
+    let placed = check_of-ok (placement_error h c.args.session c.copy_placement.result) _
+        (sym (c.check_placement.ensures c.args.session c.in_ok-row.ensures.row) ∙ c.in_ok-check_placement.was) in
+    memory-decision c.args.self.now.limits h (call.CopyObject c.args.session c.args.object c.args.template.now) _
+    c.from_residual-in_err-attributes.ensures.1
+    (object-checks h c.args.session c.args.object _ source _ c.in_ok-row.ensures.open c.in_ok-source.ensures.attributes
+    (four-pass _ _ _ _ allowed copied
+    (ap (λ (p : Placement). placement_error h c.args.session p) (sym c.copy_placement.ensures) ∙ placed) c.in_ok-number.ensures.free)) refl
+
+pub returns : goal.returns
+returns c =
+    let h = c.args.self.now.history in
+    let source = c.in_ok-source.source.now in
+    let allowed = check_of-ok (prohibited_error attribute.Copyable source) _ (sym c.check_flag.ensures ∙ c.in_ok-check_flag.was) in
+    let copied = check_of-ok (copied_error (class_of source) (protections_of source) c.args.template.now.items) _
+        (sym c.check_copy.ensures ∙ c.in_ok-check_copy.was) in
+    let placed = check_of-ok (placement_error h c.args.session c.copy_placement.result) _
+        (sym (c.check_placement.ensures c.args.session c.in_ok-row.ensures.row) ∙ c.in_ok-check_placement.was) in
+    let made = c.in_ok-attributes.ensures
+        ∙ ap (λ found. with_given c.args.template.now.items (unwrap_or found [])) (sym c.in_ok-source.ensures.attributes) in
+    (object-checks h c.args.session c.args.object _ source _ c.in_ok-row.ensures.open c.in_ok-source.ensures.attributes
+    (four-pass _ _ _ _ allowed copied
+    (ap (λ (p : Placement). placement_error h c.args.session p) (sym c.copy_placement.ensures) ∙ placed) c.in_ok-number.ensures.free),
+    c.creation.ensures.reply ∙ ap (λ (a : List Item). ok (body.Handle (new_handle h a))) made,
+    c.creation.ensures.change ∙ ap (λ (a : List Item). change.CreateObject c.args.session a) made)

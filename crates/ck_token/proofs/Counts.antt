@@ -1,0 +1,88 @@
+-- That the counts which a change raises stay in range
+use Rattle.std.proofs.Common.{◌≡◌, ℕ, ◌+◌, ◌<◌, ◌≤◌, ◌^◌, Bool, true, false, cond, not, [], ◌∷◌, Option, Some, None, refl, sym, ap, ◌∙◌, subst, arith}
+use Rattle.std.specs.Prelude.{is_none, is_some}
+use Rattle.std.specs.Option.{option_map_or}
+use Rattle.ck_types.specs.Checks.{error_if, or_else, first_of}
+use Rattle.ck_types.specs.TokenLimits.{Ranges, AreInRange}
+use Rattle.ck_types.specs.declared.errors.RvError.{RvError}
+use Rattle.ck_types.specs.declared.errors.RvError.TheVariants as rv_error
+use Rattle.ck_types.specs.declared.pins.Pin.{Pin}
+use Rattle.ck_types.specs.declared.users.UserType.{UserType}
+use Rattle.ck_types.specs.declared.users.UserType.TheVariants as user
+use Rattle.ck_types.proofs.CheckLemmas.{or_else-none}
+use Rattle.ck_journal.specs.declared.calls.Call.{Call}
+use Rattle.ck_journal.specs.declared.calls.Call.TheVariants as call
+use Rattle.ck_journal.specs.declared.calls.Entry.{Entry}
+use Rattle.ck_journal.specs.declared.replies.Reply.{Reply}
+use Rattle.ck_journal.specs.Answers.{IsLegal, answer, call_error, session_error}
+use Rattle.ck_journal.specs.Bases.{IsSound}
+use Rattle.ck_journal.specs.Histories.{History, ◌◁◌, start_of, done}
+use Rattle.ck_journal.specs.Objects.{creations}
+use Rattle.ck_journal.specs.Pins.{pin_owner, present_pin, tries}
+use Rattle.ck_journal.specs.Sessions.{openings, user_logins, is_read_write, state_of}
+use Rattle.ck_journal.proofs.LegalLemmas.{passed-done, creation-free, user_logins-bound, openings-bound, tries-bound}
+use Rattle.ck_sessions.specs.Agreement.{SessionsState, SessionsAgree, CredentialAgrees, credential_of}
+use Rattle.ck_token.specs.Agreement.{PartsAgree, IsCounted}
+use Rattle.ck_token.specs.Changes.{effect}
+use Rattle.ck_token.specs.declared.changes.Change.{Change}
+use Rattle.ck_token.specs.declared.changes.Change.TheVariants as change
+use Rattle.ck_token.specs.declared.parts.Parts.{Parts}
+use Rattle.ck_token.proofs.Inversions.{done-of_call, of-SetPin, of-CreateObject}
+
+credential-agrees : (u : UserType) (h : History) (s : SessionsState) → SessionsAgree h s → CredentialAgrees u h (credential_of u s)
+credential-agrees user.So h s agree = agree.so
+credential-agrees user.User h s agree = agree.user
+
+-- a PIN that is changed is there
+some_pin : (none : Bool) (later : Option RvError) → or_else (error_if none rv_error.UserPinNotInitialized) later ≡ None → none ≡ false
+some_pin true later e = cc
+some_pin false later e = refl
+
+is_some-pin : (pin : Option Pin) → is_none pin ≡ false → is_some pin ≡ true
+is_some-pin None e = cc
+is_some-pin (Some pin) e = refl
+
+set_pin-passed : (limits : Ranges) (h : History) (session : ℕ) (old new : Pin) → call_error limits h (call.SetPin session old new) ≡ None
+    → is_some (present_pin (pin_owner (state_of h session)) h) ≡ true
+set_pin-passed limits h session old new e =
+    let owner = pin_owner (state_of h session) in
+    is_some-pin (present_pin owner h)
+    (some_pin (is_none (present_pin owner h)) _
+    (or_else-none (error_if (not (is_read_write h session)) rv_error.SessionReadOnly) _ (or_else-none (session_error h session) _ e).1).1)
+
+module _ (limits : Ranges) (in_range : AreInRange limits.sessions limits.openings limits.creations limits.logins) (h : History) (p : Parts)
+    (legal : IsLegal limits h) (agree : PartsAgree h p) (c : Call) (r : Reply) (answered : r ≡ answer limits h c) where
+  abbrev answered_entry : Entry
+  answered_entry = record { caller = 0; call = c; reply = r }
+
+  passes : done answered_entry ≡ Some c → call_error limits h c ≡ None
+  passes d = passed-done limits answered_entry h (answered, legal) c d
+
+  pub counted : (made : Change) → made ≡ effect h c r → IsCounted p made
+  counted (change.OpenSession flags) is =
+      let below = openings-bound limits in_range h agree.objects.sound legal in
+      let same = agree.sessions.openings in
+      omega arith
+  counted (change.CreateObject session attributes) is =
+      let d = done-of_call h answered_entry (change.CreateObject session attributes) is refl in
+      let of = of-CreateObject h r.body c session attributes d.1 in
+      let below = creation-free limits h c (passes d.0) of.0 in
+      let most = in_range.5 in
+      let same = agree.objects.creations in
+      omega arith
+  counted (change.LogIn user.So) is = tt
+  counted (change.LogIn user.User) is =
+      let below = user_logins-bound limits in_range h agree.objects.sound legal in
+      let same = agree.sessions.logins in
+      omega arith
+  counted (change.SetPin owner pin) is =
+      let d = done-of_call h answered_entry (change.SetPin owner pin) is refl in
+      let of = of-SetPin h r.body c owner pin d.1 in
+      ap is_some (credential-agrees owner h p.sessions agree.sessions).pin
+      ∙ subst (λ u. is_some (present_pin u h) ≡ true) of.3 (set_pin-passed limits h of.0 of.1 pin
+      (passed-done limits answered_entry h (answered, legal) (call.SetPin of.0 of.1 pin) (d.0 ∙ ap Some of.2)))
+  counted (change.WrongTry u) is =
+      let below = tries-bound limits h agree.objects.sound legal u in
+      let same = (credential-agrees u h p.sessions agree.sessions).tries in
+      omega arith
+  counted other is = tt

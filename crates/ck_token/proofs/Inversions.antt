@@ -1,0 +1,148 @@
+-- Which call a change is of
+use Rattle.std.proofs.Common.{◌≡◌, ℕ, Bool, true, false, cond, List, Option, Some, None, refl, sym, ap, ◌∙◌}
+use Rattle.std.specs.Prelude.{map, unwrap_or}
+use Rattle.ck_types.specs.Records.{created_items, with_given}
+use Rattle.ck_types.specs.Users.{user_of}
+use Rattle.ck_types.specs.declared.errors.RvError.{RvError}
+use Rattle.ck_types.specs.declared.errors.RvError.TheVariants as rv_error
+use Rattle.ck_types.specs.declared.return_codes.Rv.{Rv}
+use Rattle.ck_types.specs.declared.return_codes.Rv.TheVariants as rv
+use Rattle.ck_types.specs.declared.pins.Pin.{Pin}
+use Rattle.ck_types.specs.declared.items.Item.{Item}
+use Rattle.ck_types.specs.declared.templates.Template.{Template}
+use Rattle.ck_types.specs.declared.users.UserType.{UserType}
+use Rattle.ck_types.specs.declared.users.UserType.TheVariants as user
+use Rattle.ck_journal.specs.declared.calls.Call.{Call}
+use Rattle.ck_journal.specs.declared.calls.Call.TheVariants as call
+use Rattle.ck_journal.specs.declared.calls.Entry.{Entry}
+use Rattle.ck_journal.specs.declared.replies.Body.{Body}
+use Rattle.ck_journal.specs.Histories.{History, done, wrong_try, is_ok, is_wrong_pin}
+use Rattle.ck_journal.specs.Objects.{creates, creation_session, creation_attributes, attributes_named, object_named, named_attributes}
+use Rattle.ck_journal.specs.Pins.{pin_owner, about}
+use Rattle.ck_journal.specs.Searches.{matching_objects, last_number, last_or, number_of_handle, handles_in}
+use Rattle.ck_journal.specs.Sessions.{state_of}
+use Rattle.ck_token.specs.Changes.{change_of, refusal_change, effect, effect_by}
+use Rattle.ck_token.specs.declared.changes.Change.{Change}
+use Rattle.ck_token.specs.declared.changes.Change.TheVariants as change
+
+-- ---- a change of a call that was answered OK
+
+-- neither nothing nor a wrong try
+abbrev pub is_of_call : Change → Bool
+is_of_call change.Nothing = false
+is_of_call (change.WrongTry u) = false
+is_of_call other = true
+
+is_of_call-refusal : (code : RvError) (who : Option UserType) → is_of_call (refusal_change code who) ≡ false
+is_of_call-refusal rv_error.PinIncorrect None = refl
+is_of_call-refusal rv_error.PinIncorrect (Some u) = refl
+is_of_call-refusal other who = refl
+
+done_step : (h : History) (c : Call) (v : Rv) (b : Body) → is_of_call (effect_by h c v b) ≡ true
+    → (cond (is_ok v) (Some c) None ≡ Some c) × (effect_by h c v b ≡ change_of h c b)
+done_step h c rv.Ok b e = (refl, refl)
+done_step h c (rv.Error code) b e = let f = is_of_call-refusal code (about h (Some c)) in cc
+
+-- its call was answered OK
+pub done-of_call : (h : History) (e : Entry) (made : Change) → made ≡ effect h e.call e.reply → is_of_call made ≡ true
+    → (done e ≡ Some e.call) × (made ≡ change_of h e.call e.reply.body)
+done-of_call h e made is kind =
+    let d = done_step h e.call e.reply.rv e.reply.body (ap is_of_call (sym is) ∙ kind) in
+    (d.0, is ∙ d.1)
+
+-- ---- one call for each change
+
+module _ (h : History) (b : Body) where
+  pub of-InitToken : (c : Call) (pin : Pin) → change.InitToken pin ≡ change_of h c b → c ≡ call.InitToken pin
+  of-InitToken (call.InitToken other) pin e = cc
+  of-InitToken other pin e = cc
+
+  pub of-InitPin : (c : Call) (pin : Pin) → change.InitPin pin ≡ change_of h c b
+      → (session : ℕ) × (c ≡ call.InitPin session pin)
+  of-InitPin (call.InitPin session other) pin e = (session, cc)
+  of-InitPin other pin e = cc
+
+  pub of-SetPin : (c : Call) (owner : UserType) (pin : Pin) → change.SetPin owner pin ≡ change_of h c b
+      → (session : ℕ) × (old : Pin) × (c ≡ call.SetPin session old pin) × (pin_owner (state_of h session) ≡ owner)
+  of-SetPin (call.SetPin session old new) owner pin e = (session, old, cc, cc)
+  of-SetPin other owner pin e = cc
+
+  pub of-OpenSession : (c : Call) (flags : ℕ) → change.OpenSession flags ≡ change_of h c b → c ≡ call.OpenSession flags
+  of-OpenSession (call.OpenSession other) flags e = cc
+  of-OpenSession other flags e = cc
+
+  pub of-CloseSession : (c : Call) (session : ℕ) → change.CloseSession session ≡ change_of h c b → c ≡ call.CloseSession session
+  of-CloseSession (call.CloseSession other) session e = cc
+  of-CloseSession other session e = cc
+
+  pub of-CloseAllSessions : (c : Call) → change.CloseAllSessions ≡ change_of h c b → c ≡ call.CloseAllSessions
+  of-CloseAllSessions call.CloseAllSessions e = refl
+  of-CloseAllSessions other e = cc
+
+  pub of-LogIn : (c : Call) (u : UserType) → change.LogIn u ≡ change_of h c b
+      → (session number : ℕ) × (pin : Pin) × (c ≡ call.Login session number pin) × (u ≡ unwrap_or (user_of number) user.User)
+  of-LogIn (call.Login session number pin) u e = (session, number, pin, refl, cc)
+  of-LogIn other u e = cc
+
+  pub of-LogOut : (c : Call) → change.LogOut ≡ change_of h c b → (session : ℕ) × (c ≡ call.Logout session)
+  of-LogOut (call.Logout session) e = (session, refl)
+  of-LogOut other e = cc
+
+  pub of-CreateObject : (c : Call) (session : ℕ) (attributes : List Item) → change.CreateObject session attributes ≡ change_of h c b
+      → (creates (Some c) ≡ true) × (session ≡ creation_session (Some c)) × (attributes ≡ creation_attributes (Some c) (attributes_named h))
+  of-CreateObject (call.CreateObject other template) session attributes e = (refl, cc, cc)
+  of-CreateObject (call.CopyObject other object template) session attributes e = (refl, cc, cc)
+  of-CreateObject other session attributes e = cc
+
+  pub of-SetAttributes : (c : Call) (number : ℕ) (attributes : List Item) → change.SetAttributes number attributes ≡ change_of h c b
+      → (session object : ℕ) × (template : Template) × (c ≡ call.SetAttributeValue session object template)
+      × (number ≡ unwrap_or (object_named h object) 0) × (attributes ≡ with_given template.items (named_attributes h object))
+  of-SetAttributes (call.SetAttributeValue session object template) number attributes e = (session, object, template, refl, cc, cc)
+  of-SetAttributes other number attributes e = cc
+
+  pub of-DestroyObject : (c : Call) (number : ℕ) → change.DestroyObject number ≡ change_of h c b
+      → (session object : ℕ) × (c ≡ call.DestroyObject session object) × (number ≡ unwrap_or (object_named h object) 0)
+  of-DestroyObject (call.DestroyObject session object) number e = (session, object, refl, cc)
+  of-DestroyObject other number e = cc
+
+  pub of-StartSearch : (c : Call) (session : ℕ) (found : List ℕ) → change.StartSearch session found ≡ change_of h c b
+      → (template : Template) × (c ≡ call.FindObjectsInit session template) × (found ≡ matching_objects h template.items)
+  of-StartSearch (call.FindObjectsInit other template) session found e = (template, cc, cc)
+  of-StartSearch other session found e = cc
+
+  pub of-AdvanceSearch : (c : Call) (session number : ℕ) → change.AdvanceSearch session number ≡ change_of h c b
+      → (max : ℕ) × (c ≡ call.FindObjects session max) × (number ≡ last_or (last_number h session) (map number_of_handle (handles_in b)))
+  of-AdvanceSearch (call.FindObjects other max) session number e = (max, cc, cc)
+  of-AdvanceSearch other session number e = cc
+
+  pub of-EndSearch : (c : Call) (session : ℕ) → change.EndSearch session ≡ change_of h c b → c ≡ call.FindObjectsFinal session
+  of-EndSearch (call.FindObjectsFinal other) session e = cc
+  of-EndSearch other session e = cc
+
+-- ---- the call of an entry, by its change
+
+module _ (h : History) (e : Entry) where
+  pub called-InitToken : (pin : Pin) → change.InitToken pin ≡ effect h e.call e.reply → done e ≡ Some (call.InitToken pin)
+  called-InitToken pin is =
+      let d = done-of_call h e (change.InitToken pin) is refl in
+      d.0 ∙ ap Some (of-InitToken h e.reply.body e.call pin d.1)
+
+  pub called-OpenSession : (flags : ℕ) → change.OpenSession flags ≡ effect h e.call e.reply → done e ≡ Some (call.OpenSession flags)
+  called-OpenSession flags is =
+      let d = done-of_call h e (change.OpenSession flags) is refl in
+      d.0 ∙ ap Some (of-OpenSession h e.reply.body e.call flags d.1)
+
+  pub called-CloseSession : (session : ℕ) → change.CloseSession session ≡ effect h e.call e.reply → done e ≡ Some (call.CloseSession session)
+  called-CloseSession session is =
+      let d = done-of_call h e (change.CloseSession session) is refl in
+      d.0 ∙ ap Some (of-CloseSession h e.reply.body e.call session d.1)
+
+  pub called-CloseAllSessions : change.CloseAllSessions ≡ effect h e.call e.reply → done e ≡ Some call.CloseAllSessions
+  called-CloseAllSessions is =
+      let d = done-of_call h e change.CloseAllSessions is refl in
+      d.0 ∙ ap Some (of-CloseAllSessions h e.reply.body e.call d.1)
+
+  pub called-EndSearch : (session : ℕ) → change.EndSearch session ≡ effect h e.call e.reply → done e ≡ Some (call.FindObjectsFinal session)
+  called-EndSearch session is =
+      let d = done-of_call h e (change.EndSearch session) is refl in
+      d.0 ∙ ap Some (of-EndSearch h e.reply.body e.call session d.1)

@@ -1,0 +1,19 @@
+use Rattle.std.proofs.Common.{◌∙◌, ap}
+use Rattle.ck_token.proofs.SearchLemmas.{next, given-next, passed-next}
+use Rattle.ck_token.proofs.tokens.Token.visible_handles.Goals.{in-Some+in_ok-push, in_default}
+use Rattle.ck_token.proofs.tokens.Token.visible_handles.Goals as goal
+
+pub loop-number-preserved : goal.loop-number-preserved
+loop-number-preserved c =
+    let h = c.self.inside.journal.history in
+    let agree = c.self.invariant.parts.objects in
+    let view = rw (← c.self.view_is) at c.view-view.ensures.view in
+    let is = rw (← c.self.view_is) at c.loop-number.invariant in
+    rw (← c.self.view_is) (elim c.match-handle.branch [
+      | in-Some+in_ok-push w ↦
+          given-next h (next h c.args.max c.args.numbers.now) c.loop-number.handles.items c.args.numbers.now c.loop-number.number-index c.loop-number.room is c.loop-number-test.true
+          c.match-handle.handles.items c.match-handle.room w.in-Some.handle c.if-room-eq0.false (w.in-Some.ensures h agree view) (ap (λ v. v.items) w.handles-is ∙ w.in_ok-push.ensures.items) w.room-is
+      | in_default w ↦
+          passed-next h (next h c.args.max c.args.numbers.now) c.loop-number.handles.items c.args.numbers.now c.loop-number.number-index c.loop-number.room is c.loop-number-test.true
+          c.match-handle.handles.items c.match-handle.room (w.in_default.ensures h agree view) (ap (λ v. v.items) w.handles-is) w.room-is
+    ])

@@ -1,0 +1,59 @@
+-- What an answered call changes of sessions and objects, read off the history just before it
+use Rattle.std.specs.Prelude.{ℕ, Option, Some, map, unwrap_or}
+use Rattle.ck_types.specs.Records.{created_items, with_given}
+use Rattle.ck_types.specs.Users.{user_of}
+use Rattle.ck_types.specs.declared.return_codes.Rv.{Rv}
+use Rattle.ck_types.specs.declared.return_codes.Rv.TheVariants as rv
+use Rattle.ck_types.specs.declared.errors.RvError.{RvError}
+use Rattle.ck_types.specs.declared.errors.RvError.TheVariants as rv_error
+use Rattle.ck_types.specs.declared.users.UserType.{UserType}
+use Rattle.ck_types.specs.declared.users.UserType.TheVariants as user
+use Rattle.ck_journal.specs.declared.calls.Call.{Call}
+use Rattle.ck_journal.specs.declared.calls.Call.TheVariants as call
+use Rattle.ck_journal.specs.declared.replies.Body.{Body}
+use Rattle.ck_journal.specs.declared.replies.Reply.{Reply}
+use Rattle.ck_journal.specs.Histories.{History}
+use Rattle.ck_journal.specs.Objects.{object_named, named_attributes}
+use Rattle.ck_journal.specs.Pins.{pin_owner, about}
+use Rattle.ck_journal.specs.Searches.{matching_objects, last_number, last_or, number_of_handle, handles_in}
+use Rattle.ck_journal.specs.Sessions.{state_of}
+use Rattle.ck_token.specs.declared.changes.Change.{Change}
+use Rattle.ck_token.specs.declared.changes.Change.TheVariants as change
+
+-- the change of a call that was answered OK with this body
+abbrev pub change_of : History → Call → Body → Change
+change_of h (call.InitToken pin) body = change.InitToken pin
+change_of h (call.InitPin session pin) body = change.InitPin pin
+change_of h (call.SetPin session old new) body = change.SetPin (pin_owner (state_of h session)) new
+change_of h (call.OpenSession flags) body = change.OpenSession flags
+change_of h (call.CloseSession session) body = change.CloseSession session
+change_of h call.CloseAllSessions body = change.CloseAllSessions
+change_of h (call.Login session number pin) body = change.LogIn (unwrap_or (user_of number) user.User)
+change_of h (call.Logout session) body = change.LogOut
+change_of h (call.CreateObject session template) body = change.CreateObject session (created_items template.items)
+change_of h (call.CopyObject session object template) body =
+    change.CreateObject session (with_given template.items (named_attributes h object))
+change_of h (call.SetAttributeValue session object template) body =
+    change.SetAttributes (unwrap_or (object_named h object) 0) (with_given template.items (named_attributes h object))
+change_of h (call.DestroyObject session object) body = change.DestroyObject (unwrap_or (object_named h object) 0)
+change_of h (call.FindObjectsInit session template) body =
+    change.StartSearch session (matching_objects h template.items)
+change_of h (call.FindObjects session max) body =
+    change.AdvanceSearch session (last_or (last_number h session) (map number_of_handle (handles_in body)))
+change_of h (call.FindObjectsFinal session) body = change.EndSearch session
+change_of h (call.GetSessionInfo session) body = change.Nothing
+change_of h call.GetTokenInfo body = change.Nothing
+change_of h (call.GetAttributeValue session object queries) body = change.Nothing
+
+-- the change of a call that was refused, by the user that it is about: a wrong PIN is a wrong try
+abbrev pub refusal_change : RvError → Option UserType → Change
+refusal_change rv_error.PinIncorrect (Some u) = change.WrongTry u
+refusal_change other who = change.Nothing
+
+-- the change of an answered call
+abbrev pub effect_by : History → Call → Rv → Body → Change
+effect_by h c rv.Ok body = change_of h c body
+effect_by h c (rv.Error code) body = refusal_change code (about h (Some c))
+
+abbrev pub effect : History → Call → Reply → Change
+effect h c reply = effect_by h c reply.rv reply.body

@@ -1,0 +1,58 @@
+use ck_types::{Pin, Record, Sequence, UserType};
+
+/// What an answered call changes of sessions and objects.
+#[derive(Drop)]
+pub(crate) enum Change {
+    Nothing,
+    /// The try of a wrong PIN.
+    WrongTry {
+        user: UserType,
+    },
+    InitToken {
+        pin: Pin,
+    },
+    InitPin {
+        pin: Pin,
+    },
+    SetPin {
+        owner: UserType,
+        pin: Pin,
+    },
+    OpenSession {
+        flags: u64,
+    },
+    CloseSession {
+        session: u64,
+    },
+    CloseAllSessions,
+    LogIn {
+        user: UserType,
+    },
+    LogOut,
+    /// A creation, or a copy, in this session.
+    CreateObject {
+        session: u64,
+        attributes: Record,
+    },
+    /// New attributes of the object of this number.
+    SetAttributes {
+        number: u64,
+        attributes: Record,
+    },
+    DestroyObject {
+        number: u64,
+    },
+    StartSearch {
+        session: u64,
+        /// The numbers of the objects that it found.
+        found: Sequence<u64>,
+    },
+    AdvanceSearch {
+        session: u64,
+        /// The number of the last object that the search has given.
+        number: u64,
+    },
+    EndSearch {
+        session: u64,
+    },
+}

@@ -1,0 +1,79 @@
+use crate::changes::Change;
+use ck_sessions::Sessions;
+use ck_store::Store;
+use ck_types::NoMemory;
+
+/// The sessions and the objects of a token. While a call is carried out they are ahead of the journal, so what ties them to a
+/// history stands in the contracts.
+#[derive(Debug, Drop)]
+pub(crate) struct Parts {
+    pub(crate) sessions: Sessions,
+    pub(crate) objects: Store,
+}
+
+impl Parts {
+    ghost use Rattle.std.specs.Prelude.{◌≡◌, IsOk, OnOk, false};
+    ghost use Rattle.ck_types.specs.TokenLimits.{Ranges};
+    ghost use Rattle.ck_journal.specs.Answers.{IsLegal};
+    ghost use Rattle.ck_journal.specs.Histories.{History, ◌◁◌};
+    ghost use Rattle.ck_journal.specs.declared.calls.Entry.{Entry};
+    ghost use Rattle.ck_token.specs.Agreement.{PartsAgree, adds, HasRoom, IsCounted};
+    ghost use Rattle.ck_token.specs.Changes.{effect};
+
+    /// Makes room for what a change adds.
+    pub(crate) fn reserve(&mut self, change: &Change) -> Result<(), NoMemory>
+        ensures agree { (h : History) → PartsAgree h self.old → PartsAgree h self.new }
+        ensures room { OnOk result (HasRoom self.new change.now) }
+        ensures succeeds { adds change.now ≡ false → IsOk result }
+    {
+        match change {
+            Change::OpenSession { .. } => self.sessions.reserve(),
+            Change::CreateObject { session, .. } => self.objects.reserve(*session),
+            _ => Ok(()),
+        }
+    }
+
+    /// Carries out the change of an answered call, and takes no memory.
+    pub(crate) fn apply(&mut self, change: Change)
+        requires room { HasRoom self.old change }
+        requires counted { IsCounted self.old change }
+        ensures agree { (limits : Ranges) (h : History) (e : Entry) → IsLegal limits (e ◁ h) → change ≡ effect h e.call e.reply
+            → PartsAgree h self.old → PartsAgree (e ◁ h) self.new }
+    {
+        match change {
+            Change::Nothing => {}
+            Change::WrongTry { user } => self.sessions.count_wrong_try(user),
+            Change::InitToken { pin } => {
+                self.sessions.init_token(pin);
+                self.objects.clear();
+            }
+            Change::InitPin { pin } => self.sessions.init_pin(pin),
+            Change::SetPin { owner, pin } => self.sessions.set_pin(owner, pin),
+            Change::OpenSession { flags } => self.sessions.open_session(flags),
+            Change::CloseSession { session } => {
+                self.sessions.close(session);
+                self.objects.end_session(session);
+            }
+            Change::CloseAllSessions => {
+                self.sessions.close_all();
+                self.objects.end_all_sessions();
+            }
+            Change::LogIn { user } => self.sessions.log_in(user),
+            Change::LogOut => {
+                self.sessions.log_out();
+                self.objects.end_private();
+            }
+            Change::CreateObject {
+                session,
+                attributes,
+            } => self.objects.create(session, attributes),
+            Change::SetAttributes { number, attributes } => self.objects.set(number, attributes),
+            Change::DestroyObject { number } => self.objects.destroy(number),
+            Change::StartSearch { session, found } => self.sessions.start_search(session, found.into_vec()),
+            Change::AdvanceSearch { session, number } => {
+                self.sessions.advance_search(session, number)
+            }
+            Change::EndSearch { session } => self.sessions.end_search(session),
+        }
+    }
+}

@@ -1,0 +1,149 @@
+ghost use Rattle.std.specs.Prelude.{◌≡◌};
+ghost use Rattle.ck_types.specs.Users.{session_state};
+ghost use Rattle.ck_types.specs.declared.users.UserType.TheVariants as user;
+ghost use Rattle.ck_journal.specs.Pins.{is_user};
+
+use super::Token;
+use ck_journal::View;
+use ck_sessions::{Credential, Session};
+use ck_types::{Record, RvError, SessionState, UserType};
+
+/// The state of a session, by who is logged in and whether the session is read/write.
+fn session_state(login: Option<UserType>, is_read_write: bool) -> SessionState
+    ensures { result ≡ session_state login is_read_write }
+{
+    match login {
+        None if is_read_write => SessionState::RwPublic,
+        None => SessionState::RoPublic,
+        Some(UserType::User) if is_read_write => SessionState::RwUser,
+        Some(UserType::User) => SessionState::RoUser,
+        Some(UserType::So) => SessionState::RwSo,
+    }
+}
+
+/// Whether the normal user is logged in.
+fn is_user_in(login: Option<UserType>) -> bool
+    ensures { result ≡ is_user user.User login }
+{
+    matches!(login, Some(UserType::User))
+}
+
+/// What is read of the history.
+impl Token {
+    ghost use Rattle.std.specs.Prelude.{◌≡◌, ◌<◌, ◌≤◌, ◌^◌, ℕ, true, false, not, Some, None, IfOk, IfErr, length};
+    ghost use Rattle.std.specs.List.{list_any};
+    ghost use Rattle.ck_types.specs.declared.errors.RvError.TheVariants as rv_error;
+    ghost use Rattle.ck_journal.specs.Objects.{creations, view_of, is_user_in, object_named, attributes_named};
+    ghost use Rattle.ck_journal.specs.Pins.{is_initialized, present_pin, tries};
+    ghost use Rattle.ck_journal.specs.Sessions.{openings, is_open, open_sessions, is_read_write, rw_sessions, login, user_logins, state_of};
+    ghost use Rattle.ck_sessions.specs.Agreement.{session_row};
+
+    pub(super) fn is_initialized(&self) -> bool
+        ensures { result ≡ is_initialized self.now.history }
+    {
+        self.parts.sessions.is_initialized()
+    }
+
+    pub(super) fn session_count(&self) -> u64
+        ensures { result ≡ length (open_sessions self.now.history) }
+    {
+        self.parts.sessions.count()
+    }
+
+    pub(super) fn read_write_count(&self) -> u64
+        ensures { result ≡ length (rw_sessions self.now.history) }
+    {
+        self.parts.sessions.read_write_count()
+    }
+
+    pub(super) fn has_read_only(&self) -> bool
+        ensures { result ≡ list_any (λ s. not (is_read_write self.now.history s)) (open_sessions self.now.history) }
+    {
+        self.parts.sessions.has_read_only()
+    }
+
+    pub(super) fn openings(&self) -> u64
+        ensures { result ≡ openings self.now.history }
+    {
+        self.parts.sessions.openings()
+    }
+
+    /// The open session that has the handle, else CKR_SESSION_HANDLE_INVALID.
+    #[inline(always)]
+    pub(super) fn session(&self, session: u64) -> Result<&Session, RvError>
+        ensures open { IfOk result (λ row. is_open self.now.history session ≡ true) }
+        ensures row { IfOk result (λ row. row.now ≡ session_row self.now.history session) }
+        ensures none { IfErr result (λ code. code ≡ rv_error.SessionHandleInvalid) }
+        ensures closed { IfErr result (λ code. is_open self.now.history session ≡ false) }
+    {
+        match self.parts.sessions.get(session) {
+            Some(row) => Ok(row),
+            None => Err(RvError::SessionHandleInvalid),
+        }
+    }
+
+    /// The state of an open session.
+    pub(super) fn state(&self, row: &Session) -> SessionState
+        ensures { (s : ℕ) → row.now ≡ session_row self.now.history s → result ≡ state_of self.now.history s }
+    {
+        session_state(self.logged_in(), row.is_read_write())
+    }
+
+    /// Who is logged in.
+    pub(super) fn logged_in(&self) -> Option<UserType>
+        ensures { result ≡ login self.now.history }
+    {
+        self.parts.sessions.login()
+    }
+
+    pub(super) fn is_user_in(&self) -> bool
+        ensures { result ≡ is_user_in self.now.history }
+    {
+        is_user_in(self.logged_in())
+    }
+
+    pub(super) fn user_logins(&self) -> u64
+        ensures logins { result ≡ user_logins self.now.history }
+        ensures bound { result < 2 ^ 31 }
+    {
+        self.parts.sessions.logins()
+    }
+
+    /// A user's PIN and wrong tries.
+    pub(super) fn credential(&self, user: UserType) -> Credential
+        ensures pin { result.pin ≡ present_pin user self.now.history }
+        ensures tries { result.tries ≡ tries user self.now.history }
+    {
+        self.parts.sessions.credential(user)
+    }
+
+    /// What the handles of objects depend on now.
+    pub(super) fn view(&self) -> View
+        ensures view { result ≡ view_of self.now.history }
+        ensures bound { result.logins < 2 ^ 31 }
+    {
+        View {
+            user: self.is_user_in(),
+            logins: self.user_logins(),
+        }
+    }
+
+    pub(super) fn creations(&self) -> u64
+        ensures { result ≡ creations self.now.history }
+    {
+        self.parts.objects.creations()
+    }
+
+    /// The number and the attributes of the object that the handle names, else CKR_OBJECT_HANDLE_INVALID.
+    pub(super) fn object(&self, handle: u64) -> Result<(u64, &Record), RvError>
+        ensures number { IfOk result (λ found. object_named self.now.history handle ≡ Some found.0) }
+        ensures attributes { IfOk result (λ found. attributes_named self.now.history handle ≡ Some found.1.now) }
+        ensures none { IfErr result (λ code. code ≡ rv_error.ObjectHandleInvalid) }
+        ensures unnamed { IfErr result (λ code. attributes_named self.now.history handle ≡ None) }
+    {
+        match self.parts.objects.get(self.view(), handle) {
+            Some(found) => Ok(found),
+            None => Err(RvError::ObjectHandleInvalid),
+        }
+    }
+}
