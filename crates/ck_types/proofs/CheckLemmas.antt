@@ -33,8 +33,10 @@ pub check_of-or_else : (first later : Option RvError) → check_of (or_else firs
 check_of-or_else None later = refl
 check_of-or_else (Some error) later = refl
 
+-- for functions whose checks stand one after the other
 pub ruleset checks = (check_of-or_else)
 
+-- for loops whose checks do
 pub ruleset item_checks = (check_of-or_else, drop-cons, common_steps)
 
 -- what makes an object is refused with the error of its check

@@ -11,7 +11,7 @@ use Rattle.ck_types.specs.declared.attributes.Attribute.{Attribute}
 use Rattle.ck_types.specs.declared.attributes.Attribute.TheVariants as attribute
 use Rattle.ck_types.specs.declared.attributes.Class.{Class}
 use Rattle.ck_types.specs.declared.attributes.Class.TheVariants as class
-use Rattle.ck_types.specs.declared.attributes.Form.TheVariants as form
+use Rattle.ck_types.specs.declared.forms.Form.TheVariants as form
 use Rattle.ck_types.specs.declared.attributes.Purpose.{Purpose}
 use Rattle.ck_types.specs.declared.attributes.Purpose.TheVariants as purpose
 use Rattle.ck_types.specs.declared.object_flags.Protections.{Protections}

@@ -9,8 +9,8 @@ use Rattle.ck_types.specs.declared.attributes.Attribute.{Attribute}
 use Rattle.ck_types.specs.declared.attributes.Attribute.TheVariants as attribute
 use Rattle.ck_types.specs.declared.attributes.Class.{Class}
 use Rattle.ck_types.specs.declared.attributes.Class.TheVariants as class
-use Rattle.ck_types.specs.declared.attributes.Form.{Form}
-use Rattle.ck_types.specs.declared.attributes.Form.TheVariants as form
+use Rattle.ck_types.specs.declared.forms.Form.{Form}
+use Rattle.ck_types.specs.declared.forms.Form.TheVariants as form
 use Rattle.ck_types.specs.declared.attributes.Purpose.{Purpose}
 use Rattle.ck_types.specs.declared.attributes.Purpose.TheVariants as purpose
 use Rattle.ck_types.specs.declared.errors.RvError.{RvError}

@@ -5,7 +5,7 @@ ghost use Rattle.ck_types.specs.Attributes.{type_of, form_of, same_bytes, flag_b
 ghost use Rattle.ck_types.specs.Checks.{check_of, first_error};
 ghost use Rattle.ck_types.specs.Templates.{value_at, value_or, flag_at, has_two_values, has_conflict};
 ghost use Rattle.ck_types.specs.Templates.{form_error, creation_form_error, permission_error};
-ghost use Rattle.ck_types.specs.declared.attributes.Form.TheVariants as form;
+ghost use Rattle.ck_types.specs.declared.forms.Form.TheVariants as form;
 
 use crate::attributes::{Attribute, Class, Purpose};
 use crate::checks::error_if;

@@ -486,11 +486,24 @@ fn check_error(
     Ok(())
 }
 
+fn check_errors(
+    rt: &impl Abort,
+    alloc: Global,
+    errors: &[(u64, RvError, &str)],
+) -> Result<(), Fail> {
+    for (number, error, name) in errors {
+        check_error(rt, alloc, *number, *error, name)?;
+    }
+    Ok(())
+}
+
+#[test]
+fn errors(rt: HostRuntime) -> Result<(), Fail> {
+    check_errors(&rt, rt.alloc(), ERRORS.as_slice())
+}
+
 #[test]
 fn return_codes(rt: HostRuntime) -> Result<(), Fail> {
-    for (number, error, name) in ERRORS {
-        check_error(&rt, rt.alloc(), number, error, name)?;
-    }
     assert_eq!(rt; Rv::of(0), Some(Rv::Ok));
     assert_eq!(rt; RvError::of(0), None);
     assert_eq!(rt; Rv::Ok.number(), 0);
