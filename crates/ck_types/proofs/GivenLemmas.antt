@@ -151,8 +151,8 @@ no-value c p a items read_only fine = cases (value_at items (type_of a)) refl
     cases (Some value) e =
         let passes = none-given (permission_error c p) (type_of a) value items fine e in
         let refused : error_of_permission (Some false) ≡ None =
-            subst (λ o. error_of_permission o ≡ None) read_only
-            (subst (λ o. error_of_permission (option_and_then (permission c p) o) ≡ None) (attribute_of-type_of a) passes) in
+        subst (λ o. error_of_permission o ≡ None) read_only
+        (subst (λ o. error_of_permission (option_and_then (permission c p) o) ≡ None) (attribute_of-type_of a) passes) in
         cc
 
 -- its items have no fault in form, and it doesn't give the class
