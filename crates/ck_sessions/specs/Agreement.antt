@@ -9,8 +9,9 @@ use Rattle.ck_journal.specs.Sessions.{openings, is_open, flags_of, open_sessions
 use Rattle.ck_sessions.specs.Rows.{Search, SessionRow}
 use Rattle.ck_sessions.specs.declared.credentials.Credential.{Credential}
 
--- the open sessions, for how many more there is room, how many have been opened, who is logged in, how many times the user
--- has logged in, and the PINs and wrong tries of the security officer and the user
+-- the open sessions, for how many more there is room, how many have been opened, who is logged in,
+-- how many times the user has logged in, and the PINs and wrong tries of the security officer and
+-- the user
 pub record SessionsState : Type 0 where
   pub rows : List SessionRow
   pub spare : ℕ
@@ -27,7 +28,9 @@ credential_of user.User s = s.user
 -- the session's search, where one is active
 abbrev pub search_of : History → ℕ → Option Search
 search_of h s =
-    if is_searching h s then Some (record { found = found_objects h s; last = last_number h s }) else None
+    if is_searching h s
+    then Some (record { found = found_objects h s; last = last_number h s })
+    else None
 
 -- an open session as the history has it
 abbrev pub session_row : History → ℕ → SessionRow

@@ -3,8 +3,8 @@ use Rattle.std.specs.Prelude.{ℕ, Bool, List, Option, ◌==◌, not, option_map
 use Rattle.std.specs.Option.{option_map_or}
 use Rattle.ck_journal.specs.Sessions.{has_rw_flag}
 
--- a search: the numbers of the objects that it found when it started, and the number of the object that it returned last,
--- 0 where none
+-- a search: the numbers of the objects that it found when it started, and the number of the object
+-- that it returned last, 0 where none
 pub record Search : Type 0 where
   pub found : List ℕ
   pub last : ℕ

@@ -9,7 +9,7 @@ ghost use Rattle.ck_sessions.specs.Rows.{is_session, last_found, with_search, wi
 use crate::searches::Search;
 use std::marker::Model;
 
-/// An open session.
+/// An open session (PKCS #11 Base 3.0, Session management functions).
 #[derive(Debug, Drop)]
 pub struct Session {
     handle: u64,
@@ -61,15 +61,17 @@ impl Session {
     /// Whether it has an active search.
     pub fn is_searching(&self) -> bool
         ensures value { result ≡ is_some self.now.search }
-        ensures searching { (h : History) (s : ℕ) → self.now ≡ session_row h s → result ≡ is_searching h s }
+        ensures searching { (h : History) (s : ℕ) → self.now ≡ session_row h s
+            → result ≡ is_searching h s }
     {
         self.search.is_some()
     }
 
-    /// The numbers of the objects that its search found and has not returned yet, rising, or `None` where no search is
-    /// active.
+    /// The numbers of the objects that its search found and has not returned yet, rising, or `None`
+    /// where no search is active.
     pub fn remaining_objects(&self) -> Option<&[u64]>
-        ensures { (h : History) (s : ℕ) → self.now ≡ session_row h s → option_copied result ≡ search_left h s }
+        ensures { (h : History) (s : ℕ) → self.now ≡ session_row h s
+            → option_copied result ≡ search_left h s }
     {
         match &self.search {
             None => None,

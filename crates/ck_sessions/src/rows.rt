@@ -28,7 +28,8 @@ pub(crate) fn has_read_only(rows: &[Session]) -> bool
 }
 
 pub(crate) fn remove_session(rows: &mut Vec<Session>, session: u64)
-    ensures { rows.new.items ≡ filter (λ (row : SessionRow). not (is_session session row)) rows.old.items }
+    ensures { rows.new.items
+        ≡ filter (λ (row : SessionRow). not (is_session session row)) rows.old.items }
 {
     rows.retain(|row| !row.has_handle(session));
 }
@@ -41,7 +42,8 @@ fn place_of(rows: &[Session], session: u64) -> Option<usize>
 
 /// Gives the session this search, or none.
 pub(crate) fn set_search(rows: &mut Vec<Session>, session: u64, search: Option<Search>)
-    ensures { rows.new.items ≡ change_first (is_session session) (with_search search) rows.old.items }
+    ensures { rows.new.items
+        ≡ change_first (is_session session) (with_search search) rows.old.items }
 {
     if let Some(place) = place_of(rows.as_slice(), session) {
         let row = &mut rows[place];
@@ -51,7 +53,8 @@ pub(crate) fn set_search(rows: &mut Vec<Session>, session: u64, search: Option<S
 
 /// Notes the number of the object that the session's search returned last.
 pub(crate) fn set_last_found(rows: &mut Vec<Session>, session: u64, number: u64)
-    ensures { rows.new.items ≡ change_first (is_session session) (with_last_found number) rows.old.items }
+    ensures { rows.new.items
+        ≡ change_first (is_session session) (with_last_found number) rows.old.items }
 {
     if let Some(place) = place_of(rows.as_slice(), session) {
         let row = &mut rows[place];

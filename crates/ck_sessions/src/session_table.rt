@@ -9,7 +9,8 @@ use ck_types::{NoMemory, Pin, UserType};
 use std::alloc::Global;
 use std::marker::Model;
 
-/// The token's open sessions, the login that they share, and the PINs.
+/// The token's open sessions, the login that they share, and the PINs (PKCS #11 Base 3.0, Session
+/// management functions).
 #[derive(Debug, Drop)]
 pub struct Sessions {
     /// In the order of their openings.
@@ -122,7 +123,8 @@ impl Sessions {
 
     /// The session of this handle, where it is open.
     pub fn get(&self, session: u64) -> Option<&Session>
-        ensures { (h : History) → SessionsAgree h self.now → option_copied result ≡ session_at h session }
+        ensures { (h : History) → SessionsAgree h self.now
+            → option_copied result ≡ session_at h session }
     {
         find_session(self.rows.as_slice(), session)
     }
@@ -156,7 +158,8 @@ impl Sessions {
 
     // ---- changes, each that of a call that was answered OK or of a wrong try
 
-    /// Initializes the token: the security officer keeps a PIN that was set before, the user's is taken away.
+    /// Initializes the token: the security officer keeps a PIN that was set before, the user's is
+    /// taken away.
     pub fn init_token(&mut self, pin: Pin)
         ensures agree { (h : History) (e : Entry) → done e ≡ Some (call.InitToken pin)
             → SessionsAgree h self.old → SessionsAgree (e ◁ h) self.new }
@@ -168,7 +171,8 @@ impl Sessions {
 
     /// Sets the user's PIN for the security officer.
     pub fn init_pin(&mut self, pin: Pin)
-        ensures agree { (h : History) (e : Entry) (session : ℕ) → done e ≡ Some (call.InitPin session pin)
+        ensures agree { (h : History) (e : Entry) (session : ℕ)
+            → done e ≡ Some (call.InitPin session pin)
             → SessionsAgree h self.old → SessionsAgree (e ◁ h) self.new }
     {
         self.user = Credential::new(pin);
@@ -178,7 +182,8 @@ impl Sessions {
     pub fn set_pin(&mut self, owner: UserType, pin: Pin)
         requires { is_some (credential_of owner self.old).pin ≡ true }
         ensures agree { (h : History) (e : Entry) (session : ℕ) (before : Pin)
-            → done e ≡ Some (call.SetPin session before pin) → pin_owner (state_of h session) ≡ owner
+            → done e ≡ Some (call.SetPin session before pin)
+            → pin_owner (state_of h session) ≡ owner
             → SessionsAgree h self.old → SessionsAgree (e ◁ h) self.new }
     {
         match owner {
@@ -240,7 +245,8 @@ impl Sessions {
 
     /// Logs out whoever is logged in, and ends the searches of all sessions.
     pub fn log_out(&mut self)
-        ensures agree { (h : History) (e : Entry) (session : ℕ) → done e ≡ Some (call.Logout session)
+        ensures agree { (h : History) (e : Entry) (session : ℕ)
+            → done e ≡ Some (call.Logout session)
             → SessionsAgree h self.old → SessionsAgree (e ◁ h) self.new }
     {
         self.login = None;
@@ -250,7 +256,8 @@ impl Sessions {
     /// Starts a search that found the objects of these numbers.
     pub fn start_search(&mut self, session: u64, found: Vec<u64>)
         ensures agree { (h : History) (e : Entry) (template : Template)
-            → done e ≡ Some (call.FindObjectsInit session template) → found.items ≡ matching_objects h template.items
+            → done e ≡ Some (call.FindObjectsInit session template)
+            → found.items ≡ matching_objects h template.items
             → SessionsAgree h self.old → SessionsAgree (e ◁ h) self.new }
     {
         set_search(&mut self.rows, session, Some(Search::new(found)));
@@ -258,8 +265,10 @@ impl Sessions {
 
     /// Notes the number of the object that the session's search returned last.
     pub fn advance_search(&mut self, session: u64, number: u64)
-        ensures agree { (h : History) (e : Entry) (max : ℕ) → done e ≡ Some (call.FindObjects session max)
-            → number ≡ last_or (last_number h session) (map number_of_handle (handles_in e.reply.body))
+        ensures agree { (h : History) (e : Entry) (max : ℕ)
+            → done e ≡ Some (call.FindObjects session max)
+            → number ≡ last_or (last_number h session)
+            (map number_of_handle (handles_in e.reply.body))
             → SessionsAgree h self.old → SessionsAgree (e ◁ h) self.new }
     {
         set_last_found(&mut self.rows, session, number);
@@ -276,7 +285,8 @@ impl Sessions {
     /// Counts a wrong try of a user's PIN.
     pub fn count_wrong_try(&mut self, user: UserType)
         requires { (credential_of user self.old).tries + 1 < 2 ^ 64 }
-        ensures agree { (h : History) (e : Entry) → done e ≡ None → about h (wrong_try e) ≡ Some user
+        ensures agree { (h : History) (e : Entry) → done e ≡ None
+            → about h (wrong_try e) ≡ Some user
             → SessionsAgree h self.old → SessionsAgree (e ◁ h) self.new }
     {
         match user {
