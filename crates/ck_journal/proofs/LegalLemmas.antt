@@ -42,25 +42,30 @@ use Rattle.ck_journal.proofs.SessionMoves.{is_open-within}
 
 -- ---- what was answered OK passed its checks
 
-checks-passed : (error : Option RvError) (reply : Reply) → is_ok (unless error reply).rv ≡ true → error ≡ None
+checks-passed : (error : Option RvError) (reply : Reply) → is_ok (unless error reply).rv ≡ true
+    → error ≡ None
 checks-passed None reply ok = refl
 checks-passed (Some code) reply ok = cc
 
-pub passed : (limits : Ranges) (e : Entry) (h : History) → IsLegal limits (e ◁ h) → is_ok e.reply.rv ≡ true → call_error limits h e.call ≡ None
+pub passed : (limits : Ranges) (e : Entry) (h : History) → IsLegal limits (e ◁ h)
+    → is_ok e.reply.rv ≡ true → call_error limits h e.call ≡ None
 passed limits e h legal ok =
-    checks-passed (call_error limits h e.call) (allowed_reply limits h e.call) (subst (λ (reply : Reply). is_ok reply.rv ≡ true) legal.0 ok)
+    checks-passed (call_error limits h e.call) (allowed_reply limits h e.call)
+    (subst (λ (reply : Reply). is_ok reply.rv ≡ true) legal.0 ok)
 
 done-call : (ok : Bool) (c d : Call) → cond ok (Some c) None ≡ Some d → (ok ≡ true) × (c ≡ d)
 done-call true c d e = (refl, same_Some c d e)
 done-call false c d e = cc
 
-pub passed-done : (limits : Ranges) (e : Entry) (h : History) → IsLegal limits (e ◁ h) → (c : Call) → done e ≡ Some c → call_error limits h c ≡ None
+pub passed-done : (limits : Ranges) (e : Entry) (h : History) → IsLegal limits (e ◁ h) → (c : Call)
+    → done e ≡ Some c → call_error limits h c ≡ None
 passed-done limits e h legal c d =
     let did = done-call (is_ok e.reply.rv) e.call c d in
     subst (λ c. call_error limits h c ≡ None) did.1 (passed limits e h legal did.0)
 
 -- what is so of no call, and of every call that passes its checks, is so of what an entry did
-pub by-done : (limits : Ranges) (e : Entry) (h : History) → IsLegal limits (e ◁ h) → (P : Option Call → Type 0)
+pub by-done : (limits : Ranges) (e : Entry) (h : History) → IsLegal limits (e ◁ h)
+    → (P : Option Call → Type 0)
     → P None → ((c : Call) → call_error limits h c ≡ None → P (Some c)) → P (done e)
 by-done limits e h legal P none each = cases (is_ok e.reply.rv) refl
   where
@@ -70,7 +75,8 @@ by-done limits e h legal P none each = cases (is_ok e.reply.rv) refl
 
 -- ---- a check that fails answers its code
 
-pub refused : (limits : Ranges) (h : History) (c : Call) (code : RvError) → call_error limits h c ≡ Some code → answer limits h c ≡ refusal code
+pub refused : (limits : Ranges) (h : History) (c : Call) (code : RvError)
+    → call_error limits h c ≡ Some code → answer limits h c ≡ refusal code
 refused limits h c code e = ap (λ error. unless error (allowed_reply limits h c)) e
 
 -- ---- checks that pass
@@ -81,14 +87,19 @@ later-passes first later e = (or_else-none first later e).1
 last-passes : (last : Option RvError) → first_of (last ∷ []) ≡ None → last ≡ None
 last-passes last e = (or_else-none last None e).0
 
-session-open : (h : History) (session : ℕ) → session_error h session ≡ None → is_open h session ≡ true
-session-open h session e = not-false (is_open h session) (error_if-none (not (is_open h session)) rv_error.SessionHandleInvalid e)
+session-open : (h : History) (session : ℕ) → session_error h session ≡ None
+    → is_open h session ≡ true
+session-open h session e =
+    not-false (is_open h session)
+    (error_if-none (not (is_open h session)) rv_error.SessionHandleInvalid e)
 
-count-free : (most count : ℕ) (code : RvError) → error_if (nat_le most count) code ≡ None → count < most
+count-free : (most count : ℕ) (code : RvError) → error_if (nat_le most count) code ≡ None
+    → count < most
 count-free most count code e = leb-false most count (error_if-none (nat_le most count) code e)
 
 -- the checks of an object that a handle names: it names one, and they pass
-object-found : (found : Option (List Item)) (checks : List Item → Option RvError) (code : RvError) → option_map_or checks found (Some code) ≡ None
+object-found : (found : Option (List Item)) (checks : List Item → Option RvError) (code : RvError)
+    → option_map_or checks found (Some code) ≡ None
     → (attributes : List Item) × (checks attributes ≡ None)
 object-found None checks code e = cc
 object-found (Some attributes) checks code e = (attributes, e)
@@ -96,11 +107,14 @@ object-found (Some attributes) checks code e = (attributes, e)
 -- ---- counts
 
 module _ (limits : Ranges) where
-  login-free : (h : History) (c : Call) → call_error limits h c ≡ None → logs_user_in (Some c) ≡ true → user_logins h < limits.logins
+  login-free : (h : History) (c : Call) → call_error limits h c ≡ None
+      → logs_user_in (Some c) ≡ true → user_logins h < limits.logins
   login-free h (call.Login session number pin) p one =
-      let known = last-passes (known_login_error limits h (user_of number) pin) (later-passes (session_error h session) _ p) in
+      let known = last-passes (known_login_error limits h (user_of number) pin)
+      (later-passes (session_error h session) _ p) in
       let checks : user_login_error limits h user.User pin ≡ None =
-          subst (λ n. known_login_error limits h (user_of n) pin ≡ None) (eqb-true number 1 one) known in
+      subst (λ n. known_login_error limits h (user_of n) pin ≡ None)
+      (eqb-true number 1 one) known in
       count-free limits.logins (user_logins h) rv_error.DeviceMemory
       (last-passes (logins_error limits user.User h)
       (later-passes (pin_error user.User h pin) _
@@ -108,18 +122,23 @@ module _ (limits : Ranges) where
       (later-passes (logged_in_error user.User (login h)) _ checks))))
   login-free h other p one = cc
 
-  opening-free : (h : History) (c : Call) → call_error limits h c ≡ None → opens (Some c) ≡ true → openings h < limits.openings
+  opening-free : (h : History) (c : Call) → call_error limits h c ≡ None → opens (Some c) ≡ true
+      → openings h < limits.openings
   opening-free h (call.OpenSession flags) p t =
       count-free limits.openings (openings h) rv_error.DeviceMemory
       (last-passes (error_if (nat_le limits.openings (openings h)) rv_error.DeviceMemory)
-      (later-passes (error_if (nat_le limits.sessions (length (open_sessions h))) rv_error.SessionCount) _
-      (later-passes (error_if (not (has_rw_flag flags) && is_so (login h)) rv_error.SessionReadWriteSoExists) _
+      (later-passes
+      (error_if (nat_le limits.sessions (length (open_sessions h))) rv_error.SessionCount) _
+      (later-passes
+      (error_if (not (has_rw_flag flags) && is_so (login h)) rv_error.SessionReadWriteSoExists) _
       (later-passes (error_if (not (bit_and flags 6 == flags)) rv_error.ArgumentsBad) _
       (later-passes (error_if (bit_and flags 4 == 0) rv_error.SessionParallelNotSupported) _
       (later-passes (error_if (not (is_initialized h)) rv_error.TokenNotRecognized) _ p))))))
   opening-free h other p t = cc
 
-  creation-free : (h : History) (c : Call) → call_error limits h c ≡ None → creates (Some c) ≡ true → creations h < limits.creations
+  -- a creation that passes its checks is within the limit
+  pub creation-free : (h : History) (c : Call) → call_error limits h c ≡ None
+      → creates (Some c) ≡ true → creations h < limits.creations
   creation-free h (call.CreateObject session template) p t =
       count-free limits.creations (creations h) rv_error.DeviceMemory
       (last-passes (creations_error limits h)
@@ -128,7 +147,7 @@ module _ (limits : Ranges) where
       (later-passes (session_error h session) _ p))))
   creation-free h (call.CopyObject session object template) p t =
       let found = object-found (attributes_named h object) _ rv_error.ObjectHandleInvalid
-          (last-passes (object_error h object _) (later-passes (session_error h session) _ p)) in
+      (last-passes (object_error h object _) (later-passes (session_error h session) _ p)) in
       count-free limits.creations (creations h) rv_error.DeviceMemory
       (last-passes (creations_error limits h)
       (later-passes (placement_error h session (placement_of (with_given template.items found.0))) _
@@ -136,76 +155,96 @@ module _ (limits : Ranges) where
       (later-passes (prohibited_error attribute.Copyable found.0) _ found.1))))
   creation-free h other p t = cc
 
-counts-below : (more : Bool) (n most bound : ℕ) → most < bound → (more ≡ true → n < most) → n < bound → cond more (suc n) n < bound
+counts-below : (more : Bool) (n most bound : ℕ) → most < bound → (more ≡ true → n < most)
+    → n < bound → cond more (suc n) n < bound
 counts-below true n most bound m free below = let f = free refl in omega arith
 counts-below false n most bound m free below = below
 
-module _ (limits : Ranges) (in_range : AreInRange limits.sessions limits.openings limits.creations limits.logins) where
-  pub user_logins-bound : (h : History) → IsSound (start_of h) → IsLegal limits h → user_logins h < 2 ^ 31
+module _ (limits : Ranges)
+    (in_range : AreInRange limits.sessions limits.openings limits.creations limits.logins) where
+  pub user_logins-bound : (h : History) → IsSound (start_of h) → IsLegal limits h
+      → user_logins h < 2 ^ 31
   user_logins-bound (start b) sound legal = sound.logins
   user_logins-bound (e ◁ h) sound legal =
       counts-below (logs_user_in (done e)) (user_logins h) limits.logins (2 ^ 31) in_range.7
-      (by-done limits e h legal (λ d. logs_user_in d ≡ true → user_logins h < limits.logins) (λ t. cc) (login-free limits h))
+      (by-done limits e h legal (λ d. logs_user_in d ≡ true → user_logins h < limits.logins)
+      (λ t. cc) (login-free limits h))
       (user_logins-bound h sound legal.1)
 
   pub openings-bound : (h : History) → IsSound (start_of h) → IsLegal limits h → openings h < 2 ^ 32
   openings-bound (start b) sound legal = sound.openings
   openings-bound (e ◁ h) sound legal =
       counts-below (opens (done e)) (openings h) limits.openings (2 ^ 32) in_range.3
-      (by-done limits e h legal (λ d. opens d ≡ true → openings h < limits.openings) (λ t. cc) (opening-free limits h))
+      (by-done limits e h legal (λ d. opens d ≡ true → openings h < limits.openings)
+      (λ t. cc) (opening-free limits h))
       (openings-bound h sound legal.1)
 
-  pub creations-bound : (h : History) → IsSound (start_of h) → IsLegal limits h → creations h < 2 ^ 32
+  pub creations-bound : (h : History) → IsSound (start_of h) → IsLegal limits h
+      → creations h < 2 ^ 32
   creations-bound (start b) sound legal = sound.creations
   creations-bound (e ◁ h) sound legal =
       counts-below (creates (done e)) (creations h) limits.creations (2 ^ 32) in_range.5
-      (by-done limits e h legal (λ d. creates d ≡ true → creations h < limits.creations) (λ t. cc) (creation-free limits h))
+      (by-done limits e h legal (λ d. creates d ≡ true → creations h < limits.creations)
+      (λ t. cc) (creation-free limits h))
       (creations-bound h sound legal.1)
 
 -- ---- a wrong PIN
 
 -- a check that fails with another code isn't the one that found the PIN wrong
-no-wrong_pin : (test : Bool) (code : RvError) → (code ≡ rv_error.PinIncorrect → ⊥) → error_if test code ≡ Some rv_error.PinIncorrect → ⊥
+no-wrong_pin : (test : Bool) (code : RvError) → (code ≡ rv_error.PinIncorrect → ⊥)
+    → error_if test code ≡ Some rv_error.PinIncorrect → ⊥
 no-wrong_pin false code other e = cc
 no-wrong_pin true code other e = other (same_Some code rv_error.PinIncorrect e)
 
-later-wrong : (first later : Option RvError) → (first ≡ Some rv_error.PinIncorrect → ⊥) → or_else first later ≡ Some rv_error.PinIncorrect
+later-wrong : (first later : Option RvError) → (first ≡ Some rv_error.PinIncorrect → ⊥)
+    → or_else first later ≡ Some rv_error.PinIncorrect
     → later ≡ Some rv_error.PinIncorrect
 later-wrong None later other e = e
 later-wrong (Some code) later other e = absurd (other e)
 
-last-wrong : (last : Option RvError) → or_else last None ≡ Some rv_error.PinIncorrect → last ≡ Some rv_error.PinIncorrect
+last-wrong : (last : Option RvError) → or_else last None ≡ Some rv_error.PinIncorrect
+    → last ≡ Some rv_error.PinIncorrect
 last-wrong None e = cc
 last-wrong (Some code) e = e
 
 -- the check of the lock comes first
-lock-first : (locked : Bool) (later : Option RvError) → or_else (error_if locked rv_error.PinLocked) later ≡ Some rv_error.PinIncorrect → locked ≡ false
+lock-first : (locked : Bool) (later : Option RvError)
+    → or_else (error_if locked rv_error.PinLocked) later ≡ Some rv_error.PinIncorrect
+    → locked ≡ false
 lock-first true later e = cc
 lock-first false later e = refl
 
 module _ (h : History) where
   session-other : (session : ℕ) → session_error h session ≡ Some rv_error.PinIncorrect → ⊥
-  session-other session = no-wrong_pin (not (is_open h session)) rv_error.SessionHandleInvalid (λ e. cc)
+  session-other session =
+      no-wrong_pin (not (is_open h session)) rv_error.SessionHandleInvalid (λ e. cc)
 
   init_token-case : (initialized fits : Bool) (pin : Pin)
-      → cond initialized (pin_error user.So h pin) (error_if fits rv_error.PinLenRange) ≡ Some rv_error.PinIncorrect → is_locked user.So h ≡ false
+      → cond initialized (pin_error user.So h pin) (error_if fits rv_error.PinLenRange)
+      ≡ Some rv_error.PinIncorrect
+      → is_locked user.So h ≡ false
   init_token-case true fits pin e = lock-first (is_locked user.So h) _ e
   init_token-case false fits pin e = absurd (no-wrong_pin fits rv_error.PinLenRange (λ e. cc) e)
 
-  unlocked-init_token : (pin : Pin) → init_token_error h pin ≡ Some rv_error.PinIncorrect → is_locked user.So h ≡ false
+  unlocked-init_token : (pin : Pin) → init_token_error h pin ≡ Some rv_error.PinIncorrect
+      → is_locked user.So h ≡ false
   unlocked-init_token pin e =
       init_token-case (is_initialized h) (not (fits_a_pin pin)) pin
-      (last-wrong _ (later-wrong (error_if (not (length (open_sessions h) == 0)) rv_error.SessionExists) _
+      (last-wrong _
+      (later-wrong (error_if (not (length (open_sessions h) == 0)) rv_error.SessionExists) _
       (no-wrong_pin (not (length (open_sessions h) == 0)) rv_error.SessionExists (λ e. cc)) e))
 
-  no-wrong_init_pin : (session : ℕ) (pin : Pin) → init_pin_error h session pin ≡ Some rv_error.PinIncorrect → ⊥
+  no-wrong_init_pin : (session : ℕ) (pin : Pin)
+      → init_pin_error h session pin ≡ Some rv_error.PinIncorrect → ⊥
   no-wrong_init_pin session pin e =
       no-wrong_pin (not (fits_a_pin pin)) rv_error.PinLenRange (λ e. cc)
-      (last-wrong _ (later-wrong (error_if (not (is_so_state (state_of h session))) rv_error.UserNotLoggedIn) _
+      (last-wrong _
+      (later-wrong (error_if (not (is_so_state (state_of h session))) rv_error.UserNotLoggedIn) _
       (no-wrong_pin (not (is_so_state (state_of h session))) rv_error.UserNotLoggedIn (λ e. cc))
       (later-wrong (session_error h session) _ (session-other session) e)))
 
-  unlocked-set_pin : (session : ℕ) (old new : Pin) → set_pin_error h session old new ≡ Some rv_error.PinIncorrect
+  unlocked-set_pin : (session : ℕ) (old new : Pin)
+      → set_pin_error h session old new ≡ Some rv_error.PinIncorrect
       → is_locked (pin_owner (state_of h session)) h ≡ false
   unlocked-set_pin session old new e =
       let owner = pin_owner (state_of h session) in
@@ -216,7 +255,8 @@ module _ (h : History) where
       (no-wrong_pin (not (is_read_write h session)) rv_error.SessionReadOnly (λ e. cc))
       (later-wrong (session_error h session) _ (session-other session) e)))
 
-  logged_in-other : (u : UserType) (l : Option UserType) → logged_in_error u l ≡ Some rv_error.PinIncorrect → ⊥
+  logged_in-other : (u : UserType) (l : Option UserType)
+      → logged_in_error u l ≡ Some rv_error.PinIncorrect → ⊥
   logged_in-other u None e = cc
   logged_in-other user.So (Some user.So) e = cc
   logged_in-other user.So (Some user.User) e = cc
@@ -227,22 +267,28 @@ module _ (h : History) where
   read_only-other user.So e = no-wrong_pin _ rv_error.SessionReadOnlyExists (λ e. cc) e
   read_only-other user.User e = cc
 
-  logins-other : (limits : Ranges) (u : UserType) → logins_error limits u h ≡ Some rv_error.PinIncorrect → ⊥
+  logins-other : (limits : Ranges) (u : UserType)
+      → logins_error limits u h ≡ Some rv_error.PinIncorrect → ⊥
   logins-other limits user.So e = cc
   logins-other limits user.User e = no-wrong_pin _ rv_error.DeviceMemory (λ e. cc) e
 
   -- the check of the PIN, and then one that never finds a PIN wrong
-  pin_error-first : (u : UserType) (pin : Pin) (last : Option RvError) → (last ≡ Some rv_error.PinIncorrect → ⊥)
-      → or_else (pin_error u h pin) (or_else last None) ≡ Some rv_error.PinIncorrect → is_locked u h ≡ false
+  pin_error-first : (u : UserType) (pin : Pin) (last : Option RvError)
+      → (last ≡ Some rv_error.PinIncorrect → ⊥)
+      → or_else (pin_error u h pin) (or_else last None) ≡ Some rv_error.PinIncorrect
+      → is_locked u h ≡ false
   pin_error-first u pin last other e = cases (is_locked u h) e
     where
       cases : (locked : Bool)
-          → or_else (or_else (error_if locked rv_error.PinLocked) (or_else (error_if (not (is_pin (present_pin u h) pin)) rv_error.PinIncorrect) None)) (or_else last None)
+          → or_else (first_of (error_if locked rv_error.PinLocked
+          ∷ error_if (not (is_pin (present_pin u h) pin)) rv_error.PinIncorrect ∷ []))
+          (or_else last None)
           ≡ Some rv_error.PinIncorrect → locked ≡ false
       cases true e = cc
       cases false e = refl
 
-  unlocked-login : (limits : Ranges) (u : UserType) (pin : Pin) → user_login_error limits h u pin ≡ Some rv_error.PinIncorrect → is_locked u h ≡ false
+  unlocked-login : (limits : Ranges) (u : UserType) (pin : Pin)
+      → user_login_error limits h u pin ≡ Some rv_error.PinIncorrect → is_locked u h ≡ false
   unlocked-login limits u pin e =
       pin_error-first u pin (logins_error limits u h) (logins-other limits u)
       (later-wrong (error_if (is_none (present_pin u h)) rv_error.UserPinNotInitialized) _
@@ -250,23 +296,28 @@ module _ (h : History) where
       (later-wrong (read_only_error u h) _ (read_only-other u)
       (later-wrong (logged_in_error u (login h)) _ (logged_in-other u (login h)) e)))
 
-  unlocked-known : (limits : Ranges) (found : Option UserType) (u : UserType) (pin : Pin) → known_login_error limits h found pin ≡ Some rv_error.PinIncorrect
+  unlocked-known : (limits : Ranges) (found : Option UserType) (u : UserType) (pin : Pin)
+      → known_login_error limits h found pin ≡ Some rv_error.PinIncorrect
       → found ≡ Some u → is_locked u h ≡ false
   unlocked-known limits None u pin e same = cc
   unlocked-known limits (Some other) u pin e same =
-      subst (λ u. is_locked u h ≡ false) (same_Some other u same) (unlocked-login limits other pin e)
+      subst (λ u. is_locked u h ≡ false) (same_Some other u same)
+      (unlocked-login limits other pin e)
 
 -- a PIN is found wrong only of a user who isn't locked
-pub unlocked : (limits : Ranges) (h : History) (c : Call) (u : UserType) → call_error limits h c ≡ Some rv_error.PinIncorrect
+pub unlocked : (limits : Ranges) (h : History) (c : Call) (u : UserType)
+    → call_error limits h c ≡ Some rv_error.PinIncorrect
     → about h (Some c) ≡ Some u → is_locked u h ≡ false
 unlocked limits h (call.InitToken pin) u e same =
     subst (λ u. is_locked u h ≡ false) (same_Some user.So u same) (unlocked-init_token h pin e)
 unlocked limits h (call.InitPin session pin) u e same = absurd (no-wrong_init_pin h session pin e)
 unlocked limits h (call.SetPin session old new) u e same =
-    subst (λ u. is_locked u h ≡ false) (same_Some (pin_owner (state_of h session)) u same) (unlocked-set_pin h session old new e)
+    subst (λ u. is_locked u h ≡ false) (same_Some (pin_owner (state_of h session)) u same)
+    (unlocked-set_pin h session old new e)
 unlocked limits h (call.Login session number pin) u e same =
     unlocked-known h limits (user_of number) u pin
-    (last-wrong (known_login_error limits h (user_of number) pin) (later-wrong (session_error h session) _ (session-other h session) e)) same
+    (last-wrong (known_login_error limits h (user_of number) pin)
+    (later-wrong (session_error h session) _ (session-other h session) e)) same
 unlocked limits h other u e same = cc
 
 -- ---- wrong tries
@@ -276,24 +327,33 @@ wrong_code rv_error.PinIncorrect w = refl
 wrong_code other w = cc
 
 queries-other : (missing longer : Bool)
-    → is_wrong_pin (cond missing (rv.Error rv_error.AttributeTypeInvalid) (cond longer (rv.Error rv_error.BufferTooSmall) rv.Ok)) ≡ false
+    → is_wrong_pin (cond missing (rv.Error rv_error.AttributeTypeInvalid)
+    (cond longer (rv.Error rv_error.BufferTooSmall) rv.Ok))
+    ≡ false
 queries-other true longer = refl
 queries-other false true = refl
 queries-other false false = refl
 
-allowed-other : (limits : Ranges) (h : History) (c : Call) → is_wrong_pin (allowed_reply limits h c).rv ≡ false
+allowed-other : (limits : Ranges) (h : History) (c : Call)
+    → is_wrong_pin (allowed_reply limits h c).rv ≡ false
 allowed-other limits h (call.GetAttributeValue session object queries) =
-    queries-other (list_any (is_missing (named_attributes h object)) queries) (list_any (lacks_room (named_attributes h object)) queries)
+    queries-other (list_any (is_missing (named_attributes h object)) queries)
+    (list_any (lacks_room (named_attributes h object)) queries)
 allowed-other limits h other = refl
 
-wrong_answer : (limits : Ranges) (h : History) (c : Call) → is_wrong_pin (answer limits h c).rv ≡ true → call_error limits h c ≡ Some rv_error.PinIncorrect
+wrong_answer : (limits : Ranges) (h : History) (c : Call)
+    → is_wrong_pin (answer limits h c).rv ≡ true
+    → call_error limits h c ≡ Some rv_error.PinIncorrect
 wrong_answer limits h c w = cases (call_error limits h c) w
   where
-    cases : (error : Option RvError) → is_wrong_pin (unless error (allowed_reply limits h c)).rv ≡ true → error ≡ Some rv_error.PinIncorrect
+    cases : (error : Option RvError)
+        → is_wrong_pin (unless error (allowed_reply limits h c)).rv ≡ true
+        → error ≡ Some rv_error.PinIncorrect
     cases None w = absurd (false≢true (sym (allowed-other limits h c) ∙ w))
     cases (Some code) w = ap Some (wrong_code code w)
 
-wrong_try-about : (wrong : Bool) (u : UserType) (h : History) (c : Call) → is_about u h (cond wrong (Some c) None) ≡ true
+wrong_try-about : (wrong : Bool) (u : UserType) (h : History) (c : Call)
+    → is_about u h (cond wrong (Some c) None) ≡ true
     → (wrong ≡ true) × (is_about u h (Some c) ≡ true)
 wrong_try-about true u h c a = (refl, a)
 wrong_try-about false u h c a = cc
@@ -305,7 +365,8 @@ is_user-some user.So (Some user.User) e = cc
 is_user-some user.User (Some user.So) e = cc
 is_user-some user.User (Some user.User) e = refl
 
-tries-below : (reset wrong : Bool) (n : ℕ) → n ≤ 3 → (wrong ≡ true → n == 3 ≡ false) → cond reset 0 (cond wrong (suc n) n) ≤ 3
+tries-below : (reset wrong : Bool) (n : ℕ) → n ≤ 3 → (wrong ≡ true → n == 3 ≡ false)
+    → cond reset 0 (cond wrong (suc n) n) ≤ 3
 tries-below true wrong n below free = omega arith
 tries-below false true n below free = let fewer : n ≢ 3 = eqb-false n 3 (free refl) in omega arith
 tries-below false false n below free = below
@@ -314,12 +375,16 @@ base_tries-bound : (u : UserType) (b : Base) → IsSound b → base_tries u b �
 base_tries-bound user.So b sound = sound.so_tries
 base_tries-bound user.User b sound = sound.user_tries
 
-pub tries-bound : (limits : Ranges) (h : History) → IsSound (start_of h) → IsLegal limits h → (u : UserType) → tries u h ≤ 3
+pub tries-bound : (limits : Ranges) (h : History) → IsSound (start_of h) → IsLegal limits h
+    → (u : UserType) → tries u h ≤ 3
 tries-bound limits (start b) sound legal u = base_tries-bound u b sound
 tries-bound limits (e ◁ h) sound legal u =
-    tries-below (resets u h (done e)) (is_about u h (wrong_try e)) (tries u h) (tries-bound limits h sound legal.1 u)
+    tries-below (resets u h (done e)) (is_about u h (wrong_try e)) (tries u h)
+    (tries-bound limits h sound legal.1 u)
     (λ w. let tried = wrong_try-about (is_wrong_pin e.reply.rv) u h e.call w in
-    unlocked limits h e.call u (wrong_answer limits h e.call (subst (λ (reply : Reply). is_wrong_pin reply.rv ≡ true) legal.0 tried.0))
+    unlocked limits h e.call u
+    (wrong_answer limits h e.call
+    (subst (λ (reply : Reply). is_wrong_pin reply.rv ≡ true) legal.0 tried.0))
     (is_user-some u (about h (Some e.call)) tried.1))
 
 -- ---- searches
@@ -328,16 +393,19 @@ opened-or : (opened was_open : Bool) → was_open ≡ true → cond opened true 
 opened-or true was_open e = refl
 opened-or false was_open e = e
 
-unless-ended : (ended searching is_so : Bool) → (searching ≡ true → is_so ≡ true) → cond ended false searching ≡ true → is_so ≡ true
+unless-ended : (ended searching is_so : Bool) → (searching ≡ true → is_so ≡ true)
+    → cond ended false searching ≡ true → is_so ≡ true
 unless-ended true searching is_so before e = cc
 unless-ended false searching is_so before e = before e
 
-unless-closed : (closed searching was_open : Bool) → (searching ≡ true → was_open ≡ true) → cond closed false searching ≡ true
+unless-closed : (closed searching was_open : Bool) → (searching ≡ true → was_open ≡ true)
+    → cond closed false searching ≡ true
     → cond closed false was_open ≡ true
 unless-closed true searching was_open before e = cc
 unless-closed false searching was_open before e = before e
 
-started-or : (started searching was_open : Bool) → (started ≡ true → was_open ≡ true) → (searching ≡ true → was_open ≡ true) → cond started true searching ≡ true
+started-or : (started searching was_open : Bool) → (started ≡ true → was_open ≡ true)
+    → (searching ≡ true → was_open ≡ true) → cond started true searching ≡ true
     → was_open ≡ true
 started-or true searching was_open now before e = now refl
 started-or false searching was_open now before e = before e
@@ -349,79 +417,109 @@ module _ (h : History) (s : ℕ) (before : is_searching h s ≡ true → is_open
       → cond (opens d && s == suc (openings h)) true (cond (closes d s) false (is_open h s)) ≡ true
 
   stays-open : (limits : Ranges) (c : Call) → call_error limits h c ≡ None → StaysOpen (Some c)
-  stays-open limits (call.OpenSession flags) p active = opened-or (s == suc (openings h)) (is_open h s) (before active)
-  stays-open limits (call.CloseSession session) p active = unless-closed (session == s) (is_searching h s) (is_open h s) before active
+  stays-open limits (call.OpenSession flags) p active =
+      opened-or (s == suc (openings h)) (is_open h s) (before active)
+  stays-open limits (call.CloseSession session) p active =
+      unless-closed (session == s) (is_searching h s) (is_open h s) before active
   stays-open limits call.CloseAllSessions p active = cc
   stays-open limits (call.Logout session) p active = cc
   stays-open limits (call.FindObjectsInit session template) p active =
       let named = session-open h session (or_else-none (session_error h session) _ p).0 in
       started-or (session == s) (is_searching h s) (is_open h s)
       (λ same. subst (λ k. is_open h k ≡ true) (eqb-true session s same) named) before active
-  stays-open limits (call.FindObjectsFinal session) p active = unless-ended (session == s) (is_searching h s) (is_open h s) before active
+  stays-open limits (call.FindObjectsFinal session) p active =
+      unless-ended (session == s) (is_searching h s) (is_open h s) before active
   stays-open limits other p active = before active
 
 -- a session with an active search is open
-pub is_searching-open : (limits : Ranges) (h : History) → IsLegal limits h → (s : ℕ) → is_searching h s ≡ true → is_open h s ≡ true
+pub is_searching-open : (limits : Ranges) (h : History) → IsLegal limits h → (s : ℕ)
+    → is_searching h s ≡ true → is_open h s ≡ true
 is_searching-open limits (start b) legal s active = cc
 is_searching-open limits (e ◁ h) legal s active =
     let before = is_searching-open limits h legal.1 s in
     by-done limits e h legal (StaysOpen h s before) before (stays-open h s before limits) active
 
 -- the next session has none
-pub is_searching-next : (limits : Ranges) (h : History) → IsLegal limits h → is_searching h (suc (openings h)) ≡ false
+pub is_searching-next : (limits : Ranges) (h : History) → IsLegal limits h
+    → is_searching h (suc (openings h)) ≡ false
 is_searching-next limits h legal =
     false_from_ne_true (is_searching h (suc (openings h)))
-    (λ active. let within = is_open-within h (suc (openings h)) (is_searching-open limits h legal (suc (openings h)) active) in omega arith)
+    (λ active.
+    let found = is_searching-open limits h legal (suc (openings h)) active in
+    let within = is_open-within h (suc (openings h)) found in
+    omega arith)
 
 -- ---- an object keeps CKA_TOKEN and CKA_PRIVATE
 
-unless-ends : (ends : Bool) (a b : List Item) (flag : Attribute) → cond ends None (Some a) ≡ Some b → is_set b flag ≡ is_set a flag
+unless-ends : (ends : Bool) (a b : List Item) (flag : Attribute) → cond ends None (Some a) ≡ Some b
+    → is_set b flag ≡ is_set a flag
 unless-ends true a b flag e = cc
 unless-ends false a b flag e = ap (λ items. is_set items flag) (sym (same_Some a b e))
 
-where-named : (named : Bool) (changed a b : List Item) (flag : Attribute) → is_set changed flag ≡ is_set a flag → Some (cond named changed a) ≡ Some b
+where-named : (named : Bool) (changed a b : List Item) (flag : Attribute)
+    → is_set changed flag ≡ is_set a flag → Some (cond named changed a) ≡ Some b
     → is_set b flag ≡ is_set a flag
-where-named true changed a b flag same e = ap (λ items. is_set items flag) (sym (same_Some changed b e)) ∙ same
-where-named false changed a b flag same e = ap (λ items. is_set items flag) (sym (same_Some a b e))
+where-named true changed a b flag same e =
+    ap (λ items. is_set items flag) (sym (same_Some changed b e)) ∙ same
+where-named false changed a b flag same e =
+    ap (λ items. is_set items flag) (sym (same_Some a b e))
 
-not-created : (created same : Bool) (fresh later : Option (List Item)) (b : List Item) → same ≡ false → cond (created && same) fresh later ≡ Some b → later ≡ Some b
+not-created : (created same : Bool) (fresh later : Option (List Item)) (b : List Item)
+    → same ≡ false → cond (created && same) fresh later ≡ Some b → later ≡ Some b
 not-created true true fresh later b n e = cc
 not-created true false fresh later b n e = e
 not-created false same fresh later b n e = e
 
 module _ (limits : Ranges) (flag : Attribute)
-    (kept : (c : Class) (protections : Protections) (template items : List Item) → changed_error c protections template ≡ None
+    (kept : (c : Class) (protections : Protections) (template items : List Item)
+    → changed_error c protections template ≡ None
     → is_set (with_given template items) flag ≡ is_set items flag) where
-  call-keeps : (h : History) (c : Call) → call_error limits h c ≡ None → (n creator : ℕ) (a b : List Item)
+  call-keeps : (h : History) (c : Call) → call_error limits h c ≡ None
+      → (n creator : ℕ) (a b : List Item)
       → object_after (Some c) (view_of h) n creator a ≡ Some b → is_set b flag ≡ is_set a flag
-  call-keeps h (call.DestroyObject session object) p n creator a b e = unless-ends (names_with (view_of h) a object n) a b flag e
+  call-keeps h (call.DestroyObject session object) p n creator a b e =
+      unless-ends (names_with (view_of h) a object n) a b flag e
   call-keeps h (call.SetAttributeValue session object template) p n creator a b e =
       let found = object-found (attributes_named h object) _ rv_error.ObjectHandleInvalid
-          (last-passes (object_error h object _) (later-passes (session_error h session) _ p)) in
-      let passes = last-passes (changed_error (class_of found.0) (protections_of found.0) template.items)
-          (later-passes (prohibited_error attribute.Modifiable found.0) _
-          (later-passes (read_only_session_error h session (placement_of found.0)) _ found.1)) in
+      (last-passes (object_error h object _) (later-passes (session_error h session) _ p)) in
+      let passes = last-passes
+      (changed_error (class_of found.0) (protections_of found.0) template.items)
+      (later-passes (prohibited_error attribute.Modifiable found.0) _
+      (later-passes (read_only_session_error h session (placement_of found.0)) _ found.1)) in
       where-named (names_with (view_of h) a object n) (with_given template.items a) a b flag
       (kept (class_of found.0) (protections_of found.0) template.items a passes) e
   call-keeps h (call.InitToken pin) p n creator a b e = cc
-  call-keeps h (call.CloseSession session) p n creator a b e = unless-ends (is_session_object a && session == creator) a b flag e
-  call-keeps h call.CloseAllSessions p n creator a b e = unless-ends (is_session_object a) a b flag e
-  call-keeps h (call.Logout session) p n creator a b e = unless-ends (is_session_object a && is_set a attribute.Private) a b flag e
+  call-keeps h (call.CloseSession session) p n creator a b e =
+      unless-ends (is_session_object a && session == creator) a b flag e
+  call-keeps h call.CloseAllSessions p n creator a b e =
+      unless-ends (is_session_object a) a b flag e
+  call-keeps h (call.Logout session) p n creator a b e =
+      unless-ends (is_session_object a && is_set a attribute.Private) a b flag e
   call-keeps h other p n creator a b e = unless-ends false a b flag e
 
-  flag_stays : (e : Entry) (h : History) → IsSound (start_of h) → IsLegal limits (e ◁ h) → (n : ℕ) (a b : List Item)
+  flag_stays : (e : Entry) (h : History) → IsSound (start_of h) → IsLegal limits (e ◁ h)
+      → (n : ℕ) (a b : List Item)
       → object_at h n ≡ Some a → object_at (e ◁ h) n ≡ Some b → is_set b flag ≡ is_set a flag
   flag_stays e h sound legal n a b was now =
       let within = object_at-within h sound n a was in
-      let old = not-created (creates (done e)) (n == suc (creations h)) _ _ b (ne_eqb n (suc (creations h)) (λ e. omega arith)) now in
-      by-done limits e h legal (λ d. object_after d (view_of h) n (session_of h n) a ≡ Some b → is_set b flag ≡ is_set a flag)
+      let other = ne_eqb n (suc (creations h)) (λ same. omega arith) in
+      let old = not-created (creates (done e)) (n == suc (creations h)) _ _ b other now in
+      by-done limits e h legal
+      (λ d. object_after d (view_of h) n (session_of h n) a ≡ Some b
+      → is_set b flag ≡ is_set a flag)
       (unless-ends false a b flag) (λ c p. call-keeps h c p n (session_of h n) a b)
-      (subst (λ o. option_and_then (object_after (done e) (view_of h) n (session_of h n)) o ≡ Some b) was old)
+      (subst
+      (λ o. option_and_then (object_after (done e) (view_of h) n (session_of h n)) o ≡ Some b)
+      was old)
 
-pub token_stays : (limits : Ranges) (e : Entry) (h : History) → IsSound (start_of h) → IsLegal limits (e ◁ h) → (n : ℕ) (a b : List Item)
-    → object_at h n ≡ Some a → object_at (e ◁ h) n ≡ Some b → is_set b attribute.Token ≡ is_set a attribute.Token
+pub token_stays : (limits : Ranges) (e : Entry) (h : History) → IsSound (start_of h)
+    → IsLegal limits (e ◁ h) → (n : ℕ) (a b : List Item)
+    → object_at h n ≡ Some a → object_at (e ◁ h) n ≡ Some b
+    → is_set b attribute.Token ≡ is_set a attribute.Token
 token_stays limits = flag_stays limits attribute.Token token-kept
 
-pub private_stays : (limits : Ranges) (e : Entry) (h : History) → IsSound (start_of h) → IsLegal limits (e ◁ h) → (n : ℕ) (a b : List Item)
-    → object_at h n ≡ Some a → object_at (e ◁ h) n ≡ Some b → is_set b attribute.Private ≡ is_set a attribute.Private
+pub private_stays : (limits : Ranges) (e : Entry) (h : History) → IsSound (start_of h)
+    → IsLegal limits (e ◁ h) → (n : ℕ) (a b : List Item)
+    → object_at h n ≡ Some a → object_at (e ◁ h) n ≡ Some b
+    → is_set b attribute.Private ≡ is_set a attribute.Private
 private_stays limits = flag_stays limits attribute.Private private-kept

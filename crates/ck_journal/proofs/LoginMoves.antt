@@ -10,8 +10,8 @@ use Rattle.ck_journal.specs.declared.calls.Call.TheVariants as call
 use Rattle.ck_journal.specs.declared.calls.Entry.{Entry}
 use Rattle.ck_journal.specs.Histories.{History, start, ◌◁◌, done, wrong_try, is_ok, is_wrong_pin, effects_of, effects}
 use Rattle.ck_journal.specs.Pins.{so_pin, so_pin_after, user_pin, user_pin_after, named_owner, is_initialized, initializes, is_about, resets, tries}
-use Rattle.ck_journal.proofs.SessionMoves.{session_rows, session_rows-same, openings-later, flags_of-later, open_sessions-rows}
-use Rattle.ck_journal.specs.Sessions.{opens, openings, closes, flags_of, open_sessions, login, login_after, logs_user_in, user_logins}
+use Rattle.ck_journal.proofs.SessionMoves.{session_rows, session_rows-same, openings-later, open_sessions-rows}
+use Rattle.ck_journal.specs.Sessions.{opens, openings, closes, open_sessions, login, login_after, logs_user_in, user_logins}
 
 -- ---- an entry is answered OK, or is a wrong try, or neither
 
@@ -130,9 +130,6 @@ module _ (e : Entry) (h : History) (l : (effects e).sessions ≡ false) where
 
   pub session_rows-left : {X : Type 0} (row : History → ℕ → X) → ((k : ℕ) → row (e ◁ h) k ≡ row h k) → session_rows row (e ◁ h) ≡ session_rows row h
   session_rows-left row same = session_rows-same e h (opens-left (done e) l) row same (λ s. closes-left (done e) s l)
-
-  pub flags_of-left : (k : ℕ) → flags_of (e ◁ h) k ≡ flags_of h k
-  flags_of-left k = flags_of-later e h (opens-left (done e) l) k
 
   open_sessions-left : open_sessions (e ◁ h) ≡ open_sessions h
   open_sessions-left = sym (open_sessions-rows (e ◁ h)) ∙ session_rows-left (λ h s. s) (λ k. refl) ∙ open_sessions-rows h

@@ -1,6 +1,6 @@
 -- How searches move by one entry
-use Rattle.std.proofs.Common.{◌≡◌, ℕ, suc, false, cond, List, Option, Some, None, refl, ap, ◌∙◌}
-use Rattle.std.specs.Prelude.{◌==◌, ◌&&◌, filter, option_and_then}
+use Rattle.std.proofs.Common.{◌≡◌, ℕ, false, cond, List, Option, Some, refl, ap, ◌∙◌}
+use Rattle.std.specs.Prelude.{filter}
 use Rattle.std.proofs.lemmas.List.Elements.{filter_agree}
 use Rattle.ck_types.specs.declared.items.Item.{Item}
 use Rattle.ck_types.specs.declared.users.UserType.TheVariants as user
@@ -9,7 +9,7 @@ use Rattle.ck_journal.specs.declared.calls.Call.TheVariants as call
 use Rattle.ck_journal.specs.declared.calls.Entry.{Entry}
 use Rattle.ck_journal.specs.declared.views.View.{View}
 use Rattle.ck_journal.specs.Histories.{History, ◌◁◌, done, effects_of, effects}
-use Rattle.ck_journal.specs.Objects.{creates, creations, creation_attributes, attributes_among, object_after, object_at, session_of, is_some_with, view_of}
+use Rattle.ck_journal.specs.Objects.{creations, object_at, is_some_with, view_of}
 use Rattle.ck_journal.specs.Pins.{is_user}
 use Rattle.ck_journal.specs.Searches.{starts_search, ends_search, asks_search, is_searching, is_match_with, matching_objects, search_template, found_objects, last_number}
 use Rattle.ck_journal.specs.Sessions.{numbers, login, user_logins}

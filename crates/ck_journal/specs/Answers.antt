@@ -181,11 +181,11 @@ abbrev pub copy_object_error : Ranges → History → ℕ → ℕ → List Item 
 copy_object_error limits h session object template = first_of (
     session_error h session
     ∷ object_error h object (λ source. first_of (
-        prohibited_error attribute.Copyable source
-        ∷ copied_error (class_of source) (protections_of source) template
-        ∷ placement_error h session (placement_of (with_given template source))
-        ∷ creations_error limits h
-        ∷ []))
+    prohibited_error attribute.Copyable source
+    ∷ copied_error (class_of source) (protections_of source) template
+    ∷ placement_error h session (placement_of (with_given template source))
+    ∷ creations_error limits h
+    ∷ []))
     ∷ [])
 
 abbrev pub get_attribute_value_error : History → ℕ → ℕ → Option RvError
@@ -198,19 +198,19 @@ abbrev pub set_attribute_value_error : History → ℕ → ℕ → List Item →
 set_attribute_value_error h session object template = first_of (
     session_error h session
     ∷ object_error h object (λ attributes. first_of (
-        read_only_session_error h session (placement_of attributes)
-        ∷ prohibited_error attribute.Modifiable attributes
-        ∷ changed_error (class_of attributes) (protections_of attributes) template
-        ∷ []))
+    read_only_session_error h session (placement_of attributes)
+    ∷ prohibited_error attribute.Modifiable attributes
+    ∷ changed_error (class_of attributes) (protections_of attributes) template
+    ∷ []))
     ∷ [])
 
 abbrev pub destroy_object_error : History → ℕ → ℕ → Option RvError
 destroy_object_error h session object = first_of (
     session_error h session
     ∷ object_error h object (λ attributes. first_of (
-        read_only_session_error h session (placement_of attributes)
-        ∷ prohibited_error attribute.Destroyable attributes
-        ∷ []))
+    read_only_session_error h session (placement_of attributes)
+    ∷ prohibited_error attribute.Destroyable attributes
+    ∷ []))
     ∷ [])
 
 abbrev pub find_objects_init_error : History → ℕ → Option RvError

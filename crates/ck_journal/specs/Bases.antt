@@ -12,8 +12,15 @@ use Rattle.ck_journal.specs.declared.bases.KeptObject.{KeptObject}
 -- the base of a new token
 abbrev pub empty_base : Base
 empty_base = record {
-  initialized = false; so = None; user = None; so_tries = 0; user_tries = 0;
-  openings = 0; creations = 0; logins = 0; objects = []
+  initialized = false;
+  so = None;
+  user = None;
+  so_tries = 0;
+  user_tries = 0;
+  openings = 0;
+  creations = 0;
+  logins = 0;
+  objects = [];
 }
 
 -- the attributes of the object of this number, where the base has it

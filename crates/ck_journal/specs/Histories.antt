@@ -10,7 +10,6 @@ use Rattle.ck_journal.specs.declared.calls.Call.TheVariants as call
 use Rattle.ck_journal.specs.declared.calls.Entry.{Entry}
 
 infixr 5 ◌◁◌
-
 pub data History : Type 0 where
   start : Base → History
   ◌◁◌ : Entry → History → History

@@ -1,7 +1,7 @@
 -- What C_GetAttributeValue answers (PKCS #11 Base 3.0, Object management functions)
 use Rattle.std.specs.Prelude.{ℕ, Bool, false, List, Option, Some, None, nat_lt, is_none, length, map, if◌then◌else◌}
 use Rattle.std.specs.List.{list_any}
-use Rattle.ck_types.specs.Templates.{given}
+use Rattle.ck_types.specs.Templates.{value_at}
 use Rattle.ck_types.specs.declared.return_codes.Rv.{Rv}
 use Rattle.ck_types.specs.declared.return_codes.Rv.TheVariants as rv
 use Rattle.ck_types.specs.declared.errors.RvError.TheVariants as rv_error
@@ -19,11 +19,11 @@ value_answer (Some value) None = answer.Length (length value)
 value_answer (Some value) (Some room) = if nat_lt room (length value) then answer.Unavailable else answer.Value value
 
 abbrev pub query_answer : List Item → AttributeQuery → Answer
-query_answer attributes query = value_answer (given attributes query.kind) query.room
+query_answer attributes query = value_answer (value_at attributes query.kind) query.room
 
 -- the object doesn't have the attribute
 abbrev pub is_missing : List Item → AttributeQuery → Bool
-is_missing attributes query = is_none (given attributes query.kind)
+is_missing attributes query = is_none (value_at attributes query.kind)
 
 abbrev pub is_longer : Option (List ℕ) → Option ℕ → Bool
 is_longer (Some value) (Some room) = nat_lt room (length value)
@@ -31,7 +31,7 @@ is_longer other room = false
 
 -- the value needs more room than there is
 abbrev pub lacks_room : List Item → AttributeQuery → Bool
-lacks_room attributes query = is_longer (given attributes query.kind) query.room
+lacks_room attributes query = is_longer (value_at attributes query.kind) query.room
 
 -- the one code of the call: a missing attribute comes before too little room
 abbrev pub queries_code : List Item → List AttributeQuery → Rv

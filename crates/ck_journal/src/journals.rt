@@ -27,8 +27,8 @@ impl Model for Journal {
     ghost coded = { Prim.hlevel (codes, history_code) };
 
     ghost view = { λ j. record {
-        history = followed_by (start j.base) (reverse j.entries.items);
-        spare = vec_capacity j.entries - vec_len j.entries
+      history = followed_by (start j.base) (reverse j.entries.items);
+      spare = vec_capacity j.entries - vec_len j.entries;
     } };
 
     ghost invariant = { λ j. IsSound j.base };

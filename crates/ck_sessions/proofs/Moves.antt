@@ -4,6 +4,7 @@ use Rattle.std.specs.Prelude.{◌==◌, filter, length, map, is_some, unwrap_or}
 use Rattle.std.proofs.Math.Bool.{and-false}
 use Rattle.std.proofs.lemmas.Bool.{eq-eqb, eqb-true, eqb-false, ne_eqb, false≢true}
 use Rattle.std.proofs.lemmas.Option.{same_Some}
+use Rattle.std.proofs.lemmas.Simd.{map-map}
 use Rattle.std.specs.List.{list_any}
 use Rattle.ck_types.specs.Users.{user_of, same_user}
 use Rattle.ck_types.specs.declared.pins.Pin.{Pin}
@@ -75,10 +76,6 @@ user_case u number false false a b e = cc
 
 user_number : (u : UserType) (number : ℕ) → user_of number ≡ Some u → number == 1 ≡ same_user user.User u
 user_number u number = user_case u number (number == 0) (number == 1) refl refl
-
-map-map : (change : SessionRow → SessionRow) (row : ℕ → SessionRow) (ks : List ℕ) → map change (map row ks) ≡ map (λ k. change (row k)) ks
-map-map change row [] = refl
-map-map change row (k ∷ ks) = ap (λ rows. change (row k) ∷ rows) (map-map change row ks)
 
 module _ (h : History) (old : SessionsState) (agree : SessionsAgree h old) (e : Entry) where
   -- ---- rows of a call that opens and closes nothing

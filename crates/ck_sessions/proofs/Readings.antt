@@ -1,36 +1,23 @@
 -- Readings of sessions that agree with a history
-use Rattle.std.proofs.Common.{◌≡◌, ℕ, suc, Bool, true, false, not, cond, List, [], ◌∷◌, Option, Some, None, refl, sym, ap, ◌∙◌, subst}
+use Rattle.std.proofs.Common.{◌≡◌, ℕ, Bool, true, false, not, cond, List, [], ◌∷◌, Option, Some, None, refl, sym, ap, ◌∙◌, subst}
 use Rattle.std.proofs.lemmas.Bool.{eqb-true}
+use Rattle.std.proofs.lemmas.List.{length-map}
 use Rattle.std.proofs.lemmas.Option.{same_Some}
 use Rattle.std.specs.Prelude.{◌==◌, map, filter, find, length, is_some, nat_lt, option_map}
 use Rattle.std.specs.List.{list_any}
 use Rattle.std.specs.List.Sorted.{IsNonDecreasingBy}
-use Rattle.ck_types.specs.declared.users.UserType.{UserType}
-use Rattle.ck_types.specs.declared.users.UserType.TheVariants as user
 use Rattle.ck_journal.specs.Histories.{History}
-use Rattle.ck_journal.specs.Sessions.{numbers, openings, is_open, open_sessions, is_read_write, rw_sessions}
-use Rattle.ck_journal.proofs.Selections.{list_any-selected, list_any-at, length-selected, find-map, is_some-find, find-passes}
+use Rattle.ck_journal.specs.Sessions.{openings, is_open, open_sessions, is_read_write, rw_sessions}
+use Rattle.ck_journal.proofs.Selections.{list_any-selected, list_any-at, filter-map, find-map, is_some-find, find-passes}
 use Rattle.ck_journal.proofs.SessionMoves.{session_rows, is_open-within}
-use Rattle.ck_journal.specs.Searches.{is_searching, found_objects, last_number, remaining_objects}
+use Rattle.ck_journal.specs.Searches.{is_searching, found_objects, last_number}
 use Rattle.ck_journal.proofs.RisingLemmas.{found_objects-rise}
-use Rattle.ck_sessions.specs.Agreement.{SessionsState, SessionsAgree, CredentialAgrees, credential_of, session_row, session_at, search_of, search_left}
+use Rattle.ck_sessions.specs.Agreement.{SessionsState, SessionsAgree, session_row, session_at, search_of, search_left}
 use Rattle.ck_sessions.specs.Rows.{Search, SessionRow, is_session, is_rw_row, is_read_only_row}
 
-length-cond : (t : Bool) (row : SessionRow) (rows : List SessionRow) (k : ℕ) (ks : List ℕ) → length rows ≡ length ks → length (cond t (row ∷ rows) rows) ≡ length (cond t (k ∷ ks) ks)
-length-cond true row rows k ks e = ap suc e
-length-cond false row rows k ks e = e
-
-length-map_filter : (test : ℕ → Bool) (row : ℕ → SessionRow) (again : SessionRow → Bool) → ((k : ℕ) → again (row k) ≡ test k) → (ks : List ℕ)
-    → length (filter again (map row ks)) ≡ length (filter test ks)
-length-map_filter test row again same [] = refl
-length-map_filter test row again same (k ∷ ks) =
-    ap (λ t. length (cond t (row k ∷ filter again (map row ks)) (filter again (map row ks)))) (same k)
-    ∙ length-cond (test k) (row k) (filter again (map row ks)) k (filter test ks) (length-map_filter test row again same ks)
-
-list_any-map : (test : ℕ → Bool) (row : ℕ → SessionRow) (again : SessionRow → Bool) → ((k : ℕ) → again (row k) ≡ test k) → (ks : List ℕ)
-    → list_any again (map row ks) ≡ list_any test ks
-list_any-map test row again same [] = refl
-list_any-map test row again same (k ∷ ks) = rw (same k, list_any-map test row again same ks)
+list_any-map : (test : SessionRow → Bool) (row : ℕ → SessionRow) (ks : List ℕ) → list_any test (map row ks) ≡ list_any (λ k. test (row k)) ks
+list_any-map test row [] = refl
+list_any-map test row (k ∷ ks) = rw (list_any-map test row ks)
 
 -- whether the row of a session is among those of the open sessions
 pub list_any-open : (h : History) (session : ℕ) → list_any (is_session session) (session_rows session_row h) ≡ is_open h session
@@ -42,18 +29,14 @@ module _ (h : History) (s : SessionsState) (agree : SessionsAgree h s) where
   abbrev row_of : ℕ → SessionRow
   row_of = session_row h
 
-  pub length-rows : length s.rows ≡ length (open_sessions h)
-  length-rows = ap length agree.rows ∙ length-selected (is_open h) row_of (openings h)
-
   pub rw-rows : length (filter is_rw_row s.rows) ≡ length (rw_sessions h)
-  rw-rows = ap (λ rows. length (filter is_rw_row rows)) agree.rows ∙ length-map_filter (is_read_write h) row_of is_rw_row (λ k. refl) (open_sessions h)
+  rw-rows =
+      ap (λ rows. length (filter is_rw_row rows)) agree.rows
+      ∙ ap length (filter-map is_rw_row row_of (open_sessions h))
+      ∙ length-map (rw_sessions h) row_of
 
   pub read_only-rows : list_any is_read_only_row s.rows ≡ list_any (λ n. not (is_read_write h n)) (open_sessions h)
-  read_only-rows = ap (list_any is_read_only_row) agree.rows ∙ list_any-map (λ n. not (is_read_write h n)) row_of is_read_only_row (λ k. refl) (open_sessions h)
-
-  pub CredentialAgrees-of : (u : UserType) → CredentialAgrees u h (credential_of u s)
-  CredentialAgrees-of user.So = agree.so
-  CredentialAgrees-of user.User = agree.user
+  read_only-rows = ap (list_any is_read_only_row) agree.rows ∙ list_any-map is_read_only_row row_of (open_sessions h)
 
   -- ---- a session's row
 
@@ -74,20 +57,6 @@ module _ (h : History) (s : SessionsState) (agree : SessionsAgree h s) where
       (ap is_some (sym found) ∙ is_some-find (is_session session) (session_rows session_row h) ∙ list_any-open h session)
 
 -- ---- a session's search
-
-active_case : (active : Bool) (search : Search) → is_some (cond active (Some search) None) ≡ active
-active_case true search = refl
-active_case false search = refl
-
-pub is_some-search_of : (h : History) (s : ℕ) → is_some (search_of h s) ≡ is_searching h s
-is_some-search_of h s = active_case (is_searching h s) (record { found = found_objects h s; last = last_number h s })
-
-none_case : (active : Bool) (search : Search) (rest : List ℕ) → None ≡ cond active (Some search) None → None ≡ cond active (Some rest) None
-none_case true search rest e = cc
-none_case false search rest e = refl
-
-pub search_left-none : (h : History) (s : ℕ) → None ≡ search_of h s → None ≡ search_left h s
-search_left-none h s = none_case (is_searching h s) (record { found = found_objects h s; last = last_number h s }) (remaining_objects h s)
 
 abbrev left_of : Search → List ℕ
 left_of search = filter (λ n. nat_lt search.last n) search.found

@@ -1,10 +1,10 @@
 -- What a change of an object keeps
-use Rattle.std.proofs.Common.{◌≡◌, ℕ, Bool, true, false, cond, List, [], ◌∷◌, Option, Some, None, refl, ap, ◌∙◌}
+use Rattle.std.proofs.Common.{◌≡◌, ℕ, Bool, true, false, cond, List, [], ◌∷◌, Some, None, refl, ap, ◌∙◌}
 use Rattle.std.specs.Prelude.{◌==◌, find, option_and_then, option_map, unwrap_or}
 use Rattle.std.proofs.lemmas.Bool.{eqb-true}
 use Rattle.ck_types.specs.Attributes.{type_of, form_of, permission}
 use Rattle.ck_types.specs.Checks.{error_if, first_error}
-use Rattle.ck_types.specs.Templates.{given, given_or, flag_of, form_error, class_error, template_error, has_conflict}
+use Rattle.ck_types.specs.Templates.{value_at, value_or, flag_of, form_error, permission_error, template_error, has_conflict}
 use Rattle.ck_types.specs.Records.{with_given, is_set, changed_error}
 use Rattle.ck_types.specs.declared.attributes.Attribute.{Attribute}
 use Rattle.ck_types.specs.declared.attributes.Attribute.TheVariants as attribute
@@ -19,45 +19,66 @@ use Rattle.ck_types.proofs.GivenLemmas.{no-value}
 
 -- ---- a type that the template doesn't give
 
-module _ (template : List Item) (kind : ℕ) (none : given template kind ≡ None) where
+module _ (template : List Item) (kind : ℕ) (none : value_at template kind ≡ None) where
   same-first : (test : Bool) (item : Item) (items : List Item) → item.kind == kind ≡ test
-      → given (with_given template items) kind ≡ given items kind
+      → value_at (with_given template items) kind ≡ value_at items kind
       → option_map (λ (i : Item). i.value)
-      (cond test (Some (record { kind = item.kind; value = given_or template item.kind item.value })) (find (λ (i : Item). i.kind == kind) (with_given template items)))
-      ≡ option_map (λ (i : Item). i.value) (cond test (Some item) (find (λ (i : Item). i.kind == kind) items))
+      (cond test
+      (Some (record { kind = item.kind; value = value_or template item.kind item.value }))
+      (find (λ (i : Item). i.kind == kind) (with_given template items)))
+      ≡ option_map (λ (i : Item). i.value)
+      (cond test (Some item) (find (λ (i : Item). i.kind == kind) items))
   same-first true item items t later =
-      ap (λ n. Some (given_or template n item.value)) (eqb-true item.kind kind t) ∙ ap (λ o. Some (unwrap_or o item.value)) none
+      ap (λ n. Some (value_or template n item.value)) (eqb-true item.kind kind t)
+      ∙ ap (λ o. Some (unwrap_or o item.value)) none
   same-first false item items t later = later
 
   -- its value stays
-  given-with_given : (items : List Item) → given (with_given template items) kind ≡ given items kind
-  given-with_given [] = refl
-  given-with_given (item ∷ items) = same-first (item.kind == kind) item items refl (given-with_given items)
+  value_at-with_given : (items : List Item) → value_at (with_given template items) kind ≡ value_at items kind
+  value_at-with_given [] = refl
+  value_at-with_given (item ∷ items) =
+      same-first (item.kind == kind) item items refl (value_at-with_given items)
 
 -- ---- the flags that no change may give
 
-changed-none : (c : Class) (protections : Protections) (template : List Item) (a : Attribute) → permission c purpose.Set a ≡ Some false
-    → changed_error c protections template ≡ None → given template (type_of a) ≡ None
+changed-none : (c : Class) (protections : Protections) (template : List Item) (a : Attribute)
+    → permission c purpose.Set a ≡ Some false
+    → changed_error c protections template ≡ None → value_at template (type_of a) ≡ None
 changed-none c protections template a read_only fine =
     let checks = (or_else-none (template_error c purpose.Set template) _ fine).0 in
     let unlike = (or_else-none (first_error form_error template) _ checks).1 in
-    let rest = (or_else-none (error_if (has_conflict template) rv_error.TemplateInconsistent) _ unlike).1 in
-    no-value c purpose.Set a template read_only (or_else-none (first_error (class_error c purpose.Set) template) None rest).0
+    let conflict = error_if (has_conflict template) rv_error.TemplateInconsistent in
+    let rest = (or_else-none conflict _ unlike).1 in
+    no-value c purpose.Set a template read_only
+    (or_else-none (first_error (permission_error c purpose.Set) template) None rest).0
 
-flag-kept : (c : Class) (protections : Protections) (template items : List Item) (flag : Attribute) → permission c purpose.Set flag ≡ Some false
-    → changed_error c protections template ≡ None → is_set (with_given template items) flag ≡ is_set items flag
+flag-kept : (c : Class) (protections : Protections) (template items : List Item) (flag : Attribute)
+    → permission c purpose.Set flag ≡ Some false
+    → changed_error c protections template ≡ None
+    → is_set (with_given template items) flag ≡ is_set items flag
 flag-kept c protections template items flag read_only fine =
     ap (λ o. unwrap_or (option_and_then (flag_of (form_of flag)) o) false)
-    (given-with_given template (type_of flag) (changed-none c protections template flag read_only fine) items)
+    (value_at-with_given template (type_of flag)
+    (changed-none c protections template flag read_only fine) items)
+
+token-fixed : (c : Class) → permission c purpose.Set attribute.Token ≡ Some false
+token-fixed class.Data = refl
+token-fixed class.SecretKey = refl
+
+private-fixed : (c : Class) → permission c purpose.Set attribute.Private ≡ Some false
+private-fixed class.Data = refl
+private-fixed class.SecretKey = refl
 
 -- a change keeps CKA_TOKEN
-pub token-kept : (c : Class) (protections : Protections) (template items : List Item) → changed_error c protections template ≡ None
+pub token-kept : (c : Class) (protections : Protections) (template items : List Item)
+    → changed_error c protections template ≡ None
     → is_set (with_given template items) attribute.Token ≡ is_set items attribute.Token
-token-kept class.Data protections template items fine = flag-kept class.Data protections template items attribute.Token refl fine
-token-kept class.SecretKey protections template items fine = flag-kept class.SecretKey protections template items attribute.Token refl fine
+token-kept c protections template items fine =
+    flag-kept c protections template items attribute.Token (token-fixed c) fine
 
 -- and CKA_PRIVATE
-pub private-kept : (c : Class) (protections : Protections) (template items : List Item) → changed_error c protections template ≡ None
+pub private-kept : (c : Class) (protections : Protections) (template items : List Item)
+    → changed_error c protections template ≡ None
     → is_set (with_given template items) attribute.Private ≡ is_set items attribute.Private
-private-kept class.Data protections template items fine = flag-kept class.Data protections template items attribute.Private refl fine
-private-kept class.SecretKey protections template items fine = flag-kept class.SecretKey protections template items attribute.Private refl fine
+private-kept c protections template items fine =
+    flag-kept c protections template items attribute.Private (private-fixed c) fine

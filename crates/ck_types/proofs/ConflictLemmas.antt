@@ -6,7 +6,7 @@ use Rattle.std.specs.Cmp.Lexicographic.{bytes_decides}
 use Rattle.std.proofs.lemmas.Bool.{eqb-true}
 use Rattle.ck_types.specs.Attributes.{type_of, attribute_of, attributes, same_bytes}
 use Rattle.ck_types.specs.Checks.{first_error}
-use Rattle.ck_types.specs.Templates.{given, given_or, form_error, value_error, has_conflict, has_two_values}
+use Rattle.ck_types.specs.Templates.{value_at, value_or, form_error, value_error, has_conflict, has_two_values}
 use Rattle.ck_types.specs.declared.attributes.Attribute.{Attribute}
 use Rattle.ck_types.specs.declared.items.Item.{Item}
 use Rattle.ck_types.proofs.CheckLemmas.{or_else-none}
@@ -59,22 +59,22 @@ any-same t p false xs y found h = any-none t p xs h
 
 -- an item with no fault in form conflicts where one of the attributes finds that it does
 item-conflict : (items : List Item) (item : Item) → form_error item ≡ None
-    → list_any (λ a. (type_of a == item.kind) && not (same_bytes item.value (given_or items (type_of a) item.value))) attributes
-    ≡ not (same_bytes item.value (given_or items item.kind item.value))
+    → list_any (λ a. (type_of a == item.kind) && not (same_bytes item.value (value_or items (type_of a) item.value))) attributes
+    ≡ not (same_bytes item.value (value_or items item.kind item.value))
 item-conflict items item fine = known (attribute_of item.kind) refl fine
   where
     known : (o : Option Attribute) → attribute_of item.kind ≡ o → value_error o item.value ≡ None
-        → list_any (λ a. (type_of a == item.kind) && not (same_bytes item.value (given_or items (type_of a) item.value))) attributes
-        ≡ not (same_bytes item.value (given_or items item.kind item.value))
+        → list_any (λ a. (type_of a == item.kind) && not (same_bytes item.value (value_or items (type_of a) item.value))) attributes
+        ≡ not (same_bytes item.value (value_or items item.kind item.value))
     known None e fine = cc
     known (Some a) e fine =
-        any-same (λ a. type_of a == item.kind) (λ a. not (same_bytes item.value (given_or items (type_of a) item.value)))
-        (not (same_bytes item.value (given_or items item.kind item.value))) attributes a e
-        (λ a t. ap (λ kind. not (same_bytes item.value (given_or items kind item.value))) (eqb-true (type_of a) item.kind t))
+        any-same (λ a. type_of a == item.kind) (λ a. not (same_bytes item.value (value_or items (type_of a) item.value)))
+        (not (same_bytes item.value (value_or items item.kind item.value))) attributes a e
+        (λ a t. ap (λ kind. not (same_bytes item.value (value_or items kind item.value))) (eqb-true (type_of a) item.kind t))
 
 items-conflict : (all items : List Item) → first_error form_error items ≡ None
-    → list_any (λ item. list_any (λ a. (type_of a == item.kind) && not (same_bytes item.value (given_or all (type_of a) item.value))) attributes) items
-    ≡ list_any (λ (item : Item). not (same_bytes item.value (given_or all item.kind item.value))) items
+    → list_any (λ item. list_any (λ a. (type_of a == item.kind) && not (same_bytes item.value (value_or all (type_of a) item.value))) attributes) items
+    ≡ list_any (λ (item : Item). not (same_bytes item.value (value_or all item.kind item.value))) items
 items-conflict all [] fine = refl
 items-conflict all (item ∷ items) fine =
     let parts = or_else-none (form_error item) (first_error form_error items) fine in
@@ -83,7 +83,7 @@ items-conflict all (item ∷ items) fine =
 -- items with no fault in form conflict where one of the attributes has two values
 pub has_conflict-attributes : (items : List Item) → first_error form_error items ≡ None → list_any (has_two_values items) attributes ≡ has_conflict items
 has_conflict-attributes items fine =
-    any-swap (λ a item. (type_of a == item.kind) && not (same_bytes item.value (given_or items (type_of a) item.value))) attributes items
+    any-swap (λ a item. (type_of a == item.kind) && not (same_bytes item.value (value_or items (type_of a) item.value))) attributes items
     ∙ items-conflict items items fine
 
 -- ---- a type that the items don't give
@@ -98,6 +98,6 @@ none-differs a [] = refl
 none-differs a (item ∷ items) = rw (same-value (type_of a == item.kind) item.value, none-differs a items) refl
 
 -- it has no two values
-pub not_given : (items : List Item) (a : Attribute) → given items (type_of a) ≡ None → has_two_values items a ≡ false
+pub not_given : (items : List Item) (a : Attribute) → value_at items (type_of a) ≡ None → has_two_values items a ≡ false
 not_given items a e =
     subst (λ o. list_any (λ item. (type_of a == item.kind) && not (same_bytes item.value (unwrap_or o item.value))) items ≡ false) (sym e) (none-differs a items)

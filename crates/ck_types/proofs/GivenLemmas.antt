@@ -5,7 +5,7 @@ use Rattle.std.specs.Cmp.Lexicographic.{bytes_decides}
 use Rattle.std.proofs.lemmas.Bool.{eqb-true, or_cases, true≢false}
 use Rattle.ck_types.specs.Attributes.{type_of, form_of, is_of_form, permission, attribute_of, same_bytes, flag_bytes, number_bytes}
 use Rattle.ck_types.specs.Checks.{error_if, first_error}
-use Rattle.ck_types.specs.Templates.{given, given_or, form_error, value_error, creation_error, class_error, permission_error, template_error, has_conflict, created_error}
+use Rattle.ck_types.specs.Templates.{value_at, value_or, form_error, value_error, creation_form_error, permission_error, error_of_permission, template_error, has_conflict, created_error}
 use Rattle.ck_types.specs.Records.{copied_error, changed_error}
 use Rattle.ck_types.specs.declared.attributes.Attribute.{Attribute}
 use Rattle.ck_types.specs.declared.attributes.Attribute.TheVariants as attribute
@@ -60,7 +60,7 @@ is_of_form-value a value e = form_holds (is_of_form (form_of a) value) (error_if
 
 module _ (check : Item → Option RvError) (kind : ℕ) (value : List ℕ) where
   none-first : (test : Bool) (item : Item) (items : List Item)
-      → (first_error check items ≡ None → given items kind ≡ Some value → check (record { kind = kind; value = value }) ≡ None)
+      → (first_error check items ≡ None → value_at items kind ≡ Some value → check (record { kind = kind; value = value }) ≡ None)
       → (item.kind == kind) ≡ test
       → first_error check (item ∷ items) ≡ None
       → option_map (λ (i : Item). i.value) (cond test (Some item) (find (λ i. i.kind == kind) items)) ≡ Some value
@@ -74,13 +74,13 @@ module _ (check : Item → Option RvError) (kind : ℕ) (value : List ℕ) where
       later (or_else-none (check item) (first_error check items) fine).1 e
 
   -- a check that refuses no item doesn't refuse what the items give
-  none-given : (items : List Item) → first_error check items ≡ None → given items kind ≡ Some value → check (record { kind = kind; value = value }) ≡ None
+  none-given : (items : List Item) → first_error check items ≡ None → value_at items kind ≡ Some value → check (record { kind = kind; value = value }) ≡ None
   none-given [] fine e = cc
   none-given (item ∷ items) fine e =
       none-first (item.kind == kind) item items (none-given items) refl fine e
 
 -- what items with no fault in form give an attribute has none
-value_error-given : (a : Attribute) (value : List ℕ) (items : List Item) → first_error form_error items ≡ None → given items (type_of a) ≡ Some value → value_error (Some a) value ≡ None
+value_error-given : (a : Attribute) (value : List ℕ) (items : List Item) → first_error form_error items ≡ None → value_at items (type_of a) ≡ Some value → value_error (Some a) value ≡ None
 value_error-given a value items fine e =
     subst (λ o. value_error o value ≡ None) (attribute_of-type_of a) (none-given form_error (type_of a) value items fine e)
 
@@ -95,31 +95,31 @@ flag_bytes-is_true value h = flag_bytes-test (same_bytes value (flag_bytes true)
 
 -- the flag that items with no fault in form give an attribute
 pub flag_bytes-given : (items : List Item) (a : Attribute) (value : List ℕ) → form_of a ≡ form.Flag → first_error form_error items ≡ None
-    → given items (type_of a) ≡ Some value → flag_bytes (same_bytes value (flag_bytes true)) ≡ value
+    → value_at items (type_of a) ≡ Some value → flag_bytes (same_bytes value (flag_bytes true)) ≡ value
 flag_bytes-given items a value flag fine e =
     flag_bytes-is_true value (subst (λ f. is_of_form f value ≡ true) flag (is_of_form-value a value (value_error-given a value items fine e)))
 
 -- the same, where a test of the value says which flag it is
 pub flag_bytes-given_or : (items : List Item) (a : Attribute) (kind : ℕ) (value other : List ℕ) (test : Bool) → form_of a ≡ form.Flag → first_error form_error items ≡ None
-    → Some value ≡ given items kind → kind ≡ type_of a → test ≡ same_bytes value (flag_bytes true) → flag_bytes test ≡ given_or items (type_of a) other
+    → Some value ≡ value_at items kind → kind ≡ type_of a → test ≡ same_bytes value (flag_bytes true) → flag_bytes test ≡ value_or items (type_of a) other
 flag_bytes-given_or items a kind value other test flag fine e k t =
-    let here : given items (type_of a) ≡ Some value = subst (λ n. given items n ≡ Some value) k (sym e) in
+    let here : value_at items (type_of a) ≡ Some value = subst (λ n. value_at items n ≡ Some value) k (sym e) in
     rw (t, here) (flag_bytes-given items a value flag fine here)
 
 -- ---- a template that passes the checks of a creation
 
 -- its items have no fault in form
-pub form-creation : (items : List Item) → first_error creation_error items ≡ None → first_error form_error items ≡ None
+pub form-creation : (items : List Item) → first_error creation_form_error items ≡ None → first_error form_error items ≡ None
 form-creation [] fine = refl
 form-creation (item ∷ items) fine =
-    let parts = or_else-none (creation_error item) (first_error creation_error items) fine in
+    let parts = or_else-none (creation_form_error item) (first_error creation_form_error items) fine in
     rw ((or_else-none (form_error item) _ parts.0).0, form-creation items parts.1) refl
 
 pub form-created : (items : List Item) → created_error items ≡ None → first_error form_error items ≡ None
-form-created items fine = form-creation items (or_else-none (first_error creation_error items) _ fine).0
+form-created items fine = form-creation items (or_else-none (first_error creation_form_error items) _ fine).0
 
 -- a class that it gives is that of data objects
-class-value : (value : List ℕ) → creation_error (record { kind = type_of attribute.Class; value = value }) ≡ None → value ≡ number_bytes 0
+class-value : (value : List ℕ) → creation_form_error (record { kind = type_of attribute.Class; value = value }) ≡ None → value ≡ number_bytes 0
 class-value value e =
     let parts = or_else-none (value_error (Some attribute.Class) value) _ e in
     class-test (same_bytes value (number_bytes 0)) (same_bytes value (number_bytes 4)) (λ t. (bytes_decides value (number_bytes 0)).0 t)
@@ -134,34 +134,34 @@ or-default : (o : Option (List ℕ)) (other : List ℕ) → ((value : List ℕ) 
 or-default None other h = refl
 or-default (Some value) other h = h value refl
 
-pub given_or-class : (items : List Item) → created_error items ≡ None → given_or items (type_of attribute.Class) (number_bytes 0) ≡ number_bytes 0
+pub given_or-class : (items : List Item) → created_error items ≡ None → value_or items (type_of attribute.Class) (number_bytes 0) ≡ number_bytes 0
 given_or-class items fine =
-    or-default (given items (type_of attribute.Class)) (number_bytes 0)
-    (λ value e. class-value value (none-given creation_error (type_of attribute.Class) value items (or_else-none (first_error creation_error items) _ fine).0 e))
+    or-default (value_at items (type_of attribute.Class)) (number_bytes 0)
+    (λ value e. class-value value (none-given creation_form_error (type_of attribute.Class) value items (or_else-none (first_error creation_form_error items) _ fine).0 e))
 
 -- ---- a template that passes the checks of a copy or a change
 
 -- it doesn't give an attribute that it may not give
 pub no-value : (c : Class) (p : Purpose) (a : Attribute) (items : List Item) → permission c p a ≡ Some false
-    → first_error (class_error c p) items ≡ None → given items (type_of a) ≡ None
-no-value c p a items read_only fine = cases (given items (type_of a)) refl
+    → first_error (permission_error c p) items ≡ None → value_at items (type_of a) ≡ None
+no-value c p a items read_only fine = cases (value_at items (type_of a)) refl
   where
-    cases : (o : Option (List ℕ)) → given items (type_of a) ≡ o → o ≡ None
+    cases : (o : Option (List ℕ)) → value_at items (type_of a) ≡ o → o ≡ None
     cases None e = refl
     cases (Some value) e =
-        let passes = none-given (class_error c p) (type_of a) value items fine e in
-        let refused : permission_error (Some false) ≡ None =
-            subst (λ o. permission_error o ≡ None) read_only
-            (subst (λ o. permission_error (option_and_then (permission c p) o) ≡ None) (attribute_of-type_of a) passes) in
+        let passes = none-given (permission_error c p) (type_of a) value items fine e in
+        let refused : error_of_permission (Some false) ≡ None =
+            subst (λ o. error_of_permission o ≡ None) read_only
+            (subst (λ o. error_of_permission (option_and_then (permission c p) o) ≡ None) (attribute_of-type_of a) passes) in
         cc
 
 -- its items have no fault in form, and it doesn't give the class
 template-passes : (c : Class) (p : Purpose) (items : List Item) → permission c p attribute.Class ≡ Some false
-    → template_error c p items ≡ None → (first_error form_error items ≡ None) × (given items (type_of attribute.Class) ≡ None)
+    → template_error c p items ≡ None → (first_error form_error items ≡ None) × (value_at items (type_of attribute.Class) ≡ None)
 template-passes c p items read_only fine =
     let parts = or_else-none (first_error form_error items) _ fine in
     let rest = (or_else-none (error_if (has_conflict items) rv_error.TemplateInconsistent) _ parts.1).1 in
-    (parts.0, no-value c p attribute.Class items read_only (or_else-none (first_error (class_error c p) items) None rest).0)
+    (parts.0, no-value c p attribute.Class items read_only (or_else-none (first_error (permission_error c p) items) None rest).0)
 
 copy-class : (c : Class) → permission c purpose.Copy attribute.Class ≡ Some false
 copy-class class.Data = refl
@@ -172,11 +172,11 @@ change-class class.Data = refl
 change-class class.SecretKey = refl
 
 pub copy-passes : (c : Class) (protections : Protections) (items : List Item) → copied_error c protections items ≡ None
-    → (first_error form_error items ≡ None) × (given items (type_of attribute.Class) ≡ None)
+    → (first_error form_error items ≡ None) × (value_at items (type_of attribute.Class) ≡ None)
 copy-passes c protections items fine =
     template-passes c purpose.Copy items (copy-class c) (or_else-none (template_error c purpose.Copy items) _ fine).0
 
 pub change-passes : (c : Class) (protections : Protections) (items : List Item) → changed_error c protections items ≡ None
-    → (first_error form_error items ≡ None) × (given items (type_of attribute.Class) ≡ None)
+    → (first_error form_error items ≡ None) × (value_at items (type_of attribute.Class) ≡ None)
 change-passes c protections items fine =
     template-passes c purpose.Set items (change-class c) (or_else-none (template_error c purpose.Set items) _ fine).0

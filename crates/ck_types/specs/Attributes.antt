@@ -1,7 +1,8 @@
 -- The attributes that the token knows: their types, the forms of their values, the templates that may give them
 -- and the values that an object has where its template gives none
 -- (PKCS #11 Base 3.0, Common attributes; Current Mechanisms 3.0, Generic secret key)
-use Rattle.std.specs.Prelude.{ℕ, Bool, true, false, List, [], ◌∷◌, Option, Some, None, ◌==◌, ◌||◌, find, length, replicate, option_map}
+use Rattle.std.specs.Prelude.{ℕ, Bool, true, false, List, [], ◌∷◌, Option, Some, None}
+use Rattle.std.specs.Prelude.{◌==◌, ◌||◌, find, length, replicate, option_map}
 use Rattle.std.specs.Int.{w64, to_le_bytes}
 use Rattle.std.specs.Cmp.Lexicographic.{pointwise}
 use Rattle.ck_types.specs.declared.attributes.Attribute.{Attribute}
@@ -26,14 +27,17 @@ number_bytes n = to_le_bytes w64 n
 abbrev pub same_bytes : List ℕ → List ℕ → Bool
 same_bytes = pointwise ◌==◌
 
--- a value is of a form: a flag is one byte 0 or 1, a number 8 bytes; a class is 0 or 4, a key type 16 and, in a template,
--- a key state 0 or 1
+-- a value is of a form: a flag is one byte 0 or 1, a number 8 bytes; a class is 0 or 4, a key type 16
+-- and, in a template, a key state 0 or 1
 abbrev pub is_of_form : Form → List ℕ → Bool
-is_of_form form.Flag value = same_bytes value (flag_bytes false) || same_bytes value (flag_bytes true)
+is_of_form form.Flag value =
+    same_bytes value (flag_bytes false) || same_bytes value (flag_bytes true)
 is_of_form form.Number value = length value == 8
-is_of_form form.Class value = same_bytes value (number_bytes 0) || same_bytes value (number_bytes 4)
+is_of_form form.Class value =
+    same_bytes value (number_bytes 0) || same_bytes value (number_bytes 4)
 is_of_form form.KeyType value = same_bytes value (number_bytes 16)
-is_of_form form.KeyState value = same_bytes value (number_bytes 0) || same_bytes value (number_bytes 1)
+is_of_form form.KeyState value =
+    same_bytes value (number_bytes 0) || same_bytes value (number_bytes 1)
 is_of_form form.Bytes value = true
 
 -- the templates that may give an attribute: those that create, generate, copy or set an object
@@ -92,7 +96,8 @@ abbrev nowhere : Purposes
 nowhere = record { create = false; generate = false; copy = false; set = false }
 
 abbrev column : Purposes → Default → Default → Option Column
-column purposes created generated = Some (record { purposes = purposes; created = created; generated = generated })
+column purposes created generated =
+    Some (record { purposes = purposes; created = created; generated = generated })
 
 abbrev off : Default
 off = preset (flag_bytes false)
@@ -104,7 +109,8 @@ abbrev empty : Default
 empty = preset []
 
 abbrev row : ℕ → Form → Option Column → Option Column → Row
-row number form for_data for_keys = record { number = number; form = form; for_data = for_data; for_keys = for_keys }
+row number form for_data for_keys =
+    record { number = number; form = form; for_data = for_data; for_keys = for_keys }
 
 -- each line: type, form, for data objects, for secret keys
 abbrev pub table : Attribute → Row
@@ -130,20 +136,24 @@ table attribute.Extractable = row 0x162 form.Flag None (column CGPS on on)
 table attribute.Local = row 0x163 form.Flag None (column nowhere off on)
 table attribute.NeverExtractable = row 0x164 form.Flag None (column nowhere off computed)
 table attribute.AlwaysSensitive = row 0x165 form.Flag None (column nowhere off computed)
-table attribute.KeyGenMechanism = row 0x166 form.Number None (column nowhere (preset (replicate 8 255)) (preset (number_bytes 0x350)))
+table attribute.KeyGenMechanism =
+    row 0x166 form.Number None (column nowhere (preset (replicate 8 255)) (preset (number_bytes 0x350)))
 table attribute.Modifiable = row 0x170 form.Flag (column CGP on on) (column CGP on on)
 table attribute.Copyable = row 0x171 form.Flag (column CGP on on) (column CGP on on)
 table attribute.Destroyable = row 0x172 form.Flag (column CGP on on) (column CGP on on)
-table attribute.KeyState = row 0x80000001 form.KeyState None (column CG (preset (number_bytes 1)) (preset (number_bytes 1)))
+table attribute.KeyState =
+    row 0x80000001 form.KeyState None (column CG (preset (number_bytes 1)) (preset (number_bytes 1)))
 
 -- all attributes, in rising types
 abbrev pub attributes : List Attribute
 attributes =
-    attribute.Class ∷ attribute.Token ∷ attribute.Private ∷ attribute.Label ∷ attribute.Application ∷ attribute.Value ∷ attribute.ObjectId
-    ∷ attribute.KeyType ∷ attribute.Id ∷ attribute.Sensitive ∷ attribute.Encrypt ∷ attribute.Decrypt ∷ attribute.Wrap ∷ attribute.Unwrap
-    ∷ attribute.Sign ∷ attribute.Verify ∷ attribute.Derive ∷ attribute.ValueLen ∷ attribute.Extractable ∷ attribute.Local
-    ∷ attribute.NeverExtractable ∷ attribute.AlwaysSensitive ∷ attribute.KeyGenMechanism ∷ attribute.Modifiable ∷ attribute.Copyable
-    ∷ attribute.Destroyable ∷ attribute.KeyState ∷ []
+    attribute.Class ∷ attribute.Token ∷ attribute.Private ∷ attribute.Label ∷ attribute.Application
+    ∷ attribute.Value ∷ attribute.ObjectId ∷ attribute.KeyType ∷ attribute.Id ∷ attribute.Sensitive
+    ∷ attribute.Encrypt ∷ attribute.Decrypt ∷ attribute.Wrap ∷ attribute.Unwrap ∷ attribute.Sign
+    ∷ attribute.Verify ∷ attribute.Derive ∷ attribute.ValueLen ∷ attribute.Extractable
+    ∷ attribute.Local ∷ attribute.NeverExtractable ∷ attribute.AlwaysSensitive
+    ∷ attribute.KeyGenMechanism ∷ attribute.Modifiable ∷ attribute.Copyable ∷ attribute.Destroyable
+    ∷ attribute.KeyState ∷ []
 
 abbrev pub type_of : Attribute → ℕ
 type_of a = (table a).number

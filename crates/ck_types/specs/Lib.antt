@@ -1,6 +1,8 @@
 pub mod Attributes
 pub mod Checks
 pub mod Fields
+pub mod Hashes
+pub mod Mechanisms
 pub mod Pins
 pub mod Records
 pub mod ReturnCodes

@@ -1,9 +1,11 @@
 -- The attributes of an object, in the order of the table
-use Rattle.std.specs.Prelude.{◌≡◌, ℕ, Bool, true, List, [], ◌∷◌, Option, Some, None, Result, Ok, Err, map, option_and_then, option_map, not, ◌&&◌, ◌||◌, if◌then◌else◌, unwrap_or, false}
-use Rattle.ck_types.specs.Attributes.{Default, preset, Column, flag_bytes, number_bytes, same_bytes, type_of, column_of, attribute_of, attributes}
+use Rattle.std.specs.Prelude.{◌≡◌, ℕ, Bool, true, false, List, [], ◌∷◌, Option, Some, None, Result, Ok, Err}
+use Rattle.std.specs.Prelude.{not, ◌&&◌, ◌||◌, if◌then◌else◌, map, option_map, option_and_then, unwrap_or}
+use Rattle.ck_types.specs.Attributes.{flag_bytes, number_bytes, same_bytes}
+use Rattle.ck_types.specs.Attributes.{Default, preset, Column, type_of, column_of, attribute_of, attributes}
 use Rattle.std.specs.List.{flat_map, list_all}
 use Rattle.ck_types.specs.Checks.{error_if, first_of}
-use Rattle.ck_types.specs.Templates.{given, given_or, flag_at, template_error}
+use Rattle.ck_types.specs.Templates.{value_at, value_or, flag_at, template_error}
 use Rattle.ck_types.specs.declared.attributes.Attribute.{Attribute}
 use Rattle.ck_types.specs.declared.attributes.Attribute.TheVariants as attribute
 use Rattle.ck_types.specs.declared.attributes.Class.{Class}
@@ -46,9 +48,11 @@ object_items (object.Data d) = data_items d
 
 -- the items, with the template's values of the types that it gives
 abbrev pub with_given : List Item → List Item → List Item
-with_given template items = map (λ (item : Item). record { kind = item.kind; value = given_or template item.kind item.value }) items
+with_given template items =
+    map (λ (item : Item). record item { value = value_or template item.kind item.value }) items
 
--- the value of an attribute of a data object where the template gives none; the class, which it must give, is CKO_DATA (0)
+-- the value of an attribute of a data object where the template gives none; the class, which it must give, is
+-- CKO_DATA (0)
 abbrev pub data_default : Default → List ℕ
 data_default (preset value) = value
 data_default other = number_bytes 0
@@ -80,7 +84,8 @@ is_set items a = unwrap_or (flag_at items a) false
 -- the class of an object with these attributes: a secret key where CLASS is CKO_SECRET_KEY (4), else a data object
 abbrev pub class_of : List Item → Class
 class_of items =
-    if same_bytes (given_or items (type_of attribute.Class) []) (number_bytes 4) then class.SecretKey else class.Data
+    if same_bytes (value_or items (type_of attribute.Class) []) (number_bytes 4)
+    then class.SecretKey else class.Data
 
 -- the attributes that a template may not weaken
 abbrev pub protections_of : List Item → Protections
@@ -90,9 +95,10 @@ protections_of items = record {
   extractable = is_set items attribute.Extractable;
 }
 
--- where an object with these attributes may stand
+-- whether an object with these attributes is a token object, and whether it is private
 abbrev pub placement_of : List Item → Placement
-placement_of items = record { token = is_set items attribute.Token; private = is_set items attribute.Private }
+placement_of items =
+    record { token = is_set items attribute.Token; private = is_set items attribute.Private }
 
 -- ---- templates that make objects
 
@@ -104,7 +110,8 @@ exposes_key protections template =
 
 -- the template makes a private object public
 abbrev pub makes_public : Protections → List Item → Bool
-makes_public protections template = protections.private && not (unwrap_or (flag_at template attribute.Private) true)
+makes_public protections template =
+    protections.private && not (unwrap_or (flag_at template attribute.Private) true)
 
 -- the error of a template that an object of this class with these protections is copied with
 abbrev pub copied_error : Class → Protections → List Item → Option RvError
@@ -131,9 +138,10 @@ IsRecordUnless error items (Err refusal.Memory) = error ≡ None
 
 -- the items have this item's attribute with equal bytes
 abbrev pub has_item : List Item → Item → Bool
-has_item items item = unwrap_or (option_map (same_bytes item.value) (given items item.kind)) false
+has_item items item =
+    unwrap_or (option_map (same_bytes item.value) (value_at items item.kind)) false
 
--- an object with these attributes matches a search template: it has each attribute of the template with equal bytes. The
--- template isn't checked, so a type that the object doesn't have, or two values of one type, match nothing.
+-- an object with these attributes matches a search template: it has each attribute of the template with equal bytes.
+-- The template isn't checked, so a type that the object doesn't have, or two values of one type, match nothing.
 abbrev pub matches : List Item → List Item → Bool
 matches items template = list_all (has_item items) template

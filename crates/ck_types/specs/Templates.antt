@@ -1,7 +1,9 @@
 -- Templates and the checks that one must pass
-use Rattle.std.specs.Prelude.{ℕ, Bool, true, false, List, [], ◌∷◌, Option, Some, None, ◌==◌, ◌&&◌, not, find, option_map, option_and_then, unwrap_or, is_none}
+use Rattle.std.specs.Prelude.{ℕ, Bool, true, false, List, [], ◌∷◌, Option, Some, None}
+use Rattle.std.specs.Prelude.{◌==◌, ◌&&◌, not, find, option_map, option_and_then, unwrap_or, is_none}
 use Rattle.std.specs.List.{list_any}
-use Rattle.ck_types.specs.Attributes.{flag_bytes, number_bytes, same_bytes, is_of_form, type_of, form_of, permission, attribute_of}
+use Rattle.ck_types.specs.Attributes.{flag_bytes, number_bytes, same_bytes, is_of_form}
+use Rattle.ck_types.specs.Attributes.{type_of, form_of, permission, attribute_of}
 use Rattle.ck_types.specs.Checks.{error_if, or_else, first_of, first_error}
 use Rattle.ck_types.specs.declared.attributes.Attribute.{Attribute}
 use Rattle.ck_types.specs.declared.attributes.Attribute.TheVariants as attribute
@@ -18,12 +20,13 @@ use Rattle.ck_types.specs.declared.items.Item.{Item}
 -- ---- what a template gives
 
 -- the value that the items give an attribute type: that of the first item of the type
-abbrev pub given : List Item → ℕ → Option (List ℕ)
-given items kind = option_map (λ (item : Item). item.value) (find (λ item. item.kind == kind) items)
+abbrev pub value_at : List Item → ℕ → Option (List ℕ)
+value_at items kind =
+    option_map (λ (item : Item). item.value) (find (λ item. item.kind == kind) items)
 
 -- the value that the items give the type, else this one
-abbrev pub given_or : List Item → ℕ → List ℕ → List ℕ
-given_or items kind other = unwrap_or (given items kind) other
+abbrev pub value_or : List Item → ℕ → List ℕ → List ℕ
+value_or items kind other = unwrap_or (value_at items kind) other
 
 -- a flag's value as a bool
 abbrev pub flag_of : Form → List ℕ → Option Bool
@@ -32,57 +35,64 @@ flag_of other value = None
 
 -- the flag that the items give an attribute
 abbrev pub flag_at : List Item → Attribute → Option Bool
-flag_at items a = option_and_then (flag_of (form_of a)) (given items (type_of a))
+flag_at items a = option_and_then (flag_of (form_of a)) (value_at items (type_of a))
 
 -- ---- the checks
 
 -- the type is known, and the value is of its form
 abbrev pub value_error : Option Attribute → List ℕ → Option RvError
 value_error None value = Some rv_error.AttributeTypeInvalid
-value_error (Some a) value = error_if (not (is_of_form (form_of a) value)) rv_error.AttributeValueInvalid
+value_error (Some a) value =
+    error_if (not (is_of_form (form_of a) value)) rv_error.AttributeValueInvalid
 
 abbrev pub form_error : Item → Option RvError
 form_error item = value_error (attribute_of item.kind) item.value
 
 -- the item is the class of secret keys (CKO_SECRET_KEY)
 abbrev pub is_secret_key : Item → Bool
-is_secret_key item = (item.kind == type_of attribute.Class) && same_bytes item.value (number_bytes 4)
+is_secret_key item =
+    (item.kind == type_of attribute.Class) && same_bytes item.value (number_bytes 4)
 
 -- an item of a creation is well formed, and isn't the class of secret keys, which can't be created yet
-abbrev pub creation_error : Item → Option RvError
-creation_error item = or_else (form_error item) (error_if (is_secret_key item) rv_error.AttributeValueInvalid)
+abbrev pub creation_form_error : Item → Option RvError
+creation_form_error item =
+    or_else (form_error item) (error_if (is_secret_key item) rv_error.AttributeValueInvalid)
 
 -- two items of one type have different values: an item's value isn't that of the first of its type
 abbrev pub has_conflict : List Item → Bool
-has_conflict items = list_any (λ (item : Item). not (same_bytes item.value (given_or items item.kind item.value))) items
+has_conflict items =
+    list_any (λ (item : Item). not (same_bytes item.value (value_or items item.kind item.value))) items
 
 -- items of the attribute's type have different values: one isn't that of the first
 abbrev pub has_two_values : List Item → Attribute → Bool
-has_two_values items a = list_any (λ (item : Item). (type_of a == item.kind) && not (same_bytes item.value (given_or items (type_of a) item.value))) items
+has_two_values items a =
+    list_any (λ (item : Item). (type_of a == item.kind)
+    && not (same_bytes item.value (value_or items (type_of a) item.value))) items
 
 -- objects of the class have the attribute, and a template of this purpose may give it
-abbrev pub permission_error : Option Bool → Option RvError
-permission_error None = Some rv_error.AttributeTypeInvalid
-permission_error (Some false) = Some rv_error.AttributeReadOnly
-permission_error (Some true) = None
+abbrev pub error_of_permission : Option Bool → Option RvError
+error_of_permission None = Some rv_error.AttributeTypeInvalid
+error_of_permission (Some false) = Some rv_error.AttributeReadOnly
+error_of_permission (Some true) = None
 
-abbrev pub class_error : Class → Purpose → Item → Option RvError
-class_error class purpose item = permission_error (option_and_then (permission class purpose) (attribute_of item.kind))
+abbrev pub permission_error : Class → Purpose → Item → Option RvError
+permission_error class purpose item =
+    error_of_permission (option_and_then (permission class purpose) (attribute_of item.kind))
 
 -- the error of a template that creates an object, by the first check that fails
 abbrev pub created_error : List Item → Option RvError
 created_error items = first_of (
-    first_error creation_error items
+    first_error creation_form_error items
     ∷ error_if (has_conflict items) rv_error.TemplateInconsistent
-    ∷ error_if (is_none (given items (type_of attribute.Class))) rv_error.TemplateIncomplete
-    ∷ first_error (class_error class.Data purpose.Create) items
+    ∷ error_if (is_none (value_at items (type_of attribute.Class))) rv_error.TemplateIncomplete
+    ∷ first_error (permission_error class.Data purpose.Create) items
     ∷ [])
 
--- the error of a template that changes an object of the class, or that a copy of one is made with, where it doesn't
--- depend on the object's other attributes
+-- the error of a template that changes an object of the class, or that a copy of one is made with, but for those
+-- that depend on the object's other attributes
 abbrev pub template_error : Class → Purpose → List Item → Option RvError
 template_error class purpose items = first_of (
     first_error form_error items
     ∷ error_if (has_conflict items) rv_error.TemplateInconsistent
-    ∷ first_error (class_error class purpose) items
+    ∷ first_error (permission_error class purpose) items
     ∷ [])

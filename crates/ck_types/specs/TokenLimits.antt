@@ -11,4 +11,5 @@ pub record Ranges : Type 0 where
 -- 1 to 64 sessions at once, and fewer than 2^32 openings, 2^32 creations and 2^31 logins, at least one of each
 abbrev pub AreInRange : ℕ → ℕ → ℕ → ℕ → Type 0
 AreInRange sessions openings creations logins =
-    (1 ≤ sessions) × (sessions ≤ 64) × (1 ≤ openings) × (openings < 2 ^ 32) × (1 ≤ creations) × (creations < 2 ^ 32) × (1 ≤ logins) × (logins < 2 ^ 31)
+    (1 ≤ sessions) × (sessions ≤ 64) × (1 ≤ openings) × (openings < 2 ^ 32)
+    × (1 ≤ creations) × (creations < 2 ^ 32) × (1 ≤ logins) × (logins < 2 ^ 31)

@@ -24,7 +24,7 @@ impl Data {
     ghost use Rattle.std.specs.Prelude.{◌≡◌, None, IfOk, option_map};
     ghost use Rattle.ck_types.specs.Attributes.{type_of, number_bytes};
     ghost use Rattle.ck_types.specs.Checks.{first_error};
-    ghost use Rattle.ck_types.specs.Templates.{given, given_or, form_error, flag_at};
+    ghost use Rattle.ck_types.specs.Templates.{value_at, value_or, form_error, flag_at};
     ghost use Rattle.ck_types.specs.declared.attributes.Attribute.TheVariants as attribute;
     ghost use Rattle.ck_types.specs.Records.{data_items, with_given, data_defaults, placement_of};
     ghost use Rattle.ck_types.specs.Fields.{field_bytes, flag_field};
@@ -49,8 +49,9 @@ impl Data {
     /// A copy with the items' values of the attributes that they give.
     pub(crate) fn with(&self, alloc: Global, items: &[Item]) -> Result<Data, NoMemory>
         requires well_formed { first_error form_error items.now ≡ None }
-        requires class { given_or items.now (type_of attribute.Class) (number_bytes 0) ≡ number_bytes 0 }
-        ensures { IfOk result (λ made. data_items made ≡ with_given items.now (data_items self.now)) }
+        requires class { value_or items.now (type_of attribute.Class) (number_bytes 0) ≡ number_bytes 0 }
+        ensures { IfOk result (λ made.
+            data_items made ≡ with_given items.now (data_items self.now)) }
     {
         let label = bytes_or(alloc, items, Attribute::Label, &self.label)?;
         let application = bytes_or(alloc, items, Attribute::Application, &self.application)?;
@@ -72,7 +73,7 @@ impl Data {
     /// The value of an attribute, or `None` where data objects don't have it.
     #[tactic(auto, using(crate::proofs::FlagLemmas::flags))]
     pub(crate) fn field(&self, attribute: Attribute) -> Option<Field>
-        ensures value { option_map field_bytes result ≡ given (data_items self.now) (type_of attribute) }
+        ensures value { option_map field_bytes result ≡ value_at (data_items self.now) (type_of attribute) }
         ensures flag { flag_field result ≡ flag_at (data_items self.now) attribute }
     {
         match attribute {
@@ -90,7 +91,7 @@ impl Data {
         }
     }
 
-    /// Where the object stands.
+    /// CKA_TOKEN and CKA_PRIVATE of the object.
     pub(crate) fn placement(&self) -> Placement
         ensures { result ≡ placement_of (data_items self.now) }
     {

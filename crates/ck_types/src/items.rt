@@ -3,7 +3,8 @@ ghost use Rattle.std.specs.List.{list_any};
 ghost use Rattle.std.specs.Option.{option_copied};
 ghost use Rattle.ck_types.specs.Attributes.{type_of, form_of, same_bytes, flag_bytes};
 ghost use Rattle.ck_types.specs.Checks.{check_of, first_error};
-ghost use Rattle.ck_types.specs.Templates.{given, given_or, flag_at, form_error, creation_error, class_error, has_two_values, has_conflict};
+ghost use Rattle.ck_types.specs.Templates.{value_at, value_or, flag_at, has_two_values, has_conflict};
+ghost use Rattle.ck_types.specs.Templates.{form_error, creation_form_error, permission_error};
 ghost use Rattle.ck_types.specs.declared.attributes.Form.TheVariants as form;
 
 use crate::attributes::{Attribute, Class, Purpose};
@@ -47,17 +48,18 @@ impl Item {
     }
 
     /// The check of the form, and CKR_ATTRIBUTE_VALUE_INVALID for the class of secret keys, which can't be created yet.
-    fn check_creation(&self) -> Result<(), RvError>
-        ensures { result ≡ check_of (creation_error self.now) }
+    #[tactic(auto, using(crate::proofs::CheckLemmas::checks))]
+    fn check_creation_form(&self) -> Result<(), RvError>
+        ensures { result ≡ check_of (creation_form_error self.now) }
     {
         self.check_form()?;
         error_if(self.is_secret_key(), RvError::AttributeValueInvalid)
     }
 
     /// CKR_ATTRIBUTE_TYPE_INVALID for an attribute that objects of the class don't have, CKR_ATTRIBUTE_READ_ONLY for
-    /// one that may not stand in a template of this purpose.
+    /// one that a template of this purpose may not give.
     fn check_permission(&self, class: Class, purpose: Purpose) -> Result<(), RvError>
-        ensures { result ≡ check_of (class_error class purpose self.now) }
+        ensures { result ≡ check_of (permission_error class purpose self.now) }
     {
         match Attribute::of(self.kind) {
             None => Err(RvError::AttributeTypeInvalid),
@@ -70,12 +72,14 @@ impl Item {
 
     /// Whether the item is of the attribute's type and has another value than this one.
     fn differs(&self, attribute: Attribute, value: &Bytes) -> bool
-        ensures { result ≡ (type_of attribute == self.now.kind) && not (same_bytes self.now.value value.now) }
+        ensures { result ≡ (type_of attribute == self.now.kind)
+            && not (same_bytes self.now.value value.now) }
     {
         attribute.number() == self.kind && self.value.as_slice() != value.as_slice()
     }
 }
 
+#[tactic(auto, using(crate::proofs::CheckLemmas::item_checks))]
 pub(crate) fn check_forms(items: &[Item]) -> Result<(), RvError>
     ensures { result ≡ check_of (first_error form_error items.now) }
 {
@@ -85,21 +89,23 @@ pub(crate) fn check_forms(items: &[Item]) -> Result<(), RvError>
     Ok(())
 }
 
-pub(crate) fn check_creations(items: &[Item]) -> Result<(), RvError>
-    ensures { result ≡ check_of (first_error creation_error items.now) }
+#[tactic(auto, using(crate::proofs::CheckLemmas::item_checks))]
+pub(crate) fn check_creation_forms(items: &[Item]) -> Result<(), RvError>
+    ensures { result ≡ check_of (first_error creation_form_error items.now) }
 {
     for item in items {
-        item.check_creation()?;
+        item.check_creation_form()?;
     }
     Ok(())
 }
 
+#[tactic(auto, using(crate::proofs::CheckLemmas::item_checks))]
 pub(crate) fn check_permissions(
     class: Class,
     purpose: Purpose,
     items: &[Item],
 ) -> Result<(), RvError>
-    ensures { result ≡ check_of (first_error (class_error class purpose) items.now) }
+    ensures { result ≡ check_of (first_error (permission_error class purpose) items.now) }
 {
     for item in items {
         item.check_permission(class, purpose)?;
@@ -108,8 +114,8 @@ pub(crate) fn check_permissions(
 }
 
 /// The value that the items give a type: that of the first item of the type.
-pub(crate) fn given(items: &[Item], kind: u64) -> Option<&Bytes>
-    ensures { option_copied result ≡ given items.now kind }
+pub(crate) fn value_at(items: &[Item], kind: u64) -> Option<&Bytes>
+    ensures { option_copied result ≡ value_at items.now kind }
 {
     for item in items {
         if item.kind == kind {
@@ -124,9 +130,9 @@ pub(crate) fn flag_or(items: &[Item], attribute: Attribute, other: bool) -> bool
     requires form { form_of attribute ≡ form.Flag }
     requires well_formed { first_error form_error items.now ≡ None }
     ensures flag { result ≡ unwrap_or (flag_at items.now attribute) other }
-    ensures bytes { flag_bytes result ≡ given_or items.now (type_of attribute) (flag_bytes other) }
+    ensures bytes { flag_bytes result ≡ value_or items.now (type_of attribute) (flag_bytes other) }
 {
-    match given(items, attribute.number()) {
+    match value_at(items, attribute.number()) {
         None => other,
         Some(value) => value.as_slice() == [1].as_slice(),
     }
@@ -139,9 +145,9 @@ pub(crate) fn bytes_or(
     attribute: Attribute,
     other: &Bytes,
 ) -> Result<Bytes, NoMemory>
-    ensures { IfOk result (λ bytes. bytes ≡ given_or items.now (type_of attribute) other.now) }
+    ensures { IfOk result (λ bytes. bytes ≡ value_or items.now (type_of attribute) other.now) }
 {
-    match given(items, attribute.number()) {
+    match value_at(items, attribute.number()) {
         None => Bytes::from_slice(alloc, other.as_slice()),
         Some(value) => Bytes::from_slice(alloc, value.as_slice()),
     }
@@ -152,7 +158,7 @@ pub(crate) fn bytes_or(
 fn has_two_values(items: &[Item], attribute: Attribute) -> bool
     ensures { result ≡ has_two_values items.now attribute }
 {
-    match given(items, attribute.number()) {
+    match value_at(items, attribute.number()) {
         None => false,
         Some(first) => items.iter().any(|item| item.differs(attribute, first)),
     }

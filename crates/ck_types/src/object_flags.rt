@@ -14,28 +14,7 @@ pub struct Protections {
     pub extractable: bool,
 }
 
-impl Protections {
-    ghost use Rattle.ck_types.specs.Records.{exposes_key, makes_public};
-
-    /// Whether the items make a sensitive key not sensitive, or a key extractable that isn't.
-    pub(crate) fn is_key_exposed_by(&self, items: &[Item]) -> bool
-        requires { first_error form_error items.now ≡ None }
-        ensures { result ≡ exposes_key self.now items.now }
-    {
-        (self.sensitive && !flag_or(items, Attribute::Sensitive, true))
-            || (!self.extractable && flag_or(items, Attribute::Extractable, false))
-    }
-
-    /// Whether the items make a private object public.
-    pub(crate) fn is_made_public_by(&self, items: &[Item]) -> bool
-        requires { first_error form_error items.now ≡ None }
-        ensures { result ≡ makes_public self.now items.now }
-    {
-        self.private && !flag_or(items, Attribute::Private, true)
-    }
-}
-
-/// CKA_TOKEN and CKA_PRIVATE of an object: where it may stand.
+/// CKA_TOKEN and CKA_PRIVATE of an object: whether it is a token object or a session object, and whether it is private.
 #[derive(Clone, Copy, Debug, PartialEq, Eq)]
 pub struct Placement {
     pub token: bool,

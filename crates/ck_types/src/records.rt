@@ -40,16 +40,19 @@ impl Record {
     ghost use Rattle.std.specs.Prelude.{option_map, length};
     ghost use Rattle.ck_types.specs.Attributes.{type_of};
     ghost use Rattle.ck_types.specs.Checks.{check_of, first_error};
-    ghost use Rattle.ck_types.specs.Templates.{given, created_error, form_error};
+    ghost use Rattle.ck_types.specs.Templates.{value_at, created_error, form_error};
     ghost use Rattle.ck_types.specs.declared.attributes.Attribute.TheVariants as attribute;
-    ghost use Rattle.ck_types.specs.Records.{IsRecordUnless, created_items, with_given, class_of, protections_of, placement_of};
-    ghost use Rattle.ck_types.specs.Records.{copied_error, changed_error, flag_in, is_set, has_item, matches};
+    ghost use Rattle.ck_types.specs.Records.{IsRecordUnless, created_items, with_given};
+    ghost use Rattle.ck_types.specs.Records.{class_of, protections_of, placement_of};
+    ghost use Rattle.ck_types.specs.Records.{copied_error, changed_error};
+    ghost use Rattle.ck_types.specs.Records.{flag_in, is_set, has_item, matches};
     ghost use Rattle.ck_types.specs.Fields.{field_bytes, flag_field};
 
     /// The object that a template of C_CreateObject makes (PKCS #11 Base 3.0, Object management functions). It is
     /// refused with the error of `Template::check_creation`.
     pub fn created(alloc: Global, template: &Template) -> Result<Record, Refusal>
-        ensures { IsRecordUnless (created_error template.now.items) (created_items template.now.items) result }
+        ensures { IsRecordUnless (created_error template.now.items)
+            (created_items template.now.items) result }
     {
         template.check_creation()?;
         Ok(Record::create_with(alloc, template)?)
@@ -70,7 +73,8 @@ impl Record {
     /// A copy of the object with the values that a template of C_CopyObject gives (PKCS #11 Base 3.0, Object management
     /// functions). The template is refused with the error of `check_copy`.
     pub fn copied(&self, alloc: Global, template: &Template) -> Result<Record, Refusal>
-        ensures { IsRecordUnless (copied_error (class_of self.now) (protections_of self.now) template.now.items)
+        ensures { IsRecordUnless
+            (copied_error (class_of self.now) (protections_of self.now) template.now.items)
             (with_given template.now.items self.now) result }
     {
         self.check_copy(template)?;
@@ -84,23 +88,24 @@ impl Record {
     /// (CKR_ATTRIBUTE_READ_ONLY), item by item; CKA_SENSITIVE false for a sensitive key or CKA_EXTRACTABLE true for a
     /// key that isn't extractable (CKR_ATTRIBUTE_READ_ONLY); CKA_PRIVATE false for a private object
     /// (CKR_TEMPLATE_INCONSISTENT).
+    #[tactic(auto, using(crate::proofs::CheckLemmas::checks))]
     pub fn check_copy(&self, template: &Template) -> Result<(), RvError>
-        ensures { result ≡ check_of (copied_error (class_of self.now) (protections_of self.now) template.now.items) }
+        ensures { result ≡ check_of
+            (copied_error (class_of self.now) (protections_of self.now) template.now.items) }
     {
-        let items = template.items.as_slice();
         let protections = self.protections();
         template.check(self.class(), Purpose::Copy)?;
         error_if(
-            protections.is_key_exposed_by(items),
+            template.exposes_key(protections),
             RvError::AttributeReadOnly,
         )?;
         error_if(
-            protections.is_made_public_by(items),
+            template.makes_public(protections),
             RvError::TemplateInconsistent,
         )
     }
 
-    /// Where a copy stands that is made with the template.
+    /// CKA_TOKEN and CKA_PRIVATE of a copy that is made with the template.
     pub fn copy_placement(&self, template: &Template) -> Placement
         requires { copied_error (class_of self.now) (protections_of self.now) template.now.items ≡ None }
         ensures { result ≡ placement_of (with_given template.now.items self.now) }
@@ -120,7 +125,8 @@ impl Record {
     /// The object with the values that a template of C_SetAttributeValue gives (PKCS #11 Base 3.0, Object management
     /// functions). The template is refused with the error of `check_change`.
     pub fn changed(&self, alloc: Global, template: &Template) -> Result<Record, Refusal>
-        ensures { IsRecordUnless (changed_error (class_of self.now) (protections_of self.now) template.now.items)
+        ensures { IsRecordUnless
+            (changed_error (class_of self.now) (protections_of self.now) template.now.items)
             (with_given template.now.items self.now) result }
     {
         self.check_change(template)?;
@@ -129,13 +135,14 @@ impl Record {
 
     /// The checks of a template of C_SetAttributeValue for this object: those of `check_copy` but the last, for the
     /// attributes that may be set (else CKR_ATTRIBUTE_READ_ONLY).
+    #[tactic(auto, using(crate::proofs::CheckLemmas::checks))]
     pub fn check_change(&self, template: &Template) -> Result<(), RvError>
-        ensures { result ≡ check_of (changed_error (class_of self.now) (protections_of self.now) template.now.items) }
+        ensures { result ≡ check_of
+            (changed_error (class_of self.now) (protections_of self.now) template.now.items) }
     {
-        let items = template.items.as_slice();
         template.check(self.class(), Purpose::Set)?;
         error_if(
-            self.protections().is_key_exposed_by(items),
+            template.exposes_key(self.protections()),
             RvError::AttributeReadOnly,
         )
     }
@@ -150,7 +157,7 @@ impl Record {
 
     fn with(&self, alloc: Global, items: &[Item]) -> Result<Record, NoMemory>
         requires well_formed { first_error form_error items.now ≡ None }
-        requires class { given items.now (type_of attribute.Class) ≡ None }
+        requires class { value_at items.now (type_of attribute.Class) ≡ None }
         ensures { IfOk result (λ made. made ≡ with_given items.now self.now) }
     {
         let Object::Data(data) = &self.object;
@@ -180,7 +187,7 @@ impl Record {
         }
     }
 
-    /// Where the object stands.
+    /// CKA_TOKEN and CKA_PRIVATE of the object.
     pub fn placement(&self) -> Placement
         ensures { result ≡ placement_of self.now }
     {
@@ -211,7 +218,8 @@ impl Record {
     pub fn is_set(&self, flag: Attribute) -> bool
         ensures { result ≡ is_set self.now flag }
     {
-        self.flag(flag.number()).unwrap_or(false)
+        let Object::Data(data) = &self.object;
+        matches!(data.field(flag), Some(Field::Flag(true)))
     }
 
     /// The value of an attribute that is a flag, or `None` where the object has no such flag.
@@ -226,7 +234,7 @@ impl Record {
 
     /// How many bytes the value of an attribute has, or `None` where the object doesn't have the attribute.
     pub fn length(&self, kind: u64) -> Option<u64>
-        ensures { result ≡ option_map length (given self.now kind) }
+        ensures { result ≡ option_map length (value_at self.now kind) }
     {
         match self.field(kind) {
             None => None,
@@ -236,7 +244,7 @@ impl Record {
 
     /// A copy of the value of an attribute, or `None` where the object doesn't have the attribute.
     pub fn value(&self, alloc: Global, kind: u64) -> Result<Option<Bytes>, NoMemory>
-        ensures { IfOk result (λ value. value ≡ given self.now kind) }
+        ensures { IfOk result (λ value. value ≡ value_at self.now kind) }
     {
         match self.field(kind) {
             None => Ok(None),
@@ -248,7 +256,7 @@ impl Record {
     }
 
     fn field(&self, kind: u64) -> Option<Field>
-        ensures value { option_map field_bytes result ≡ given self.now kind }
+        ensures value { option_map field_bytes result ≡ value_at self.now kind }
         ensures flag { flag_field result ≡ flag_in self.now kind }
     {
         let Object::Data(data) = &self.object;

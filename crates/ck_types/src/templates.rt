@@ -3,21 +3,22 @@ ghost use Rattle.std.specs.Prelude.{◌≡◌, None};
 use crate::attributes::{Attribute, Class, Purpose};
 use crate::checks::error_if;
 use crate::errors::RvError;
-use crate::items::{Item, check_creations, check_forms, check_permissions, given, has_conflict};
-use crate::object_flags::Placement;
+use crate::items::{
+    Item, check_creation_forms, check_forms, check_permissions, flag_or, has_conflict, value_at,
+};
+use crate::object_flags::{Placement, Protections};
 use crate::sequences::Sequence;
 
-/// The attributes that a caller hands in, in the caller's order (PKCS #11 Base 3.0, Object management
-/// functions).
+/// The attributes that a caller gives, in the caller's order (PKCS #11 Base 3.0, Object management functions).
 #[derive(Debug, Drop)]
 pub struct Template {
     pub items: Sequence<Item>,
 }
 
 impl Template {
-    ghost use Rattle.ck_types.specs.Checks.{check_of};
-    ghost use Rattle.ck_types.specs.Templates.{created_error, template_error};
-    ghost use Rattle.ck_types.specs.Records.{created_items, placement_of};
+    ghost use Rattle.ck_types.specs.Checks.{check_of, first_error};
+    ghost use Rattle.ck_types.specs.Templates.{form_error, created_error, template_error};
+    ghost use Rattle.ck_types.specs.Records.{created_items, placement_of, exposes_key, makes_public};
 
     /// The checks of a template of C_CreateObject (PKCS #11 Base 3.0, Object management functions), of which the first
     /// that fails answers: a type that the token doesn't know (CKR_ATTRIBUTE_TYPE_INVALID) or a value that isn't of
@@ -28,14 +29,14 @@ impl Template {
         ensures { result ≡ check_of (created_error self.now.items) }
     {
         let items = self.items.as_slice();
-        check_creations(items)?;
+        check_creation_forms(items)?;
         error_if(has_conflict(items), RvError::TemplateInconsistent)?;
-        let class = given(items, Attribute::Class.number());
+        let class = value_at(items, Attribute::Class.number());
         error_if(class.is_none(), RvError::TemplateIncomplete)?;
         check_permissions(Class::Data, Purpose::Create, items)
     }
 
-    /// Where the object that the template creates may stand.
+    /// CKA_TOKEN and CKA_PRIVATE of the object that the template creates.
     #[tactic(auto, unfolding(crate::specs::Records::created_items))]
     pub fn creation_placement(&self) -> Placement
         requires { created_error self.now.items ≡ None }
@@ -57,5 +58,23 @@ impl Template {
         check_forms(items)?;
         error_if(has_conflict(items), RvError::TemplateInconsistent)?;
         check_permissions(class, purpose, items)
+    }
+
+    /// Whether the template makes a sensitive key not sensitive, or a key extractable that isn't.
+    pub(crate) fn exposes_key(&self, protections: Protections) -> bool
+        requires { first_error form_error self.now.items ≡ None }
+        ensures { result ≡ exposes_key protections self.now.items }
+    {
+        let items = self.items.as_slice();
+        (protections.sensitive && !flag_or(items, Attribute::Sensitive, true))
+            || (!protections.extractable && flag_or(items, Attribute::Extractable, false))
+    }
+
+    /// Whether the template makes a private object public.
+    pub(crate) fn makes_public(&self, protections: Protections) -> bool
+        requires { first_error form_error self.now.items ≡ None }
+        ensures { result ≡ makes_public protections self.now.items }
+    {
+        protections.private && !flag_or(self.items.as_slice(), Attribute::Private, true)
     }
 }

@@ -167,7 +167,25 @@ fn copies_and_changes(rt: HostRuntime) -> Result<(), Fail> {
     Ok(())
 }
 
-/// Where an object stands that a template of C_CreateObject or of C_CopyObject makes.
+/// That an object which the first template creates, copied by the second, is placed so.
+fn check_placement(
+    rt: &impl Abort,
+    alloc: Global,
+    created: &Template,
+    copied: &Template,
+    expected: Placement,
+) -> Result<(), Fail> {
+    created.check_creation()?;
+    let placement = created.creation_placement();
+    let object = Record::create_with(alloc, created)?;
+    assert_eq!(rt; object.placement(), placement);
+    object.check_copy(copied)?;
+    assert_eq!(rt; object.copy_placement(copied), expected);
+    let copy = object.copy_with(alloc, copied)?;
+    assert_eq!(rt; copy.placement(), expected);
+    Ok(())
+}
+
 #[test]
 fn placements(rt: HostRuntime) -> Result<(), Fail> {
     for (created, copied, token, private) in [
@@ -177,24 +195,10 @@ fn placements(rt: HostRuntime) -> Result<(), Fail> {
         ("0=0000000000000000,1=01,2=01", "1=00", false, true),
         ("0=0000000000000000,1=01", "1=01,2=01", true, true),
     ] {
-        let template = template_of(rt.alloc(), created)?;
-        template.check_creation()?;
-        let record = Record::created(rt.alloc(), &template)?;
-        assert_eq!(rt;
-            record.placement(),
-            template.creation_placement(),
-            "{created}"
-        );
-        let template = template_of(rt.alloc(), copied)?;
-        record.check_copy(&template)?;
-        let placement = Placement { token, private };
-        assert_eq!(rt;
-            record.copy_placement(&template),
-            placement,
-            "{created} {copied}"
-        );
-        let copy = record.copy_with(rt.alloc(), &template)?;
-        assert_eq!(rt; copy.placement(), placement, "{created} {copied}");
+        let created = template_of(rt.alloc(), created)?;
+        let copied = template_of(rt.alloc(), copied)?;
+        let expected = Placement { token, private };
+        check_placement(&rt, rt.alloc(), &created, &copied, expected)?;
     }
     Ok(())
 }
@@ -357,129 +361,149 @@ fn limits(rt: HostRuntime) {
     assert_eq!(rt; Some(Limits::largest()), largest);
 }
 
+/// Each error, with its number and its name.
+const ERRORS: [(u64, RvError, &str); 39] = [
+    (0x2, RvError::HostMemory, "CKR_HOST_MEMORY"),
+    (0x7, RvError::ArgumentsBad, "CKR_ARGUMENTS_BAD"),
+    (0x10, RvError::AttributeReadOnly, "CKR_ATTRIBUTE_READ_ONLY"),
+    (0x11, RvError::AttributeSensitive, "CKR_ATTRIBUTE_SENSITIVE"),
+    (
+        0x12,
+        RvError::AttributeTypeInvalid,
+        "CKR_ATTRIBUTE_TYPE_INVALID",
+    ),
+    (
+        0x13,
+        RvError::AttributeValueInvalid,
+        "CKR_ATTRIBUTE_VALUE_INVALID",
+    ),
+    (0x1b, RvError::ActionProhibited, "CKR_ACTION_PROHIBITED"),
+    (0x21, RvError::DataLenRange, "CKR_DATA_LEN_RANGE"),
+    (0x31, RvError::DeviceMemory, "CKR_DEVICE_MEMORY"),
+    (0x60, RvError::KeyHandleInvalid, "CKR_KEY_HANDLE_INVALID"),
+    (0x62, RvError::KeySizeRange, "CKR_KEY_SIZE_RANGE"),
+    (
+        0x63,
+        RvError::KeyTypeInconsistent,
+        "CKR_KEY_TYPE_INCONSISTENT",
+    ),
+    (
+        0x68,
+        RvError::KeyFunctionNotPermitted,
+        "CKR_KEY_FUNCTION_NOT_PERMITTED",
+    ),
+    (0x70, RvError::MechanismInvalid, "CKR_MECHANISM_INVALID"),
+    (
+        0x71,
+        RvError::MechanismParamInvalid,
+        "CKR_MECHANISM_PARAM_INVALID",
+    ),
+    (
+        0x82,
+        RvError::ObjectHandleInvalid,
+        "CKR_OBJECT_HANDLE_INVALID",
+    ),
+    (0x90, RvError::OperationActive, "CKR_OPERATION_ACTIVE"),
+    (
+        0x91,
+        RvError::OperationNotInitialized,
+        "CKR_OPERATION_NOT_INITIALIZED",
+    ),
+    (0xa0, RvError::PinIncorrect, "CKR_PIN_INCORRECT"),
+    (0xa2, RvError::PinLenRange, "CKR_PIN_LEN_RANGE"),
+    (0xa4, RvError::PinLocked, "CKR_PIN_LOCKED"),
+    (0xb1, RvError::SessionCount, "CKR_SESSION_COUNT"),
+    (
+        0xb3,
+        RvError::SessionHandleInvalid,
+        "CKR_SESSION_HANDLE_INVALID",
+    ),
+    (
+        0xb4,
+        RvError::SessionParallelNotSupported,
+        "CKR_SESSION_PARALLEL_NOT_SUPPORTED",
+    ),
+    (0xb5, RvError::SessionReadOnly, "CKR_SESSION_READ_ONLY"),
+    (0xb6, RvError::SessionExists, "CKR_SESSION_EXISTS"),
+    (
+        0xb7,
+        RvError::SessionReadOnlyExists,
+        "CKR_SESSION_READ_ONLY_EXISTS",
+    ),
+    (
+        0xb8,
+        RvError::SessionReadWriteSoExists,
+        "CKR_SESSION_READ_WRITE_SO_EXISTS",
+    ),
+    (0xc0, RvError::SignatureInvalid, "CKR_SIGNATURE_INVALID"),
+    (0xc1, RvError::SignatureLenRange, "CKR_SIGNATURE_LEN_RANGE"),
+    (0xd0, RvError::TemplateIncomplete, "CKR_TEMPLATE_INCOMPLETE"),
+    (
+        0xd1,
+        RvError::TemplateInconsistent,
+        "CKR_TEMPLATE_INCONSISTENT",
+    ),
+    (
+        0xe1,
+        RvError::TokenNotRecognized,
+        "CKR_TOKEN_NOT_RECOGNIZED",
+    ),
+    (
+        0x100,
+        RvError::UserAlreadyLoggedIn,
+        "CKR_USER_ALREADY_LOGGED_IN",
+    ),
+    (0x101, RvError::UserNotLoggedIn, "CKR_USER_NOT_LOGGED_IN"),
+    (
+        0x102,
+        RvError::UserPinNotInitialized,
+        "CKR_USER_PIN_NOT_INITIALIZED",
+    ),
+    (0x103, RvError::UserTypeInvalid, "CKR_USER_TYPE_INVALID"),
+    (
+        0x104,
+        RvError::UserAnotherAlreadyLoggedIn,
+        "CKR_USER_ANOTHER_ALREADY_LOGGED_IN",
+    ),
+    (0x150, RvError::BufferTooSmall, "CKR_BUFFER_TOO_SMALL"),
+];
+
+/// That the error has this number and this name, as itself and as a return code.
+fn check_error(
+    rt: &impl Abort,
+    alloc: Global,
+    number: u64,
+    error: RvError,
+    name: &str,
+) -> Result<(), Fail> {
+    let code = Rv::from(error);
+    assert_eq!(rt; RvError::of(number), Some(error), "{number:x}");
+    assert_eq!(rt; Rv::of(number), Some(code), "{number:x}");
+    assert_eq!(rt; error.number(), number);
+    assert_eq!(rt; code.number(), number);
+    assert_eq!(rt; format!(in alloc; "{error}")?.as_str(), name);
+    assert_eq!(rt; format!(in alloc; "{code}")?.as_str(), name);
+    Ok(())
+}
+
 #[test]
 fn return_codes(rt: HostRuntime) -> Result<(), Fail> {
-    for (number, error, name) in [
-        (0x2, RvError::HostMemory, "CKR_HOST_MEMORY"),
-        (0x7, RvError::ArgumentsBad, "CKR_ARGUMENTS_BAD"),
-        (0x10, RvError::AttributeReadOnly, "CKR_ATTRIBUTE_READ_ONLY"),
-        (0x11, RvError::AttributeSensitive, "CKR_ATTRIBUTE_SENSITIVE"),
-        (
-            0x12,
-            RvError::AttributeTypeInvalid,
-            "CKR_ATTRIBUTE_TYPE_INVALID",
-        ),
-        (
-            0x13,
-            RvError::AttributeValueInvalid,
-            "CKR_ATTRIBUTE_VALUE_INVALID",
-        ),
-        (0x1b, RvError::ActionProhibited, "CKR_ACTION_PROHIBITED"),
-        (0x21, RvError::DataLenRange, "CKR_DATA_LEN_RANGE"),
-        (0x31, RvError::DeviceMemory, "CKR_DEVICE_MEMORY"),
-        (0x60, RvError::KeyHandleInvalid, "CKR_KEY_HANDLE_INVALID"),
-        (0x62, RvError::KeySizeRange, "CKR_KEY_SIZE_RANGE"),
-        (
-            0x63,
-            RvError::KeyTypeInconsistent,
-            "CKR_KEY_TYPE_INCONSISTENT",
-        ),
-        (
-            0x68,
-            RvError::KeyFunctionNotPermitted,
-            "CKR_KEY_FUNCTION_NOT_PERMITTED",
-        ),
-        (0x70, RvError::MechanismInvalid, "CKR_MECHANISM_INVALID"),
-        (
-            0x71,
-            RvError::MechanismParamInvalid,
-            "CKR_MECHANISM_PARAM_INVALID",
-        ),
-        (
-            0x82,
-            RvError::ObjectHandleInvalid,
-            "CKR_OBJECT_HANDLE_INVALID",
-        ),
-        (0x90, RvError::OperationActive, "CKR_OPERATION_ACTIVE"),
-        (
-            0x91,
-            RvError::OperationNotInitialized,
-            "CKR_OPERATION_NOT_INITIALIZED",
-        ),
-        (0xa0, RvError::PinIncorrect, "CKR_PIN_INCORRECT"),
-        (0xa2, RvError::PinLenRange, "CKR_PIN_LEN_RANGE"),
-        (0xa4, RvError::PinLocked, "CKR_PIN_LOCKED"),
-        (0xb1, RvError::SessionCount, "CKR_SESSION_COUNT"),
-        (
-            0xb3,
-            RvError::SessionHandleInvalid,
-            "CKR_SESSION_HANDLE_INVALID",
-        ),
-        (
-            0xb4,
-            RvError::SessionParallelNotSupported,
-            "CKR_SESSION_PARALLEL_NOT_SUPPORTED",
-        ),
-        (0xb5, RvError::SessionReadOnly, "CKR_SESSION_READ_ONLY"),
-        (0xb6, RvError::SessionExists, "CKR_SESSION_EXISTS"),
-        (
-            0xb7,
-            RvError::SessionReadOnlyExists,
-            "CKR_SESSION_READ_ONLY_EXISTS",
-        ),
-        (
-            0xb8,
-            RvError::SessionReadWriteSoExists,
-            "CKR_SESSION_READ_WRITE_SO_EXISTS",
-        ),
-        (0xc0, RvError::SignatureInvalid, "CKR_SIGNATURE_INVALID"),
-        (0xc1, RvError::SignatureLenRange, "CKR_SIGNATURE_LEN_RANGE"),
-        (0xd0, RvError::TemplateIncomplete, "CKR_TEMPLATE_INCOMPLETE"),
-        (
-            0xd1,
-            RvError::TemplateInconsistent,
-            "CKR_TEMPLATE_INCONSISTENT",
-        ),
-        (
-            0xe1,
-            RvError::TokenNotRecognized,
-            "CKR_TOKEN_NOT_RECOGNIZED",
-        ),
-        (
-            0x100,
-            RvError::UserAlreadyLoggedIn,
-            "CKR_USER_ALREADY_LOGGED_IN",
-        ),
-        (0x101, RvError::UserNotLoggedIn, "CKR_USER_NOT_LOGGED_IN"),
-        (
-            0x102,
-            RvError::UserPinNotInitialized,
-            "CKR_USER_PIN_NOT_INITIALIZED",
-        ),
-        (0x103, RvError::UserTypeInvalid, "CKR_USER_TYPE_INVALID"),
-        (
-            0x104,
-            RvError::UserAnotherAlreadyLoggedIn,
-            "CKR_USER_ANOTHER_ALREADY_LOGGED_IN",
-        ),
-        (0x150, RvError::BufferTooSmall, "CKR_BUFFER_TOO_SMALL"),
-    ] {
-        let code = Rv::from(error);
-        assert_eq!(rt; RvError::of(number), Some(error), "{number:x}");
-        assert_eq!(rt; Rv::of(number), Some(code), "{number:x}");
-        assert_eq!(rt; error.number(), number);
-        assert_eq!(rt; code.number(), number);
-        assert_eq!(rt; format!(in rt.alloc(); "{error}")?.as_str(), name);
-        assert_eq!(rt; format!(in rt.alloc(); "{code}")?.as_str(), name);
+    for (number, error, name) in ERRORS {
+        check_error(&rt, rt.alloc(), number, error, name)?;
     }
     assert_eq!(rt; Rv::of(0), Some(Rv::Ok));
+    assert_eq!(rt; RvError::of(0), None);
     assert_eq!(rt; Rv::Ok.number(), 0);
     assert_eq!(rt; format!(in rt.alloc(); "{}", Rv::Ok)?.as_str(), "CKR_OK");
-    assert_eq!(rt; RvError::of(0), None);
-    assert_eq!(rt; error_if(true, RvError::PinLocked), Err(RvError::PinLocked));
-    assert_eq!(rt; error_if(false, RvError::PinLocked), Ok(()));
     for number in [0x1, 0x5, 0x151] {
         assert_eq!(rt; Rv::of(number), None, "{number:x}");
     }
     Ok(())
+}
+
+#[test]
+fn checks(rt: HostRuntime) {
+    let error = RvError::PinLocked;
+    assert_eq!(rt; error_if(true, error), Err(error));
+    assert_eq!(rt; error_if(false, error), Ok(()));
 }

@@ -1,7 +1,7 @@
 use std::marker::Model;
 
-/// How much one token gives out in its life: sessions open at once (1 to 64), openings of sessions in all and
-/// creations of objects in all (each 1 to 2^32 - 1), and OK logins of the user in all (1 to 2^31 - 1).
+/// The limits of one token: sessions open at once (1 to 64), openings of sessions in all and creations of objects in
+/// all (each 1 to 2^32 - 1), and OK logins of the user in all (1 to 2^31 - 1).
 #[derive(Clone, Copy, Debug, PartialEq, Eq)]
 pub struct Limits {
     sessions: u64,
@@ -15,11 +15,21 @@ impl Model for Limits {
 
     ghost Value = { Ranges };
 
-    ghost view = { λ l. record { sessions = l.sessions; openings = l.openings; creations = l.creations; logins = l.logins } };
+    ghost view = { λ l. record {
+      sessions = l.sessions;
+      openings = l.openings;
+      creations = l.creations;
+      logins = l.logins;
+    } };
 
     ghost invariant = { λ l. AreInRange l.sessions l.openings l.creations l.logins };
 
-    ghost inverse = { λ r. record { sessions = r.sessions; openings = r.openings; creations = r.creations; logins = r.logins } };
+    ghost inverse = { λ r. record {
+      sessions = r.sessions;
+      openings = r.openings;
+      creations = r.creations;
+      logins = r.logins;
+    } };
 }
 
 impl Limits {
@@ -29,7 +39,12 @@ impl Limits {
     /// Limits of these numbers, or `None` where one of them is outside its range.
     pub fn of(sessions: u64, openings: u64, creations: u64, logins: u64) -> Option<Limits>
         ensures ranges { IsSome result ↔ AreInRange sessions openings creations logins }
-        ensures limits { IfSome result (λ l. l ≡ record { sessions = sessions; openings = openings; creations = creations; logins = logins }) }
+        ensures limits { IfSome result (λ limits. limits ≡ record {
+          sessions = sessions;
+          openings = openings;
+          creations = creations;
+          logins = logins;
+        }) }
     {
         let is_in_range = 1 <= sessions
             && sessions <= 64
@@ -53,7 +68,12 @@ impl Limits {
 
     /// The largest limits.
     pub fn largest() -> Limits
-        ensures { result ≡ record { sessions = 64; openings = 2 ^ 32 - 1; creations = 2 ^ 32 - 1; logins = 2 ^ 31 - 1 } }
+        ensures { result ≡ record {
+          sessions = 64;
+          openings = 2 ^ 32 - 1;
+          creations = 2 ^ 32 - 1;
+          logins = 2 ^ 31 - 1;
+        } }
     {
         Limits {
             sessions: 64,

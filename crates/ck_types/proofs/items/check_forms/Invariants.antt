@@ -1,8 +1,9 @@
 use Rattle.std.proofs.Common.{◌≡◌, drop}
-use Rattle.ck_types.specs.Checks.{first_error}
+use Rattle.ck_types.specs.Checks.{check_of, first_error}
 use Rattle.ck_types.specs.Templates.{form_error}
 use Rattle.ck_types.proofs.items.check_forms.Given as goal
 
 -- what is left decides
 abbrev pub invariant-loop-item : goal.invariant-loop-item
-invariant-loop-item l = first_error form_error l.items ≡ first_error form_error (drop l.item-index l.items)
+invariant-loop-item l =
+    check_of (first_error form_error l.items) ≡ check_of (first_error form_error (drop l.item-index l.items))

@@ -1,0 +1,3 @@
+pub mod DifferenceLemmas
+pub mod KeyLemmas
+pub mod LengthLemmas

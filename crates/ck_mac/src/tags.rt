@@ -1,0 +1,61 @@
+ghost use Rattle.std.specs.Prelude.{◌≡◌, ◌≤◌, ◌-◌, ◌++◌, length, take, replicate};
+
+use std::marker::Model;
+
+/// The length in bytes of the longest digest.
+const LONGEST_TAG: usize = 64;
+
+/// A digest, an HMAC or the first bytes of one. Contracts see it as its bytes.
+#[derive(Debug, Drop)]
+pub struct Tag {
+    bytes: [u8; LONGEST_TAG],
+    len: usize,
+}
+
+impl Model for Tag {
+    ghost use Rattle.std.specs.Prelude.{ℕ, List, ◌≤◌, take};
+
+    ghost Value = { List ℕ };
+
+    ghost view = { λ t. take t.len t.bytes };
+
+    ghost invariant = { λ t. t.len ≤ 64 };
+}
+
+impl Tag {
+    /// The tag of these bytes.
+    pub(crate) fn of(bytes: &[u8]) -> Tag
+        requires { length bytes.now ≤ 64 }
+        ensures { result ≡ bytes.now }
+    {
+        Tag {
+            bytes: with_zeros(bytes),
+            len: bytes.len(),
+        }
+    }
+
+    /// The tag without what comes after its first `len` bytes.
+    pub(crate) fn truncate(&mut self, len: usize)
+        ensures { self.new ≡ take len self.old }
+    {
+        if len < self.len {
+            self.len = len;
+        }
+    }
+
+    pub fn bytes(&self) -> &[u8]
+        ensures { result.now ≡ self.now }
+    {
+        &self.bytes[..self.len]
+    }
+}
+
+/// The bytes, followed by zeros up to `N` bytes.
+pub(crate) fn with_zeros<const N: usize>(bytes: &[u8]) -> [u8; N]
+    requires { length bytes.now ≤ N }
+    ensures { result ≡ bytes.now ++ replicate (N - length bytes.now) 0 }
+{
+    let mut all = [0; N];
+    all[..bytes.len()].copy_from_slice(bytes);
+    all
+}

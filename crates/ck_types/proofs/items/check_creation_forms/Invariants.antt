@@ -1,0 +1,9 @@
+use Rattle.std.proofs.Common.{◌≡◌, drop}
+use Rattle.ck_types.specs.Checks.{check_of, first_error}
+use Rattle.ck_types.specs.Templates.{creation_form_error}
+use Rattle.ck_types.proofs.items.check_creation_forms.Given as goal
+
+-- what is left decides
+abbrev pub invariant-loop-item : goal.invariant-loop-item
+invariant-loop-item l =
+    check_of (first_error creation_form_error l.items) ≡ check_of (first_error creation_form_error (drop l.item-index l.items))

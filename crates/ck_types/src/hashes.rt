@@ -1,0 +1,36 @@
+ghost use Rattle.std.specs.Prelude.{◌≡◌};
+
+/// A hash function of the SHA-2 family (FIPS 180-4).
+#[derive(Clone, Copy, Debug, PartialEq, Eq)]
+pub enum Hash {
+    Sha224,
+    Sha256,
+    Sha384,
+    Sha512,
+}
+
+impl Hash {
+    ghost use Rattle.ck_types.specs.Hashes.{digest_length, block_length};
+
+    /// The length of a digest in bytes.
+    pub fn len(self) -> u64
+        ensures { result ≡ digest_length self }
+    {
+        match self {
+            Hash::Sha224 => 28,
+            Hash::Sha256 => 32,
+            Hash::Sha384 => 48,
+            Hash::Sha512 => 64,
+        }
+    }
+
+    /// The length in bytes of the blocks that a message is taken in.
+    pub fn block(self) -> u64
+        ensures { result ≡ block_length self }
+    {
+        match self {
+            Hash::Sha224 | Hash::Sha256 => 64,
+            Hash::Sha384 | Hash::Sha512 => 128,
+        }
+    }
+}
