@@ -1,16 +1,13 @@
 -- The keyed-hash message authentication code (HMAC, FIPS 198-1) of messages that come in pieces
-use Rattle.std.specs.Prelude.{◌≡◌, ℕ, ◌-◌, ◌≤◌, List, ◌++◌, Option, Some, None, Result, Ok, Err, ◌==◌, nat_le, if◌then◌else◌, length, replicate, map, bit_xor}
+use Rattle.std.specs.Prelude.{◌≡◌, ℕ, ◌≤◌, List, ◌++◌, Option, Some, None, Result, Ok, Err, ◌==◌, nat_le, if◌then◌else◌, length, map, bit_xor}
 use Rattle.ck_types.specs.Attributes.{same_bytes}
 use Rattle.ck_types.specs.Hashes.{block_length, digest_length}
 use Rattle.ck_types.specs.declared.hashes.Hash.{Hash}
 use Rattle.ck_types.specs.declared.return_codes.Rv.{Rv}
 use Rattle.ck_types.specs.declared.return_codes.Rv.TheVariants as rv
 use Rattle.ck_mac.specs.Digests.{digest_of, Holds}
+use Rattle.ck_mac.specs.Padding.{with_zeros}
 use Rattle.ck_mac.specs.declared.macs.Mac.{Mac}
-
--- the bytes, followed by zeros up to n bytes
-abbrev pub with_zeros : ℕ → List ℕ → List ℕ
-with_zeros n bytes = bytes ++ replicate (n - length bytes) 0
 
 -- the key, or its digest where it is longer than a block, followed by zeros up to the block (K0, section 4, steps 1 to 3)
 unfoldable pub block_key : Hash → List ℕ → List ℕ

@@ -46,8 +46,8 @@ impl Mac {
     {
         let block = block_key(hash, key);
         Mac {
-            inner: keyed(hash, block, INNER_PAD),
-            outer: keyed(hash, block, OUTER_PAD),
+            inner: keyed_digest(hash, block, INNER_PAD),
+            outer: keyed_digest(hash, block, OUTER_PAD),
             len: n,
         }
     }
@@ -130,7 +130,7 @@ fn block_key(hash: Hash, key: &[u8]) -> [u8; LONGEST_BLOCK]
 
 /// A digest whose message begins with the block of the key, each byte combined with the pad.
 #[tactic(auto, using(crate::proofs::LengthLemmas::block_length_le_128))]
-fn keyed(hash: Hash, mut block: [u8; LONGEST_BLOCK], pad: u8) -> Running
+fn keyed_digest(hash: Hash, mut block: [u8; LONGEST_BLOCK], pad: u8) -> Running
     ensures { Holds hash result (xor_each pad (take (block_length hash) block)) }
 {
     let block = &mut block[..hash.block() as usize];
