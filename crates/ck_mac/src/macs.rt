@@ -56,7 +56,8 @@ impl Mac {
     #[tactic(auto, unfolding(crate::specs::Macs::HoldsMac))]
     pub fn update(&mut self, bytes: &[u8])
         ensures { (hash : Hash) (key : List ℕ) (n : ℕ) (message : List ℕ)
-            → HoldsMac hash key n self.old message → HoldsMac hash key n self.new (message ++ bytes.now) }
+            → HoldsMac hash key n self.old message
+            → HoldsMac hash key n self.new (message ++ bytes.now) }
     {
         self.inner.update(bytes);
     }
@@ -80,8 +81,8 @@ impl Mac {
         tag
     }
 
-    /// Checks a signature of the message: CKR_SIGNATURE_LEN_RANGE for one of another length than the tag's,
-    /// CKR_SIGNATURE_INVALID for other bytes.
+    /// Checks a signature of the message: CKR_SIGNATURE_LEN_RANGE for one of another length than the
+    /// tag's, CKR_SIGNATURE_INVALID for other bytes.
     pub fn check(self, signature: &[u8]) -> Result<(), Rv>
         ensures { (hash : Hash) (key : List ℕ) (n : ℕ) (message : List ℕ)
             → HoldsMac hash key n self message
@@ -116,7 +117,8 @@ impl Clone for Mac {
 ghost use Rattle.ck_mac.specs.Digests.{Holds};
 ghost use Rattle.ck_mac.specs.Macs.{block_key, xor_each};
 
-/// The key as one block, followed by zeros: where it is longer than a block, its digest (FIPS 198-1, section 4).
+/// The key as one block, followed by zeros: where it is longer than a block, its digest (FIPS 198-1,
+/// section 4).
 #[tactic(auto, using(crate::proofs::KeyLemmas::take_short_key, crate::proofs::KeyLemmas::take_long_key))]
 fn block_key(hash: Hash, key: &[u8]) -> [u8; LONGEST_BLOCK]
     ensures { take (block_length hash) result ≡ block_key hash key.now }
@@ -149,8 +151,8 @@ fn xor_each(bytes: &mut [u8], pad: u8)
     }
 }
 
-/// Whether these are the same bytes. Every byte is looked at whatever differs, so that the time doesn't say how
-/// much of a guessed signature is right.
+/// Whether these are the same bytes. Every byte is looked at whatever differs, so that the time
+/// doesn't say how much of a guessed signature is right.
 #[tactic(auto, using(crate::proofs::DifferenceLemmas::same_so_far_more))]
 fn constant_time_eq(left: &[u8], right: &[u8]) -> bool
     requires { length left.now ≡ length right.now }
