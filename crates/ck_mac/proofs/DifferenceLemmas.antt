@@ -23,7 +23,8 @@ or-xor d a b = grind (arith, nat_tests, le_or_l, le_or_r, same_from_xor, xor_sel
 
 -- one byte more of each
 same_bytes-take-suc : (n : ℕ) (left right : List ℕ) → n < length left → n < length right →
-    same_bytes (take (suc n) left) (take (suc n) right) ≡ same_bytes (take n left) (take n right) && (get_or left n 0 == get_or right n 0)
+    same_bytes (take (suc n) left) (take (suc n) right)
+    ≡ same_bytes (take n left) (take n right) && (get_or left n 0 == get_or right n 0)
 same_bytes-take-suc zero (x ∷ xs) (y ∷ ys) in_left in_right = grind (arith, nat_tests)
 same_bytes-take-suc (suc n) (x ∷ xs) (y ∷ ys) in_left in_right =
     let e = same_bytes-take-suc n xs ys (omega arith) (omega arith) in
@@ -34,6 +35,9 @@ same_bytes-take-suc n (x ∷ xs) [] in_left in_right = absurd (omega arith)
 -- the difference after one byte more of each
 pub same_so_far_more : (left right : List ℕ) (n d : ℕ) → n < length left → n < length right →
     (d == 0) ≡ same_bytes (take n left) (take n right) →
-    (bit_or d (bit_xor (get_or left n 0) (get_or right n 0)) == 0) ≡ same_bytes (take (n + 1) left) (take (n + 1) right)
+    (bit_or d (bit_xor (get_or left n 0) (get_or right n 0)) == 0)
+    ≡ same_bytes (take (n + 1) left) (take (n + 1) right)
 same_so_far_more left right n d in_left in_right so_far =
-    rw add-one (or-xor d _ _ ∙ (ap (λ same. same && (get_or left n 0 == get_or right n 0)) so_far ∙ sym (same_bytes-take-suc n left right in_left in_right)))
+    rw add-one (or-xor d _ _
+    ∙ (ap (λ same. same && (get_or left n 0 == get_or right n 0)) so_far
+    ∙ sym (same_bytes-take-suc n left right in_left in_right)))

@@ -38,7 +38,8 @@ impl Running {
 
     /// Adds the bytes to the end of the message.
     pub fn update(&mut self, bytes: &[u8])
-        ensures { (hash : Hash) (message : List ℕ) → Holds hash self.old message → Holds hash self.new (message ++ bytes.now) }
+        ensures { (hash : Hash) (message : List ℕ)
+            → Holds hash self.old message → Holds hash self.new (message ++ bytes.now) }
     {
         match &mut self.hasher {
             Hasher::Sha224(hasher) => hasher.update(bytes),
@@ -50,7 +51,8 @@ impl Running {
 
     /// The digest of the message.
     pub fn finish(self) -> Tag
-        ensures { (hash : Hash) (message : List ℕ) → Holds hash self message → result ≡ digest_of hash message }
+        ensures { (hash : Hash) (message : List ℕ)
+            → Holds hash self message → result ≡ digest_of hash message }
     {
         match self.hasher {
             Hasher::Sha224(hasher) => Tag::of(&hasher.finalize()),

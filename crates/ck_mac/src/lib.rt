@@ -1,4 +1,5 @@
-//! Digests (FIPS 180-4) and HMACs (FIPS 198-1) of messages that come in pieces. Nothing here takes memory.
+//! Digests (FIPS 180-4) and HMACs (FIPS 198-1) of messages that come in pieces. Nothing here takes
+//! memory.
 #![tactic(auto)]
 
 mod digests;

@@ -47,8 +47,8 @@ impl Mac {
     {
         let block = block_key(hash, key);
         Mac {
-            inner: keyed(hash, block, INNER_PAD),
-            outer: keyed(hash, block, OUTER_PAD),
+            inner: keyed_digest(hash, block, INNER_PAD),
+            outer: keyed_digest(hash, block, OUTER_PAD),
             len: n,
         }
     }
@@ -57,7 +57,8 @@ impl Mac {
     #[tactic(auto, unfolding(crate::specs::Macs::HoldsMac))]
     pub fn update(&mut self, bytes: &[u8])
         ensures { (hash : Hash) (key : List ℕ) (n : ℕ) (message : List ℕ)
-            → HoldsMac hash key n self.old message → HoldsMac hash key n self.new (message ++ bytes.now) }
+            → HoldsMac hash key n self.old message
+            → HoldsMac hash key n self.new (message ++ bytes.now) }
     {
         self.inner.update(bytes);
     }
@@ -81,8 +82,8 @@ impl Mac {
         tag
     }
 
-    /// Checks a signature of the message: CKR_SIGNATURE_LEN_RANGE for one of another length than the tag's,
-    /// CKR_SIGNATURE_INVALID for other bytes.
+    /// Checks a signature of the message: CKR_SIGNATURE_LEN_RANGE for one of another length than the
+    /// tag's, CKR_SIGNATURE_INVALID for other bytes.
     pub fn check(self, signature: &[u8]) -> Result<(), RvError>
         ensures { (hash : Hash) (key : List ℕ) (n : ℕ) (message : List ℕ)
             → HoldsMac hash key n self message
@@ -117,7 +118,8 @@ impl Clone for Mac {
 ghost use Rattle.ck_mac.specs.Digests.{Holds};
 ghost use Rattle.ck_mac.specs.Macs.{block_key, xor_each};
 
-/// The key as one block, followed by zeros: where it is longer than a block, its digest (FIPS 198-1, section 4).
+/// The key as one block, followed by zeros: where it is longer than a block, its digest (FIPS 198-1,
+/// section 4).
 #[tactic(auto, using(crate::proofs::KeyLemmas::take_short_key, crate::proofs::KeyLemmas::take_long_key))]
 fn block_key(hash: Hash, key: &[u8]) -> [u8; LONGEST_BLOCK]
     ensures { take (block_length hash) result ≡ block_key hash key.now }
@@ -131,7 +133,7 @@ fn block_key(hash: Hash, key: &[u8]) -> [u8; LONGEST_BLOCK]
 
 /// A digest whose message begins with the block of the key, each byte combined with the pad.
 #[tactic(auto, using(crate::proofs::LengthLemmas::block_length_le_128))]
-fn keyed(hash: Hash, mut block: [u8; LONGEST_BLOCK], pad: u8) -> Running
+fn keyed_digest(hash: Hash, mut block: [u8; LONGEST_BLOCK], pad: u8) -> Running
     ensures { Holds hash result (xor_each pad (take (block_length hash) block)) }
 {
     let block = &mut block[..hash.block() as usize];
@@ -150,8 +152,8 @@ fn xor_each(bytes: &mut [u8], pad: u8)
     }
 }
 
-/// Whether these are the same bytes. Every byte is looked at whatever differs, so that the time doesn't say how
-/// much of a guessed signature is right.
+/// Whether these are the same bytes. Every byte is looked at whatever differs, so that the time
+/// doesn't say how much of a guessed signature is right.
 #[tactic(auto, using(crate::proofs::DifferenceLemmas::same_so_far_more))]
 fn constant_time_eq(left: &[u8], right: &[u8]) -> bool
     requires { length left.now ≡ length right.now }

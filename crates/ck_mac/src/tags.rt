@@ -1,4 +1,5 @@
-ghost use Rattle.std.specs.Prelude.{◌≡◌, ◌≤◌, ◌-◌, ◌++◌, length, take, replicate};
+ghost use Rattle.std.specs.Prelude.{◌≡◌, ◌≤◌, length, take};
+ghost use Rattle.ck_mac.specs.Padding.{with_zeros};
 
 use std::marker::Model;
 
@@ -43,6 +44,7 @@ impl Tag {
         }
     }
 
+    /// The bytes of the tag, in the order of the standard.
     pub fn bytes(&self) -> &[u8]
         ensures { result.now ≡ self.now }
     {
@@ -53,7 +55,7 @@ impl Tag {
 /// The bytes, followed by zeros up to `N` bytes.
 pub(crate) fn with_zeros<const N: usize>(bytes: &[u8]) -> [u8; N]
     requires { length bytes.now ≤ N }
-    ensures { result ≡ bytes.now ++ replicate (N - length bytes.now) 0 }
+    ensures { result ≡ with_zeros N bytes.now }
 {
     let mut all = [0; N];
     all[..bytes.len()].copy_from_slice(bytes);

@@ -25,7 +25,8 @@ fn counted_bytes(alloc: Global, len: usize) -> Result<Vec<u8>, AllocError> {
     (0..len).map(|i| (i % 251) as u8).collect(alloc)
 }
 
-/// The digest begins with these bytes, and is the same in two pieces, cut at each place, and a byte a piece.
+/// The digest begins with these bytes, and is the same in two pieces, cut at each place, and a byte
+/// a piece.
 fn digest_in_pieces(rt: &impl Abort, hash: Hash, message: &[u8], expected: &[u8]) {
     let whole = digest(hash, message);
     assert_eq!(rt; whole.bytes().len() as u64, hash.len());
@@ -43,7 +44,8 @@ fn digest_in_pieces(rt: &impl Abort, hash: Hash, message: &[u8], expected: &[u8]
     assert!(rt; running.finish().bytes() == whole.bytes());
 }
 
-/// The HMAC begins with these bytes, and is the same in two pieces, cut at each place, and a byte a piece.
+/// The HMAC begins with these bytes, and is the same in two pieces, cut at each place, and a byte a
+/// piece.
 fn hmac_in_pieces(rt: &impl Abort, hash: Hash, key: &[u8], message: &[u8], expected: &[u8]) {
     let mut mac = Mac::new(hash, key);
     mac.update(message);
@@ -203,7 +205,7 @@ fn clones(rt: HostRuntime) -> Result<(), Fail> {
     Ok(())
 }
 
-/// The HMAC's first `n` bytes are its only signature: not one more nor less, and none of them changed.
+/// The HMAC's first bytes are its only signature: not one less, and none of them changed.
 fn signatures(rt: &impl Abort, mac: &Mac, signature: &mut [u8]) -> Result<(), Fail> {
     assert_eq!(rt; mac.clone()?.check(signature), Ok(()));
     assert!(rt; mac.clone()?.finish().bytes() == signature);

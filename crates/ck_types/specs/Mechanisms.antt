@@ -1,10 +1,11 @@
--- The mechanisms that the token has (PKCS #11 Current Mechanisms 3.0, SHA-1 to SHA-512 and Generic secret key)
+-- The mechanisms that the token has (PKCS #11 Current Mechanisms 3.0, SHA-224 to SHA-512 and Generic
+-- secret key)
 use Rattle.std.specs.Prelude.{ℕ, List, [], ◌∷◌, Option, Some, None, ◌==◌, find, map, option_map, option_and_then}
 use Rattle.ck_types.specs.declared.hashes.Hash.{Hash}
 use Rattle.ck_types.specs.declared.hashes.Hash.TheVariants as hash
 
--- what a mechanism computes: a digest, an HMAC, the first bytes of an HMAC, as many as its parameter says, or a generic
--- secret key
+-- what a mechanism computes: a digest, an HMAC, the first bytes of an HMAC, as many as its parameter
+-- says, or a generic secret key
 pub data Algorithm : Type 0 where
   digest : Hash → Algorithm
   hmac : Hash → Algorithm
@@ -35,7 +36,9 @@ mechanism_types = map (λ (row : ℕ × Algorithm). row.0) mechanisms
 
 -- what the mechanism of this type computes
 abbrev pub algorithm_of : ℕ → Option Algorithm
-algorithm_of kind = option_map (λ (row : ℕ × Algorithm). row.1) (find (λ (row : ℕ × Algorithm). row.0 == kind) mechanisms)
+algorithm_of kind =
+    option_map (λ (row : ℕ × Algorithm). row.1)
+    (find (λ (row : ℕ × Algorithm). row.0 == kind) mechanisms)
 
 abbrev pub hash_of_digest : Algorithm → Option Hash
 hash_of_digest (digest h) = Some h

@@ -31,8 +31,8 @@ pub fn digest_of(kind: u64) -> Option<Hash>
     }
 }
 
-/// The hash function of a mechanism that signs by an HMAC, whole or of a length that its parameter gives, or `None`
-/// for every other mechanism.
+/// The hash function of a mechanism that signs by an HMAC, whole or of a length that its parameter
+/// gives, or `None` for every other mechanism.
 pub fn mac_of(kind: u64) -> Option<Hash>
     ensures { result ≡ hmac_hash kind }
 {

@@ -1,4 +1,5 @@
-//! Digests and HMACs computed by Python's hashlib and hmac, in the order SHA-224, SHA-256, SHA-384, SHA-512.
+//! Digests and HMACs computed by Python's hashlib and hmac, in the order SHA-224, SHA-256, SHA-384,
+//! SHA-512.
 
 /// How many of the bytes 0, 1, 2, .., and the first 8 bytes of their digests.
 pub const DIGESTS: [(usize, [u64; 4]); 12] = [
@@ -112,7 +113,7 @@ pub const DIGESTS: [(usize, [u64; 4]); 12] = [
     ),
 ];
 
-/// How many of these bytes, and the first 8 bytes of their HMACs under the first 20 of them as the key.
+/// How many of these bytes, and the first 8 bytes of their HMACs under the first 20 of them.
 pub const HMACS: [(usize, [u64; 4]); 12] = [
     (
         0,
@@ -224,7 +225,7 @@ pub const HMACS: [(usize, [u64; 4]); 12] = [
     ),
 ];
 
-/// How many bytes of a key, each 0, 1, .., 250, 0, 1, .., and the first 8 bytes of the HMACs of "Hi There".
+/// How many bytes of a key, 0, 1, .., 250, 0, 1, .., and the first 8 bytes of the HMACs of "Hi There".
 pub const HMACS_BY_KEY: [(usize, [u64; 4]); 10] = [
     (
         0,

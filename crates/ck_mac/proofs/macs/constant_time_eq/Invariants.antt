@@ -4,4 +4,6 @@ use Rattle.ck_mac.proofs.macs.constant_time_eq.Given as goal
 
 -- no byte differed so far where the first bytes are the same
 abbrev pub invariant-loop-a : goal.invariant-loop-a
-invariant-loop-a l = (l.difference == 0) ≡ same_bytes (take (length l.yielded) l.left) (take (length l.yielded) l.right)
+invariant-loop-a l =
+    (l.difference == 0)
+    ≡ same_bytes (take (length l.yielded) l.left) (take (length l.yielded) l.right)
