@@ -1,0 +1,10 @@
+-- The text of several values between commas, the first one apart
+use Rattle.std.proofs.Common.{◌≡◌, ℕ, List, [], ◌∷◌, ◌++◌, sym, ap}
+use Rattle.std.specs.Prelude.{flat_map, map}
+use Rattle.std.specs.List.{join_with_byte}
+use Rattle.std.proofs.lemmas.List.{append-nil}
+
+pub joined-first : {A : Type 0} (text : A → List ℕ) (first : A) (rest : List A)
+    → join_with_byte 44 (map text (first ∷ rest)) ≡ text first ++ flat_map (λ a. 44 ∷ text a) rest
+joined-first text first [] = sym (append-nil (text first))
+joined-first text first (second ∷ rest) = ap (λ more. text first ++ 44 ∷ more) (joined-first text second rest)

@@ -1,0 +1,38 @@
+-- The parts of a text between separators
+use Rattle.std.specs.Prelude.{ℕ, Bool, true, false, List, [], ◌∷◌, Option, Some, None, ◌==◌, length, option_and_then, if◌then◌else◌}
+use Rattle.std.specs.List.{slice_split}
+
+-- a text without a separator is one part; between two separators that stand together is an empty one
+abbrev pub parts_of : ℕ → List ℕ → List (List ℕ)
+parts_of separator text = slice_split (λ b. b == separator) text
+
+-- the parts that are left where this text is, or none
+abbrev pub parts_left : ℕ → Bool → List ℕ → List (List ℕ)
+parts_left separator true text = []
+parts_left separator false text = parts_of separator text
+
+-- the part, or the parts, where there are exactly as many
+abbrev pub one_of : List (List ℕ) → Option (List ℕ)
+one_of (a ∷ []) = Some a
+one_of others = None
+
+abbrev pub two_of : List (List ℕ) → Option (List ℕ × List ℕ)
+two_of (a ∷ b ∷ []) = Some (a, b)
+two_of others = None
+
+abbrev pub three_of : List (List ℕ) → Option (List ℕ × List ℕ × List ℕ)
+three_of (a ∷ b ∷ c ∷ []) = Some (a, b, c)
+three_of others = None
+
+-- what the parts mean, where there are exactly as many, and None where there aren't
+abbrev pub with_none : {A : Type 0} → A → List (List ℕ) → Option A
+with_none meaning parts = if length parts == 0 then Some meaning else None
+
+abbrev pub with_one : {A : Type 0} → (List ℕ → Option A) → List (List ℕ) → Option A
+with_one meaning parts = option_and_then meaning (one_of parts)
+
+abbrev pub with_two : {A : Type 0} → (List ℕ → List ℕ → Option A) → List (List ℕ) → Option A
+with_two meaning parts = option_and_then (λ (p : List ℕ × List ℕ). meaning p.0 p.1) (two_of parts)
+
+abbrev pub with_three : {A : Type 0} → (List ℕ → List ℕ → List ℕ → Option A) → List (List ℕ) → Option A
+with_three meaning parts = option_and_then (λ (p : List ℕ × List ℕ × List ℕ). meaning p.0 p.1 p.2) (three_of parts)
