@@ -382,6 +382,19 @@ fn the_longest_line_is_of_4194304_bytes(rt: HostRuntime) -> Result<(), Fail> {
     Ok(())
 }
 
+fn assert_reasons(rt: &impl Abort, alloc: Global, rows: &[(&[u8], &str)]) -> Result<(), Fail> {
+    for (line, want) in rows {
+        match Line::parse(alloc, line) {
+            Err(LineError::Bad(reason)) => {
+                let text = format!(in alloc; "{reason}")?;
+                assert_eq!(rt; text.as_str(), *want, "{line:?}");
+            }
+            _ => return Err(Fail::new("no bad line")),
+        }
+    }
+    Ok(())
+}
+
 #[test]
 fn bad_lines_have_their_reasons(rt: HostRuntime) -> Result<(), Fail> {
     let decimal = "a number is written in decimal digits";
@@ -395,7 +408,7 @@ fn bad_lines_have_their_reasons(rt: HostRuntime) -> Result<(), Fail> {
     let carriage_return = "a carriage return stands at the end of the line";
     let item = "a template is written as type=bytes,.. and an empty one as -";
     let query = "queries are written as type:room,.. and none as -";
-    let rows: [(&[u8], &str); 44] = [
+    let rows: &[(&[u8], &str)] = &[
         (b"1 Login 1 1", "Login takes 3 arguments"),
         (b"1 Login 1 1 31323334 5", "Login takes 3 arguments"),
         (b"1 Logout", "Logout takes 1 argument"),
@@ -471,16 +484,7 @@ fn bad_lines_have_their_reasons(rt: HostRuntime) -> Result<(), Fail> {
         (b"1 GetAttributeValue 1 1 11", query),
         (b"1 GetAttributeValue 1 1 11:-", decimal),
     ];
-    for (line, want) in rows {
-        match Line::parse(rt.alloc(), line) {
-            Err(LineError::Bad(reason)) => {
-                let text = format!(in rt.alloc(); "{reason}")?;
-                assert_eq!(rt; text.as_str(), want, "{line:?}");
-            }
-            _ => return Err(Fail::new("no bad line")),
-        }
-    }
-    Ok(())
+    assert_reasons(&rt, rt.alloc(), rows)
 }
 
 #[test]
