@@ -4,8 +4,7 @@ use Rattle.std.proofs.lemmas.Bool.{ltb-true, ltb-false}
 use Rattle.std.proofs.lemmas.Bool.Decides.{nat_tests}
 use Rattle.std.specs.Prelude.{◌==◌, ◌⊎◌, nat_lt as ltb, Result}
 use Rattle.std.specs.List.{onto_first}
-use Rattle.ck_script.specs.Lines.{lines_in, meaning, is_skipped, words_meaning}
-use Rattle.ck_script.specs.Parts.{parts_of}
+use Rattle.ck_script.specs.Lines.{lines_in, meaning}
 use Rattle.ck_script.specs.declared.line_errors.LineError.{LineError}
 use Rattle.ck_script.specs.declared.line_errors.LineError.TheVariants as error
 use Rattle.ck_script.specs.declared.line_errors.BadLine.{BadLine}

@@ -1,5 +1,5 @@
 -- One more line is answered, or playing stops at it
-use Rattle.std.proofs.Common.{◌≡◌, ◌≤◌, ◌<◌, ℕ, suc, Bool, true, List, [], ◌∷◌, ◌++◌, Some, None, Err, length, min, refl, sym, ap, ap₂, ◌∙◌, subst, inl, inr, arith, add-one, append_assoc}
+use Rattle.std.proofs.Common.{◌≡◌, ◌≤◌, ℕ, suc, Bool, true, List, [], ◌∷◌, ◌++◌, Some, None, length, refl, sym, ap, ap₂, ◌∙◌, subst, inl, inr, arith, add-one, append_assoc}
 use Rattle.std.proofs.lemmas.List.{length_push}
 use Rattle.ck_types.specs.TokenLimits.{Ranges}
 use Rattle.ck_journal.specs.Answers.{answer}

@@ -1,5 +1,5 @@
 -- The statuses with which the program ends
-use Rattle.std.specs.Prelude.{ℕ, Result, Ok, Err}
+use Rattle.std.specs.Prelude.{ℕ}
 use Rattle.ck_run.specs.declared.faults.PlayFault.{PlayFault}
 use Rattle.ck_run.specs.declared.faults.PlayFault.TheVariants as fault
 
