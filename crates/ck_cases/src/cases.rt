@@ -1,6 +1,7 @@
-//! The cases of a file. A line `limits SESSIONS OPENINGS CREATIONS LOGINS`, or `limits largest`, begins
-//! a case on a new token, and so does the first call of the file. Each other line is a line of a script
-//! and its reply, as `1 OpenSession 6 -> 0 1`. Empty lines and lines that begin with `#` are skipped.
+//! The cases of a file. A line `limits SESSIONS OPENINGS CREATIONS LOGINS`, or `limits largest`,
+//! begins a case on a new token, and so does the first call of the file. Each other line is a line
+//! of a script and its reply, as `1 OpenSession 6 -> 0 1`. Empty lines and lines that begin with
+//! `#` are skipped.
 use ck_journal::Call;
 use ck_script::{BadLine, Line, LineError};
 use ck_types::{Limits, NoMemory};

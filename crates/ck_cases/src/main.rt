@@ -1,5 +1,5 @@
-//! Plays files of cases, whose lines are calls with the replies that they must have, and writes a line
-//! for each file: how many cases passed, or the first reply that differs.
+//! Plays files of cases, whose lines are calls with the replies that they must have, and writes a
+//! line for each file: how many cases passed, or the first reply that differs.
 #![tactic(auto)]
 
 mod cases;

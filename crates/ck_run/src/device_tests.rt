@@ -18,7 +18,8 @@ const LINES: [(&str, &str); 8] = [
     ("1 CloseSession 1", "b3"),
 ];
 
-/// Fronts of these lines that are good lines themselves: the line's number, the front and its reply.
+/// Fronts of these lines that are good lines themselves: the line's number, the front and its
+/// reply.
 const GOOD_FRONTS: [(usize, &str, &str); 13] = [
     (1, "1 InitToken 31", "a2"),
     (1, "1 InitToken 3132", "a2"),
@@ -64,8 +65,8 @@ fn replies_to_front(alloc: Global, bytes: usize) -> Result<String, Fail> {
     Ok(output)
 }
 
-/// What the last line is answered where the script is cut after so many bytes: nothing where it is empty, else its
-/// reply, or `None` where it is bad.
+/// What the last line is answered where the script is cut after so many bytes: nothing where it is
+/// empty, else its reply, or `None` where it is bad.
 fn reply_to_cut_line(bytes: usize) -> (usize, Option<&'static str>) {
     let mut left = bytes;
     let mut number = 1usize;

@@ -1,7 +1,7 @@
 use std::io;
 
-/// Where a script comes from. It is read as std's `Read` is, and contracts see what was read of it as
-/// far as it says.
+/// Where a script comes from. It is read as std's `Read` is, and contracts see what was read of it
+/// as far as it says.
 pub trait Source {
     ghost use Rattle.std.specs.Prelude.{IfOk, ◌≤◌, length};
     ghost use Rattle.ck_run.specs.Devices.{Reading, after_read};
@@ -16,8 +16,8 @@ pub trait Source {
             → is_read self.new (after_read r result buffer.new) };
 }
 
-/// Where replies go. It is written as std's `Write` is, and contracts see what was written to it as far
-/// as it says.
+/// Where replies go. It is written as std's `Write` is, and contracts see what was written to it as
+/// far as it says.
 pub trait Sink {
     ghost use Rattle.std.specs.Prelude.{IfOk, ◌<◌, ◌≤◌, length};
     ghost use Rattle.ck_run.specs.Devices.{Writing, after_write};

@@ -33,11 +33,18 @@ impl<'a> MemorySource<'a> {
     ghost use Rattle.std.specs.Prelude.{◌≡◌, ℕ, List, []};
     ghost use Rattle.ck_run.specs.Devices.{Reading, IsCount};
 
-    /// A source that gives at most `piece` bytes a read, and one at least where some are left. The read
-    /// of number `fails_at` fails; 0 is none.
+    /// A source that gives at most `piece` bytes a read, and one at least where some are left. The
+    /// read of number `fails_at` fails; 0 is none.
     pub fn new(script: &'a [u8], piece: usize, fails_at: u64) -> MemorySource<'a>
         ensures reading { (earlier : List ℕ) → ⟦<MemorySource<'a> as Source>⟧.is_read result
-            (record { script = script.now; bytes = []; earlier = earlier; reads = 0; ends = 0; failures = 0 }) }
+            (record {
+              script = script.now;
+              bytes = [];
+              earlier = earlier;
+              reads = 0;
+              ends = 0;
+              failures = 0;
+            }) }
         ensures fails_at { result.fails_at ≡ fails_at }
     {
         MemorySource {
@@ -53,7 +60,8 @@ impl<'a> MemorySource<'a> {
 
     /// How many reads were made.
     pub fn reads(&self) -> u64
-        ensures { (r : Reading) → ⟦<MemorySource<'a> as Source>⟧.is_read self.now r → IsCount result r.reads }
+        ensures { (r : Reading) → ⟦<MemorySource<'a> as Source>⟧.is_read self.now r
+            → IsCount result r.reads }
     {
         self.reads
     }
@@ -102,8 +110,8 @@ impl MemorySink {
     ghost use Rattle.std.specs.Prelude.{◌≡◌, []};
     ghost use Rattle.ck_run.specs.Devices.{Writing};
 
-    /// A sink that takes at most `piece` bytes a write. The write of number `fails_at` fails and that of
-    /// number `stops_at` takes no byte; 0 is none.
+    /// A sink that takes at most `piece` bytes a write. The write of number `fails_at` fails and
+    /// that of number `stops_at` takes no byte; 0 is none.
     pub fn new(alloc: Global, piece: usize, fails_at: u64, stops_at: u64) -> MemorySink
         ensures writing { ⟦<MemorySink as Sink>⟧.is_written result
             (record { bytes = []; failures = 0 }) }
@@ -123,7 +131,8 @@ impl MemorySink {
 
     /// What was written.
     pub fn as_slice(&self) -> &[u8]
-        ensures { (w : Writing) → ⟦<MemorySink as Sink>⟧.is_written self.now w → result.now ≡ w.bytes }
+        ensures { (w : Writing) → ⟦<MemorySink as Sink>⟧.is_written self.now w
+            → result.now ≡ w.bytes }
     {
         self.bytes.as_slice()
     }

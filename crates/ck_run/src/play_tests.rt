@@ -5,8 +5,8 @@ use std::alloc::Global;
 use std::env::FillError;
 use std::test::Fail;
 
-/// The result of playing a script, as the program's text without a bad line's reason, and its status,
-/// or as `played`.
+/// The result of playing a script, as the program's text without a bad line's reason, and its
+/// status, or as `played`.
 pub(crate) fn result_text(
     alloc: Global,
     limits: Limits,

@@ -27,14 +27,15 @@ pub fn play<R: Source, W: Sink>(
 ) -> Result<(), PlayFault>
     ensures { (read : Reading) (written : Writing)
         → R.is_read reader.old read → W.is_written writer.old written
-        → IsPlayed limits TURNS read written (R.is_read reader.new) (W.is_written writer.new) result }
+        → IsPlayed limits TURNS read written
+        (R.is_read reader.new) (W.is_written writer.new) result }
 {
     play_with(alloc, limits, reader, writer, TURNS)
 }
 
-/// Plays a script on a new token: one call after the other as the lines stand. Before it reads on, it
-/// answers all lines that have their ends, and before it makes a call, it has written the replies to
-/// those before. It makes at most so many reads as `turns`.
+/// Plays a script on a new token: one call after the other as the lines stand. Before it reads on,
+/// it answers all lines that have their ends, and before it makes a call, it has written the
+/// replies to those before. It makes at most so many reads as `turns`.
 pub fn play_with<R: Source, W: Sink>(
     alloc: Global,
     limits: Limits,
@@ -44,7 +45,8 @@ pub fn play_with<R: Source, W: Sink>(
 ) -> Result<(), PlayFault>
     ensures { (read : Reading) (written : Writing)
         → R.is_read reader.old read → W.is_written writer.old written
-        → IsPlayed limits turns read written (R.is_read reader.new) (W.is_written writer.new) result }
+        → IsPlayed limits turns read written
+        (R.is_read reader.new) (W.is_written writer.new) result }
 {
     let mut buffer = new_buffer(alloc)?;
     let mut player = new_player(alloc, limits)?;
@@ -89,8 +91,10 @@ fn play_on<R: Source, W: Sink>(
 ) -> Result<(), PlayFault>
     requires room { 0 < length buffer.old }
     ensures { (limits : Ranges) (read : Reading) (written : Writing)
-        → IsReading limits read written 0 player.old (R.is_read reader.old) (W.is_written writer.old)
-        → IsPlayed limits turns read written (R.is_read reader.new) (W.is_written writer.new) result }
+        → IsReading limits read written 0 player.old
+        (R.is_read reader.old) (W.is_written writer.old)
+        → IsPlayed limits turns read written
+        (R.is_read reader.new) (W.is_written writer.new) result }
 {
     'reading: for _turn in 0..turns {
         if take_turn(player, alloc, reader, writer, buffer)? {

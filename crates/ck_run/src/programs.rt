@@ -23,9 +23,9 @@ fn has_argument(first: Result<usize, FillError>) -> bool
     !matches!(first, Err(FillError::NotPresent))
 }
 
-/// Plays a script with the largest limits, and says with which status the program ends: 0 where it was
-/// played to its end, 1 at a bad line, 3 after another fault, and 2 where there is an argument, which
-/// the program takes none of. What went wrong is a line on `errors`.
+/// Plays a script with the largest limits, and says with which status the program ends: 0 where it
+/// was played to its end, 1 at a bad line, 3 after another fault, and 2 where there is an argument,
+/// which the program takes none of. What went wrong is a line on `errors`.
 pub fn run<R: Source, W: Sink, E: Eprint>(
     alloc: Global,
     first_argument: Result<usize, FillError>,

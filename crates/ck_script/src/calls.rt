@@ -18,7 +18,8 @@ fn wrong_count(name: CallName) -> BadLine {
 
 fn init_token_in(alloc: Global, arguments: Parts) -> Result<Call, LineError>
     ensures call { IfOk result (λ call. init_token_in arguments.entry ≡ Some call) }
-    ensures bad { IfErr result (λ e. (e ≡ LineError.Memory) ⊎ (init_token_in arguments.entry ≡ None)) }
+    ensures bad { IfErr result (λ e. (e ≡ LineError.Memory)
+        ⊎ (init_token_in arguments.entry ≡ None)) }
 {
     let pin = arguments.one().ok_or(wrong_count(CallName::InitToken))?;
     let pin = pin_in(alloc, pin)?;
@@ -27,7 +28,8 @@ fn init_token_in(alloc: Global, arguments: Parts) -> Result<Call, LineError>
 
 fn init_pin_in(alloc: Global, arguments: Parts) -> Result<Call, LineError>
     ensures call { IfOk result (λ call. init_pin_in arguments.entry ≡ Some call) }
-    ensures bad { IfErr result (λ e. (e ≡ LineError.Memory) ⊎ (init_pin_in arguments.entry ≡ None)) }
+    ensures bad { IfErr result (λ e. (e ≡ LineError.Memory)
+        ⊎ (init_pin_in arguments.entry ≡ None)) }
 {
     let (session, pin) = arguments.two().ok_or(wrong_count(CallName::InitPin))?;
     let session = number_in(session)?;
@@ -113,7 +115,8 @@ fn logout_in(arguments: Parts) -> Result<Call, BadLine>
 
 fn create_object_in(alloc: Global, arguments: Parts) -> Result<Call, LineError>
     ensures call { IfOk result (λ call. create_object_in arguments.entry ≡ Some call) }
-    ensures bad { IfErr result (λ e. (e ≡ LineError.Memory) ⊎ (create_object_in arguments.entry ≡ None)) }
+    ensures bad { IfErr result (λ e. (e ≡ LineError.Memory)
+        ⊎ (create_object_in arguments.entry ≡ None)) }
 {
     let (session, template) = arguments.two().ok_or(wrong_count(CallName::CreateObject))?;
     let session = number_in(session)?;
@@ -126,7 +129,8 @@ fn create_object_in(alloc: Global, arguments: Parts) -> Result<Call, LineError>
 
 fn copy_object_in(alloc: Global, arguments: Parts) -> Result<Call, LineError>
     ensures call { IfOk result (λ call. copy_object_in arguments.entry ≡ Some call) }
-    ensures bad { IfErr result (λ e. (e ≡ LineError.Memory) ⊎ (copy_object_in arguments.entry ≡ None)) }
+    ensures bad { IfErr result (λ e. (e ≡ LineError.Memory)
+        ⊎ (copy_object_in arguments.entry ≡ None)) }
 {
     let (session, object, template) = arguments.three().ok_or(wrong_count(CallName::CopyObject))?;
     let session = number_in(session)?;
@@ -150,7 +154,8 @@ fn destroy_object_in(arguments: Parts) -> Result<Call, BadLine>
 
 fn get_attribute_value_in(alloc: Global, arguments: Parts) -> Result<Call, LineError>
     ensures call { IfOk result (λ call. get_attribute_value_in arguments.entry ≡ Some call) }
-    ensures bad { IfErr result (λ e. (e ≡ LineError.Memory) ⊎ (get_attribute_value_in arguments.entry ≡ None)) }
+    ensures bad { IfErr result (λ e. (e ≡ LineError.Memory)
+        ⊎ (get_attribute_value_in arguments.entry ≡ None)) }
 {
     let (session, object, queries) = arguments
         .three()
@@ -167,7 +172,8 @@ fn get_attribute_value_in(alloc: Global, arguments: Parts) -> Result<Call, LineE
 
 fn set_attribute_value_in(alloc: Global, arguments: Parts) -> Result<Call, LineError>
     ensures call { IfOk result (λ call. set_attribute_value_in arguments.entry ≡ Some call) }
-    ensures bad { IfErr result (λ e. (e ≡ LineError.Memory) ⊎ (set_attribute_value_in arguments.entry ≡ None)) }
+    ensures bad { IfErr result (λ e. (e ≡ LineError.Memory)
+        ⊎ (set_attribute_value_in arguments.entry ≡ None)) }
 {
     let (session, object, template) = arguments
         .three()
@@ -184,7 +190,8 @@ fn set_attribute_value_in(alloc: Global, arguments: Parts) -> Result<Call, LineE
 
 fn find_objects_init_in(alloc: Global, arguments: Parts) -> Result<Call, LineError>
     ensures call { IfOk result (λ call. find_objects_init_in arguments.entry ≡ Some call) }
-    ensures bad { IfErr result (λ e. (e ≡ LineError.Memory) ⊎ (find_objects_init_in arguments.entry ≡ None)) }
+    ensures bad { IfErr result (λ e. (e ≡ LineError.Memory)
+        ⊎ (find_objects_init_in arguments.entry ≡ None)) }
 {
     let (session, template) = arguments
         .two()
@@ -218,7 +225,8 @@ fn find_objects_final_in(arguments: Parts) -> Result<Call, BadLine>
 
 fn call_of(alloc: Global, name: CallName, arguments: Parts) -> Result<Call, LineError>
     ensures call { IfOk result (λ call. call_of name arguments.entry ≡ Some call) }
-    ensures bad { IfErr result (λ e. (e ≡ LineError.Memory) ⊎ (call_of name arguments.entry ≡ None)) }
+    ensures bad { IfErr result (λ e. (e ≡ LineError.Memory)
+        ⊎ (call_of name arguments.entry ≡ None)) }
 {
     match name {
         CallName::InitToken => init_token_in(alloc, arguments),

@@ -44,7 +44,8 @@ impl<'a> Parts<'a> {
 
     /// Takes off the next part.
     pub(crate) fn next(&mut self) -> Option<&'a [u8]>
-        ensures { MatchOption result ((self.old ≡ []) × (self.new ≡ [])) (λ part. self.old ≡ part.now ∷ self.new) }
+        ensures { MatchOption result ((self.old ≡ []) × (self.new ≡ []))
+            (λ part. self.old ≡ part.now ∷ self.new) }
     {
         if self.is_done {
             return None;
@@ -101,7 +102,8 @@ impl<'a> Parts<'a> {
 
     /// The parts, where exactly three are left.
     pub(crate) fn three(mut self) -> Option<(&'a [u8], &'a [u8], &'a [u8])>
-        ensures { option_map (λ parts. (parts.0.now, parts.1.now, parts.2.now)) result ≡ three_of self.entry }
+        ensures { option_map (λ parts. (parts.0.now, parts.1.now, parts.2.now)) result
+            ≡ three_of self.entry }
     {
         match (self.next(), self.next(), self.next(), self.next()) {
             (Some(first), Some(second), Some(third), None) => Some((first, second, third)),
