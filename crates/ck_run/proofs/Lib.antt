@@ -1,10 +1,5 @@
-pub mod MeaningLemmas
 pub mod LineLemmas
 pub mod ReplyLemmas
 pub mod WriteLemmas
 pub mod PlayLemmas
 pub mod PlayerLemmas
-pub mod PartLemmas
-pub mod DigitLemmas
-pub mod NumberLemmas
-pub mod JoinLemmas

@@ -1,42 +1,53 @@
--- Lines, cut at the first end, and read on
-use Rattle.std.proofs.Common.{◌≡◌, ℕ, ◌+◌, ◌-◌, ◌<◌, Bool, true, false, cond, List, [], ◌∷◌, ◌++◌, Some, None, length, take, drop, refl, sym, ap, ◌∙◌, subst, arith, append_assoc}
+-- Lines that are read on, and lines that are too long
+use Rattle.std.proofs.Common.{◌≡◌, ℕ, ◌<◌, ◌≤◌, Bool, true, false, cond, List, [], ◌∷◌, ◌++◌, Option, Some, None, Err, length, refl, sym, ap, ◌∙◌, inl, inr, arith, append_assoc}
 use Rattle.std.proofs.lemmas.Bool.{ltb-true, ltb-false}
-use Rattle.std.proofs.lemmas.List.{take_all, length-drop}
-use Rattle.std.proofs.lemmas.List.Splits.{slice_split_first, slice_split_none}
-use Rattle.std.proofs.lemmas.List.Sums.{fails_before_first}
-use Rattle.std.specs.Prelude.{◌==◌, position, nat_lt as ltb}
-use Rattle.std.specs.List.{position_or_len, onto_first}
-use Rattle.ck_run.specs.Plays.{lines_in, is_over}
+use Rattle.std.proofs.lemmas.Bool.Decides.{nat_tests}
+use Rattle.std.specs.Prelude.{◌==◌, ◌⊎◌, nat_lt as ltb, Result}
+use Rattle.std.specs.List.{onto_first}
+use Rattle.ck_script.specs.Lines.{lines_in, meaning}
+use Rattle.ck_script.specs.declared.line_errors.LineError.{LineError}
+use Rattle.ck_script.specs.declared.line_errors.LineError.TheVariants as error
+use Rattle.ck_script.specs.declared.line_errors.BadLine.{BadLine}
+use Rattle.ck_script.specs.declared.line_errors.BadLine.TheVariants as bad_line
+use Rattle.ck_script.specs.declared.lines.Line.{Line}
+use Rattle.ck_script.specs.declared.lines.TheConstants.{LINE_END, LONGEST_LINE}
+use Rattle.ck_run.specs.Plays.{is_over}
 use Rattle.ck_run.specs.Players.{onto}
 
--- ---- the first end
+-- ---- lines that are too long
 
-found : (test : Bool) (n at : ℕ) → cond test (Some n) None ≡ Some at → (test ≡ true) × (n ≡ at)
-found true n at e = (refl, cc)
-found false n at e = cc
+pub meaning-too_long : (bytes : List ℕ) → LONGEST_LINE < length bytes → meaning bytes ≡ None
+meaning-too_long bytes long =
+    let is : ltb LONGEST_LINE (length bytes) ≡ true = grind (arith, nat_tests) in rw is
 
-not_found : (test : Bool) (n : ℕ) → cond test (Some n) None ≡ None → test ≡ false
-not_found true n e = cc
-not_found false n e = refl
+some-short : (n : ℕ) (test : Bool) (rest : Option Line) (m : Line)
+    → ltb LONGEST_LINE n ≡ test → cond test None rest ≡ Some m → n ≤ LONGEST_LINE
+some-short n true rest m t e = cc
+some-short n false rest m t e = ltb-false LONGEST_LINE n t
 
-ends_at : (xs : List ℕ) (at : ℕ) → position (λ b. b == 10) xs ≡ Some at → (at < length xs) × (position_or_len (λ b. b == 10) xs ≡ at)
-ends_at xs at e =
-    let p : (ltb (position_or_len (λ b. b == 10) xs) (length xs) ≡ true) × (position_or_len (λ b. b == 10) xs ≡ at) = found _ _ _ e in
-    (omega (arith, ltb-true (position_or_len (λ b. b == 10) xs) (length xs) p.0, p.1), p.1)
+-- a line that means something is no longer than a line may be
+pub meaning-short : (bytes : List ℕ) (m : Line) → Some m ≡ meaning bytes
+    → length bytes ≤ LONGEST_LINE
+meaning-short bytes m e = some-short (length bytes) _ _ m refl (sym e)
 
--- where there is an end, the lines are what stands before it and the lines after it
-pub lines_in-cut : (xs : List ℕ) (at : ℕ) → position (λ b. b == 10) xs ≡ Some at → lines_in xs ≡ take at xs ∷ lines_in (take (length xs - (at + 1)) (drop (at + 1) xs))
-lines_in-cut xs at e =
-    let p = ends_at xs at e in
-    let lt : position_or_len (λ b. b == 10) xs < length xs = omega (arith, p.0, p.1) in
-    let whole : take (length xs - (at + 1)) (drop (at + 1) xs) ≡ drop (at + 1) xs = take_all _ _ (omega (arith, length-drop (at + 1) xs)) in
-    rw whole (subst (λ (n : ℕ). lines_in xs ≡ take n xs ∷ lines_in (drop (n + 1) xs)) p.1 (slice_split_first (λ b. b == 10) xs 0 lt))
+memory-short-by : (n : ℕ) (test : Bool) (r : Result Line LineError) → ltb LONGEST_LINE n ≡ test
+    → (LONGEST_LINE < n → r ≡ Err (error.Bad bad_line.TooLong)) → r ≡ Err error.Memory
+    → n ≤ LONGEST_LINE
+memory-short-by n true r t long e =
+    let other : r ≡ Err (error.Bad bad_line.TooLong) = long (ltb-true LONGEST_LINE n t) in cc
+memory-short-by n false r t long e = ltb-false LONGEST_LINE n t
 
--- where there is none, the bytes are one line
-pub lines_in-one : (xs : List ℕ) → position (λ b. b == 10) xs ≡ None → lines_in xs ≡ xs ∷ []
-lines_in-one xs e =
-    let none : ltb (position_or_len (λ b. b == 10) xs) (length xs) ≡ false = not_found _ (position_or_len (λ b. b == 10) xs) e in
-    slice_split_none (λ b. b == 10) xs (λ k d lt. fails_before_first (λ b. b == 10) xs k d (omega (arith, lt, ltb-false (position_or_len (λ b. b == 10) xs) (length xs) none)))
+-- a line that there is no memory for is none that is too long
+pub memory-short : (n : ℕ) (r : Result Line LineError)
+    → (LONGEST_LINE < n → r ≡ Err (error.Bad bad_line.TooLong)) → r ≡ Err error.Memory
+    → n ≤ LONGEST_LINE
+memory-short n r long e = memory-short-by n (ltb LONGEST_LINE n) r refl long e
+
+-- a line that is bad means nothing
+pub none-of_bad : (m : Option Line) (e : LineError) (reason : BadLine) → e ≡ error.Bad reason
+    → (e ≡ error.Memory) ⊎ (m ≡ None) → m ≡ None
+none-of_bad m e reason is (inl memory) = cc
+none-of_bad m e reason is (inr none) = none
 
 -- ---- reading on
 
@@ -59,7 +70,7 @@ has_first-step x false (l ∷ lines) = record { first = x ∷ l; rest = lines; p
 
 has_first : (xs : List ℕ) → HasFirst (lines_in xs)
 has_first [] = record { first = []; rest = []; parts = refl }
-has_first (x ∷ xs) = has_first-step x (x == 10) (lines_in xs)
+has_first (x ∷ xs) = has_first-step x (x == LINE_END) (lines_in xs)
 
 onto-empty : (lines : List (List ℕ)) → HasFirst lines → lines ≡ onto [] lines
 onto-empty [] h = cc h.parts
@@ -83,7 +94,7 @@ glue-step x false lines more h = glue-byte x lines more h
 lines_in-append : (xs ys : List ℕ) → lines_in (xs ++ ys) ≡ glue (lines_in xs) (lines_in ys)
 lines_in-append [] ys = onto-empty (lines_in ys) (has_first ys)
 lines_in-append (x ∷ xs) ys =
-    ap (λ lines. cond (x == 10) ([] ∷ lines) (onto_first x lines)) (lines_in-append xs ys) ∙ glue-step x (x == 10) (lines_in xs) (lines_in ys) (has_first xs)
+    ap (λ lines. cond (x == LINE_END) ([] ∷ lines) (onto_first x lines)) (lines_in-append xs ys) ∙ glue-step x (x == LINE_END) (lines_in xs) (lines_in ys) (has_first xs)
 
 glue-last : (before : List (List ℕ)) (l : List ℕ) (more : List (List ℕ)) → glue (before ++ l ∷ []) more ≡ before ++ onto l more
 glue-last [] l more = refl

@@ -1,9 +1,12 @@
 -- What was read of a source and written to a sink
-use Rattle.std.specs.Prelude.{ℕ, suc, Bool, ◌&&◌, ◌==◌, ◌++◌, not, List, Result, Ok, Err, length, take, if◌then◌else◌}
+use Rattle.std.specs.Prelude.{◌≡◌, ℕ, zero, suc, Bool, ◌&&◌, ◌==◌, ◌++◌, min, not, List, [], Option, Some, Result, Ok, Err, length, take, if◌then◌else◌}
 
--- the bytes that were read, and how many reads were made, found the end, and failed
+-- the script, the bytes of it that were read, those that were read before the last read, and how
+-- many reads were made, found the end, and failed
 pub record Reading : Type 0 where
+  pub script : List ℕ
   pub bytes : List ℕ
+  pub earlier : List ℕ
   pub reads : ℕ
   pub ends : ℕ
   pub failures : ℕ
@@ -13,25 +16,51 @@ pub record Writing : Type 0 where
   pub bytes : List ℕ
   pub failures : ℕ
 
+-- a count that stops at the largest number of 64 bits
+abbrev pub IsCount : ℕ → ℕ → Type 0
+IsCount count n = count ≡ min n 18446744073709551615
+
 -- a read of no bytes finds the end, where there was room for some
 abbrev pub is_end : ℕ → List ℕ → Bool
 is_end count buffer = count == 0 && not (length buffer == 0)
 
 -- the same and one more read, which found the end
 abbrev pub end_read : Reading → Reading
-end_read r = record { bytes = r.bytes; reads = suc r.reads; ends = suc r.ends; failures = r.failures }
+end_read r = record {
+  script = r.script;
+  bytes = r.bytes;
+  earlier = r.bytes;
+  reads = suc r.reads;
+  ends = suc r.ends;
+  failures = r.failures;
+}
 
 -- the same and one more read, which failed
 abbrev pub failed_read : Reading → Reading
-failed_read r = record { bytes = r.bytes; reads = suc r.reads; ends = r.ends; failures = suc r.failures }
+failed_read r = record {
+  script = r.script;
+  bytes = r.bytes;
+  earlier = r.bytes;
+  reads = suc r.reads;
+  ends = r.ends;
+  failures = suc r.failures;
+}
 
 -- the same and one more read, which gave these bytes
 abbrev pub read_on : Reading → List ℕ → Reading
-read_on r bytes = record { bytes = r.bytes ++ bytes; reads = suc r.reads; ends = r.ends; failures = r.failures }
+read_on r bytes = record {
+  script = r.script;
+  bytes = r.bytes ++ bytes;
+  earlier = r.bytes;
+  reads = suc r.reads;
+  ends = r.ends;
+  failures = r.failures;
+}
 
 -- the same and one more read, which put so many bytes into the front of the buffer
 abbrev pub after_read : {E : Type 0} → Reading → Result ℕ E → List ℕ → Reading
-after_read r (Ok count) buffer = if is_end count buffer then end_read r else read_on r (take count buffer)
+after_read r (Ok count) buffer =
+    if is_end count buffer then end_read r else read_on r (take count buffer)
 after_read r (Err error) buffer = failed_read r
 
 -- the same and one more write, which failed or took no byte
@@ -46,3 +75,21 @@ wrote w bytes = record { bytes = w.bytes ++ bytes; failures = w.failures }
 abbrev pub after_write : {E : Type 0} → Writing → Result ℕ E → List ℕ → Writing
 after_write w (Ok count) bytes = if count == 0 then failed_write w else wrote w (take count bytes)
 after_write w (Err error) bytes = failed_write w
+
+-- ---- what devices know
+
+-- nothing is left once the end was found
+abbrev pub IsLeft : ℕ → List ℕ → Type 0
+IsLeft zero rest = Unit {0}
+IsLeft (suc ends) rest = rest ≡ []
+
+-- a reader of which these bytes are left, where that is known
+pub record IsKnownReading (left : Option (List ℕ)) (r : Reading) : Type 0 where
+  pub rest : List ℕ
+  pub known : left ≡ Some rest
+  pub parts : r.script ≡ r.bytes ++ rest
+  pub ended : IsLeft r.ends rest
+
+-- a writer that holds these bytes, where that is known
+abbrev pub IsKnownWriting : Option (List ℕ) → Writing → Type 0
+IsKnownWriting contents w = contents ≡ Some w.bytes

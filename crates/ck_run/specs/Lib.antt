@@ -1,10 +1,8 @@
+pub use Rattle.ck_script.specs.Lines
 pub use Rattle.ck_token.specs.TokenStates
 pub mod Devices
 pub mod Faults
 pub mod MemoryDevices
-pub mod Parts
-pub mod Arguments
 pub mod Players
 pub mod Plays
-pub mod Replies
-pub mod Scripts
+pub mod Programs

@@ -1,13 +1,12 @@
--- What was read of a script in memory and written to memory. Counts stop at the largest number of 64 bits.
-use Rattle.std.specs.Prelude.{◌≡◌, ℕ, List, ◌++◌, min}
-use Rattle.ck_run.specs.Devices.{Reading, Writing}
-
-abbrev pub IsCount : ℕ → ℕ → Type 0
-IsCount count n = count ≡ min n 18446744073709551615
+-- What was read of a script in memory and written to memory
+use Rattle.std.specs.Prelude.{◌≡◌, ℕ, List, ◌++◌}
+use Rattle.ck_run.specs.Devices.{Reading, Writing, IsCount, IsLeft}
 
 -- of the script this rest is left
 pub record IsReadOf (script rest : List ℕ) (reads ends failures : ℕ) (r : Reading) : Type 0 where
+  pub same : r.script ≡ script
   pub parts : script ≡ r.bytes ++ rest
+  pub ended : IsLeft r.ends rest
   pub reads_counted : IsCount reads r.reads
   pub ends_counted : IsCount ends r.ends
   pub failures_counted : IsCount failures r.failures

@@ -1,44 +1,57 @@
 -- What playing a script writes, and how it ends
-use Rattle.std.specs.Prelude.{◌≡◌, ◌⊎◌, ◌<◌, ◌≤◌, ◌+◌, ◌==◌, ℕ, suc, Bool, true, false, List, [], ◌∷◌, ◌++◌, Result, Ok, Err, length}
-use Rattle.std.specs.List.{slice_split}
+use Rattle.std.specs.Prelude.{◌≡◌, ◌⊎◌, ◌<◌, ◌≤◌, ◌+◌, ℕ, zero, suc, Bool, true, false, List, [], ◌∷◌, ◌++◌, Option, Some, None, Result, Ok, Err, length}
 use Rattle.ck_types.specs.TokenLimits.{Ranges}
 use Rattle.ck_journal.specs.Histories.{History}
 use Rattle.ck_journal.specs.declared.calls.Call.{Call}
-use Rattle.ck_token.specs.TokenStates.{after}
-use Rattle.ck_run.specs.Devices.{Reading, Writing}
-use Rattle.ck_run.specs.Replies.{reply_text}
-use Rattle.ck_run.specs.Scripts.{meaning}
+use Rattle.ck_script.specs.Lines.{lines_in, meaning}
+use Rattle.ck_script.specs.Replies.{reply_text}
+use Rattle.ck_script.specs.declared.lines.Line.{Line}
+use Rattle.ck_script.specs.declared.lines.Line.TheVariants as line
+use Rattle.ck_script.specs.declared.lines.TheConstants.{LONGEST_LINE}
+use Rattle.ck_token.specs.TokenStates.{TokenState, after, entry_of}
+use Rattle.ck_run.specs.Devices.{Reading, Writing, IsCount}
 use Rattle.ck_run.specs.declared.faults.PlayFault.{PlayFault}
 use Rattle.ck_run.specs.declared.faults.PlayFault.TheVariants as fault
-use Rattle.ck_run.specs.declared.scripts.Line.{Line}
-use Rattle.ck_run.specs.declared.scripts.Line.TheVariants as line
 
 -- ---- lines and their calls
 
--- the lines without their ends; the last is the one that has no end yet, and is empty where the bytes end with a line end
-abbrev pub lines_in : List ℕ → List (List ℕ)
-lines_in bytes = slice_split (λ b. b == 10) bytes
-
 -- a caller and its call, before other calls
-abbrev pub with_call : Line → List (ℕ × Call) → List (ℕ × Call)
-with_call (line.Called caller call) calls = (caller, call) ∷ calls
-with_call other calls = calls
+abbrev pub with_call : Option Line → List (ℕ × Call) → List (ℕ × Call)
+with_call (Some (line.Called caller call)) calls = (caller, call) ∷ calls
+with_call others calls = calls
 
 -- the calls of lines, each with its caller
 abbrev pub calls_in : List (List ℕ) → List (ℕ × Call)
 calls_in [] = []
 calls_in (l ∷ lines) = with_call (meaning l) (calls_in lines)
 
-abbrev pub is_bad : Line → Bool
-is_bad line.Bad = true
-is_bad other = false
+abbrev pub is_bad : Option Line → Bool
+is_bad None = true
+is_bad (Some line) = false
 
 -- no line is bad
 abbrev pub AreGood : List (List ℕ) → Type 0
 AreGood [] = Unit {0}
 AreGood (l ∷ lines) = (is_bad (meaning l) ≡ false) × AreGood lines
 
--- ---- replies
+-- how many lines have their ends among these bytes
+abbrev pub ended_lines : List (List ℕ) → ℕ
+ended_lines [] = zero
+ended_lines (l ∷ later) = length later
+
+-- ---- the token and its replies
+
+-- a token that has answered nothing
+abbrev pub new_token : Ranges → TokenState
+new_token limits = record { limits = limits; history = [] }
+
+-- the history after one more call
+abbrev pub called : Ranges → History → ℕ → Call → History
+called limits h caller call = entry_of limits h caller call ∷ h
+
+-- the history of a new token after the calls of these lines
+abbrev pub history_of : Ranges → List (List ℕ) → History
+history_of limits lines = after limits [] (calls_in lines)
 
 -- the texts of the replies of a history, the oldest first
 abbrev pub replies_text : History → List ℕ
@@ -47,9 +60,10 @@ replies_text (e ∷ h) = replies_text h ++ reply_text e.reply
 
 -- the replies of a new token to the calls of these lines
 abbrev pub output_of : Ranges → List (List ℕ) → List ℕ
-output_of limits lines = replies_text (after limits [] (calls_in lines))
+output_of limits lines = replies_text (history_of limits lines)
 
--- ---- how playing ends: of the lines of what was read, whether the end was found, and what was written
+-- ---- how playing ends: of the lines of what was read, whether the end was found, how many lines
+-- had ended before the last read, and what was written
 
 -- a line is over where another follows, or the end was found
 abbrev pub is_over : List (List ℕ) → Bool → Bool
@@ -57,25 +71,29 @@ is_over [] ended = ended
 is_over (l ∷ later) ended = true
 
 -- all lines are answered
-pub record AllAnswered (limits : Ranges) (lines : List (List ℕ)) (ended : Bool) (output : List ℕ) : Type 0 where
+pub record AllAnswered (limits : Ranges) (lines : List (List ℕ)) (ended : Bool)
+    (output : List ℕ) : Type 0 where
   pub end_found : ended ≡ true
   pub good : AreGood lines
   pub written : output ≡ output_of limits lines
 
 -- the line of this number is the first bad one, and those before it are answered
-pub record IsFirstBadLine (limits : Ranges) (lines : List (List ℕ)) (ended : Bool) (output : List ℕ) (number : ℕ) : Type 0 where
+pub record IsFirstBadLine (limits : Ranges) (lines : List (List ℕ)) (ended : Bool) (earlier : ℕ)
+    (output : List ℕ) (number : ℕ) : Type 0 where
   pub before : List (List ℕ)
   pub bad : List ℕ
   pub later : List (List ℕ)
   pub parts : lines ≡ before ++ bad ∷ later
   pub good : AreGood before
   pub refused : is_bad (meaning bad) ≡ true
-  pub bad_number : number ≡ suc (length before)
-  pub over : (is_over later ended ≡ true) ⊎ (4194304 < length bad)
+  pub bad_number : IsCount number (suc (length before))
+  pub over : (is_over later ended ≡ true) ⊎ (LONGEST_LINE < length bad)
+  pub on_time : earlier ≤ length before
   pub written : output ≡ output_of limits before
 
 -- all lines that are over are answered, where only further bytes or the end would end the last
-pub record EndedLinesAnswered (limits : Ranges) (lines : List (List ℕ)) (ended : Bool) (output : List ℕ) : Type 0 where
+pub record EndedLinesAnswered (limits : Ranges) (lines : List (List ℕ)) (ended : Bool)
+    (output : List ℕ) : Type 0 where
   pub before : List (List ℕ)
   pub open_line : List ℕ
   pub no_end : ended ≡ false
@@ -83,17 +101,21 @@ pub record EndedLinesAnswered (limits : Ranges) (lines : List (List ℕ)) (ended
   pub good : AreGood before
   pub written : output ≡ output_of limits before
 
--- the lines before one of them are answered
-pub record LinesBeforeAnswered (limits : Ranges) (lines : List (List ℕ)) (output : List ℕ) : Type 0 where
+-- the lines before one of them are answered, which isn't too long
+pub record LinesBeforeAnswered (limits : Ranges) (lines : List (List ℕ)) (earlier : ℕ)
+    (output : List ℕ) : Type 0 where
   pub before : List (List ℕ)
   pub unanswered : List ℕ
   pub later : List (List ℕ)
   pub parts : lines ≡ before ++ unanswered ∷ later
   pub good : AreGood before
+  pub short : length unanswered ≤ LONGEST_LINE
+  pub on_time : earlier ≤ length before
   pub written : output ≡ output_of limits before
 
 -- the lines before one of them are answered, and a beginning of the reply to this one is written
-pub record ReplyPartlyWritten (limits : Ranges) (lines : List (List ℕ)) (ended : Bool) (output : List ℕ) : Type 0 where
+pub record ReplyPartlyWritten (limits : Ranges) (lines : List (List ℕ)) (ended : Bool)
+    (earlier : ℕ) (output : List ℕ) : Type 0 where
   pub before : List (List ℕ)
   pub cut : List ℕ
   pub later : List (List ℕ)
@@ -102,17 +124,24 @@ pub record ReplyPartlyWritten (limits : Ranges) (lines : List (List ℕ)) (ended
   pub parts : lines ≡ before ++ cut ∷ later
   pub good : AreGood (before ++ cut ∷ [])
   pub over : is_over later ended ≡ true
+  pub on_time : earlier ≤ length before
   pub written : output ≡ output_of limits before ++ part
   pub reply : output_of limits (before ++ cut ∷ []) ≡ output ++ rest
 
 -- what the result of playing says of the lines and of what was written
-abbrev pub Outcome : Ranges → List (List ℕ) → Bool → List ℕ → Result (Unit {0}) PlayFault → Type 0
-Outcome limits lines ended output (Ok u) = AllAnswered limits lines ended output
-Outcome limits lines ended output (Err (fault.Line number)) = IsFirstBadLine limits lines ended output number
-Outcome limits lines ended output (Err fault.Read) = EndedLinesAnswered limits lines ended output
-Outcome limits lines ended output (Err fault.Write) = ReplyPartlyWritten limits lines ended output
-Outcome limits lines ended output (Err fault.Memory) = LinesBeforeAnswered limits lines output
-Outcome limits lines ended output (Err fault.Turns) = EndedLinesAnswered limits lines ended output
+abbrev pub Outcome : Ranges → List (List ℕ) → Bool → ℕ → List ℕ → Result (Unit {0}) PlayFault
+    → Type 0
+Outcome limits lines ended earlier output (Ok u) = AllAnswered limits lines ended output
+Outcome limits lines ended earlier output (Err (fault.Line number reason)) =
+    IsFirstBadLine limits lines ended earlier output number
+Outcome limits lines ended earlier output (Err fault.Read) =
+    EndedLinesAnswered limits lines ended output
+Outcome limits lines ended earlier output (Err fault.Write) =
+    ReplyPartlyWritten limits lines ended earlier output
+Outcome limits lines ended earlier output (Err fault.Memory) =
+    LinesBeforeAnswered limits lines earlier output
+Outcome limits lines ended earlier output (Err fault.Turns) =
+    EndedLinesAnswered limits lines ended output
 
 -- ---- the devices
 
@@ -134,14 +163,37 @@ abbrev pub AreReads : ℕ → ℕ → Result (Unit {0}) PlayFault → Type 0
 AreReads turns reads (Err fault.Turns) = reads ≡ turns
 AreReads turns reads other = reads ≤ turns
 
--- what was read and written by a call that began where so much had been, and what it answered
+-- the bytes that were read before the last read, where the reads before it gave these
+abbrev pub earlier_bytes : Reading → ℕ → List ℕ → List ℕ
+earlier_bytes r zero earlier = r.earlier
+earlier_bytes r (suc reads) earlier = r.bytes ++ earlier
+
+-- what was read after so many reads that gave these bytes, those before the last read the earlier
+abbrev pub after_reads : Reading → List ℕ → List ℕ → ℕ → ℕ → ℕ → Reading
+after_reads r script earlier reads ends failures = record {
+  script = r.script;
+  bytes = r.bytes ++ script;
+  earlier = earlier_bytes r reads earlier;
+  reads = r.reads + reads;
+  ends = ends;
+  failures = failures;
+}
+
+-- what was read and written by a call that began where so much had been, and what it answered: when
+-- it read last, all lines that had their ends were answered
 pub record IsPlayed (limits : Ranges) (turns : ℕ) (read : Reading) (written : Writing)
-    (is_read : Reading → Type 0) (is_written : Writing → Type 0) (result : Result (Unit {0}) PlayFault) : Type 0 where
+    (is_read : Reading → Type 0) (is_written : Writing → Type 0)
+    (result : Result (Unit {0}) PlayFault) : Type 0 where
   pub script : List ℕ
+  pub earlier : List ℕ
   pub ended : Bool
   pub reads : ℕ
   pub output : List ℕ
-  pub reader : is_read (record { bytes = read.bytes ++ script; reads = read.reads + reads; ends = one_if ended read.ends; failures = failed_reads read.failures result })
-  pub writer : is_written (record { bytes = written.bytes ++ output; failures = failed_writes written.failures result })
+  pub reader : is_read (after_reads read script earlier reads
+      (one_if ended read.ends) (failed_reads read.failures result))
+  pub writer : is_written (record {
+    bytes = written.bytes ++ output;
+    failures = failed_writes written.failures result;
+  })
   pub within : AreReads turns reads result
-  pub outcome : Outcome limits (lines_in script) ended output result
+  pub outcome : Outcome limits (lines_in script) ended (ended_lines (lines_in earlier)) output result

@@ -1,12 +1,10 @@
 use crate::play_tests::result_text;
 use crate::players::write_all;
 use crate::{MemorySink, MemorySource, PlayFault, play_with};
+use ck_script::{Arity, BadLine, CallName, LONGEST_LINE};
 use ck_types::Limits;
 use std::alloc::Global;
 use std::test::Fail;
-
-/// The most bytes that a line may have.
-const LONGEST_LINE: usize = 4_194_304;
 
 /// Lines and their replies.
 const LINES: [(&str, &str); 8] = [
@@ -20,7 +18,8 @@ const LINES: [(&str, &str); 8] = [
     ("1 CloseSession 1", "b3"),
 ];
 
-/// Fronts of these lines that are good lines themselves: the line's number, the front and its reply.
+/// Fronts of these lines that are good lines themselves: the line's number, the front and its
+/// reply.
 const GOOD_FRONTS: [(usize, &str, &str); 13] = [
     (1, "1 InitToken 31", "a2"),
     (1, "1 InitToken 3132", "a2"),
@@ -66,8 +65,8 @@ fn replies_to_front(alloc: Global, bytes: usize) -> Result<String, Fail> {
     Ok(output)
 }
 
-/// What the last line is answered where the script is cut after so many bytes: nothing where it is empty, else its
-/// reply, or `None` where it is bad.
+/// What the last line is answered where the script is cut after so many bytes: nothing where it is
+/// empty, else its reply, or `None` where it is bad.
 fn reply_to_cut_line(bytes: usize) -> (usize, Option<&'static str>) {
     let mut left = bytes;
     let mut number = 1usize;
@@ -167,10 +166,14 @@ fn a_writer_that_fails_has_a_beginning_of_the_replies(rt: HostRuntime) -> Result
 #[test]
 fn faults_have_their_texts_and_statuses(rt: HostRuntime) -> Result<(), Fail> {
     let rows = [
-        (PlayFault::Line(1), "line 1: bad script", 1),
         (
-            PlayFault::Line(u64::MAX),
-            "line 18446744073709551615: bad script",
+            PlayFault::Line(2, BadLine::ArgumentCount(CallName::Login, Arity::Three)),
+            "line 2: bad script: Login takes 3 arguments",
+            1,
+        ),
+        (
+            PlayFault::Line(u64::MAX, BadLine::CarriageReturn),
+            "line 18446744073709551615: bad script: a carriage return stands at the end of the line",
             1,
         ),
         (PlayFault::Read, "read fault", 3),
@@ -255,7 +258,7 @@ fn reads_no_further_than_a_line_may_go(rt: HostRuntime) -> Result<(), Fail> {
         &mut writer,
         1_000,
     );
-    assert!(rt; matches!(result, Err(PlayFault::Line(1))));
+    assert!(rt; matches!(result, Err(PlayFault::Line(1, BadLine::TooLong))));
     // 64 reads of 65,536 bytes are a longest line.
     assert_eq!(rt; reader.reads(), 65);
     Ok(())

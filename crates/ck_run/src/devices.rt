@@ -1,6 +1,7 @@
 use std::io;
 
-/// Where a script comes from. It is read as std's `Read` is, and contracts see what was read of it as far as it says.
+/// Where a script comes from. It is read as std's `Read` is, and contracts see what was read of it
+/// as far as it says.
 pub trait Source {
     ghost use Rattle.std.specs.Prelude.{IfOk, ◌≤◌, length};
     ghost use Rattle.ck_run.specs.Devices.{Reading, after_read};
@@ -11,10 +12,12 @@ pub trait Source {
     /// Reads into the buffer's front and says how many bytes it read, 0 at the end.
     fn read(&mut self, buffer: &mut [u8]) -> io::Result<usize>
         ensures bound { IfOk result (λ count. count ≤ length buffer.new) }
-        ensures reading { (r : Reading) → is_read self.old r → is_read self.new (after_read r result buffer.new) };
+        ensures reading { (r : Reading) → is_read self.old r
+            → is_read self.new (after_read r result buffer.new) };
 }
 
-/// Where replies go. It is written as std's `Write` is, and contracts see what was written to it as far as it says.
+/// Where replies go. It is written as std's `Write` is, and contracts see what was written to it as
+/// far as it says.
 pub trait Sink {
     ghost use Rattle.std.specs.Prelude.{IfOk, ◌<◌, ◌≤◌, length};
     ghost use Rattle.ck_run.specs.Devices.{Writing, after_write};
@@ -26,27 +29,32 @@ pub trait Sink {
     fn write(&mut self, bytes: &[u8]) -> io::Result<usize>
         requires some { 0 < length bytes.now }
         ensures bound { IfOk result (λ count. count ≤ length bytes.now) }
-        ensures writing { (w : Writing) → is_written self.old w → is_written self.new (after_write w result bytes.now) };
+        ensures writing { (w : Writing) → is_written self.old w
+            → is_written self.new (after_write w result bytes.now) };
 }
 
-/// A reader of the system, of which nothing is known.
+/// A reader of std. Contracts see of it the bytes that it is known to have left.
 #[derive(Drop)]
 pub struct ReadSource<R>(pub R);
 
 impl<R: io::Read> Source for ReadSource<R> {
-    ghost is_read = { λ s r. ⊥ };
+    ghost use Rattle.ck_run.specs.Devices.{IsKnownReading};
+
+    ghost is_read = { λ s r. IsKnownReading (R.remaining s.0) r };
 
     fn read(&mut self, buffer: &mut [u8]) -> io::Result<usize> {
         self.0.read(buffer)
     }
 }
 
-/// A writer of the system, of which nothing is known.
+/// A writer of std. Contracts see of it the bytes that it is known to hold.
 #[derive(Drop)]
 pub struct WriteSink<W>(pub W);
 
 impl<W: io::Write> Sink for WriteSink<W> {
-    ghost is_written = { λ s w. ⊥ };
+    ghost use Rattle.ck_run.specs.Devices.{IsKnownWriting};
+
+    ghost is_written = { λ s w. IsKnownWriting (W.contents s.0) w };
 
     fn write(&mut self, bytes: &[u8]) -> io::Result<usize> {
         self.0.write(bytes)

@@ -2,15 +2,16 @@ ghost use Rattle.std.specs.Prelude.{◌≡◌};
 ghost use Rattle.ck_run.specs.declared.faults.PlayFault.TheVariants.{Memory};
 ghost use Rattle.ck_run.specs.Faults.{status_of};
 
+use ck_script::BadLine;
 use ck_types::NoMemory;
 use thiserror::Error;
 
 /// Why a script wasn't played to its end.
 #[derive(Debug, Drop, Error)]
 pub enum PlayFault {
-    /// The first bad line, from 1.
-    #[error("line {0}: bad script")]
-    Line(u64),
+    /// The first bad line, from 1, and why it is bad.
+    #[error("line {0}: bad script: {1}")]
+    Line(u64, BadLine),
     #[error("read fault")]
     Read,
     #[error("write fault")]
@@ -36,7 +37,7 @@ impl PlayFault {
         ensures { result ≡ status_of self.now }
     {
         match self {
-            PlayFault::Line(_) => 1,
+            PlayFault::Line(_, _) => 1,
             PlayFault::Read | PlayFault::Write | PlayFault::Memory | PlayFault::Turns => 3,
         }
     }

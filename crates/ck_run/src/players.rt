@@ -1,18 +1,14 @@
 //! A token that is played a script, line by line.
-ghost use Rattle.std.specs.Prelude.{◌≡◌, ◌==◌, ◌++◌, ◌<◌, ◌≤◌, ℕ, suc, Bool, true, false, [], ◌∷◌, List, length, position, take, MatchResult, MatchOption, IfOk, IfErr, IfSome, OnOk, OnErr};
-ghost use Rattle.ck_types.specs.TokenLimits.{Ranges};
+ghost use Rattle.std.specs.Prelude.{◌≡◌, ◌++◌, ◌<◌, ◌≤◌, suc, [], length, take, min, IfOk, IfErr, OnOk, OnErr};
 ghost use Rattle.ck_journal.specs.Answers.{answer};
-ghost use Rattle.ck_token.specs.TokenStates.{entry_of};
-ghost use Rattle.ck_run.specs.Devices.{Reading, Writing, wrote, failed_write};
-ghost use Rattle.ck_run.specs.Plays.{lines_in};
-ghost use Rattle.ck_run.specs.Players.{IsUnwritten, IsRefused, IsCalled, AnswersLine, StopsAtLine, AnswersChunk, StopsInChunk};
-ghost use Rattle.ck_run.specs.Replies.{reply_text};
+ghost use Rattle.ck_script.specs.Replies.{reply_text};
+ghost use Rattle.ck_run.specs.Devices.{Writing, wrote, failed_write};
+ghost use Rattle.ck_run.specs.Players.{IsUnwritten, IsRefused, IsCalled, AnswersLine, StopsAtLine, AnswersChunk, StopsInChunk, next_number};
 
 use crate::devices::Sink;
 use crate::faults::PlayFault;
-use crate::replies::push_reply;
-use crate::scripts::{LONGEST_LINE, Line, meaning_of};
 use ck_journal::Call;
+use ck_script::{BadLine, LONGEST_LINE, Line, LineError, cut_line, push_reply};
 use ck_token::Token;
 use std::alloc::Global;
 
@@ -35,7 +31,8 @@ fn write_some<W: Sink>(writer: &mut W, bytes: &[u8]) -> Result<usize, PlayFault>
     ensures ok { IfOk result (λ count. (w : Writing) → W.is_written writer.old w
         → W.is_written writer.new (wrote w (take count bytes.now))) }
     ensures fault { IfErr result (λ fault. fault ≡ PlayFault.Write) }
-    ensures err { OnErr result ((w : Writing) → W.is_written writer.old w → W.is_written writer.new (failed_write w)) }
+    ensures err { OnErr result ((w : Writing) → W.is_written writer.old w
+        → W.is_written writer.new (failed_write w)) }
 {
     match writer.write(bytes) {
         Ok(count) => {
@@ -50,7 +47,8 @@ fn write_some<W: Sink>(writer: &mut W, bytes: &[u8]) -> Result<usize, PlayFault>
 
 /// Writes all of these bytes, or answers that the writer failed.
 pub(crate) fn write_all<W: Sink>(writer: &mut W, bytes: &[u8]) -> Result<(), PlayFault>
-    ensures ok { OnOk result ((w : Writing) → W.is_written writer.old w → W.is_written writer.new (wrote w bytes.now)) }
+    ensures ok { OnOk result ((w : Writing) → W.is_written writer.old w
+        → W.is_written writer.new (wrote w bytes.now)) }
     ensures err { IfErr result (λ fault. (w : Writing) → W.is_written writer.old w
         → IsUnwritten (W.is_written writer.new) w bytes.now fault) }
 {
@@ -61,24 +59,6 @@ pub(crate) fn write_all<W: Sink>(writer: &mut W, bytes: &[u8]) -> Result<(), Pla
     Ok(())
 }
 
-/// The first line and what follows its end, where it has one.
-pub(crate) fn cut_line(bytes: &[u8]) -> Option<(&[u8], &[u8])>
-    ensures lines { MatchOption result (lines_in bytes.now ≡ bytes.now ∷ [])
-        (λ parts. lines_in bytes.now ≡ parts.0.now ∷ lines_in parts.1.now) }
-    ensures shorter { IfSome result (λ parts. length parts.1.now < length bytes.now) }
-{
-    match line_end(bytes) {
-        Some(at) => Some((&bytes[..at], &bytes[at + 1..])),
-        None => None,
-    }
-}
-
-fn line_end(bytes: &[u8]) -> Option<usize>
-    ensures { result ≡ position (λ b. b == 10) bytes.now }
-{
-    bytes.iter().position(|b| *b == b'\n')
-}
-
 /// Adds to the open line, of this number, what is next of it.
 pub(crate) fn extend_open_line(
     open_line: &mut Vec<u8>,
@@ -86,11 +66,10 @@ pub(crate) fn extend_open_line(
     number: u64,
 ) -> Result<(), PlayFault>
     ensures ok { OnOk result (open_line.new.items ≡ open_line.old.items ++ piece.now) }
-    ensures short { OnOk result (length open_line.new.items ≤ 4194304) }
     ensures err { IfErr result (IsRefused number (open_line.old.items ++ piece.now)) }
 {
     if open_line.len().saturating_add(piece.len()) > LONGEST_LINE {
-        return Err(PlayFault::Line(number));
+        return Err(PlayFault::Line(number, BadLine::TooLong));
     }
     match open_line.extend_from_slice(piece) {
         Ok(()) => Ok(()),
@@ -107,9 +86,11 @@ fn answer_call<W: Sink>(
     caller: u32,
     call: Call,
 ) -> Result<(), PlayFault>
-    ensures ok { OnOk result (IsCalled token.old token.new caller call (W.is_written writer.old) (W.is_written writer.new)) }
+    ensures ok { OnOk result (IsCalled token.old token.new caller call (W.is_written writer.old)
+        (W.is_written writer.new)) }
     ensures err { IfErr result (λ fault. (w : Writing) → W.is_written writer.old w
-        → IsUnwritten (W.is_written writer.new) w (reply_text (answer token.old.limits token.old.history call)) fault) }
+        → IsUnwritten (W.is_written writer.new) w
+        (reply_text (answer token.old.limits token.old.history call)) fault) }
 {
     let reply = token.call(alloc, caller, call)?;
     text.clear();
@@ -127,13 +108,15 @@ fn answer_line<W: Sink>(
     number: u64,
 ) -> Result<(), PlayFault>
     ensures ok { OnOk result (AnswersLine line.now token.old number (W.is_written writer.old)
-        token.new (suc number) (W.is_written writer.new)) }
-    ensures err { IfErr result (StopsAtLine line.now token.old number (W.is_written writer.old) (W.is_written writer.new)) }
+        token.new (next_number number) (W.is_written writer.new)) }
+    ensures err { IfErr result (StopsAtLine line.now token.old number (W.is_written writer.old)
+        (W.is_written writer.new)) }
 {
-    match meaning_of(alloc, line)? {
-        Line::Skipped => Ok(()),
-        Line::Called { caller, call } => answer_call(token, text, alloc, writer, caller, call),
-        Line::Bad => Err(PlayFault::Line(number)),
+    match Line::parse(alloc, line) {
+        Ok(Line::Skipped) => Ok(()),
+        Ok(Line::Called { caller, call }) => answer_call(token, text, alloc, writer, caller, call),
+        Err(LineError::Bad(reason)) => Err(PlayFault::Line(number, reason)),
+        Err(LineError::Memory) => Err(PlayFault::Memory),
     }
 }
 
@@ -143,15 +126,13 @@ pub(crate) fn end_line<W: Sink>(
     alloc: Global,
     writer: &mut W,
 ) -> Result<(), PlayFault>
-    ensures ok { OnOk result (AnswersLine player.old.open_line.items player.old.token player.old.number
-        (W.is_written writer.old) player.new.token player.new.number (W.is_written writer.new)) }
+    ensures ok { OnOk result (AnswersLine player.old.open_line.items player.old.token
+        player.old.number (W.is_written writer.old)
+        player.new.token player.new.number (W.is_written writer.new)) }
     ensures emptied { OnOk result (player.new.open_line.items ≡ []) }
-    ensures err { IfErr result (StopsAtLine player.old.open_line.items player.old.token player.old.number
-        (W.is_written writer.old) (W.is_written writer.new)) }
+    ensures err { IfErr result (StopsAtLine player.old.open_line.items player.old.token
+        player.old.number (W.is_written writer.old) (W.is_written writer.new)) }
 {
-    let Some(next) = player.number.checked_add(1) else {
-        return Err(PlayFault::Memory);
-    };
     answer_line(
         &mut player.token,
         &mut player.text,
@@ -161,7 +142,7 @@ pub(crate) fn end_line<W: Sink>(
         player.number,
     )?;
     player.open_line.clear();
-    player.number = next;
+    player.number = player.number.saturating_add(1);
     Ok(())
 }
 
@@ -172,11 +153,12 @@ fn complete_line<W: Sink>(
     writer: &mut W,
     piece: &[u8],
 ) -> Result<(), PlayFault>
-    ensures ok { OnOk result (AnswersLine (player.old.open_line.items ++ piece.now) player.old.token player.old.number
-        (W.is_written writer.old) player.new.token player.new.number (W.is_written writer.new)) }
+    ensures ok { OnOk result (AnswersLine (player.old.open_line.items ++ piece.now)
+        player.old.token player.old.number (W.is_written writer.old)
+        player.new.token player.new.number (W.is_written writer.new)) }
     ensures emptied { OnOk result (player.new.open_line.items ≡ []) }
-    ensures err { IfErr result (StopsAtLine (player.old.open_line.items ++ piece.now) player.old.token player.old.number
-        (W.is_written writer.old) (W.is_written writer.new)) }
+    ensures err { IfErr result (StopsAtLine (player.old.open_line.items ++ piece.now)
+        player.old.token player.old.number (W.is_written writer.old) (W.is_written writer.new)) }
 {
     extend_open_line(&mut player.open_line, piece, player.number)?;
     end_line(player, alloc, writer)
@@ -189,8 +171,10 @@ pub(crate) fn answer_chunk<W: Sink>(
     writer: &mut W,
     chunk: &[u8],
 ) -> Result<(), PlayFault>
-    ensures ok { OnOk result (AnswersChunk chunk.now player.old (W.is_written writer.old) player.new (W.is_written writer.new)) }
-    ensures err { IfErr result (StopsInChunk chunk.now player.old (W.is_written writer.old) (W.is_written writer.new)) }
+    ensures ok { OnOk result (AnswersChunk chunk.now player.old (W.is_written writer.old)
+        player.new (W.is_written writer.new)) }
+    ensures err { IfErr result (StopsInChunk chunk.now player.old (W.is_written writer.old)
+        (W.is_written writer.new)) }
 {
     let mut rest = chunk;
     'lines: while let Some((piece, more)) = cut_line(rest) {

@@ -1,9 +1,9 @@
 //! Scripts that are read from a source, and answered to a sink.
-ghost use Rattle.std.specs.Prelude.{◌≡◌, ◌<◌, ◌≤◌, ◌==◌, ℕ, Ok, Err, [], length, take, IfOk, IfErr, OnErr, if◌then◌else◌};
+ghost use Rattle.std.specs.Prelude.{◌≡◌, ◌<◌, ◌≤◌, ◌==◌, [], length, take, IfOk, IfErr, OnErr, if◌then◌else◌};
 ghost use Rattle.ck_types.specs.TokenLimits.{Ranges};
 ghost use Rattle.ck_run.specs.Devices.{Reading, Writing, end_read, failed_read, read_on};
 ghost use Rattle.ck_run.specs.Players.{IsReading, TakesTurn, StopsInTurn};
-ghost use Rattle.ck_run.specs.Plays.{IsPlayed};
+ghost use Rattle.ck_run.specs.Plays.{IsPlayed, new_token};
 
 use crate::devices::{Sink, Source};
 use crate::faults::PlayFault;
@@ -16,7 +16,7 @@ use std::alloc::Global;
 const CHUNK: usize = 65_536;
 
 /// The most reads that `play` makes, 2^32.
-const TURNS: u64 = 4_294_967_296;
+pub(crate) const TURNS: u64 = 4_294_967_296;
 
 /// Plays a script on a new token, in at most 2^32 reads.
 pub fn play<R: Source, W: Sink>(
@@ -25,15 +25,17 @@ pub fn play<R: Source, W: Sink>(
     reader: &mut R,
     writer: &mut W,
 ) -> Result<(), PlayFault>
-    ensures { (read : Reading) (written : Writing) → R.is_read reader.old read → W.is_written writer.old written
-        → IsPlayed limits 4294967296 read written (R.is_read reader.new) (W.is_written writer.new) result }
+    ensures { (read : Reading) (written : Writing)
+        → R.is_read reader.old read → W.is_written writer.old written
+        → IsPlayed limits TURNS read written
+        (R.is_read reader.new) (W.is_written writer.new) result }
 {
     play_with(alloc, limits, reader, writer, TURNS)
 }
 
-/// Plays a script on a new token: one call after the other as the lines stand. Before it reads on, it answers all
-/// lines that have their ends, and before it makes a call, it has written the replies to those before. It makes at
-/// most so many reads as `turns`.
+/// Plays a script on a new token: one call after the other as the lines stand. Before it reads on,
+/// it answers all lines that have their ends, and before it makes a call, it has written the
+/// replies to those before. It makes at most so many reads as `turns`.
 pub fn play_with<R: Source, W: Sink>(
     alloc: Global,
     limits: Limits,
@@ -41,8 +43,10 @@ pub fn play_with<R: Source, W: Sink>(
     writer: &mut W,
     turns: u64,
 ) -> Result<(), PlayFault>
-    ensures { (read : Reading) (written : Writing) → R.is_read reader.old read → W.is_written writer.old written
-        → IsPlayed limits turns read written (R.is_read reader.new) (W.is_written writer.new) result }
+    ensures { (read : Reading) (written : Writing)
+        → R.is_read reader.old read → W.is_written writer.old written
+        → IsPlayed limits turns read written
+        (R.is_read reader.new) (W.is_written writer.new) result }
 {
     let mut buffer = new_buffer(alloc)?;
     let mut player = new_player(alloc, limits)?;
@@ -57,14 +61,14 @@ pub fn play_with<R: Source, W: Sink>(
 }
 
 fn new_buffer(alloc: Global) -> Result<Vec<u8>, NoMemory>
-    ensures { IfOk result (λ buffer. length buffer.items ≡ 65536) }
+    ensures { IfOk result (λ buffer. length buffer.items ≡ CHUNK) }
 {
     let buffer = vec![in alloc; 0u8; CHUNK]?;
     Ok(buffer)
 }
 
 fn new_player(alloc: Global, limits: Limits) -> Result<Player, NoMemory>
-    ensures token { IfOk result (λ player. player.token ≡ record { limits = limits; history = [] }) }
+    ensures token { IfOk result (λ player. player.token ≡ new_token limits) }
     ensures open_line { IfOk result (λ player. player.open_line.items ≡ []) }
     ensures number { IfOk result (λ player. player.number ≡ 1) }
 {
@@ -87,8 +91,10 @@ fn play_on<R: Source, W: Sink>(
 ) -> Result<(), PlayFault>
     requires room { 0 < length buffer.old }
     ensures { (limits : Ranges) (read : Reading) (written : Writing)
-        → IsReading limits read written 0 player.old (R.is_read reader.old) (W.is_written writer.old)
-        → IsPlayed limits turns read written (R.is_read reader.new) (W.is_written writer.new) result }
+        → IsReading limits read written 0 player.old
+        (R.is_read reader.old) (W.is_written writer.old)
+        → IsPlayed limits turns read written
+        (R.is_read reader.new) (W.is_written writer.new) result }
 {
     'reading: for _turn in 0..turns {
         if take_turn(player, alloc, reader, writer, buffer)? {
@@ -109,8 +115,8 @@ fn take_turn<R: Source, W: Sink>(
     requires room { 0 < length buffer.old }
     ensures ok { IfOk result (TakesTurn player.old (R.is_read reader.old) (W.is_written writer.old)
         player.new (R.is_read reader.new) (W.is_written writer.new)) }
-    ensures err { IfErr result (StopsInTurn player.old (R.is_read reader.old) (W.is_written writer.old)
-        (R.is_read reader.new) (W.is_written writer.new)) }
+    ensures err { IfErr result (StopsInTurn player.old (R.is_read reader.old)
+        (W.is_written writer.old) (R.is_read reader.new) (W.is_written writer.new)) }
 {
     let count = read_some(reader, buffer)?;
     if count == 0 {
@@ -126,9 +132,11 @@ fn read_some<R: Source>(reader: &mut R, buffer: &mut [u8]) -> Result<usize, Play
     requires room { 0 < length buffer.old }
     ensures bound { IfOk result (λ count. count ≤ length buffer.new) }
     ensures ok { IfOk result (λ count. (r : Reading) → R.is_read reader.old r
-        → R.is_read reader.new (if count == 0 then end_read r else read_on r (take count buffer.new))) }
+        → R.is_read reader.new
+        (if count == 0 then end_read r else read_on r (take count buffer.new))) }
     ensures fault { IfErr result (λ fault. fault ≡ PlayFault.Read) }
-    ensures err { OnErr result ((r : Reading) → R.is_read reader.old r → R.is_read reader.new (failed_read r)) }
+    ensures err { OnErr result ((r : Reading) → R.is_read reader.old r
+        → R.is_read reader.new (failed_read r)) }
 {
     match reader.read(buffer) {
         Ok(count) => Ok(count),

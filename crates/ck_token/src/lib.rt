@@ -6,6 +6,8 @@ mod decisions;
 mod parts;
 mod queries;
 mod runs;
+#[cfg(test)]
+mod tests;
 mod tokens;
 
 pub use runs::{Stopped, run};

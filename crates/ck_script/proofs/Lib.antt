@@ -1,0 +1,5 @@
+pub mod PartLemmas
+pub mod DigitLemmas
+pub mod NumberLemmas
+pub mod JoinLemmas
+pub mod LineLemmas

@@ -1,0 +1,6 @@
+pub mod Parts
+pub mod Arguments
+pub mod CallNames
+pub mod Calls
+pub mod Lines
+pub mod Replies

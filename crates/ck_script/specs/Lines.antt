@@ -1,0 +1,37 @@
+-- The lines of a script, and what one of them means. A line's bytes stand here without its end.
+use Rattle.std.specs.Prelude.{ℕ, Bool, List, ◌∷◌, Option, Some, None, ◌==◌, ◌&&◌, ◌||◌, nat_le, nat_lt, length, slice_index, option_and_then, if◌then◌else◌}
+use Rattle.std.specs.List.{slice_split}
+use Rattle.ck_script.specs.Parts.{parts_of}
+use Rattle.ck_script.specs.Arguments.{number_in, both}
+use Rattle.ck_script.specs.Calls.{call_in}
+use Rattle.ck_script.specs.declared.lines.Line.{Line}
+use Rattle.ck_script.specs.declared.lines.Line.TheVariants as line
+use Rattle.ck_script.specs.declared.lines.TheConstants.{LINE_END, SPACE, COMMENT, LONGEST_LINE}
+
+-- the lines of these bytes; the last is the one that has no end yet, and is empty where the bytes
+-- end with a line end
+abbrev pub lines_in : List ℕ → List (List ℕ)
+lines_in bytes = slice_split (λ b. b == LINE_END) bytes
+
+-- callers are numbered 1 to 8
+abbrev pub caller_of : ℕ → Option ℕ
+caller_of number = if nat_le 1 number && nat_le number 8 then Some number else None
+
+abbrev pub caller_in : List ℕ → Option ℕ
+caller_in text = option_and_then caller_of (number_in text)
+
+-- words: the caller, the call's name and its arguments
+abbrev pub words_meaning : List (List ℕ) → Option Line
+words_meaning (caller ∷ name ∷ arguments) = both line.Called (caller_in caller) (call_in name arguments)
+words_meaning others = None
+
+-- an empty line, and one that begins as a comment
+abbrev pub is_skipped : List ℕ → Bool
+is_skipped bytes = length bytes == 0 || slice_index bytes 0 == COMMENT
+
+-- what a line means, and None for a bad one; words stand between single spaces
+abbrev pub meaning : List ℕ → Option Line
+meaning bytes =
+    if nat_lt LONGEST_LINE (length bytes) then None
+    else if is_skipped bytes then Some line.Skipped
+    else words_meaning (parts_of SPACE bytes)

@@ -1,0 +1,50 @@
+-- The text of a reply: its code, what its body has, and the line's end
+use Rattle.std.specs.Prelude.{ℕ, false, List, [], ◌∷◌, ◌++◌, map, codes, decimal}
+use Rattle.std.specs.Fmt.{digits}
+use Rattle.std.specs.List.{join_with_byte}
+use Rattle.hex.specs.Hex.{encode_lower}
+use Rattle.ck_types.specs.ReturnCodes.{number_of}
+use Rattle.ck_types.specs.Users.{state_number}
+use Rattle.ck_journal.specs.declared.calls.Answer.{Answer}
+use Rattle.ck_journal.specs.declared.calls.Answer.TheVariants as answer
+use Rattle.ck_journal.specs.declared.calls.Body.{Body}
+use Rattle.ck_journal.specs.declared.calls.Body.TheVariants as body
+use Rattle.ck_journal.specs.declared.calls.Reply.{Reply}
+use Rattle.ck_script.specs.declared.lines.TheConstants.{LINE_END}
+
+-- a number in hexadecimal, in lower case
+abbrev pub hexadecimal : ℕ → List ℕ
+hexadecimal n = digits 16 false n
+
+-- bytes in hexadecimal, in lower case, and `-` for none
+abbrev pub bytes_text : List ℕ → List ℕ
+bytes_text [] = codes "-"
+bytes_text (b ∷ bytes) = encode_lower (b ∷ bytes)
+
+abbrev pub answer_text : Answer → List ℕ
+answer_text (answer.Value bytes) = codes "=" ++ bytes_text bytes
+answer_text (answer.Length length) = codes ":" ++ decimal length
+answer_text answer.Unavailable = codes "!"
+
+-- answers, joined by commas (44), and `-` for none
+abbrev pub answers_text : List Answer → List ℕ
+answers_text [] = codes "-"
+answers_text (a ∷ answers) = join_with_byte 44 (map answer_text (a ∷ answers))
+
+-- handles, joined by commas (44), and `-` for none
+abbrev pub handles_text : List ℕ → List ℕ
+handles_text [] = codes "-"
+handles_text (h ∷ handles) = join_with_byte 44 (map decimal (h ∷ handles))
+
+-- what stands after the code
+abbrev pub body_text : Body → List ℕ
+body_text body.Empty = []
+body_text (body.Handle handle) = codes " " ++ decimal handle
+body_text (body.Session state flags) = codes " " ++ decimal (state_number state) ++ codes " " ++ hexadecimal flags
+body_text (body.Token flags limit sessions rw_sessions) =
+    codes " " ++ hexadecimal flags.0 ++ codes " " ++ decimal limit ++ codes " " ++ decimal sessions ++ codes " " ++ decimal rw_sessions
+body_text (body.Attributes answers) = codes " " ++ answers_text answers
+body_text (body.Handles handles) = codes " " ++ handles_text handles
+
+abbrev pub reply_text : Reply → List ℕ
+reply_text reply = hexadecimal (number_of reply.rv) ++ body_text reply.body ++ LINE_END ∷ []

@@ -1,0 +1,188 @@
+ghost use Rattle.std.specs.Prelude.{◌≡◌, ◌≤◌, ◌⊎◌, ℕ, List, Option, Some, None, IfOk, IfErr, IsAscii};
+ghost use Rattle.std.specs.List.{list_all};
+ghost use Rattle.std.specs.Result.{result_ok};
+ghost use Rattle.std.specs.Char.{is_ascii_digit};
+ghost use Rattle.std.specs.Str.Parse.{AllDigits};
+ghost use Rattle.ck_script.specs.Arguments.{is_code_digit, has_leading_zero, numeral_value, number_in, code_number_in, is_dash, bytes_in, pin_in, room_in, item_in, query_in, list_in};
+
+use crate::line_errors::{BadLine, LineError, NumberError};
+use crate::parts::Parts;
+use ck_journal::AttributeQuery;
+use ck_types::{Bytes, Item, Pin, Sequence};
+use hex::FromHexError;
+use std::alloc::Global;
+use std::str;
+
+/// A digit of a code number: lower case alone.
+fn is_code_digit(byte: u8) -> bool
+    ensures { result ≡ is_code_digit byte }
+{
+    matches!(byte, b'0'..=b'9' | b'a'..=b'f')
+}
+
+fn has_leading_zero(text: &[u8]) -> bool
+    ensures { result ≡ has_leading_zero text.now }
+{
+    text.len() > 1 && text[0] == b'0'
+}
+
+fn are_digits(text: &[u8]) -> bool
+    ensures { result ≡ list_all is_ascii_digit text.now }
+{
+    text.iter().all(|byte| byte.is_ascii_digit())
+}
+
+fn are_code_digits(text: &[u8]) -> bool
+    ensures { result ≡ list_all is_code_digit text.now }
+{
+    text.iter().all(|byte| is_code_digit(*byte))
+}
+
+/// The number that the digits write, which has no leading zero and is below 2^64.
+#[tactic(auto, using(crate::proofs::DigitLemmas::digits))]
+fn numeral_value(digits: &[u8], base: u32) -> Result<u64, NumberError>
+    requires base { (2 ≤ base) × (base ≤ 36) }
+    requires digits { AllDigits base digits.now }
+    requires ascii { IsAscii digits.now }
+    ensures { result_ok result ≡ numeral_value base digits.now }
+{
+    if has_leading_zero(digits) {
+        return Err(NumberError::LeadingZero);
+    }
+    match str::from_utf8(digits) {
+        Ok(text) => u64::from_str_radix(text, base).map_err(|_| NumberError::TooLarge),
+        Err(_) => Err(NumberError::TooLarge),
+    }
+}
+
+/// A number in decimal digits: sessions, objects, lengths, counts.
+#[tactic(auto, using(crate::proofs::DigitLemmas::digits))]
+pub(crate) fn number_in(text: &[u8]) -> Result<u64, BadLine>
+    ensures { result_ok result ≡ number_in text.now }
+{
+    if text.is_empty() || !are_digits(text) {
+        return Err(BadLine::Number(NumberError::NotDecimal));
+    }
+    Ok(numeral_value(text, 10)?)
+}
+
+/// A number in hexadecimal digits: flags, attribute types.
+#[tactic(auto, using(crate::proofs::DigitLemmas::digits))]
+pub(crate) fn code_number_in(text: &[u8]) -> Result<u64, BadLine>
+    ensures { result_ok result ≡ code_number_in text.now }
+{
+    if text.is_empty() || !are_code_digits(text) {
+        return Err(BadLine::Number(NumberError::NotHexadecimal));
+    }
+    Ok(numeral_value(text, 16)?)
+}
+
+fn is_dash(text: &[u8]) -> bool
+    ensures { result ≡ is_dash text.now }
+{
+    text == b"-".as_slice()
+}
+
+/// Bytes in hexadecimal digits of either case; `-` stands for none.
+fn bytes_in(alloc: Global, text: &[u8]) -> Result<Bytes, LineError>
+    ensures bytes { IfOk result (λ bytes. bytes_in text.now ≡ Some bytes) }
+    ensures bad { IfErr result (λ e. (e ≡ LineError.Memory) ⊎ (bytes_in text.now ≡ None)) }
+{
+    if is_dash(text) {
+        return Ok(Sequence::new(alloc));
+    }
+    if text.is_empty() {
+        return Err(LineError::Bad(BadLine::Bytes));
+    }
+    match hex::decode(alloc, text) {
+        Ok(bytes) => Ok(Sequence::from_vec(bytes)),
+        Err(FromHexError::OutOfMemory) => Err(LineError::Memory),
+        Err(_) => Err(LineError::Bad(BadLine::Bytes)),
+    }
+}
+
+/// A PIN by its bytes, of which its length and its digest are taken.
+pub(crate) fn pin_in(alloc: Global, text: &[u8]) -> Result<Pin, LineError>
+    ensures pin { IfOk result (λ pin. pin_in text.now ≡ Some pin) }
+    ensures bad { IfErr result (λ e. (e ≡ LineError.Memory) ⊎ (pin_in text.now ≡ None)) }
+{
+    let bytes = bytes_in(alloc, text)?;
+    Ok(Pin::of(bytes.as_slice()))
+}
+
+/// The room for a value in bytes; `?` stands for none, which asks for the value's length.
+fn room_in(text: &[u8]) -> Result<Option<u64>, BadLine>
+    ensures { result_ok result ≡ room_in text.now }
+{
+    if text == b"?".as_slice() {
+        return Ok(None);
+    }
+    Ok(Some(number_in(text)?))
+}
+
+/// One item of a template: `type=bytes`.
+fn item_in(alloc: Global, text: &[u8]) -> Result<Item, LineError>
+    ensures item { IfOk result (λ item. item_in text.now ≡ Some item) }
+    ensures bad { IfErr result (λ e. (e ≡ LineError.Memory) ⊎ (item_in text.now ≡ None)) }
+{
+    let (kind, value) = Parts::new(text, b'=').two().ok_or(BadLine::Item)?;
+    let kind = code_number_in(kind)?;
+    let value = bytes_in(alloc, value)?;
+    Ok(Item { kind, value })
+}
+
+/// One query of an attribute: `type:room`.
+fn query_in(text: &[u8]) -> Result<AttributeQuery, BadLine>
+    ensures { result_ok result ≡ query_in text.now }
+{
+    let (kind, room) = Parts::new(text, b':').two().ok_or(BadLine::Query)?;
+    let kind = code_number_in(kind)?;
+    let room = room_in(room)?;
+    Ok(AttributeQuery { kind, room })
+}
+
+/// A value that stands between the commas of an argument.
+pub(crate) trait Listed: Sized {
+    // What one part between commas means.
+    ghost part_in: { List ℕ → Option Self };
+
+    fn part_in(alloc: Global, text: &[u8]) -> Result<Self, LineError>
+        ensures part { IfOk result (λ part. part_in text.now ≡ Some part) }
+        ensures bad { IfErr result (λ e. (e ≡ LineError.Memory) ⊎ (part_in text.now ≡ None)) };
+}
+
+impl Listed for Item {
+    ghost part_in = { item_in };
+
+    fn part_in(alloc: Global, text: &[u8]) -> Result<Item, LineError> {
+        item_in(alloc, text)
+    }
+}
+
+impl Listed for AttributeQuery {
+    ghost part_in = { query_in };
+
+    fn part_in(_alloc: Global, text: &[u8]) -> Result<AttributeQuery, LineError> {
+        Ok(query_in(text)?)
+    }
+}
+
+/// The values between commas; `-` stands for none.
+pub(crate) fn list_in<T: Listed + Drop>(
+    alloc: Global,
+    text: &[u8],
+) -> Result<Sequence<T>, LineError>
+    ensures list { IfOk result (λ list. list_in T.part_in text.now ≡ Some list) }
+    ensures bad { IfErr result (λ e. (e ≡ LineError.Memory) ⊎ (list_in T.part_in text.now ≡ None)) }
+{
+    if is_dash(text) {
+        return Ok(Sequence::new(alloc));
+    }
+    let mut items = Vec::new(alloc);
+    let mut parts = Parts::new(text, b',');
+    while let Some(part) = parts.next() {
+        let item = T::part_in(alloc, part)?;
+        items.push(item)?;
+    }
+    Ok(Sequence::from_vec(items))
+}

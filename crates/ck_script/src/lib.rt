@@ -1,0 +1,20 @@
+//! The language of scripts: lines, the calls that they make, and the text of replies.
+#![tactic(auto)]
+
+mod arguments;
+mod call_names;
+mod calls;
+mod line_errors;
+#[cfg(test)]
+mod line_tests;
+mod lines;
+mod parts;
+mod replies;
+#[cfg(test)]
+mod reply_tests;
+mod similar_names;
+
+pub use call_names::{Arity, CallName};
+pub use line_errors::{BadLine, LineError, NumberError};
+pub use lines::{LINE_END, LONGEST_LINE, Line, cut_line};
+pub use replies::push_reply;

@@ -1,0 +1,102 @@
+ghost use Rattle.std.specs.Prelude.{◌≡◌};
+ghost use Rattle.ck_script.specs.declared.line_errors.LineError.TheVariants.{Memory, Bad};
+
+use crate::call_names::{Arity, CallName};
+use crate::lines::LONGEST_LINE;
+use ck_types::NoMemory;
+use std::alloc::{AllocError, AllocFailed};
+use thiserror::Error;
+
+/// Why a text is no number.
+#[derive(Clone, Copy, Debug, PartialEq, Eq, Error)]
+pub enum NumberError {
+    #[error("a number is written in decimal digits")]
+    NotDecimal,
+    #[error("a code number is written in the digits 0 to 9 and a to f, without 0x")]
+    NotHexadecimal,
+    #[error("a number has no leading zero")]
+    LeadingZero,
+    #[error("a number is below 2^64")]
+    TooLarge,
+}
+
+/// Why a line is none of a script's. Where a line has several faults, one of them is named.
+#[derive(Clone, Copy, Debug, PartialEq, Eq, Error)]
+pub enum BadLine {
+    #[error("a line has at most {LONGEST_LINE} bytes")]
+    TooLong,
+    #[error("a byte order mark stands before the line")]
+    ByteOrderMark,
+    #[error("a carriage return stands at the end of the line")]
+    CarriageReturn,
+    #[error("a tab stands in the line, whose words stand between single spaces")]
+    Tab,
+    #[error("a space too many stands in the line, whose words stand between single spaces")]
+    Space,
+    #[error("a line is a caller, a call and its arguments")]
+    NoCall,
+    #[error("the caller is a number from 1 to 8")]
+    UnknownCaller,
+    #[error("no call has this name")]
+    UnknownCall,
+    /// The call that was probably meant.
+    #[error("no call has this name, the nearest is {0}")]
+    MisspelledCall(CallName),
+    #[error("{0} takes {1}")]
+    ArgumentCount(CallName, Arity),
+    #[error("{0}")]
+    Number(NumberError),
+    #[error("bytes are written in two hexadecimal digits each, and no bytes as -")]
+    Bytes,
+    #[error("a template is written as type=bytes,.. and an empty one as -")]
+    Item,
+    #[error("queries are written as type:room,.. and none as -")]
+    Query,
+}
+
+impl From<NumberError> for BadLine {
+    fn from(error: NumberError) -> BadLine {
+        BadLine::Number(error)
+    }
+}
+
+/// Why a line wasn't read.
+#[derive(Clone, Copy, Debug, PartialEq, Eq, Error)]
+pub enum LineError {
+    #[error("out of memory")]
+    Memory,
+    #[error("{0}")]
+    Bad(BadLine),
+}
+
+impl From<BadLine> for LineError {
+    ghost from_gives = { λ reason e. e ≡ Bad reason };
+
+    fn from(reason: BadLine) -> LineError {
+        LineError::Bad(reason)
+    }
+}
+
+impl From<NoMemory> for LineError {
+    ghost from_gives = { λ _ e. e ≡ Memory };
+
+    fn from(_error: NoMemory) -> LineError {
+        LineError::Memory
+    }
+}
+
+impl From<AllocError> for LineError {
+    ghost from_gives = { λ _ e. e ≡ Memory };
+
+    fn from(_error: AllocError) -> LineError {
+        LineError::Memory
+    }
+}
+
+impl<T: Drop> From<AllocFailed<T>> for LineError {
+    ghost from_gives = { λ _ e. e ≡ Memory };
+
+    fn from(_error: AllocFailed<T>) -> LineError {
+        LineError::Memory
+    }
+}

@@ -1,0 +1,110 @@
+ghost use Rattle.std.specs.Prelude.{◌≡◌, ◌==◌, ◌∷◌, ◌<◌, ◌⊎◌, ◌↔◌, [], length, position, Some, None, Err, MatchOption, IfSome, IfOk, IfErr, IsErrOf};
+ghost use Rattle.ck_script.specs.Lines.{lines_in, caller_in, words_meaning, meaning};
+
+use crate::arguments::number_in;
+use crate::calls::call_in;
+use crate::line_errors::{BadLine, LineError};
+use crate::parts::Parts;
+use ck_journal::Call;
+use std::alloc::Global;
+
+/// The byte that ends a line.
+pub const LINE_END: u8 = b'\n';
+
+/// The byte between two words of a line.
+pub(crate) const SPACE: u8 = b' ';
+
+/// The byte with which a comment begins.
+pub(crate) const COMMENT: u8 = b'#';
+
+/// The most bytes of a line, its end not counted.
+pub const LONGEST_LINE: usize = 4_194_304;
+
+/// What one line of a script means.
+#[derive(Debug, Drop)]
+pub enum Line {
+    /// An empty line or a comment.
+    Skipped,
+    Called { caller: u32, call: Call },
+}
+
+impl Line {
+    /// What a line means; its bytes stand here without the line's end. Its length is judged before
+    /// anything else.
+    pub fn parse(alloc: Global, bytes: &[u8]) -> Result<Line, LineError>
+        ensures line { IfOk result (λ line. meaning bytes.now ≡ Some line) }
+        ensures bad { IfErr result (λ e. (e ≡ LineError.Memory) ⊎ (meaning bytes.now ≡ None)) }
+        ensures long { LONGEST_LINE < length bytes.now
+            → result ≡ Err (LineError.Bad BadLine.TooLong) }
+    {
+        if bytes.len() > LONGEST_LINE {
+            return Err(LineError::Bad(BadLine::TooLong));
+        }
+        if bytes.is_empty() || bytes[0] == COMMENT {
+            return Ok(Line::Skipped);
+        }
+        match words_meaning(alloc, Parts::new(bytes, SPACE)) {
+            Err(LineError::Bad(reason)) => {
+                Err(LineError::Bad(layout_error(bytes).unwrap_or(reason)))
+            }
+            read => read,
+        }
+    }
+}
+
+/// A caller's number, from 1 to 8.
+fn caller_in(text: &[u8]) -> Option<u32>
+    ensures { result ≡ caller_in text.now }
+{
+    match number_in(text) {
+        Ok(number) if 1 <= number && number <= 8 => Some(number as u32),
+        _ => None,
+    }
+}
+
+fn words_meaning(alloc: Global, mut words: Parts) -> Result<Line, LineError>
+    ensures line { IfOk result (λ line. words_meaning words.entry ≡ Some line) }
+    ensures bad { IfErr result (λ e. (e ≡ LineError.Memory) ⊎ (words_meaning words.entry ≡ None)) }
+{
+    let (Some(caller), Some(name)) = (words.next(), words.next()) else {
+        return Err(LineError::Bad(BadLine::NoCall));
+    };
+    let caller = caller_in(caller).ok_or(BadLine::UnknownCaller)?;
+    let call = call_in(alloc, name, words)?;
+    Ok(Line::Called { caller, call })
+}
+
+/// What is wrong with the bytes between the words of a bad line, if anything is.
+fn layout_error(bytes: &[u8]) -> Option<BadLine> {
+    if bytes.starts_with(b"\xef\xbb\xbf") {
+        return Some(BadLine::ByteOrderMark);
+    }
+    if bytes.ends_with(b"\r") {
+        return Some(BadLine::CarriageReturn);
+    }
+    if bytes.contains(&b'\t') {
+        return Some(BadLine::Tab);
+    }
+    if Parts::new(bytes, SPACE).has_empty() {
+        return Some(BadLine::Space);
+    }
+    None
+}
+
+/// The first line and what follows its end, where it has one.
+pub fn cut_line(bytes: &[u8]) -> Option<(&[u8], &[u8])>
+    ensures lines { MatchOption result (lines_in bytes.now ≡ bytes.now ∷ [])
+        (λ parts. lines_in bytes.now ≡ parts.0.now ∷ lines_in parts.1.now) }
+    ensures shorter { IfSome result (λ parts. length parts.1.now < length bytes.now) }
+{
+    match line_end(bytes) {
+        Some(at) => Some((&bytes[..at], &bytes[at + 1..])),
+        None => None,
+    }
+}
+
+fn line_end(bytes: &[u8]) -> Option<usize>
+    ensures { result ≡ position (λ b. b == LINE_END) bytes.now }
+{
+    bytes.iter().position(|b| *b == LINE_END)
+}

@@ -1,0 +1,113 @@
+ghost use Rattle.std.specs.Prelude.{◌≡◌, ◌==◌, position};
+
+use std::marker::Model;
+
+/// Where the byte first stands in the text.
+fn position_of(separator: u8, text: &[u8]) -> Option<usize>
+    ensures { result ≡ position (λ byte. byte == separator) text.now }
+{
+    text.iter().position(|byte| *byte == separator)
+}
+
+/// The parts of a text that a separator leaves, from the next one on.
+#[derive(Drop)]
+pub(crate) struct Parts<'a> {
+    separator: u8,
+    rest: &'a [u8],
+    is_done: bool,
+}
+
+impl<'a> Model for Parts<'a> {
+    ghost use Rattle.std.specs.Prelude.{ℕ, List};
+    ghost use Rattle.ck_script.specs.Parts.{parts_left};
+
+    ghost Value = { List (List ℕ) };
+
+    ghost view = { λ p. parts_left p.separator p.is_done p.rest.now };
+}
+
+impl<'a> Parts<'a> {
+    ghost use Rattle.std.specs.Prelude.{◌≡◌, ◌==◌, ◌∷◌, [], length, MatchOption, option_map};
+    ghost use Rattle.std.specs.Option.{option_copied};
+    ghost use Rattle.ck_script.specs.Parts.{parts_of, one_of, two_of, three_of};
+
+    /// All parts of the text.
+    pub(crate) fn new(text: &'a [u8], separator: u8) -> Parts<'a>
+        ensures { result ≡ parts_of separator text.now }
+    {
+        Parts {
+            separator,
+            rest: text,
+            is_done: false,
+        }
+    }
+
+    /// Takes off the next part.
+    pub(crate) fn next(&mut self) -> Option<&'a [u8]>
+        ensures { MatchOption result ((self.old ≡ []) × (self.new ≡ []))
+            (λ part. self.old ≡ part.now ∷ self.new) }
+    {
+        if self.is_done {
+            return None;
+        }
+        let rest = self.rest;
+        match position_of(self.separator, rest) {
+            Some(end) => {
+                self.rest = &rest[end + 1..];
+                Some(&rest[..end])
+            }
+            None => {
+                self.is_done = true;
+                Some(rest)
+            }
+        }
+    }
+
+    /// Whether one of the parts that are left has no bytes.
+    pub(crate) fn has_empty(mut self) -> bool {
+        while let Some(part) = self.next() {
+            if part.is_empty() {
+                return true;
+            }
+        }
+        false
+    }
+
+    /// Whether no part is left.
+    pub(crate) fn none(mut self) -> bool
+        ensures { result ≡ (length self.entry == 0) }
+    {
+        self.next().is_none()
+    }
+
+    /// The part, where exactly one is left.
+    pub(crate) fn one(mut self) -> Option<&'a [u8]>
+        ensures { option_copied result ≡ one_of self.entry }
+    {
+        match (self.next(), self.next()) {
+            (Some(first), None) => Some(first),
+            _ => None,
+        }
+    }
+
+    /// The parts, where exactly two are left.
+    pub(crate) fn two(mut self) -> Option<(&'a [u8], &'a [u8])>
+        ensures { option_map (λ parts. (parts.0.now, parts.1.now)) result ≡ two_of self.entry }
+    {
+        match (self.next(), self.next(), self.next()) {
+            (Some(first), Some(second), None) => Some((first, second)),
+            _ => None,
+        }
+    }
+
+    /// The parts, where exactly three are left.
+    pub(crate) fn three(mut self) -> Option<(&'a [u8], &'a [u8], &'a [u8])>
+        ensures { option_map (λ parts. (parts.0.now, parts.1.now, parts.2.now)) result
+            ≡ three_of self.entry }
+    {
+        match (self.next(), self.next(), self.next(), self.next()) {
+            (Some(first), Some(second), Some(third), None) => Some((first, second, third)),
+            _ => None,
+        }
+    }
+}

@@ -1,0 +1,162 @@
+ghost use Rattle.std.specs.Prelude.{◌≡◌, ◌++◌, ◌≤◌, ◌<◌, false, codes, OnOk};
+ghost use Rattle.std.specs.Fmt.{digit_glyph, digits};
+ghost use Rattle.hex.specs.Hex.{encode_lower};
+ghost use Rattle.ck_script.specs.Replies.{bytes_text, answer_text, answers_text, handles_text, body_text, reply_text};
+
+use crate::lines::LINE_END;
+use ck_journal::{Answer, Body, Reply};
+use ck_types::NoMemory;
+
+/// The digit of this value, in lower case.
+fn digit(value: u8) -> u8
+    requires { value < 16 }
+    ensures { result ≡ digit_glyph false value }
+{
+    if value < 10 {
+        b'0' + value
+    } else {
+        b'a' + (value - 10)
+    }
+}
+
+/// Appends the digits of a number in a base, without leading zeros.
+fn push_number(out: &mut Vec<u8>, number: u64, base: u64) -> Result<(), NoMemory>
+    requires { (2 ≤ base) × (base ≤ 16) }
+    ensures { OnOk result (out.new.items ≡ out.old.items ++ digits base false number) }
+{
+    if number >= base {
+        push_number(out, number / base, base)?;
+    }
+    out.push(digit((number % base) as u8))?;
+    Ok(())
+}
+
+/// Appends a space and the digits of a number in a base.
+fn push_next(out: &mut Vec<u8>, number: u64, base: u64) -> Result<(), NoMemory>
+    requires { (2 ≤ base) × (base ≤ 16) }
+    ensures { OnOk result (out.new.items ≡ out.old.items ++ codes " " ++ digits base false number) }
+{
+    out.push(b' ')?;
+    push_number(out, number, base)
+}
+
+/// Appends bytes as two hexadecimal digits each, and none as `-`.
+fn push_bytes(out: &mut Vec<u8>, bytes: &[u8]) -> Result<(), NoMemory>
+    ensures { OnOk result (out.new.items ≡ out.old.items ++ bytes_text bytes.now) }
+{
+    if bytes.is_empty() {
+        out.push(b'-')?;
+        return Ok(());
+    }
+    push_digits(out, bytes)
+}
+
+/// Appends bytes as two hexadecimal digits each.
+fn push_digits(out: &mut Vec<u8>, bytes: &[u8]) -> Result<(), NoMemory>
+    ensures { OnOk result (out.new.items ≡ out.old.items ++ encode_lower bytes.now) }
+{
+    let start = out.len();
+    let Some(count) = bytes.len().checked_mul(2) else {
+        return Err(NoMemory);
+    };
+    let Some(end) = start.checked_add(count) else {
+        return Err(NoMemory);
+    };
+    out.resize(end, 0)?;
+    hex::encode_to_slice(bytes, &mut out[start..]).unwrap();
+    Ok(())
+}
+
+fn push_answer(out: &mut Vec<u8>, answer: &Answer) -> Result<(), NoMemory>
+    ensures { OnOk result (out.new.items ≡ out.old.items ++ answer_text answer.now) }
+{
+    match answer {
+        Answer::Value(bytes) => {
+            out.push(b'=')?;
+            push_bytes(out, bytes.as_slice())
+        }
+        Answer::Length(length) => {
+            out.push(b':')?;
+            push_number(out, *length, 10)
+        }
+        Answer::Unavailable => {
+            out.push(b'!')?;
+            Ok(())
+        }
+    }
+}
+
+/// Appends the answers with a comma between two of them, and no answers as `-`.
+fn push_answers(out: &mut Vec<u8>, answers: &[Answer]) -> Result<(), NoMemory>
+    ensures { OnOk result (out.new.items ≡ out.old.items ++ answers_text answers.now) }
+{
+    let Some((first, rest)) = answers.split_first() else {
+        out.push(b'-')?;
+        return Ok(());
+    };
+    push_answer(out, first)?;
+    for answer in rest {
+        out.push(b',')?;
+        push_answer(out, answer)?;
+    }
+    Ok(())
+}
+
+/// Appends the handles with a comma between two of them, and no handles as `-`.
+fn push_handles(out: &mut Vec<u8>, handles: &[u64]) -> Result<(), NoMemory>
+    ensures { OnOk result (out.new.items ≡ out.old.items ++ handles_text handles.now) }
+{
+    let Some((first, rest)) = handles.split_first() else {
+        out.push(b'-')?;
+        return Ok(());
+    };
+    push_number(out, *first, 10)?;
+    for handle in rest {
+        out.push(b',')?;
+        push_number(out, *handle, 10)?;
+    }
+    Ok(())
+}
+
+/// Appends what stands after the code.
+fn push_body(out: &mut Vec<u8>, body: &Body) -> Result<(), NoMemory>
+    ensures { OnOk result (out.new.items ≡ out.old.items ++ body_text body.now) }
+{
+    match body {
+        Body::Empty => Ok(()),
+        Body::Handle(handle) => push_next(out, *handle, 10),
+        Body::Session { state, flags } => {
+            push_next(out, state.number(), 10)?;
+            push_next(out, *flags, 16)
+        }
+        Body::Token {
+            flags,
+            limit,
+            sessions,
+            rw_sessions,
+        } => {
+            push_next(out, flags.number(), 16)?;
+            push_next(out, *limit, 10)?;
+            push_next(out, *sessions, 10)?;
+            push_next(out, *rw_sessions, 10)
+        }
+        Body::Attributes(answers) => {
+            out.push(b' ')?;
+            push_answers(out, answers.as_slice())
+        }
+        Body::Handles(handles) => {
+            out.push(b' ')?;
+            push_handles(out, handles.as_slice())
+        }
+    }
+}
+
+/// Appends the text of a reply, its line end included.
+pub fn push_reply(out: &mut Vec<u8>, reply: &Reply) -> Result<(), NoMemory>
+    ensures { OnOk result (out.new.items ≡ out.old.items ++ reply_text reply.now) }
+{
+    push_number(out, reply.rv.number(), 16)?;
+    push_body(out, &reply.body)?;
+    out.push(LINE_END)?;
+    Ok(())
+}

@@ -1,0 +1,38 @@
+use crate::call_names::CallName;
+use ck_types::NoMemory;
+use std::alloc::Global;
+use strsim::generic_levenshtein;
+
+/// The most letters that two names may differ in and be similar.
+const MOST_EDITS: usize = 3;
+
+/// The most bytes of a text that is compared with the names.
+const LONGEST_TEXT: usize = 24;
+
+fn lower_case(alloc: Global, text: &[u8]) -> Result<Vec<u8>, NoMemory> {
+    let mut letters = Vec::from_slice(alloc, text)?;
+    letters.make_ascii_lowercase();
+    Ok(letters)
+}
+
+/// The call whose name is nearest to the text, upper and lower case taken as one, and the `C_` of
+/// the standard's names left out.
+pub(crate) fn similar_name(alloc: Global, text: &[u8]) -> Result<Option<CallName>, NoMemory> {
+    if text.len() > LONGEST_TEXT {
+        return Ok(None);
+    }
+    let letters = lower_case(alloc, text)?;
+    let letters = letters.as_slice();
+    let letters = letters.strip_prefix(b"c_").unwrap_or(letters);
+    let mut nearest = None;
+    let mut fewest = MOST_EDITS;
+    for name in CallName::ALL {
+        let other = lower_case(alloc, name.text().as_bytes())?;
+        let edits = generic_levenshtein(alloc, letters, other.as_slice())?;
+        if edits < fewest {
+            fewest = edits;
+            nearest = Some(name);
+        }
+    }
+    Ok(nearest)
+}
