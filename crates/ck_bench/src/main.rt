@@ -1,5 +1,6 @@
-//! Measures what single calls of a token take, without a script. With no argument it makes each kind of call a few times and
-//! writes nothing; with the argument `measure` it writes nanoseconds a call: processor time, the best of many short runs.
+//! Measures what single calls of a token take, without a script. With no argument it makes each kind of call
+//! a few times and writes nothing; with the argument `measure` it writes nanoseconds a call: processor time,
+//! the best of many short runs.
 #![tactic(auto)]
 
 mod rounds;

@@ -43,7 +43,8 @@ impl Kind {
     }
 }
 
-/// How many calls a figure is for: an opening with its closing counts as two, and an object's three calls as one.
+/// How many calls a figure is for: an opening with its closing counts as two, and an object's three calls as
+/// one.
 pub(crate) fn calls_in(kind: Kind) -> u64
     ensures bounds { 1 ≤ result }
     ensures most { result ≤ 2 }

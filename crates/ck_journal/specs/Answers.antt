@@ -1,5 +1,5 @@
--- What each call answers, read off the history just before it: a list of checks, of which the first that fails gives
--- the code, and the reply where none does. Who calls makes no difference.
+-- What each call answers, read off the history just before it: a list of checks, of which the first that
+-- fails gives the code, and the reply where none does. Who calls makes no difference.
 use Rattle.std.specs.Prelude.{◌≡◌, ℕ, suc, List, [], ◌∷◌, Option, Some, None, ◌==◌, ◌&&◌, not, is_none, is_some, nat_le, length, map, take, bit_and, if◌then◌else◌, Bool, true, false}
 use Rattle.std.specs.List.{list_any}
 use Rattle.std.specs.Option.{option_map_or}
@@ -105,14 +105,16 @@ open_session_error limits h flags = first_of (
     ∷ error_if (nat_le limits.openings (openings h)) rv_error.DeviceMemory
     ∷ [])
 
--- somebody is logged in: the same user or the other one
+-- a user is logged in: the same one or the other
 abbrev pub logged_in_error : UserType → Option UserType → Option RvError
 logged_in_error u None = None
-logged_in_error u (Some other) = Some (if same_user u other then rv_error.UserAlreadyLoggedIn else rv_error.UserAnotherAlreadyLoggedIn)
+logged_in_error u (Some other) =
+    Some (if same_user u other then rv_error.UserAlreadyLoggedIn else rv_error.UserAnotherAlreadyLoggedIn)
 
 -- the security officer logs in beside read/write sessions alone
 abbrev pub read_only_error : UserType → History → Option RvError
-read_only_error user.So h = error_if (list_any (λ s. not (is_read_write h s)) (open_sessions h)) rv_error.SessionReadOnlyExists
+read_only_error user.So h =
+    error_if (list_any (λ s. not (is_read_write h s)) (open_sessions h)) rv_error.SessionReadOnlyExists
 read_only_error user.User h = None
 
 abbrev pub logins_error : Ranges → UserType → History → Option RvError
@@ -149,8 +151,8 @@ abbrev pub read_only_session_error : History → ℕ → Placement → Option Rv
 read_only_session_error h session placement =
     error_if (placement.token && not (is_read_write h session)) rv_error.SessionReadOnly
 
--- where a new object may not stand: a token object in a read-only session, a private one where the normal user isn't
--- logged in
+-- where a new object may not stand: a token object in a read-only session, a private one where the normal
+-- user isn't logged in
 abbrev pub placement_error : History → ℕ → Placement → Option RvError
 placement_error h session placement = first_of (
     read_only_session_error h session placement

@@ -38,9 +38,9 @@ base_tries user.User b = b.user_tries
 abbrev pub IsCreated : ℕ → KeptObject → Type 0
 IsCreated creations kept = (1 ≤ kept.number) × (kept.number ≤ creations)
 
--- a base that the calls of a token can leave: the security officer has a PIN exactly where the token is initialized, no
--- user has made more than three wrong tries, the counts are in range, and the objects are token objects whose numbers
--- rise from 1 to the count of creations
+-- a base that the calls of a token can leave: the security officer has a PIN exactly where the token is
+-- initialized, no user has made more than three wrong tries, the counts are in range, and the objects are
+-- token objects whose numbers rise from 1 to the count of creations
 pub record IsSound (b : Base) : Type 0 where
   pub so_pin : is_some b.so ≡ b.initialized
   pub so_tries : b.so_tries ≤ 3

@@ -1,5 +1,5 @@
--- A history is a base and the answered calls since: `start b` is the base b alone, and `e ◁ h` is the history h and then the
--- entry e. A front of a history is what is left where its last entries are taken away.
+-- A history is a base and the answered calls since: `start b` is the base b alone, and `e ◁ h` is the history
+-- h and then the entry e. A front of a history is what is left where its last entries are taken away.
 use Rattle.std.specs.Prelude.{ℕ, suc, Bool, true, false, List, [], ◌∷◌, Option, Some, None, ◌==◌, if◌then◌else◌}
 use Rattle.ck_types.specs.declared.return_codes.Rv.{Rv}
 use Rattle.ck_types.specs.declared.return_codes.Rv.TheVariants as rv
@@ -62,7 +62,8 @@ wrong_try e = if is_wrong_pin e.reply.rv then Some e.call else None
 
 -- ---- what an entry may change
 
--- sessions, the login or PINs; objects; operations of sessions, as searches are
+-- sessions, the login or PINs, but for wrong tries, which are read off `wrong_try`; objects; operations of
+-- sessions, as searches are
 pub record Effects : Type 0 where
   pub sessions : Bool
   pub objects : Bool
@@ -86,8 +87,8 @@ on_sessions_and_objects = record { sessions = true; objects = true; operations =
 abbrev on_all : Effects
 on_all = record { sessions = true; objects = true; operations = true }
 
--- what a call that was answered OK may change; one that wasn't may still count as a wrong try of a PIN, and changes nothing
--- else
+-- what a call that was answered OK may change; one that wasn't may still count as a wrong try of a PIN, and
+-- changes nothing else
 abbrev pub effects_of : Option Call → Effects
 effects_of None = nothing
 effects_of (Some (call.InitToken pin)) = on_sessions_and_objects

@@ -48,11 +48,13 @@ view_of h = record { user = is_user_in h; logins = user_logins h }
 abbrev pub is_visible_with : View → List Item → Bool
 is_visible_with view attributes = not (is_set attributes attribute.Private) || view.user
 
--- the handle of a public object is its number, that of a private one is above by 2^32 for each login of the user so far
+-- the handle of a public object is its number, that of a private one is above by 2^32 for each login of the
+-- user so far
 abbrev pub handle_with : View → List Item → ℕ → ℕ
 handle_with view attributes n = if is_set attributes attribute.Private then n + 2 ^ 32 * view.logins else n
 
--- the handle names the object with these attributes and this number: the object is visible, and this is its handle
+-- the handle names the object with these attributes and this number: the object is visible, and this is its
+-- handle
 abbrev pub names_with : View → List Item → ℕ → ℕ → Bool
 names_with view attributes handle n = is_visible_with view attributes && handle_with view attributes n == handle
 
@@ -81,9 +83,9 @@ creation_attributes other named = []
 abbrev pub is_session_object : List Item → Bool
 is_session_object attributes = not (is_set attributes attribute.Token)
 
--- the attributes that a call leaves to the object of number n, which this session created, or None where it ends the
--- object: a destruction that names it, an initialization of the token, for a session object the closing of its session or
--- of all sessions, and for a private session object a logout
+-- the attributes that a call leaves to the object of number n, which this session created, or None where it
+-- ends the object: a destruction that names it, an initialization of the token, for a session object the
+-- closing of its session or of all sessions, and for a private session object a logout
 abbrev pub object_after : Option Call → View → ℕ → ℕ → List Item → Option (List Item)
 object_after (Some (call.DestroyObject session object)) view n creator attributes =
     if names_with view attributes object n then None else Some attributes

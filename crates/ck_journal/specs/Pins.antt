@@ -24,7 +24,8 @@ is_pin (Some pin) given = same_pin pin given
 
 -- ---- whom a call is about
 
--- whose PIN C_SetPIN changes in a session of this state: the security officer's in read/write SO, else the normal user's
+-- whose PIN C_SetPIN changes in a session of this state: the security officer's in read/write SO, else the
+-- normal user's
 abbrev pub pin_owner : SessionState → UserType
 pin_owner state.RwSo = user.So
 pin_owner other = user.User
@@ -55,8 +56,8 @@ abbrev pub is_initialized : History → Bool
 is_initialized (start b) = b.initialized
 is_initialized (e ◁ h) = initializes (done e) || is_initialized h
 
--- the security officer's PIN after a call, by the owner of the session's PIN: the first initialization sets it, a later
--- one keeps it
+-- the security officer's PIN after a call, by the owner of the session's PIN: the first initialization sets
+-- it, a later one keeps it
 abbrev pub so_pin_after : Option Call → UserType → Option Pin → Option Pin
 so_pin_after (Some (call.InitToken pin)) owner None = Some pin
 so_pin_after (Some (call.SetPin session old new)) user.So before = Some new
@@ -88,7 +89,8 @@ present_pin user.User h = user_pin h
 
 -- ---- wrong tries
 
--- the user's tries go back to 0: a call that is about the user's PIN was answered OK, or the token was initialized
+-- the user's tries go back to 0: a call that is about the user's PIN was answered OK, or the token was
+-- initialized
 abbrev pub resets : UserType → History → Option Call → Bool
 resets u h c = is_about u h c || initializes c
 

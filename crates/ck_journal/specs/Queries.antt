@@ -12,7 +12,8 @@ use Rattle.ck_journal.specs.declared.calls.AttributeQuery.{AttributeQuery}
 use Rattle.ck_journal.specs.declared.replies.Body.TheVariants as body
 use Rattle.ck_journal.specs.declared.replies.Reply.{Reply}
 
--- a value, if the object has one, asked for with this room; room None, like a NULL pValue, asks for its length
+-- a value, if the object has one, asked for with this room; room None, like a NULL pValue, asks for its
+-- length
 abbrev pub value_answer : Option (List ℕ) → Option ℕ → Answer
 value_answer None room = answer.Unavailable
 value_answer (Some value) None = answer.Length (length value)

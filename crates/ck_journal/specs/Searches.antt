@@ -19,7 +19,8 @@ abbrev pub starts_search : Option Call → ℕ → Bool
 starts_search (Some (call.FindObjectsInit session template)) s = session == s
 starts_search other s = false
 
--- the call ends the session's search: C_FindObjectsFinal, the closing of the session or of all sessions, and any logout
+-- the call ends the session's search: C_FindObjectsFinal, the closing of the session or of all sessions, and
+-- any logout
 abbrev pub ends_search : Option Call → ℕ → Bool
 ends_search (Some (call.FindObjectsFinal session)) s = session == s
 ends_search (Some (call.CloseSession session)) s = session == s
@@ -53,9 +54,11 @@ search_template other = []
 -- what the session's last search found when it started
 abbrev pub found_objects : History → ℕ → List ℕ
 found_objects (start b) s = []
-found_objects (e ◁ h) s = if starts_search (done e) s then matching_objects (e ◁ h) (search_template (done e)) else found_objects h s
+found_objects (e ◁ h) s =
+    if starts_search (done e) s then matching_objects (e ◁ h) (search_template (done e))
+    else found_objects h s
 
--- ---- what it has handed out
+-- ---- what it has returned
 
 -- the number of the object that a handle is of
 abbrev pub number_of_handle : ℕ → ℕ
@@ -70,25 +73,25 @@ abbrev pub handles_in : Body → List ℕ
 handles_in (body.Handles handles) = handles
 handles_in other = []
 
--- the handles that an entry hands out from the session's search
-abbrev pub handed_out : Entry → ℕ → List ℕ
-handed_out e s = if asks_search (done e) s then handles_in e.reply.body else []
+-- the handles that an entry returns from the session's search
+abbrev pub returned_handles : Entry → ℕ → List ℕ
+returned_handles e s = if asks_search (done e) s then handles_in e.reply.body else []
 
 -- the last of these numbers, or this one where there is none
 abbrev pub last_or : ℕ → List ℕ → ℕ
 last_or before [] = before
 last_or before (n ∷ ns) = last_or n ns
 
--- the number of the object that the session's last search handed out last; 0, which is no object's, where none
+-- the number of the object that the session's last search returned last; 0, which is no object's, where none
 abbrev pub last_number : History → ℕ → ℕ
 last_number (start b) s = 0
 last_number (e ◁ h) s =
     if starts_search (done e) s then 0
-    else last_or (last_number h s) (map number_of_handle (handed_out e s))
+    else last_or (last_number h s) (map number_of_handle (returned_handles e s))
 
 -- ---- what it has left
 
--- what was found and stands after what was handed out
+-- what was found and stands after what was returned
 abbrev pub remaining_objects : History → ℕ → List ℕ
 remaining_objects h s = filter (λ n. nat_lt (last_number h s) n) (found_objects h s)
 

@@ -67,8 +67,8 @@ login_after (Some (call.Login session user pin)) before = user_of user
 login_after (Some (call.Logout session)) before = None
 login_after other before = before
 
--- who is logged in: nobody where no session is open, else the user of the last login with no logout and no front
--- without an open session after it
+-- who is logged in: nobody where no session is open, else the user of the last login with no logout and no
+-- front without an open session after it
 abbrev pub login : History → Option UserType
 login (start b) = None
 login (e ◁ h) = if length (open_sessions (e ◁ h)) == 0 then None else login_after (done e) (login h)

@@ -24,8 +24,8 @@ pub enum Body {
         state: SessionState,
         flags: u64,
     },
-    /// The token's flags, the most sessions that may be open at once, and how many sessions and how many read/write
-    /// sessions are open.
+    /// The token's flags, the most sessions that may be open at once, and how many sessions and how many
+    /// read/write sessions are open.
     Token {
         flags: TokenFlags,
         limit: u64,
@@ -34,7 +34,7 @@ pub enum Body {
     },
     /// One answer for each query, in their order.
     Attributes(Sequence<Answer>),
-    /// The handles of the objects that a search hands out, in the order of their creations.
+    /// The handles of the objects that a search returns, in the order of their creations.
     Handles(Sequence<u64>),
 }
 

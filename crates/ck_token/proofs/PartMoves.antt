@@ -67,9 +67,6 @@ module _ (h : History) where
   nothing_done (call.GetAttributeValue session object queries) b is = (refl, refl, refl)
   nothing_done other b is = cc
 
-  nobody : (u : UserType) → is_user u None ≡ false
-  nobody u = refl
-
   -- a refusal that changes nothing is no wrong try of anybody's PIN
   nothing_tried : (code : RvError) (c : Call) (u : UserType) → change.Nothing ≡ refusal_change code (about h (Some c))
       → is_about u h (cond (is_wrong_pin (rv.Error code)) (Some c) None) ≡ false

@@ -1,12 +1,18 @@
 -- A run of a list of calls, of which some are answered and the rest is left
-use Rattle.std.proofs.Common.{◌≡◌, ℕ, ◌+◌, List, [], ◌∷◌, ◌++◌, length, refl, sym, ap, ◌∙◌, append_assoc, length-append}
+use Rattle.std.proofs.Common.{◌≡◌, ℕ, suc, ◌+◌, ◌<◌, ◌≤◌, false, List, [], ◌∷◌, ◌++◌, length, get_or, refl, sym, ap, ◌∙◌, subst, arith, append_assoc, length-append}
+use Rattle.std.specs.List.{All}
 use Rattle.std.specs.Prelude.{reverse}
 use Rattle.std.proofs.lemmas.List.{reverse-append, reverse-reverse}
 use Rattle.ck_types.specs.TokenLimits.{Ranges}
 use Rattle.ck_journal.specs.Answers.{IsLegal}
 use Rattle.ck_journal.specs.Histories.{History, ◌◁◌}
 use Rattle.ck_journal.specs.declared.calls.Call.{Call}
+use Rattle.ck_token.specs.Decisions.{takes_memory}
 use Rattle.ck_token.specs.TokenStates.{TokenState, entry_of, after, HasAnswered, IsAnswered}
+
+get_or-here : (before : List (ℕ × Call)) (c : ℕ × Call) (later : List (ℕ × Call)) → get_or (before ++ c ∷ later) (length before) c ≡ c
+get_or-here [] c later = refl
+get_or-here (d ∷ before) c later = get_or-here before c later
 
 -- so many calls of the list are answered, and the others are left, the last first
 pub record Answers (old : TokenState) (calls : List (ℕ × Call)) (count : ℕ) (left : List (ℕ × Call)) (new : TokenState) : Type 0 where
@@ -14,6 +20,7 @@ pub record Answers (old : TokenState) (calls : List (ℕ × Call)) (count : ℕ)
   pub parts : calls ≡ answered ++ reverse left
   pub counted : length answered ≡ count
   pub has : HasAnswered old new answered
+  pub room : old.spare ≤ new.spare + count
 
 -- one more call
 pub after-last : (limits : Ranges) (h : History) (calls : List (ℕ × Call)) (c : ℕ × Call) →
@@ -28,12 +35,13 @@ module _ (old : TokenState) (calls : List (ℕ × Call)) where
     parts = sym (ap reverse r ∙ reverse-reverse calls);
     counted = refl;
     has = record { limits = refl; history = refl; legal = legal };
+    room = omega arith;
   }
 
   pub Answers-more : (count : ℕ) (rest : List (ℕ × Call)) (c : ℕ × Call) (left : List (ℕ × Call)) (token new : TokenState) (reply : _)
       → left ≡ rest ++ c ∷ [] → Answers old calls count left token → IsAnswered token new c.0 c.1 reply → IsLegal new.limits new.history
-      → Answers old calls (count + 1) rest new
-  Answers-more count rest c left token new reply l a step legal = record {
+      → token.spare ≤ new.spare + 1 → Answers old calls (count + 1) rest new
+  Answers-more count rest c left token new reply l a step legal room = record {
     answered = a.answered ++ c ∷ [];
     parts = a.parts ∙ ap (λ r. a.answered ++ r) (ap reverse l ∙ reverse-append rest (c ∷ [])) ∙ sym (append_assoc a.answered (c ∷ []) (reverse rest));
     counted = length-append a.answered (c ∷ []) ∙ ap (λ n. n + 1) a.counted;
@@ -42,4 +50,22 @@ module _ (old : TokenState) (calls : List (ℕ × Call)) where
       history = step.entered ∙ rw (a.has.limits, a.has.history) (sym (after-last old.limits old.history a.answered c));
       legal = legal;
     };
+    room = let before = a.room in omega arith;
   }
+
+  -- where the journal has room for all calls and none of them takes other memory, the next one has room and takes none
+  pub Answers-free : (count : ℕ) (rest : List (ℕ × Call)) (c : ℕ × Call) (left : List (ℕ × Call)) (token : TokenState)
+      → left ≡ rest ++ c ∷ [] → Answers old calls count left token → length calls ≤ old.spare
+      → All (λ (c : ℕ × Call). takes_memory c.1 ≡ false) calls
+      → (0 < token.spare) × (takes_memory c.1 ≡ false)
+  Answers-free count rest c left token l a enough free =
+      let parts : calls ≡ a.answered ++ (c ∷ reverse rest) =
+          a.parts ∙ ap (λ r. a.answered ++ r) (ap reverse l ∙ reverse-append rest (c ∷ [])) in
+      let sum : length calls ≡ length a.answered + suc (length (reverse rest)) =
+          ap length parts ∙ length-append a.answered (c ∷ reverse rest) in
+      let counted = a.counted in
+      let room = a.room in
+      (omega arith,
+      subst (λ (d : ℕ × Call). takes_memory d.1 ≡ false)
+      (ap (λ cs. get_or cs (length a.answered) c) parts ∙ get_or-here a.answered c (reverse rest))
+      (free (length a.answered) c (omega arith)))

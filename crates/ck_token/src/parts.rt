@@ -3,8 +3,8 @@ use ck_sessions::Sessions;
 use ck_store::Store;
 use ck_types::NoMemory;
 
-/// The sessions and the objects of a token. While a call is carried out they are ahead of the journal, so what ties them to a
-/// history stands in the contracts.
+/// The sessions and the objects of a token. While a call is carried out they are ahead of the journal, so
+/// what ties them to a history stands in the contracts.
 #[derive(Debug, Drop)]
 pub(crate) struct Parts {
     pub(crate) sessions: Sessions,
@@ -37,7 +37,8 @@ impl Parts {
     pub(crate) fn apply(&mut self, change: Change)
         requires room { HasRoom self.old change }
         requires counted { IsCounted self.old change }
-        ensures agree { (limits : Ranges) (h : History) (e : Entry) → IsLegal limits (e ◁ h) → change ≡ effect h e.call e.reply
+        ensures agree { (limits : Ranges) (h : History) (e : Entry) → IsLegal limits (e ◁ h)
+            → change ≡ effect h e.call e.reply
             → PartsAgree h self.old → PartsAgree (e ◁ h) self.new }
     {
         match change {

@@ -1,5 +1,7 @@
-ghost use Rattle.std.specs.Prelude.{OnOk, OnErr};
+ghost use Rattle.std.specs.Prelude.{◌≡◌, ◌<◌, ◌≤◌, ◌+◌, ℕ, false, length, All, IsOk, OnOk, OnErr};
 ghost use Rattle.ck_journal.specs.Answers.{answer, IsLegal};
+ghost use Rattle.ck_journal.specs.declared.calls.Call.{Call};
+ghost use Rattle.ck_token.specs.Decisions.{takes_memory, may_run_out};
 ghost use Rattle.ck_token.specs.Runs.{IsRun};
 ghost use Rattle.ck_token.specs.TokenStates.{IsAnswered, IsUnchanged};
 
@@ -16,10 +18,13 @@ pub struct Stopped {
     pub answered: u64,
 }
 
-/// Makes these calls, each with its caller, one after the other. Where one finds no memory, the token is as the calls before
-/// it left it.
+/// Makes these calls, each with its caller, one after the other. Where one finds no memory, the token is as the calls
+/// before it left it. Where the journal has room for all of them, calls that take no memory beside their entries are
+/// all answered.
 pub fn run(token: &mut Token, alloc: Global, calls: Vec<(u32, Call)>) -> Result<(), Stopped>
-    ensures { IsRun token.old token.new calls.items result }
+    ensures run { IsRun token.old token.new calls.items result }
+    ensures succeeds { length calls.items ≤ token.old.spare
+        → All (λ (c : ℕ × Call). takes_memory c.1 ≡ false) calls.items → IsOk result }
 {
     // Tells the prover that the journal is legal before the first call.
     let _journal = token.journal();
@@ -35,11 +40,15 @@ pub fn run(token: &mut Token, alloc: Global, calls: Vec<(u32, Call)>) -> Result<
     Ok(())
 }
 
-/// Makes a call whose reply nobody waits for: the journal has it.
+/// Makes a call whose reply is read in the journal alone.
 fn step(token: &mut Token, alloc: Global, caller: u32, call: Call) -> Result<(), NoMemory>
-    ensures answered { OnOk result (IsAnswered token.old token.new caller call (answer token.old.limits token.old.history call)) }
+    ensures answered { OnOk result (IsAnswered token.old token.new caller call
+        (answer token.old.limits token.old.history call)) }
     ensures unchanged { OnErr result (IsUnchanged token.old token.new) }
     ensures legal { IsLegal token.new.limits token.new.history }
+    ensures succeeds { 0 < token.old.spare
+        → may_run_out token.old.limits token.old.history call ≡ false → IsOk result }
+    ensures room { OnOk result (token.old.spare ≤ token.new.spare + 1) }
 {
     let _reply = token.call(alloc, caller, call)?;
     Ok(())

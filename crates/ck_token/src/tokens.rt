@@ -14,9 +14,9 @@ mod readings;
 mod search_calls;
 mod session_calls;
 
-/// A token with its sessions and objects, wholly in memory. Contracts see its limits, the history of its journal and for
-/// how many more entries the journal has room; that sessions and objects are what the history says, and that the history is
-/// legal, is true of every token.
+/// A token with its sessions and objects, wholly in memory. Contracts see its limits, the history of its
+/// journal and for how many more entries the journal has room; that sessions and objects are what the history
+/// says, and that the history is legal, is true of every token.
 #[derive(Debug, Drop)]
 pub struct Token {
     limits: Limits,
@@ -92,14 +92,16 @@ impl Token {
         self.journal.spare()
     }
 
-    /// Answers a call and enters it in the journal. Where there is no memory for it, nothing has changed and the call isn't
-    /// in the journal. Where the journal has room, only a call that passes its checks can run out of memory, and only one
-    /// that opens a session, creates or changes an object, searches or reads attributes.
+    /// Answers a call and enters it in the journal. Where there is no memory for it, nothing has changed and
+    /// the call isn't in the journal. Where the journal has room, only a call that passes its checks can run
+    /// out of memory, and only one that opens a session, creates or changes an object, searches or reads
+    /// attributes.
     pub fn call(&mut self, alloc: Global, caller: u32, call: Call) -> Result<Reply, NoMemory>
         ensures answered { IfOk result (λ reply. IsAnswered self.old self.new caller call reply) }
         ensures unchanged { OnErr result (IsUnchanged self.old self.new) }
         ensures legal { IsLegal self.new.limits self.new.history }
-        ensures succeeds { 0 < self.old.spare → may_run_out self.old.limits self.old.history call ≡ false → IsOk result }
+        ensures succeeds { 0 < self.old.spare
+            → may_run_out self.old.limits self.old.history call ≡ false → IsOk result }
         ensures room { OnOk result (self.old.spare ≤ self.new.spare + 1) }
         ensures spare { OnErr result (self.old.spare ≤ self.new.spare) }
     {
@@ -119,8 +121,10 @@ impl Token {
     /// The reply to a call, and what the call changes.
     #[inline(always)]
     fn decide(&self, alloc: Global, call: &Call) -> Result<Decision, NoMemory>
-        ensures reply { IfOk result (λ decision. decision.reply ≡ answer self.now.limits self.now.history call.now) }
-        ensures change { IfOk result (λ decision. decision.change ≡ effect self.now.history call.now decision.reply) }
+        ensures reply { IfOk result (λ decision.
+            decision.reply ≡ answer self.now.limits self.now.history call.now) }
+        ensures change { IfOk result (λ decision.
+            decision.change ≡ effect self.now.history call.now decision.reply) }
         ensures succeeds { OnErr result (may_run_out self.now.limits self.now.history call.now ≡ true) }
     {
         match self.decision(alloc, call) {

@@ -56,7 +56,8 @@ impl Token {
         )
     }
 
-    /// The number of the next object, else CKR_DEVICE_MEMORY where as many have been created as the token allows.
+    /// The number of the next object, else CKR_DEVICE_MEMORY where as many have been created as the token
+    /// allows.
     fn next_number(&self) -> Result<u64, RvError>
         ensures number { IfOk result (λ number. number ≡ creations self.now.history + 1) }
         ensures bound { IfOk result (λ number. number < 2 ^ 32) }
@@ -113,7 +114,8 @@ impl Token {
         object: u64,
         template: &Template,
     ) -> Result<Decision, Refused>
-        ensures { IsDecision self.now.limits self.now.history (call.CopyObject session object template.now) result }
+        ensures { IsDecision self.now.limits self.now.history
+            (call.CopyObject session object template.now) result }
     {
         let row = self.session(session)?;
         let (_, source) = self.object(object)?;
@@ -132,7 +134,8 @@ impl Token {
         object: u64,
         queries: &[AttributeQuery],
     ) -> Result<Decision, Refused>
-        ensures { IsDecision self.now.limits self.now.history (call.GetAttributeValue session object queries.now) result }
+        ensures { IsDecision self.now.limits self.now.history
+            (call.GetAttributeValue session object queries.now) result }
     {
         self.session(session)?;
         let (_, attributes) = self.object(object)?;
@@ -147,7 +150,8 @@ impl Token {
         object: u64,
         template: &Template,
     ) -> Result<Decision, Refused>
-        ensures { IsDecision self.now.limits self.now.history (call.SetAttributeValue session object template.now) result }
+        ensures { IsDecision self.now.limits self.now.history
+            (call.SetAttributeValue session object template.now) result }
     {
         let row = self.session(session)?;
         let (number, present) = self.object(object)?;

@@ -55,7 +55,8 @@ fn check_pin(user: UserType, credential: Credential, pin: Pin) -> Result<(), Ref
     }
 }
 
-/// CKR_USER_ALREADY_LOGGED_IN where the user is logged in, CKR_USER_ANOTHER_ALREADY_LOGGED_IN where another one is.
+/// CKR_USER_ALREADY_LOGGED_IN where the user is logged in, CKR_USER_ANOTHER_ALREADY_LOGGED_IN where another
+/// one is.
 fn check_nobody_in(user: UserType, login: Option<UserType>) -> Result<(), RvError>
     ensures { result ≡ check_of (logged_in_error user login) }
 {

@@ -18,7 +18,8 @@ impl Token {
         session: u64,
         template: &Template,
     ) -> Result<Decision, Refused>
-        ensures { IsDecision self.now.limits self.now.history (call.FindObjectsInit session template.now) result }
+        ensures { IsDecision self.now.limits self.now.history
+            (call.FindObjectsInit session template.now) result }
     {
         let row = self.session(session)?;
         error_if(row.is_searching(), RvError::OperationActive)?;
@@ -60,7 +61,8 @@ impl Token {
         max: u64,
     ) -> Result<Vec<u64>, NoMemory>
         ensures { IfOk result (λ handles.
-            handles.items ≡ map (handle_of self.now.history) (take max (filter (is_visible self.now.history) numbers.now))) }
+            handles.items ≡ map (handle_of self.now.history)
+                (take max (filter (is_visible self.now.history) numbers.now))) }
     {
         let view = self.view();
         let mut handles = Vec::new(alloc);
