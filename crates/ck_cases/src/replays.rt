@@ -19,7 +19,7 @@ fn compare(alloc: Global, step: &Step, reply: &Reply) -> Result<(), CaseError> {
 
 /// Makes the calls of a case one after the other.
 fn play_by_calls(alloc: Global, case: &Case) -> Result<(), CaseError> {
-    let mut token = Token::new(alloc, case.limits)?;
+    let mut token = Token::new(alloc, case.limits);
     for step in case.steps.iter() {
         let (caller, call) = step.call(alloc)?;
         let reply = token.call(alloc, caller, call)?;
@@ -34,7 +34,8 @@ fn play_by_run(alloc: Global, case: &Case) -> Result<(), CaseError> {
     for step in case.steps.iter() {
         calls.push(step.call(alloc)?)?;
     }
-    let token = run(alloc, case.limits, calls).map_err(|_| CaseError::Memory)?;
+    let mut token = Token::new(alloc, case.limits);
+    run(&mut token, alloc, calls).map_err(|_| CaseError::Memory)?;
     let mut number = 0u64;
     for step in case.steps.iter() {
         number = number.saturating_add(1);

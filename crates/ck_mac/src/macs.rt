@@ -64,7 +64,6 @@ impl Mac {
     }
 
     /// The HMAC of the message, or its first bytes.
-    #[tactic(auto, unfolding(crate::specs::Macs::HoldsMac))]
     pub fn finish(self) -> Tag
         ensures first { (hash : Hash) (key : List ℕ) (n : ℕ) (message : List ℕ)
             → HoldsMac hash key n self message → result ≡ take n (hmac hash key message) }

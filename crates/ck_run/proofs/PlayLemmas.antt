@@ -8,7 +8,9 @@ use Rattle.ck_script.specs.Lines.{lines_in}
 use Rattle.ck_token.specs.TokenStates.{TokenState}
 use Rattle.ck_run.specs.Devices.{Reading, Writing, end_read, failed_read, read_on}
 use Rattle.ck_run.specs.Players.{HasAnswered, IsStopped, IsAnsweredSoFar, IsReading, IsTurn, IsOfLine, onto}
-use Rattle.ck_run.specs.Plays.{new_token, output_of, after_reads, ended_lines, IsPlayed, AreReads, failed_reads, one_if, Outcome}
+use Rattle.ck_journal.specs.Bases.{empty_base}
+use Rattle.ck_journal.specs.Histories.{start}
+use Rattle.ck_run.specs.Plays.{output_of, after_reads, ended_lines, IsPlayed, AreReads, failed_reads, one_if, Outcome}
 use Rattle.ck_run.specs.declared.faults.PlayFault.{PlayFault}
 use Rattle.ck_run.specs.declared.faults.PlayFault.TheVariants as fault
 use Rattle.ck_run.specs.declared.players.Player.{Player}
@@ -200,9 +202,10 @@ reading-so_far limits read written reads player next count bytes A B P Q some h 
 -- nothing is read yet
 pub reading-nothing : (limits : Ranges) (read : Reading) (written : Writing) (player : Player)
     (A : Reading → Type 0) (P : Writing → Type 0)
-    → player.token ≡ new_token limits → player.open_line.items ≡ [] → player.number ≡ 1
+    → player.token.limits ≡ limits → player.token.history ≡ start empty_base
+    → player.open_line.items ≡ [] → player.number ≡ 1
     → A read → P written → IsReading limits read written 0 player A P
-reading-nothing limits read written player A P token empty number h w = record {
+reading-nothing limits read written player A P same history empty number h w = record {
   script = [];
   earlier = [];
   so_far = record {
@@ -210,8 +213,8 @@ reading-nothing limits read written player A P token empty number h w = record {
     parts = ap (λ (bytes : List ℕ). bytes ∷ []) (sym empty);
     on_time = omega arith;
     answered = record {
-      same_limits = ap (λ (t : TokenState). t.limits) token;
-      history = ap (λ (t : TokenState). t.history) token;
+      same_limits = same;
+      history = history;
       next_number = number;
       good = tt;
       writer = subst (λ (xs : List ℕ). P (record { bytes = xs; failures = written.failures })) (sym (append-nil written.bytes)) w;

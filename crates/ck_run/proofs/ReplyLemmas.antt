@@ -1,7 +1,8 @@
 -- The calls of further lines, and the history after further calls
 use Rattle.std.proofs.Common.{◌≡◌, ℕ, List, [], ◌∷◌, ◌++◌, Option, Some, None, refl, sym, ap, ◌∙◌, false}
 use Rattle.ck_types.specs.TokenLimits.{Ranges}
-use Rattle.ck_journal.specs.Histories.{History}
+use Rattle.ck_journal.specs.Bases.{empty_base}
+use Rattle.ck_journal.specs.Histories.{History, start}
 use Rattle.ck_journal.specs.declared.calls.Call.{Call}
 use Rattle.ck_script.specs.Lines.{meaning}
 use Rattle.ck_script.specs.declared.lines.Line.{Line}
@@ -31,8 +32,8 @@ pub history_of-line : (limits : Ranges) (lines : List (List ℕ)) (l : List ℕ)
     → m ≡ meaning l
     → history_of limits (lines ++ l ∷ []) ≡ after limits (history_of limits lines) (with_call m [])
 history_of-line limits lines l m is =
-    ap (after limits []) (calls_in-append lines (l ∷ []))
-    ∙ after-append limits [] (calls_in lines) (with_call (meaning l) [])
+    ap (after limits (start empty_base)) (calls_in-append lines (l ∷ []))
+    ∙ after-append limits (start empty_base) (calls_in lines) (with_call (meaning l) [])
     ∙ ap (λ n. after limits (history_of limits lines) (with_call n [])) (sym is)
 
 -- one more good line

@@ -1,14 +1,15 @@
 -- What playing a script writes, and how it ends
 use Rattle.std.specs.Prelude.{◌≡◌, ◌⊎◌, ◌<◌, ◌≤◌, ◌+◌, ℕ, zero, suc, Bool, true, false, List, [], ◌∷◌, ◌++◌, Option, Some, None, Result, Ok, Err, length}
 use Rattle.ck_types.specs.TokenLimits.{Ranges}
-use Rattle.ck_journal.specs.Histories.{History}
+use Rattle.ck_journal.specs.Bases.{empty_base}
+use Rattle.ck_journal.specs.Histories.{History, start, ◌◁◌}
 use Rattle.ck_journal.specs.declared.calls.Call.{Call}
 use Rattle.ck_script.specs.Lines.{lines_in, meaning}
 use Rattle.ck_script.specs.Replies.{reply_text}
 use Rattle.ck_script.specs.declared.lines.Line.{Line}
 use Rattle.ck_script.specs.declared.lines.Line.TheVariants as line
 use Rattle.ck_script.specs.declared.lines.TheConstants.{LONGEST_LINE}
-use Rattle.ck_token.specs.TokenStates.{TokenState, after, entry_of}
+use Rattle.ck_token.specs.TokenStates.{after, entry_of}
 use Rattle.ck_run.specs.Devices.{Reading, Writing, IsCount}
 use Rattle.ck_run.specs.declared.faults.PlayFault.{PlayFault}
 use Rattle.ck_run.specs.declared.faults.PlayFault.TheVariants as fault
@@ -41,22 +42,18 @@ ended_lines (l ∷ later) = length later
 
 -- ---- the token and its replies
 
--- a token that has answered nothing
-abbrev pub new_token : Ranges → TokenState
-new_token limits = record { limits = limits; history = [] }
-
 -- the history after one more call
 abbrev pub called : Ranges → History → ℕ → Call → History
-called limits h caller call = entry_of limits h caller call ∷ h
+called limits h caller call = entry_of limits h caller call ◁ h
 
 -- the history of a new token after the calls of these lines
 abbrev pub history_of : Ranges → List (List ℕ) → History
-history_of limits lines = after limits [] (calls_in lines)
+history_of limits lines = after limits (start empty_base) (calls_in lines)
 
 -- the texts of the replies of a history, the oldest first
 abbrev pub replies_text : History → List ℕ
-replies_text [] = []
-replies_text (e ∷ h) = replies_text h ++ reply_text e.reply
+replies_text (start b) = []
+replies_text (e ◁ h) = replies_text h ++ reply_text e.reply
 
 -- the replies of a new token to the calls of these lines
 abbrev pub output_of : Ranges → List (List ℕ) → List ℕ

@@ -3,7 +3,9 @@ ghost use Rattle.std.specs.Prelude.{◌≡◌, ◌<◌, ◌≤◌, ◌==◌, [],
 ghost use Rattle.ck_types.specs.TokenLimits.{Ranges};
 ghost use Rattle.ck_run.specs.Devices.{Reading, Writing, end_read, failed_read, read_on};
 ghost use Rattle.ck_run.specs.Players.{IsReading, TakesTurn, StopsInTurn};
-ghost use Rattle.ck_run.specs.Plays.{IsPlayed, new_token};
+ghost use Rattle.ck_journal.specs.Bases.{empty_base};
+ghost use Rattle.ck_journal.specs.Histories.{start};
+ghost use Rattle.ck_run.specs.Plays.{IsPlayed};
 
 use crate::devices::{Sink, Source};
 use crate::faults::PlayFault;
@@ -49,7 +51,7 @@ pub fn play_with<R: Source, W: Sink>(
         (R.is_read reader.new) (W.is_written writer.new) result }
 {
     let mut buffer = new_buffer(alloc)?;
-    let mut player = new_player(alloc, limits)?;
+    let mut player = new_player(alloc, limits);
     play_on(
         &mut player,
         alloc,
@@ -67,18 +69,18 @@ fn new_buffer(alloc: Global) -> Result<Vec<u8>, NoMemory>
     Ok(buffer)
 }
 
-fn new_player(alloc: Global, limits: Limits) -> Result<Player, NoMemory>
-    ensures token { IfOk result (λ player. player.token ≡ new_token limits) }
-    ensures open_line { IfOk result (λ player. player.open_line.items ≡ []) }
-    ensures number { IfOk result (λ player. player.number ≡ 1) }
+fn new_player(alloc: Global, limits: Limits) -> Player
+    ensures limits { result.token.limits ≡ limits }
+    ensures history { result.token.history ≡ start empty_base }
+    ensures open_line { result.open_line.items ≡ [] }
+    ensures number { result.number ≡ 1 }
 {
-    let token = Token::new(alloc, limits)?;
-    Ok(Player {
-        token,
+    Player {
+        token: Token::new(alloc, limits),
         open_line: Vec::new(alloc),
         text: Vec::new(alloc),
         number: 1,
-    })
+    }
 }
 
 fn play_on<R: Source, W: Sink>(

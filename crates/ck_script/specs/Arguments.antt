@@ -8,7 +8,7 @@ use Rattle.hex.specs.Hex.{decode_of}
 use Rattle.ck_types.specs.Attributes.{same_bytes}
 use Rattle.ck_types.specs.Pins.{pin_of}
 use Rattle.ck_types.specs.declared.pins.Pin.{Pin}
-use Rattle.ck_types.specs.declared.templates.Item.{Item}
+use Rattle.ck_types.specs.declared.items.Item.{Item}
 use Rattle.ck_journal.specs.declared.calls.AttributeQuery.{AttributeQuery}
 use Rattle.ck_script.specs.Parts.{parts_of, with_two}
 

@@ -5,11 +5,11 @@ use Rattle.std.specs.List.{join_with_byte}
 use Rattle.hex.specs.Hex.{encode_lower}
 use Rattle.ck_types.specs.ReturnCodes.{number_of}
 use Rattle.ck_types.specs.Users.{state_number}
-use Rattle.ck_journal.specs.declared.calls.Answer.{Answer}
-use Rattle.ck_journal.specs.declared.calls.Answer.TheVariants as answer
-use Rattle.ck_journal.specs.declared.calls.Body.{Body}
-use Rattle.ck_journal.specs.declared.calls.Body.TheVariants as body
-use Rattle.ck_journal.specs.declared.calls.Reply.{Reply}
+use Rattle.ck_journal.specs.declared.replies.Answer.{Answer}
+use Rattle.ck_journal.specs.declared.replies.Answer.TheVariants as answer
+use Rattle.ck_journal.specs.declared.replies.Body.{Body}
+use Rattle.ck_journal.specs.declared.replies.Body.TheVariants as body
+use Rattle.ck_journal.specs.declared.replies.Reply.{Reply}
 use Rattle.ck_script.specs.declared.lines.TheConstants.{LINE_END}
 
 -- a number in hexadecimal, in lower case

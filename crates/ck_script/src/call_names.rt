@@ -97,7 +97,7 @@ impl CallName {
     }
 
     /// How many arguments the call takes in a script.
-    pub fn arity(self) -> Arity {
+    pub(crate) fn arity(self) -> Arity {
         match self {
             CallName::GetTokenInfo | CallName::CloseAllSessions => Arity::None,
             CallName::InitToken

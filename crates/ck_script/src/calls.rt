@@ -251,7 +251,7 @@ fn call_of(alloc: Global, name: CallName, arguments: Parts) -> Result<Call, Line
 }
 
 /// The reason of a call of a name that no call has. Where there is no memory to look for a similar
-/// name, none is told.
+/// name, none is named.
 fn unknown_call(alloc: Global, name: &[u8]) -> BadLine {
     match similar_name(alloc, name) {
         Ok(Some(name)) => BadLine::MisspelledCall(name),

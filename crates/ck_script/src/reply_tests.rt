@@ -1,6 +1,6 @@
 use crate::replies::push_reply;
 use ck_journal::{Answer, Body, Reply};
-use ck_types::{Bytes, NoMemory, Rv, Sequence, SessionState, TokenFlags};
+use ck_types::{Bytes, NoMemory, Rv, RvError, Sequence, SessionState, TokenFlags};
 use std::alloc::Global;
 use std::test::Fail;
 
@@ -63,12 +63,12 @@ fn replies_have_their_text(rt: HostRuntime) -> Result<(), Fail> {
     let letter = value(alloc, b"a")?;
     let replies = [
         (code(Rv::Ok), "0\n"),
-        (code(Rv::ArgumentsBad), "7\n"),
-        (code(Rv::AttributeReadOnly), "10\n"),
-        (code(Rv::ActionProhibited), "1b\n"),
-        (code(Rv::SessionHandleInvalid), "b3\n"),
-        (code(Rv::UserAlreadyLoggedIn), "100\n"),
-        (code(Rv::BufferTooSmall), "150\n"),
+        (code(Rv::Error(RvError::ArgumentsBad)), "7\n"),
+        (code(Rv::Error(RvError::AttributeReadOnly)), "10\n"),
+        (code(Rv::Error(RvError::ActionProhibited)), "1b\n"),
+        (code(Rv::Error(RvError::SessionHandleInvalid)), "b3\n"),
+        (code(Rv::Error(RvError::UserAlreadyLoggedIn)), "100\n"),
+        (code(Rv::Error(RvError::BufferTooSmall)), "150\n"),
         (handle(0), "0 0\n"),
         (handle(9), "0 9\n"),
         (handle(10), "0 10\n"),
@@ -103,7 +103,7 @@ fn replies_have_their_text(rt: HostRuntime) -> Result<(), Fail> {
         ),
         (
             attributes(
-                Rv::AttributeTypeInvalid,
+                Rv::Error(RvError::AttributeTypeInvalid),
                 vec![in alloc; letter, Answer::Unavailable, Answer::Length(8)]?,
             ),
             "12 =61,!,:8\n",

@@ -1,6 +1,6 @@
 use crate::{
-    Attribute, Bytes, Class, Item, Limits, NoMemory, Pin, Placement, Protections, Record, Refusal,
-    Rv, RvError, Sequence, Template, error_if,
+    Attribute, Bytes, Class, Item, Limits, NoMemory, Pin, Placement, Record, Refusal, Rv, RvError,
+    Sequence, Template, error_if,
 };
 use std::alloc::Global;
 use std::process::Abort;
@@ -96,11 +96,23 @@ fn number_of<T>(record: &Result<T, Refusal>) -> u64 {
     }
 }
 
-/// Templates, and the numbers of the codes that a copy and a change of a private object by each answer.
+/// A private object.
+fn private_object(alloc: Global) -> Result<Record, Fail> {
+    let template = template_of(alloc, "0=0000000000000000,2=01,3=61,11=62,170=00")?;
+    Ok(Record::created(alloc, &template)?)
+}
+
+/// The numbers of the codes that a copy and a change of a private object by the template answer.
+fn copied_and_changed(alloc: Global, text: &str) -> Result<(u64, u64), Fail> {
+    let object = private_object(alloc)?;
+    let template = template_of(alloc, text)?;
+    let copied = number_of(&object.copied(alloc, &template));
+    let changed = number_of(&object.changed(alloc, &template));
+    Ok((copied, changed))
+}
+
 #[test]
 fn copies_and_changes(rt: HostRuntime) -> Result<(), Fail> {
-    let template = template_of(rt.alloc(), "0=0000000000000000,2=01,3=61,11=62,170=00")?;
-    let record = Record::created(rt.alloc(), &template)?;
     for (text, copied, changed) in [
         ("", 0x0, 0x0),
         ("3=63", 0x0, 0x0),
@@ -127,43 +139,41 @@ fn copies_and_changes(rt: HostRuntime) -> Result<(), Fail> {
         ("3=61,3=62", 0xd1, 0xd1),
         ("3=61,3=61", 0x0, 0x0),
     ] {
-        let template = template_of(rt.alloc(), text)?;
-        assert_eq!(rt;
-            number_of(&record.copied(rt.alloc(), &template)),
-            copied,
-            "{text}"
-        );
-        assert_eq!(rt;
-            number_of(&record.changed(rt.alloc(), &template)),
-            changed,
-            "{text}"
-        );
+        let answers = copied_and_changed(rt.alloc(), text)?;
+        assert_eq!(rt; answers, (copied, changed), "{text}");
     }
+    Ok(())
+}
+
+/// That the object is the private one with another label.
+fn check_values(rt: &impl Abort, alloc: Global, object: &Record) -> Result<(), Fail> {
+    check_attribute(rt, alloc, object, 0x0, None, Some(&[0; 8]))?;
+    check_attribute(rt, alloc, object, 0x1, Some(false), Some(&[0]))?;
+    check_attribute(rt, alloc, object, 0x2, Some(true), Some(&[1]))?;
+    check_attribute(rt, alloc, object, 0x3, None, Some(&[0x63]))?;
+    check_attribute(rt, alloc, object, 0x11, None, Some(&[0x62]))?;
+    check_attribute(rt, alloc, object, 0x170, Some(false), Some(&[0]))
+}
+
+#[test]
+fn copied_and_changed_values(rt: HostRuntime) -> Result<(), Fail> {
+    let object = private_object(rt.alloc())?;
     let template = template_of(rt.alloc(), "3=63")?;
-    for record in [
-        record.copied(rt.alloc(), &template)?,
-        record.changed(rt.alloc(), &template)?,
-    ] {
-        for (kind, flag, value) in [
-            (0x0, None, [0; 8].as_slice()),
-            (0x1, Some(false), &[0]),
-            (0x2, Some(true), &[1]),
-            (0x3, None, &[0x63]),
-            (0x11, None, &[0x62]),
-            (0x170, Some(false), &[0]),
-        ] {
-            check_attribute(&rt, rt.alloc(), &record, kind, flag, Some(value))?;
-        }
-    }
-    assert!(rt; record.is_set(Attribute::Private));
-    assert!(rt; !record.is_set(Attribute::Token));
-    assert_eq!(rt; record.class(), Class::Data);
-    let protections = Protections {
-        private: true,
-        sensitive: false,
-        extractable: false,
-    };
-    assert_eq!(rt; record.protections(), protections);
+    let copy = object.copied(rt.alloc(), &template)?;
+    check_values(&rt, rt.alloc(), &copy)?;
+    let changed = object.changed(rt.alloc(), &template)?;
+    check_values(&rt, rt.alloc(), &changed)
+}
+
+#[test]
+fn protections(rt: HostRuntime) -> Result<(), Fail> {
+    let object = private_object(rt.alloc())?;
+    assert!(rt; object.is_set(Attribute::Private));
+    assert!(rt; !object.is_set(Attribute::Token));
+    assert_eq!(rt; object.class(), Class::Data);
+    assert!(rt; object.protections().private);
+    assert!(rt; !object.protections().sensitive);
+    assert!(rt; !object.protections().extractable);
     Ok(())
 }
 

@@ -7,12 +7,8 @@ returns-in_err-buffer g c =
     let p = err_from_is_err_and c.from_residual.result c.from_residual.ensures.1 in
     rw p.1 (λ read written h w. played-nothing _ _ read written _ _ _ p.2 h w)
 
-pub returns-in_err-player : goal.returns-in_err-player
-returns-in_err-player g c =
-    let p = err_from_is_err_and c.from_residual-in_err-player.result c.from_residual-in_err-player.ensures.1 in
-    rw p.1 (λ read written h w. played-nothing _ _ read written _ _ _ p.2 h w)
-
 pub returns : goal.returns
 returns g c read written h w =
     c.play_on.ensures c.args.limits read written
-    (reading-nothing c.args.limits read written _ _ _ c.in_ok-player.ensures.token c.in_ok-player.ensures.open_line c.in_ok-player.ensures.number h w)
+    (reading-nothing c.args.limits read written _ _ _ c.new_player.ensures.limits c.new_player.ensures.history
+    c.new_player.ensures.open_line c.new_player.ensures.number h w)

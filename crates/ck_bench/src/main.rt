@@ -1,0 +1,69 @@
+//! Measures what single calls of a token take, without a script. With no argument it makes each kind of call a few times and
+//! writes nothing; with the argument `measure` it writes nanoseconds a call: processor time, the best of many short runs.
+#![tactic(auto)]
+
+mod rounds;
+
+use rounds::{KINDS, Kind, calls_in, prepared, round};
+use std::env;
+use std::env::Env;
+use std::io;
+use std::process::ExitCode;
+use std::time::{CpuClock, Duration};
+
+/// How often a round is made in one run, and how many runs the best is taken of.
+const ROUNDS: u64 = 1_000;
+const RUNS: u64 = 400;
+
+/// The processor time of one run of rounds on a token of its own, or `None` where one was refused.
+fn run_time<R: CpuClock + AllocGlobal>(rt: &R, kind: Kind, rounds: u64) -> io::Result<Option<Duration>> {
+    let alloc = rt.alloc();
+    let Ok(mut token) = prepared(alloc) else {
+        return Ok(None);
+    };
+    let before = rt.process_cpu_time()?;
+    for _ in 0..rounds {
+        if round(&mut token, alloc, kind).is_err() {
+            return Ok(None);
+        }
+    }
+    let after = rt.process_cpu_time()?;
+    Ok(after.checked_sub(before))
+}
+
+/// Writes what one call of the kind takes at best.
+fn measure<R: CpuClock + Print + AllocGlobal>(rt: &R, kind: Kind) -> io::Result<bool> {
+    let mut best = u128::MAX;
+    for _ in 0..RUNS {
+        let Some(time) = run_time(rt, kind, ROUNDS)? else {
+            return Ok(false);
+        };
+        best = best.min(time.as_nanos());
+    }
+    let calls = ROUNDS * calls_in(kind);
+    println!(rt; "{}: {} ns a call", kind.name(), best / u128::from(calls))?;
+    Ok(true)
+}
+
+/// Makes each kind of round, and measures it where that is asked for.
+fn run<R: Env + CpuClock + Print + AllocGlobal>(rt: &R) -> io::Result<bool> {
+    let measures = env::args(rt)?.nth(1).is_some_and(|word| word.as_str() == "measure");
+    for kind in KINDS {
+        let is_good = if measures {
+            measure(rt, kind)?
+        } else {
+            run_time(rt, kind, 3)?.is_some()
+        };
+        if !is_good {
+            return Ok(false);
+        }
+    }
+    Ok(true)
+}
+
+fn main(rt: HostRuntime) -> ExitCode {
+    match run(&rt) {
+        Ok(true) => ExitCode::SUCCESS,
+        Ok(false) | Err(_) => ExitCode::FAILURE,
+    }
+}
