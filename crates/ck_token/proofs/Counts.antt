@@ -1,8 +1,7 @@
 -- That the counts which a change raises stay in range
-use Rattle.std.proofs.Common.{◌≡◌, ℕ, ◌+◌, ◌<◌, ◌≤◌, ◌^◌, Bool, true, false, cond, not, [], ◌∷◌, Option, Some, None, refl, sym, ap, ◌∙◌, subst, arith}
+use Rattle.std.proofs.Common.{◌≡◌, ℕ, Bool, true, false, not, Option, Some, None, refl, ap, ◌∙◌, subst, arith}
 use Rattle.std.specs.Prelude.{is_none, is_some}
-use Rattle.std.specs.Option.{option_map_or}
-use Rattle.ck_types.specs.Checks.{error_if, or_else, first_of}
+use Rattle.ck_types.specs.Checks.{error_if, or_else}
 use Rattle.ck_types.specs.TokenLimits.{Ranges, AreInRange}
 use Rattle.ck_types.specs.declared.errors.RvError.{RvError}
 use Rattle.ck_types.specs.declared.errors.RvError.TheVariants as rv_error
@@ -15,11 +14,9 @@ use Rattle.ck_journal.specs.declared.calls.Call.TheVariants as call
 use Rattle.ck_journal.specs.declared.calls.Entry.{Entry}
 use Rattle.ck_journal.specs.declared.replies.Reply.{Reply}
 use Rattle.ck_journal.specs.Answers.{IsLegal, answer, call_error, session_error}
-use Rattle.ck_journal.specs.Bases.{IsSound}
-use Rattle.ck_journal.specs.Histories.{History, ◌◁◌, start_of, done}
-use Rattle.ck_journal.specs.Objects.{creations}
-use Rattle.ck_journal.specs.Pins.{pin_owner, present_pin, tries}
-use Rattle.ck_journal.specs.Sessions.{openings, user_logins, is_read_write, state_of}
+use Rattle.ck_journal.specs.Histories.{History, done}
+use Rattle.ck_journal.specs.Pins.{pin_owner, present_pin}
+use Rattle.ck_journal.specs.Sessions.{is_read_write, state_of}
 use Rattle.ck_journal.proofs.LegalLemmas.{passed-done, creation-free, user_logins-bound, openings-bound, tries-bound}
 use Rattle.ck_sessions.specs.Agreement.{SessionsState, SessionsAgree, CredentialAgrees, credential_of}
 use Rattle.ck_token.specs.Agreement.{PartsAgree, IsCounted}

@@ -1,7 +1,7 @@
 -- Which call a change is of
 use Rattle.std.proofs.Common.{◌≡◌, ℕ, Bool, true, false, cond, List, Option, Some, None, refl, sym, ap, ◌∙◌}
 use Rattle.std.specs.Prelude.{map, unwrap_or}
-use Rattle.ck_types.specs.Records.{created_items, with_given}
+use Rattle.ck_types.specs.Records.{with_given}
 use Rattle.ck_types.specs.Users.{user_of}
 use Rattle.ck_types.specs.declared.errors.RvError.{RvError}
 use Rattle.ck_types.specs.declared.errors.RvError.TheVariants as rv_error
@@ -16,7 +16,7 @@ use Rattle.ck_journal.specs.declared.calls.Call.{Call}
 use Rattle.ck_journal.specs.declared.calls.Call.TheVariants as call
 use Rattle.ck_journal.specs.declared.calls.Entry.{Entry}
 use Rattle.ck_journal.specs.declared.replies.Body.{Body}
-use Rattle.ck_journal.specs.Histories.{History, done, wrong_try, is_ok, is_wrong_pin}
+use Rattle.ck_journal.specs.Histories.{History, done, is_ok}
 use Rattle.ck_journal.specs.Objects.{creates, creation_session, creation_attributes, attributes_named, object_named, named_attributes}
 use Rattle.ck_journal.specs.Pins.{pin_owner, about}
 use Rattle.ck_journal.specs.Searches.{matching_objects, last_number, last_or, number_of_handle, handles_in}

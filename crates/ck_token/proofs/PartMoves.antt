@@ -1,11 +1,10 @@
 -- How sessions and objects keep agreeing with the history where a change is carried out
-use Rattle.std.proofs.Common.{◌≡◌, ◌≢◌, ℕ, suc, ◌+◌, ◌<◌, ◌≤◌, ◌^◌, Bool, true, false, cond, not, List, [], ◌∷◌, Option, Some, None, refl, sym, ap, ◌∙◌, subst, arith}
-use Rattle.std.specs.Prelude.{◌==◌, map, is_some, is_none, option_and_then, unwrap_or}
+use Rattle.std.proofs.Common.{◌≡◌, ℕ, Bool, true, false, cond, not, List, [], ◌∷◌, Option, Some, None, refl, ap, ◌∙◌}
+use Rattle.std.specs.Prelude.{option_and_then, unwrap_or}
 use Rattle.std.specs.Option.{option_map_or}
-use Rattle.std.proofs.lemmas.Option.{same_Some}
 use Rattle.ck_types.specs.Checks.{error_if, or_else, first_of}
 use Rattle.ck_types.specs.Records.{with_given, is_set, class_of, protections_of, placement_of, changed_error}
-use Rattle.ck_types.specs.TokenLimits.{Ranges, AreInRange}
+use Rattle.ck_types.specs.TokenLimits.{Ranges}
 use Rattle.ck_types.specs.Users.{user_of}
 use Rattle.ck_types.specs.declared.attributes.Attribute.TheVariants as attribute
 use Rattle.ck_types.specs.declared.errors.RvError.{RvError}
@@ -18,25 +17,22 @@ use Rattle.ck_types.specs.declared.templates.Template.{Template}
 use Rattle.ck_types.specs.declared.users.UserType.{UserType}
 use Rattle.ck_types.specs.declared.users.UserType.TheVariants as user
 use Rattle.ck_types.proofs.ChangeLemmas.{token-kept}
-use Rattle.ck_types.proofs.CheckLemmas.{or_else-none, error_if-none}
+use Rattle.ck_types.proofs.CheckLemmas.{or_else-none}
 use Rattle.ck_journal.specs.declared.calls.Call.{Call}
 use Rattle.ck_journal.specs.declared.calls.Call.TheVariants as call
 use Rattle.ck_journal.specs.declared.calls.Entry.{Entry}
 use Rattle.ck_journal.specs.declared.replies.Body.{Body}
-use Rattle.ck_journal.specs.declared.replies.Reply.{Reply}
-use Rattle.ck_journal.specs.Answers.{IsLegal, call_error, session_error, object_error, read_only_session_error, prohibited_error, user_login_error, known_login_error}
-use Rattle.ck_journal.specs.Histories.{History, ◌◁◌, start_of, done, wrong_try, is_ok, is_wrong_pin, effects, effects_of}
-use Rattle.ck_journal.specs.Objects.{creates, attributes_named, named_attributes, object_named, object_at}
-use Rattle.ck_journal.specs.Pins.{about, is_about, is_user, tries}
+use Rattle.ck_journal.specs.Answers.{call_error, session_error, object_error, read_only_session_error, prohibited_error, known_login_error}
+use Rattle.ck_journal.specs.Histories.{History, ◌◁◌, done, wrong_try, is_ok, is_wrong_pin, effects_of}
+use Rattle.ck_journal.specs.Objects.{creates, named_attributes, object_named, object_at}
+use Rattle.ck_journal.specs.Pins.{about, is_about, is_user}
 use Rattle.ck_journal.specs.Sessions.{is_open}
-use Rattle.ck_journal.proofs.LegalLemmas.{passed-done, is_searching-next}
 use Rattle.ck_journal.proofs.LoginMoves.{wrong_try-done}
 use Rattle.ck_sessions.proofs.Moves.{sessions-left}
 use Rattle.ck_sessions.specs.Agreement.{SessionsState, SessionsAgree}
 use Rattle.ck_store.proofs.Moves.{objects-left}
 use Rattle.ck_store.specs.Agreement.{StoreState, StoreAgrees}
 use Rattle.ck_token.specs.Changes.{change_of, refusal_change, effect, effect_by}
-use Rattle.ck_token.specs.declared.changes.Change.{Change}
 use Rattle.ck_token.specs.declared.changes.Change.TheVariants as change
 
 -- ---- the part that a call leaves as it is
@@ -141,9 +137,10 @@ passes-open false later e = cc
 -- a login that passes its checks names an open session and a user
 pub login-passed : (limits : Ranges) (h : History) (session number : ℕ) (pin : Pin) → call_error limits h (call.Login session number pin) ≡ None
     → (is_open h session ≡ true) × (user_of number ≡ Some (unwrap_or (user_of number) user.User))
-login-passed limits h session number pin e =
-    (passes-open (is_open h session) _ e,
-    known (user_of number) (later-passes (session_error h session) _ e))
+login-passed limits h session number pin e = (
+  passes-open (is_open h session) _ e,
+  known (user_of number) (later-passes (session_error h session) _ e),
+)
   where
     known : (who : Option UserType) → or_else (known_login_error limits h who pin) None ≡ None → who ≡ Some (unwrap_or who user.User)
     known None e = cc
@@ -177,10 +174,12 @@ pub change-passed : (limits : Ranges) (h : History) (session object : ℕ) (temp
     × (is_set (with_given template.items (named_attributes h object)) attribute.Token ≡ is_set (named_attributes h object) attribute.Token)
 change-passed limits h session object template e =
     let p = object-passed h session object _ e in
-    let a = named_attributes h object in
-    (p.0, token-kept (class_of a) (protections_of a) template.items a
-    (or_else-none (changed_error (class_of a) (protections_of a) template.items) None
-    (later-passes (prohibited_error attribute.Modifiable a) _ (later-passes (read_only_session_error h session (placement_of a)) _ p.1))).0)
+    let a = named_attributes h object in (
+      p.0,
+      token-kept (class_of a) (protections_of a) template.items a
+          (or_else-none (changed_error (class_of a) (protections_of a) template.items) None
+          (later-passes (prohibited_error attribute.Modifiable a) _ (later-passes (read_only_session_error h session (placement_of a)) _ p.1))).0,
+    )
 
 pub destruction-passed : (limits : Ranges) (h : History) (session object : ℕ) → call_error limits h (call.DestroyObject session object) ≡ None
     → object_named h object ≡ Some (unwrap_or (object_named h object) 0)

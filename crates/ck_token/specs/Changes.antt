@@ -1,5 +1,5 @@
 -- What an answered call changes of sessions and objects, read off the history just before it
-use Rattle.std.specs.Prelude.{ℕ, Option, Some, map, unwrap_or}
+use Rattle.std.specs.Prelude.{Option, Some, map, unwrap_or}
 use Rattle.ck_types.specs.Records.{created_items, with_given}
 use Rattle.ck_types.specs.Users.{user_of}
 use Rattle.ck_types.specs.declared.return_codes.Rv.{Rv}

@@ -1,5 +1,5 @@
 -- What callers see of a token, and what one call does to it
-use Rattle.std.specs.Prelude.{◌≡◌, ◌≤◌, ◌+◌, ℕ, List, [], ◌∷◌}
+use Rattle.std.specs.Prelude.{◌≡◌, ℕ, List, [], ◌∷◌}
 use Rattle.ck_types.specs.TokenLimits.{Ranges}
 use Rattle.ck_journal.specs.Answers.{answer, IsLegal}
 use Rattle.ck_journal.specs.Histories.{History, ◌◁◌}

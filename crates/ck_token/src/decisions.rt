@@ -16,10 +16,7 @@ pub(crate) struct Decision {
 #[derive(Drop)]
 pub(crate) enum Refused {
     /// A check fails. What the refusal changes is nothing, but for a wrong PIN.
-    Error {
-        error: RvError,
-        change: Change,
-    },
+    Error { error: RvError, change: Change },
     Memory,
 }
 

@@ -69,7 +69,9 @@ impl Parts {
             } => self.objects.create(session, attributes),
             Change::SetAttributes { number, attributes } => self.objects.set(number, attributes),
             Change::DestroyObject { number } => self.objects.destroy(number),
-            Change::StartSearch { session, found } => self.sessions.start_search(session, found.into_vec()),
+            Change::StartSearch { session, found } => self
+                .sessions
+                .start_search(session, found.into_vec()),
             Change::AdvanceSearch { session, number } => {
                 self.sessions.advance_search(session, number)
             }

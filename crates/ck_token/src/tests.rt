@@ -89,11 +89,17 @@ fn pin_step(number: usize) -> Option<Step> {
         7 => (log_in(1, user_pin()), Rv::Ok),
         8 => (set_pin(1, user_pin(), wrong_pin()), Rv::Ok),
         9 => (Call::OpenSession { flags: 4 }, Rv::Ok),
-        10 => (set_pin(2, wrong_pin(), user_pin()), Rv::Error(RvError::SessionReadOnly)),
+        10 => (
+            set_pin(2, wrong_pin(), user_pin()),
+            Rv::Error(RvError::SessionReadOnly),
+        ),
         11 => (Call::CloseSession { session: 1 }, Rv::Ok),
         12 => (Call::GetSessionInfo { session: 2 }, Rv::Ok),
         13 => (Call::CloseAllSessions, Rv::Ok),
-        14 => (Call::InitToken { pin: wrong_pin() }, Rv::Error(RvError::PinIncorrect)),
+        14 => (
+            Call::InitToken { pin: wrong_pin() },
+            Rv::Error(RvError::PinIncorrect),
+        ),
         _ => return None,
     };
     Some((1, call, rv))
@@ -202,7 +208,6 @@ fn search_step(alloc: Global, number: usize) -> Result<Option<Step>, NoMemory> {
     };
     Ok(Some((3, call, rv)))
 }
-
 
 fn debug_text(alloc: Global, call: &Call) -> Result<String, Fail> {
     match format!(in alloc; "{call:?}") {

@@ -35,7 +35,9 @@ impl Model for Token {
     ghost coded = { Prim.hlevel (codes, history_code) };
 
     ghost view = { λ t. record {
-        limits = t.limits; history = t.journal.history; spare = t.journal.spare
+      limits = t.limits;
+      history = t.journal.history;
+      spare = t.journal.spare;
     } };
 
     ghost invariant = { λ t. TokenAgrees t.limits t.journal.history t.parts };

@@ -155,10 +155,7 @@ impl Token {
         check_flag(present, Attribute::Modifiable)?;
         present.check_change(template)?;
         let attributes = present.change_with(alloc, template)?;
-        Ok(Decision::of_change(Change::SetAttributes {
-            number,
-            attributes,
-        }))
+        Ok(Decision::of_change(Change::SetAttributes { number, attributes }))
     }
 
     pub(super) fn destroy_object(&self, session: u64, object: u64) -> Result<Decision, Refused>

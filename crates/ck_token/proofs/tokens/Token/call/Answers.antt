@@ -1,6 +1,4 @@
-use Rattle.std.proofs.Common.{◌≡◌, sym, ap, ◌∙◌}
-use Rattle.ck_journal.specs.declared.replies.Reply.{Reply}
-use Rattle.ck_journal.specs.declared.calls.Entry.{Entry}
+use Rattle.std.proofs.Common.{◌∙◌}
 use Rattle.ck_token.specs.Agreement.{TokenAgrees}
 use Rattle.ck_token.proofs.Counts.{counted}
 use Rattle.ck_token.proofs.DecisionLemmas.{no_list, adds_nothing}
@@ -10,14 +8,14 @@ use Rattle.ck_token.proofs.tokens.Token.call.Goals as goal
 pub returns-in_err-entered-clause-succeeds : goal.returns-in_err-entered-clause-succeeds
 returns-in_err-entered-clause-succeeds c = λ room free.
     let wrong = c.in_err-entered.ensures.succeeds
-        (no_list c.args.self.now.limits c.args.self.now.history c.args.call c.in_ok-reply.field-0.reply c.in_ok-reply.ensures.reply free) in
+    (no_list c.args.self.now.limits c.args.self.now.history c.args.call c.in_ok-reply.field-0.reply c.in_ok-reply.ensures.reply free) in
     cc
 
 pub returns-in_err-reserve-clause-succeeds : goal.returns-in_err-reserve-clause-succeeds
 returns-in_err-reserve-clause-succeeds c = λ room free.
     let wrong = c.in_err-reserve.ensures.succeeds
-        (adds_nothing c.args.self.now.limits c.args.self.now.history c.args.call c.in_ok-reply.field-0.reply c.in_ok-reply.field-0.change
-        c.in_ok-reply.ensures.reply c.in_ok-reply.ensures.change free) in
+    (adds_nothing c.args.self.now.limits c.args.self.now.history c.args.call c.in_ok-reply.field-0.reply c.in_ok-reply.field-0.change
+    c.in_ok-reply.ensures.reply c.in_ok-reply.ensures.change free) in
     cc
 
 pub apply-requires-clause-counted : goal.apply-requires-clause-counted

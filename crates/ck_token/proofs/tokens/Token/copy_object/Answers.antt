@@ -1,4 +1,4 @@
-use Rattle.std.proofs.Common.{List, [], None, refl, sym, ap, ◌∙◌}
+use Rattle.std.proofs.Common.{List, [], refl, sym, ap, ◌∙◌}
 use Rattle.std.specs.Prelude.{unwrap_or}
 use Rattle.ck_types.specs.Records.{with_given, class_of, protections_of, copied_error}
 use Rattle.ck_types.specs.declared.attributes.Attribute.TheVariants as attribute
@@ -19,7 +19,7 @@ returns-in_err-check_copy c =
     let source = c.in_ok-source.source.now in
     let allowed = check_of-ok (prohibited_error attribute.Copyable source) _ (sym c.check_flag.ensures ∙ c.in_ok-check_flag.was) in
     let fails = check_of-err (copied_error (class_of source) (protections_of source) c.args.template.now.items) code
-        (sym c.check_copy.ensures ∙ c.in_err-check_copy.was) in
+    (sym c.check_copy.ensures ∙ c.in_err-check_copy.was) in
     refused-decision c.args.self.now.limits h (call.CopyObject c.args.session c.args.object c.args.template.now) _ code
     c.from_residual-in_err-check_copy.ensures.1
     (object-checks h c.args.session c.args.object _ source _ c.in_ok-row.ensures.open c.in_ok-source.ensures.attributes
@@ -32,9 +32,9 @@ returns-in_err-check_placement c =
     let source = c.in_ok-source.source.now in
     let allowed = check_of-ok (prohibited_error attribute.Copyable source) _ (sym c.check_flag.ensures ∙ c.in_ok-check_flag.was) in
     let copied = check_of-ok (copied_error (class_of source) (protections_of source) c.args.template.now.items) _
-        (sym c.check_copy.ensures ∙ c.in_ok-check_copy.was) in
+    (sym c.check_copy.ensures ∙ c.in_ok-check_copy.was) in
     let fails = check_of-err (placement_error h c.args.session c.copy_placement.result) code
-        (sym (c.check_placement.ensures c.args.session c.in_ok-row.ensures.row) ∙ c.in_err-check_placement.was) in
+    (sym (c.check_placement.ensures c.args.session c.in_ok-row.ensures.row) ∙ c.in_err-check_placement.was) in
     refused-decision c.args.self.now.limits h (call.CopyObject c.args.session c.args.object c.args.template.now) _ code
     c.from_residual-in_err-check_placement.ensures.1
     (object-checks h c.args.session c.args.object _ source _ c.in_ok-row.ensures.open c.in_ok-source.ensures.attributes
@@ -48,9 +48,9 @@ returns-in_err-number c =
     let source = c.in_ok-source.source.now in
     let allowed = check_of-ok (prohibited_error attribute.Copyable source) _ (sym c.check_flag.ensures ∙ c.in_ok-check_flag.was) in
     let copied = check_of-ok (copied_error (class_of source) (protections_of source) c.args.template.now.items) _
-        (sym c.check_copy.ensures ∙ c.in_ok-check_copy.was) in
+    (sym c.check_copy.ensures ∙ c.in_ok-check_copy.was) in
     let placed = check_of-ok (placement_error h c.args.session c.copy_placement.result) _
-        (sym (c.check_placement.ensures c.args.session c.in_ok-row.ensures.row) ∙ c.in_ok-check_placement.was) in
+    (sym (c.check_placement.ensures c.args.session c.in_ok-row.ensures.row) ∙ c.in_ok-check_placement.was) in
     refused-decision c.args.self.now.limits h (call.CopyObject c.args.session c.args.object c.args.template.now) _ code
     c.from_residual-in_err-number.ensures.1
     (object-checks h c.args.session c.args.object _ source _ c.in_ok-row.ensures.open c.in_ok-source.ensures.attributes
@@ -63,9 +63,9 @@ returns-in_err-attributes c =
     let source = c.in_ok-source.source.now in
     let allowed = check_of-ok (prohibited_error attribute.Copyable source) _ (sym c.check_flag.ensures ∙ c.in_ok-check_flag.was) in
     let copied = check_of-ok (copied_error (class_of source) (protections_of source) c.args.template.now.items) _
-        (sym c.check_copy.ensures ∙ c.in_ok-check_copy.was) in
+    (sym c.check_copy.ensures ∙ c.in_ok-check_copy.was) in
     let placed = check_of-ok (placement_error h c.args.session c.copy_placement.result) _
-        (sym (c.check_placement.ensures c.args.session c.in_ok-row.ensures.row) ∙ c.in_ok-check_placement.was) in
+    (sym (c.check_placement.ensures c.args.session c.in_ok-row.ensures.row) ∙ c.in_ok-check_placement.was) in
     memory-decision c.args.self.now.limits h (call.CopyObject c.args.session c.args.object c.args.template.now) _
     c.from_residual-in_err-attributes.ensures.1
     (object-checks h c.args.session c.args.object _ source _ c.in_ok-row.ensures.open c.in_ok-source.ensures.attributes
@@ -78,13 +78,14 @@ returns c =
     let source = c.in_ok-source.source.now in
     let allowed = check_of-ok (prohibited_error attribute.Copyable source) _ (sym c.check_flag.ensures ∙ c.in_ok-check_flag.was) in
     let copied = check_of-ok (copied_error (class_of source) (protections_of source) c.args.template.now.items) _
-        (sym c.check_copy.ensures ∙ c.in_ok-check_copy.was) in
+    (sym c.check_copy.ensures ∙ c.in_ok-check_copy.was) in
     let placed = check_of-ok (placement_error h c.args.session c.copy_placement.result) _
-        (sym (c.check_placement.ensures c.args.session c.in_ok-row.ensures.row) ∙ c.in_ok-check_placement.was) in
+    (sym (c.check_placement.ensures c.args.session c.in_ok-row.ensures.row) ∙ c.in_ok-check_placement.was) in
     let made = c.in_ok-attributes.ensures
-        ∙ ap (λ found. with_given c.args.template.now.items (unwrap_or found [])) (sym c.in_ok-source.ensures.attributes) in
-    (object-checks h c.args.session c.args.object _ source _ c.in_ok-row.ensures.open c.in_ok-source.ensures.attributes
-    (four-pass _ _ _ _ allowed copied
-    (ap (λ (p : Placement). placement_error h c.args.session p) (sym c.copy_placement.ensures) ∙ placed) c.in_ok-number.ensures.free),
-    c.creation.ensures.reply ∙ ap (λ (a : List Item). ok (body.Handle (new_handle h a))) made,
-    c.creation.ensures.change ∙ ap (λ (a : List Item). change.CreateObject c.args.session a) made)
+    ∙ ap (λ found. with_given c.args.template.now.items (unwrap_or found [])) (sym c.in_ok-source.ensures.attributes) in (
+      object-checks h c.args.session c.args.object _ source _ c.in_ok-row.ensures.open c.in_ok-source.ensures.attributes
+          (four-pass _ _ _ _ allowed copied
+          (ap (λ (p : Placement). placement_error h c.args.session p) (sym c.copy_placement.ensures) ∙ placed) c.in_ok-number.ensures.free),
+      c.creation.ensures.reply ∙ ap (λ (a : List Item). ok (body.Handle (new_handle h a))) made,
+      c.creation.ensures.change ∙ ap (λ (a : List Item). change.CreateObject c.args.session a) made,
+    )

@@ -1,6 +1,6 @@
-use Rattle.std.proofs.Common.{List, [], None, Some, refl, sym, ap, ◌∙◌}
+use Rattle.std.proofs.Common.{List, [], refl, sym, ap, ◌∙◌}
 use Rattle.std.specs.Prelude.{unwrap_or}
-use Rattle.ck_types.specs.Records.{with_given, class_of, protections_of, placement_of, changed_error}
+use Rattle.ck_types.specs.Records.{with_given, class_of, protections_of, changed_error}
 use Rattle.ck_types.specs.declared.attributes.Attribute.TheVariants as attribute
 use Rattle.ck_types.specs.declared.items.Item.{Item}
 use Rattle.ck_types.specs.declared.object_flags.Placement.{Placement}
@@ -19,7 +19,7 @@ returns-in_err-check_flag c =
     let code = c.in_err-check_flag.field-0.0 in
     let present = c.in_ok-number.present.now in
     let writable = check_of-ok (read_only_session_error h c.args.session c.placement.result) _
-        (sym (c.check_writable.ensures c.args.session c.in_ok-row.ensures.row) ∙ c.in_ok-check_writable.was) in
+    (sym (c.check_writable.ensures c.args.session c.in_ok-row.ensures.row) ∙ c.in_ok-check_writable.was) in
     let fails = check_of-err (prohibited_error attribute.Modifiable present) code (sym c.check_flag.ensures ∙ c.in_err-check_flag.was) in
     refused-decision c.args.self.now.limits h (call.SetAttributeValue c.args.session c.args.object c.args.template.now) _ code
     c.from_residual-in_err-check_flag.ensures.1
@@ -32,10 +32,10 @@ returns-in_err-check_change c =
     let code = c.in_err-check_change.field-0.0 in
     let present = c.in_ok-number.present.now in
     let writable = check_of-ok (read_only_session_error h c.args.session c.placement.result) _
-        (sym (c.check_writable.ensures c.args.session c.in_ok-row.ensures.row) ∙ c.in_ok-check_writable.was) in
+    (sym (c.check_writable.ensures c.args.session c.in_ok-row.ensures.row) ∙ c.in_ok-check_writable.was) in
     let allowed = check_of-ok (prohibited_error attribute.Modifiable present) _ (sym c.check_flag.ensures ∙ c.in_ok-check_flag.was) in
     let fails = check_of-err (changed_error (class_of present) (protections_of present) c.args.template.now.items) code
-        (sym c.check_change.ensures ∙ c.in_err-check_change.was) in
+    (sym c.check_change.ensures ∙ c.in_err-check_change.was) in
     refused-decision c.args.self.now.limits h (call.SetAttributeValue c.args.session c.args.object c.args.template.now) _ code
     c.from_residual-in_err-check_change.ensures.1
     (object-checks h c.args.session c.args.object _ present _ c.in_ok-row.ensures.open c.in_ok-number.ensures.attributes
@@ -46,10 +46,10 @@ returns-in_err-attributes c =
     let h = c.args.self.now.history in
     let present = c.in_ok-number.present.now in
     let writable = check_of-ok (read_only_session_error h c.args.session c.placement.result) _
-        (sym (c.check_writable.ensures c.args.session c.in_ok-row.ensures.row) ∙ c.in_ok-check_writable.was) in
+    (sym (c.check_writable.ensures c.args.session c.in_ok-row.ensures.row) ∙ c.in_ok-check_writable.was) in
     let allowed = check_of-ok (prohibited_error attribute.Modifiable present) _ (sym c.check_flag.ensures ∙ c.in_ok-check_flag.was) in
     let changed = check_of-ok (changed_error (class_of present) (protections_of present) c.args.template.now.items) _
-        (sym c.check_change.ensures ∙ c.in_ok-check_change.was) in
+    (sym c.check_change.ensures ∙ c.in_ok-check_change.was) in
     memory-decision c.args.self.now.limits h (call.SetAttributeValue c.args.session c.args.object c.args.template.now) _
     c.from_residual-in_err-attributes.ensures.1
     (object-checks h c.args.session c.args.object _ present _ c.in_ok-row.ensures.open c.in_ok-number.ensures.attributes
@@ -60,16 +60,18 @@ returns c =
     let h = c.args.self.now.history in
     let present = c.in_ok-number.present.now in
     let writable = check_of-ok (read_only_session_error h c.args.session c.placement.result) _
-        (sym (c.check_writable.ensures c.args.session c.in_ok-row.ensures.row) ∙ c.in_ok-check_writable.was) in
+    (sym (c.check_writable.ensures c.args.session c.in_ok-row.ensures.row) ∙ c.in_ok-check_writable.was) in
     let allowed = check_of-ok (prohibited_error attribute.Modifiable present) _ (sym c.check_flag.ensures ∙ c.in_ok-check_flag.was) in
     let changed = check_of-ok (changed_error (class_of present) (protections_of present) c.args.template.now.items) _
-        (sym c.check_change.ensures ∙ c.in_ok-check_change.was) in
+    (sym c.check_change.ensures ∙ c.in_ok-check_change.was) in
     let checks = object-checks h c.args.session c.args.object _ present _ c.in_ok-row.ensures.open c.in_ok-number.ensures.attributes
-        (three-pass _ _ _ (ap (λ (p : Placement). read_only_session_error h c.args.session p) (sym c.placement.ensures) ∙ writable) allowed changed) in
+    (three-pass _ _ _ (ap (λ (p : Placement). read_only_session_error h c.args.session p) (sym c.placement.ensures) ∙ writable) allowed changed) in
     let number = ap (λ found. unwrap_or found 0) (sym c.in_ok-number.ensures.number) in
     let made = c.in_ok-attributes.ensures
-        ∙ ap (λ found. with_given c.args.template.now.items (unwrap_or found [])) (sym c.in_ok-number.ensures.attributes) in
-    (checks, ap (λ (d : Decision). d.reply) c.of_change.ensures,
-    ap (λ (d : Decision). d.change) c.of_change.ensures
-    ∙ ap (λ n. change.SetAttributes n c.in_ok-attributes.attributes) number
-    ∙ ap (λ (a : List Item). change.SetAttributes (unwrap_or (object_named h c.args.object) 0) a) made)
+    ∙ ap (λ found. with_given c.args.template.now.items (unwrap_or found [])) (sym c.in_ok-number.ensures.attributes) in (
+      checks,
+      ap (λ (d : Decision). d.reply) c.of_change.ensures,
+      ap (λ (d : Decision). d.change) c.of_change.ensures
+          ∙ ap (λ n. change.SetAttributes n c.in_ok-attributes.attributes) number
+          ∙ ap (λ (a : List Item). change.SetAttributes (unwrap_or (object_named h c.args.object) 0) a) made,
+    )
