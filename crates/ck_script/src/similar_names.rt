@@ -3,8 +3,8 @@ use ck_types::NoMemory;
 use std::alloc::Global;
 use strsim::generic_levenshtein;
 
-/// The most letters that two names may differ in and be similar.
-const MOST_EDITS: usize = 3;
+/// Two names that differ in so many letters are not similar.
+const TOO_MANY_EDITS: usize = 3;
 
 /// The most bytes of a text that is compared with the names.
 const LONGEST_TEXT: usize = 24;
@@ -25,7 +25,7 @@ pub(crate) fn similar_name(alloc: Global, text: &[u8]) -> Result<Option<CallName
     let letters = letters.as_slice();
     let letters = letters.strip_prefix(b"c_").unwrap_or(letters);
     let mut nearest = None;
-    let mut fewest = MOST_EDITS;
+    let mut fewest = TOO_MANY_EDITS;
     for name in CallName::ALL {
         let other = lower_case(alloc, name.text().as_bytes())?;
         let edits = generic_levenshtein(alloc, letters, other.as_slice())?;
