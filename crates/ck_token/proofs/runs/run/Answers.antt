@@ -1,4 +1,5 @@
-use Rattle.ck_token.proofs.RunLemmas.{Answers-none, Answers-more}
+use Rattle.std.proofs.lemmas.Bool.{and_right}
+use Rattle.ck_token.proofs.RunLemmas.{Answers-none, Answers-more, Answers-free}
 use Rattle.ck_token.proofs.runs.run.Goals as goal
 
 pub loop-caller-init : goal.loop-caller-init
@@ -8,5 +9,7 @@ pub loop-caller-preserved : goal.loop-caller-preserved
 loop-caller-preserved c =
     Answers-more _ _ _ c.pop.new.self.items (c.in-Some.caller, c.in-Some.call) _ _ _ _ c.in-Some.ensures.items c.loop-caller.invariant c.in-Ok.ensures.answered c.step.ensures.legal c.in-Ok.ensures.room
 
-pub returns-in_err-clause-succeeds : goal.returns-in_err-clause-succeeds
-returns-in_err-clause-succeeds c = ?
+pub returns-in-Err-clause-succeeds : goal.returns-in-Err-clause-succeeds
+returns-in-Err-clause-succeeds c = λ enough free.
+    let f = Answers-free _ _ _ c.pop.new.self.items (c.in-Some.caller, c.in-Some.call) _ _ c.in-Some.ensures.items c.loop-caller.invariant enough free in
+    c.in-Err.ensures.succeeds f.0 (and_right _ _ f.1)
