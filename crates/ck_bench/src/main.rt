@@ -6,18 +6,22 @@
 mod rounds;
 
 use rounds::{KINDS, Kind, calls_in, prepared, round};
-use std::env;
 use std::env::Env;
-use std::io;
 use std::process::ExitCode;
 use std::time::{CpuClock, Duration};
+use std::{env, io};
 
 /// How often a round is made in one run, and how many runs the best is taken of.
 const ROUNDS: u64 = 1_000;
+
 const RUNS: u64 = 400;
 
 /// The processor time of one run of rounds on a token of its own, or `None` where one was refused.
-fn run_time<R: CpuClock + AllocGlobal>(rt: &R, kind: Kind, rounds: u64) -> io::Result<Option<Duration>> {
+fn run_time<R: CpuClock + AllocGlobal>(
+    rt: &R,
+    kind: Kind,
+    rounds: u64,
+) -> io::Result<Option<Duration>> {
     let alloc = rt.alloc();
     let Ok(mut token) = prepared(alloc) else {
         return Ok(None);
@@ -48,7 +52,9 @@ fn measure<R: CpuClock + Print + AllocGlobal>(rt: &R, kind: Kind) -> io::Result<
 
 /// Makes each kind of round, and measures it where that is asked for.
 fn run<R: Env + CpuClock + Print + AllocGlobal>(rt: &R) -> io::Result<bool> {
-    let measures = env::args(rt)?.nth(1).is_some_and(|word| word.as_str() == "measure");
+    let measures = env::args(rt)?
+        .nth(1)
+        .is_some_and(|word| word.as_str() == "measure");
     for kind in KINDS {
         let is_good = if measures {
             measure(rt, kind)?

@@ -217,7 +217,10 @@ fn signatures(rt: &impl Abort, mac: &Mac, signature: &mut [u8]) -> Result<(), Fa
     );
     for i in 0..len {
         signature[i] ^= 0x80;
-        assert_eq!(rt; mac.clone()?.check(signature), Err(RvError::SignatureInvalid));
+        assert_eq!(rt;
+            mac.clone()?.check(signature),
+            Err(RvError::SignatureInvalid)
+        );
         signature[i] ^= 0x80;
     }
     Ok(())

@@ -60,12 +60,13 @@ module _ (old : TokenState) (calls : List (ℕ × Call)) where
       → (0 < token.spare) × (takes_memory c.1 ≡ false)
   Answers-free count rest c left token l a enough free =
       let parts : calls ≡ a.answered ++ (c ∷ reverse rest) =
-          a.parts ∙ ap (λ r. a.answered ++ r) (ap reverse l ∙ reverse-append rest (c ∷ [])) in
+      a.parts ∙ ap (λ r. a.answered ++ r) (ap reverse l ∙ reverse-append rest (c ∷ [])) in
       let sum : length calls ≡ length a.answered + suc (length (reverse rest)) =
-          ap length parts ∙ length-append a.answered (c ∷ reverse rest) in
+      ap length parts ∙ length-append a.answered (c ∷ reverse rest) in
       let counted = a.counted in
-      let room = a.room in
-      (omega arith,
-      subst (λ (d : ℕ × Call). takes_memory d.1 ≡ false)
-      (ap (λ cs. get_or cs (length a.answered) c) parts ∙ get_or-here a.answered c (reverse rest))
-      (free (length a.answered) c (omega arith)))
+      let room = a.room in (
+        omega arith,
+        subst (λ (d : ℕ × Call). takes_memory d.1 ≡ false)
+            (ap (λ cs. get_or cs (length a.answered) c) parts ∙ get_or-here a.answered c (reverse rest))
+            (free (length a.answered) c (omega arith)),
+      )

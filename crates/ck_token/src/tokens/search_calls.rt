@@ -62,7 +62,7 @@ impl Token {
     ) -> Result<Vec<u64>, NoMemory>
         ensures { IfOk result (λ handles.
             handles.items ≡ map (handle_of self.now.history)
-                (take max (filter (is_visible self.now.history) numbers.now))) }
+            (take max (filter (is_visible self.now.history) numbers.now))) }
     {
         let view = self.view();
         let mut handles = Vec::new(alloc);
