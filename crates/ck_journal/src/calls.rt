@@ -1,5 +1,5 @@
 use crate::replies::Reply;
-use ck_types::{Pin, Sequence, Template};
+use ck_types::{Bytes, Mechanism, Pin, Sequence, Template};
 
 /// What C_GetAttributeValue is asked of one attribute: its type, and the room for its value in bytes. Room
 /// `None`, like a NULL pValue, asks for the value's length alone (PKCS #11 Base 3.0, Object management
@@ -79,6 +79,25 @@ pub enum Call {
     },
     FindObjectsFinal {
         session: u64,
+    },
+    DigestInit {
+        session: u64,
+        mechanism: Mechanism,
+    },
+    Digest {
+        session: u64,
+        bytes: Bytes,
+        /// The room for the digest in bytes, or `None`, like a NULL pDigest, to ask for its length.
+        room: Option<u64>,
+    },
+    DigestUpdate {
+        session: u64,
+        bytes: Bytes,
+    },
+    DigestFinal {
+        session: u64,
+        /// As that of `Digest`.
+        room: Option<u64>,
     },
 }
 
