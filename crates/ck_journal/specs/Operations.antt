@@ -86,6 +86,11 @@ abbrev pub piece_of : OperationKind → Option Call → ℕ → List (List ℕ)
 piece_of kind.Digest (Some (call.DigestUpdate session bytes)) s = if session == s then bytes ∷ [] else []
 piece_of other c s = []
 
+-- the bytes that an update adds, whatever its session; none for every other call
+abbrev pub added_bytes : Call → List ℕ
+added_bytes (call.DigestUpdate session bytes) = bytes
+added_bytes other = []
+
 -- the pieces of the session's last operation of the kind, in their order
 abbrev pub pieces_in : OperationKind → History → ℕ → List (List ℕ)
 pieces_in k (start b) s = []

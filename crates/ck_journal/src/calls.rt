@@ -101,6 +101,21 @@ pub enum Call {
     },
 }
 
+impl Call {
+    ghost use Rattle.std.specs.Prelude.{◌≡◌};
+    ghost use Rattle.ck_journal.specs.Operations.{added_bytes};
+
+    /// The bytes that an update adds to the message of its operation; none for every other call.
+    pub fn added_bytes(&self) -> &[u8]
+        ensures { result.now ≡ added_bytes self.now }
+    {
+        match self {
+            Call::DigestUpdate { bytes, .. } => bytes.as_slice(),
+            _ => &[],
+        }
+    }
+}
+
 /// An answered call: who made it, what was called and what was answered. Callers have numbers of the
 /// application's choice.
 #[derive(Debug, Drop)]

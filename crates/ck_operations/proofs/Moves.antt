@@ -110,24 +110,24 @@ module _ (h : History) (old : OperationsState) (agree : OperationsAgree h old) (
         (same k s);
   }
 
-  pub operations-left : ((k : OperationKind) (s : ℕ) → Does Stay e k s) → OperationsAgree (e ◁ h) old
+  pub operations-left : InAll Stay e → OperationsAgree (e ◁ h) old
   operations-left does = moves old (λ k s. Stay) does agree.each
 
   abbrev only : OperationKind → ℕ → Move → OperationKind → ℕ → Move
-  only kind session move k s = cond (session == s && same_kind kind k) move Stay
+  only kind session move k s = cond (same_kind kind k && session == s) move Stay
 
   pub operations-ended : (kind : OperationKind) (session : ℕ) → OnlyIn kind session End e → (new : OperationsState)
       → new.rows ≡ filter (λ (row : Operation). not (is_operation kind session row)) old.rows
       → OperationsAgree (e ◁ h) new
   operations-ended kind session does new rows =
-      moves new (only kind session End) does (λ k s. ended k s (session == s && same_kind kind k) refl)
+      moves new (only kind session End) does (λ k s. ended k s (same_kind kind k && session == s) refl)
     where
-      ended : (k : OperationKind) (s : ℕ) (t : Bool) → (session == s && same_kind kind k) ≡ t
+      ended : (k : OperationKind) (s : ℕ) (t : Bool) → (same_kind kind k && session == s) ≡ t
           → AreSame (find (is_operation k s) new.rows) (moved (cond t End Stay) (operation_at k h s))
       ended k s true here =
-          let both = and-both (session == s) (same_kind kind k) here in
+          let both = and-both (same_kind kind k) (session == s) here in
           let same : (o : Operation) → is_operation k s o ≡ is_operation kind session o =
-          λ o. rw (← same_kind-eq kind k both.1, ← eqb-true session s both.0) refl in
+          λ o. rw (← same_kind-eq kind k both.0, ← eqb-true session s both.1) refl in
           subst (λ found. AreSame found None)
           (sym (ap (find (is_operation k s)) rows
           ∙ find-removed (is_operation k s) (λ o. not (is_operation kind session o))
@@ -166,13 +166,13 @@ module _ (h : History) (old : OperationsState) (agree : OperationsAgree h old) (
   pub operations-added : (kind : OperationKind) (session : ℕ) (bytes : List ℕ) → OnlyIn kind session (Add bytes) e
       → (new : OperationsState) → IsAdded kind session bytes old.rows new.rows → OperationsAgree (e ◁ h) new
   operations-added kind session bytes does new is =
-      moves new (only kind session (Add bytes)) does (λ k s. added k s (session == s && same_kind kind k) refl)
+      moves new (only kind session (Add bytes)) does (λ k s. added k s (same_kind kind k && session == s) refl)
     where
-      added : (k : OperationKind) (s : ℕ) (t : Bool) → (session == s && same_kind kind k) ≡ t
+      added : (k : OperationKind) (s : ℕ) (t : Bool) → (same_kind kind k && session == s) ≡ t
           → AreSame (find (is_operation k s) new.rows) (moved (cond t (Add bytes) Stay) (operation_at k h s))
       added k s true here =
-          let both = and-both (session == s) (same_kind kind k) here in
-          rw (← same_kind-eq kind k both.1, ← eqb-true session s both.0)
+          let both = and-both (same_kind kind k) (session == s) here in
+          rw (← same_kind-eq kind k both.0, ← eqb-true session s both.1)
           (added-same bytes (find (is_operation kind session) old.rows) (find (is_operation kind session) new.rows)
           (operation_at kind h session) is.added (agree.each kind session))
       added k s false there =
@@ -182,16 +182,16 @@ module _ (h : History) (old : OperationsState) (agree : OperationsAgree h old) (
       → is_active kind h session ≡ false → (new : OperationsState) (o : Operation) → IsFresh kind session hash o
       → new.rows ≡ old.rows ++ o ∷ [] → OperationsAgree (e ◁ h) new
   operations-started kind session hash does idle new o fresh rows =
-      moves new (only kind session (Start hash)) does (λ k s. started k s (session == s && same_kind kind k) refl)
+      moves new (only kind session (Start hash)) does (λ k s. started k s (same_kind kind k && session == s) refl)
     where
-      started : (k : OperationKind) (s : ℕ) (t : Bool) → (session == s && same_kind kind k) ≡ t
+      started : (k : OperationKind) (s : ℕ) (t : Bool) → (same_kind kind k && session == s) ≡ t
           → AreSame (find (is_operation k s) new.rows) (moved (cond t (Start hash) Stay) (operation_at k h s))
       started k s true here =
-          let both = and-both (session == s) (same_kind kind k) here in
+          let both = and-both (same_kind kind k) (session == s) here in
           let p = is_operation k s in
           let passes : p o ≡ true = rw (fresh.session, fresh.kind) here in
           let inactive : operation_at k h s ≡ None =
-          rw (← same_kind-eq kind k both.1, ← eqb-true session s both.0) (idle-none kind h session idle) in
+          rw (← same_kind-eq kind k both.0, ← eqb-true session s both.1) (idle-none kind h session idle) in
           let none : find p old.rows ≡ None = none-found (find p old.rows) (subst (AreSame (find p old.rows)) inactive (agree.each k s)) in
           let last : find p new.rows ≡ Some o =
           ap (find p) rows ∙ find-append p old.rows (o ∷ []) ∙ ap (λ found. option_or found (find p (o ∷ []))) none

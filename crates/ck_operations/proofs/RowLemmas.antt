@@ -84,16 +84,16 @@ same_kind-eq kind.Verify kind.Sign e = cc
 pub operation-is : (k : OperationKind) (s : ℕ) (o : Operation) → is_operation k s o ≡ true
     → (o.kind ≡ k) × (o.session ≡ s)
 operation-is k s o e =
-    let both = and-both (o.session == s) (same_kind o.kind k) e in
-    (same_kind-eq o.kind k both.1, eqb-true o.session s both.0)
+    let both = and-both (same_kind o.kind k) (o.session == s) e in
+    (same_kind-eq o.kind k both.0, eqb-true o.session s both.1)
 
 -- of this kind in this session, and so of no other
-pub apart : (k l : OperationKind) (session s : ℕ) → (session == s && same_kind k l) ≡ false
+pub apart : (k l : OperationKind) (session s : ℕ) → (same_kind k l && session == s) ≡ false
     → (o : Operation) → is_operation k session o ≡ true → is_operation l s o ≡ false
 apart k l session s other o e =
     let is = operation-is k session o e in rw is.0 (rw is.1 other)
 
-pub apart-back : (k l : OperationKind) (session s : ℕ) → (session == s && same_kind k l) ≡ false
+pub apart-back : (k l : OperationKind) (session s : ℕ) → (same_kind k l && session == s) ≡ false
     → (o : Operation) → is_operation l s o ≡ true → is_operation k session o ≡ false
 apart-back k l session s other o e = cases (is_operation k session o) refl
   where

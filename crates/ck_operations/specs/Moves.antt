@@ -26,7 +26,7 @@ Does End e k s = (starts k (done e) s ≡ false) × (ends k e s ≡ true)
 -- the entry does this to one operation, and nothing to any other
 abbrev pub OnlyIn : OperationKind → ℕ → Move → Entry → Type 0
 OnlyIn kind session move e =
-    (k : OperationKind) (s : ℕ) → Does (if session == s && same_kind kind k then move else Stay) e k s
+    (k : OperationKind) (s : ℕ) → Does (if same_kind kind k && session == s then move else Stay) e k s
 
 -- to all operations of one session, and nothing to any other
 abbrev pub OnlyInSession : ℕ → Move → Entry → Type 0

@@ -17,7 +17,7 @@ is_of_session session o = o.session == session
 
 -- the operation is of this kind in this session
 abbrev pub is_operation : OperationKind → ℕ → Operation → Bool
-is_operation k session o = is_of_session session o && same_kind o.kind k
+is_operation k session o = same_kind o.kind k && is_of_session session o
 
 -- the operation is of this hash function and has taken in the message
 abbrev pub HoldsMessage : Hash → Operation → List ℕ → Type 0
@@ -50,5 +50,5 @@ HasAdded bytes old new = ⊥
 -- the first operation of this kind in this session after an update, and the others as they were
 pub record IsAdded (k : OperationKind) (session : ℕ) (bytes : List ℕ) (old new : List Operation) : Type 0 where
   pub added : HasAdded bytes (find (is_operation k session) old) (find (is_operation k session) new)
-  pub others : (l : OperationKind) (s : ℕ) → session == s && same_kind k l ≡ false
+  pub others : (l : OperationKind) (s : ℕ) → (same_kind k l && session == s) ≡ false
       → find (is_operation l s) new ≡ find (is_operation l s) old
