@@ -469,37 +469,30 @@ is_searching-open limits (e ◁ h) legal s active =
     (is_searching-open limits h legal.1 s) active
 
 closing-operation : (k : OperationKind) (d : Option Call) (finished : Bool) (s : ℕ) → closes d s ≡ true
-    → (starts k d s ≡ false) × ((ends_operations d s || finished) ≡ true)
-closing-operation kind.Digest (Some (call.CloseSession session)) finished s e = (refl, rw e refl)
-closing-operation kind.Sign (Some (call.CloseSession session)) finished s e = (refl, rw e refl)
-closing-operation kind.Verify (Some (call.CloseSession session)) finished s e = (refl, rw e refl)
-closing-operation kind.Digest (Some call.CloseAllSessions) finished s e = (refl, refl)
-closing-operation kind.Sign (Some call.CloseAllSessions) finished s e = (refl, refl)
-closing-operation kind.Verify (Some call.CloseAllSessions) finished s e = (refl, refl)
+    → (starts d k s ≡ false) × ((ends_operations d s || finished) ≡ true)
+closing-operation k (Some (call.CloseSession session)) finished s e = (refl, rw e refl)
+closing-operation k (Some call.CloseAllSessions) finished s e = (refl, refl)
 closing-operation k other finished s e = cc
 
-nothing-begun : (k : OperationKind) (s : ℕ) → starts k None s ≡ true → ⊥
-nothing-begun kind.Digest s t = cc
-nothing-begun kind.Sign s t = cc
-nothing-begun kind.Verify s t = cc
-
-begun-open : (limits : Ranges) (h : History) (k : OperationKind) (s : ℕ) (c : Call)
-    → call_error limits h c ≡ None → starts k (Some c) s ≡ true → is_open h s ≡ true
-begun-open limits h kind.Digest s (call.DigestInit session mechanism) p same =
+begun-open : (limits : Ranges) (h : History) (c : Call) (k : OperationKind) (s : ℕ)
+    → call_error limits h c ≡ None → starts (Some c) k s ≡ true → is_open h s ≡ true
+begun-open limits h (call.DigestInit session mechanism) kind.Digest s p same =
     subst (λ k. is_open h k ≡ true) (eqb-true session s same)
     (session-open h session (or_else-none (session_error h session) _ p).0)
-begun-open limits h k s other p same = cc
+begun-open limits h (call.DigestInit session mechanism) kind.Sign s p same = cc
+begun-open limits h (call.DigestInit session mechanism) kind.Verify s p same = cc
+begun-open limits h other k s p same = cc
 
 -- a session with an active operation is open
 pub is_active-open : (limits : Ranges) (h : History) → IsLegal limits h → (k : OperationKind) (s : ℕ)
     → is_active k h s ≡ true → is_open h s ≡ true
 is_active-open limits (start b) legal k s active = cc
 is_active-open limits (e ◁ h) legal k s active =
-    stays-open (done e) h s (starts k (done e) s) (ends k e s) (is_active k h s)
-    (closing-operation k (done e) (finishes k e.call e.reply s) s)
-    (by-done limits e h legal (λ d. starts k d s ≡ true → is_open h s ≡ true)
-    (λ t. absurd (nothing-begun k s t))
-    (begun-open limits h k s))
+    stays-open (done e) h s (starts (done e) k s) (ends k e s) (is_active k h s)
+    (closing-operation k (done e) (finishes e.call k e.reply s) s)
+    (by-done limits e h legal (λ d. starts d k s ≡ true → is_open h s ≡ true)
+    (λ t. cc)
+    (λ c p. begun-open limits h c k s p))
     (is_active-open limits h legal.1 k s) active
 
 -- the next session has no search

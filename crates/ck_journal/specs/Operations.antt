@@ -22,9 +22,9 @@ use Rattle.ck_journal.specs.Sessions.{ends_operations}
 -- ---- whether one is active
 
 -- the call starts an operation of the kind in the session
-abbrev pub starts : OperationKind → Option Call → ℕ → Bool
-starts kind.Digest (Some (call.DigestInit session mechanism)) s = session == s
-starts other c s = false
+abbrev pub starts : Option Call → OperationKind → ℕ → Bool
+starts (Some (call.DigestInit session mechanism)) kind.Digest s = session == s
+starts other k s = false
 
 -- a call that would end its operation leaves it active by this code and body: where the room is too small, and
 -- where a length was asked for
@@ -39,23 +39,23 @@ is_too_long other = false
 
 -- the call ends the session's operation of the kind by this reply: C_Digest and C_DigestFinal by every other than
 -- those above, C_DigestUpdate where its piece is too long
-abbrev pub finishes : OperationKind → Call → Reply → ℕ → Bool
-finishes kind.Digest (call.Digest session bytes room) reply s =
+abbrev pub finishes : Call → OperationKind → Reply → ℕ → Bool
+finishes (call.Digest session bytes room) kind.Digest reply s =
     session == s && not (leaves_active reply.rv reply.body)
-finishes kind.Digest (call.DigestFinal session room) reply s =
+finishes (call.DigestFinal session room) kind.Digest reply s =
     session == s && not (leaves_active reply.rv reply.body)
-finishes kind.Digest (call.DigestUpdate session bytes) reply s = session == s && is_too_long reply.rv
-finishes other c reply s = false
+finishes (call.DigestUpdate session bytes) kind.Digest reply s = session == s && is_too_long reply.rv
+finishes other k reply s = false
 
 -- the entry ends the session's operation of the kind
 abbrev pub ends : OperationKind → Entry → ℕ → Bool
-ends k e s = ends_operations (done e) s || finishes k e.call e.reply s
+ends k e s = ends_operations (done e) s || finishes e.call k e.reply s
 
 -- an operation of the kind is active in the session: one was started, and no later entry ended it
 abbrev pub is_active : OperationKind → History → ℕ → Bool
 is_active k (start b) s = false
 is_active k (e ◁ h) s =
-    if starts k (done e) s then true
+    if starts (done e) k s then true
     else if ends k e s then false
     else is_active k h s
 
@@ -68,7 +68,7 @@ init_mechanism other = None
 -- the mechanism of the session's last operation of the kind
 abbrev pub mechanism_in : OperationKind → History → ℕ → Option Mechanism
 mechanism_in k (start b) s = None
-mechanism_in k (e ◁ h) s = if starts k (done e) s then init_mechanism (done e) else mechanism_in k h s
+mechanism_in k (e ◁ h) s = if starts (done e) k s then init_mechanism (done e) else mechanism_in k h s
 
 -- the hash function of a mechanism for operations of the kind
 abbrev pub hash_for : OperationKind → Mechanism → Option Hash
@@ -82,9 +82,9 @@ hash_in k h s = unwrap_or (option_and_then (hash_for k) (mechanism_in k h s)) ha
 -- ---- its message
 
 -- the piece that a call adds to the message of the session's operation of the kind, in a list of its own
-abbrev pub piece_of : OperationKind → Option Call → ℕ → List (List ℕ)
-piece_of kind.Digest (Some (call.DigestUpdate session bytes)) s = if session == s then bytes ∷ [] else []
-piece_of other c s = []
+abbrev pub piece_of : Option Call → OperationKind → ℕ → List (List ℕ)
+piece_of (Some (call.DigestUpdate session bytes)) kind.Digest s = if session == s then bytes ∷ [] else []
+piece_of other k s = []
 
 -- the bytes that an update adds, whatever its session; none for every other call
 abbrev pub added_bytes : Call → List ℕ
@@ -94,7 +94,7 @@ added_bytes other = []
 -- the pieces of the session's last operation of the kind, in their order
 abbrev pub pieces_in : OperationKind → History → ℕ → List (List ℕ)
 pieces_in k (start b) s = []
-pieces_in k (e ◁ h) s = if starts k (done e) s then [] else pieces_in k h s ++ piece_of k (done e) s
+pieces_in k (e ◁ h) s = if starts (done e) k s then [] else pieces_in k h s ++ piece_of (done e) k s
 
 -- there was an update, be it of no bytes
 abbrev pub is_updated : OperationKind → History → ℕ → Bool

@@ -16,12 +16,12 @@ pub data Move : Type 0 where
 
 -- the entry does this to the session's operation of the kind
 abbrev pub Does : Move → Entry → OperationKind → ℕ → Type 0
-Does Stay e k s = (starts k (done e) s ≡ false) × (ends k e s ≡ false) × (piece_of k (done e) s ≡ [])
+Does Stay e k s = (starts (done e) k s ≡ false) × (ends k e s ≡ false) × (piece_of (done e) k s ≡ [])
 Does (Start hash) e k s =
-    (starts k (done e) s ≡ true) × (option_and_then (hash_for k) (init_mechanism (done e)) ≡ Some hash)
+    (starts (done e) k s ≡ true) × (option_and_then (hash_for k) (init_mechanism (done e)) ≡ Some hash)
 Does (Add bytes) e k s =
-    (starts k (done e) s ≡ false) × (ends k e s ≡ false) × (piece_of k (done e) s ≡ bytes ∷ [])
-Does End e k s = (starts k (done e) s ≡ false) × (ends k e s ≡ true)
+    (starts (done e) k s ≡ false) × (ends k e s ≡ false) × (piece_of (done e) k s ≡ bytes ∷ [])
+Does End e k s = (starts (done e) k s ≡ false) × (ends k e s ≡ true)
 
 -- the entry does this to one operation, and nothing to any other
 abbrev pub OnlyIn : OperationKind → ℕ → Move → Entry → Type 0
