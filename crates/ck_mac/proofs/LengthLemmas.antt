@@ -7,7 +7,8 @@ use Rattle.ck_types.specs.declared.hashes.Hash.TheVariants as hash
 use Rattle.ck_types.specs.Hashes.{block_length, digest_length}
 use Rattle.ck_mac.specs.Digests.{digest_of}
 
-pub length-digest_of : (h : Hash) (message : List ℕ) → length (digest_of h message) ≡ digest_length h
+pub length-digest_of : (h : Hash) (message : List ℕ)
+    → length (digest_of h message) ≡ digest_length h
 length-digest_of hash.Sha224 message = length-sha224 message
 length-digest_of hash.Sha256 message = length-sha256 message
 length-digest_of hash.Sha384 message = length-sha384 message

@@ -81,8 +81,8 @@ impl Mac {
         tag
     }
 
-    /// Checks a signature of the message: CKR_SIGNATURE_LEN_RANGE for one of another length than the
-    /// tag's, CKR_SIGNATURE_INVALID for other bytes.
+    /// Checks a signature of the message: CKR_SIGNATURE_LEN_RANGE for one of another length than
+    /// the tag's, CKR_SIGNATURE_INVALID for other bytes.
     pub fn check(self, signature: &[u8]) -> Result<(), RvError>
         ensures { (hash : Hash) (key : List ℕ) (n : ℕ) (message : List ℕ)
             → HoldsMac hash key n self message
@@ -117,9 +117,9 @@ impl Clone for Mac {
 ghost use Rattle.ck_mac.specs.Digests.{Holds};
 ghost use Rattle.ck_mac.specs.Macs.{block_key, xor_each};
 
-/// The key as one block, followed by zeros: where it is longer than a block, its digest (FIPS 198-1,
-/// section 4).
-#[tactic(auto, using(crate::proofs::KeyLemmas::take_short_key, crate::proofs::KeyLemmas::take_long_key))]
+/// The key as one block, followed by zeros: where it is longer than a block, its digest
+/// (FIPS 198-1, section 4).
+#[tactic(auto, using(crate::proofs::KeyLemmas::key_blocks))]
 fn block_key(hash: Hash, key: &[u8]) -> [u8; LONGEST_BLOCK]
     ensures { take (block_length hash) result ≡ block_key hash key.now }
 {

@@ -1,5 +1,6 @@
 -- When objects are what a history says
-use Rattle.std.specs.Prelude.{◌≡◌, ℕ, List, Option, Some, None, filter_map, option_map, if◌then◌else◌}
+use Rattle.std.specs.Prelude.{◌≡◌, ℕ, List, Option, Some, None, filter_map, option_map}
+use Rattle.std.specs.Prelude.{if◌then◌else◌}
 use Rattle.ck_journal.specs.Bases.{IsSound}
 use Rattle.ck_journal.specs.Histories.{History, start_of}
 use Rattle.ck_journal.specs.Objects.{creations, session_of, object_at, is_visible, handle_of}

@@ -1,5 +1,6 @@
 -- An object as the store has it
-use Rattle.std.specs.Prelude.{ℕ, ◌<◌, Bool, false, List, Option, Some, None, ◌==◌, ◌&&◌, AllPairs, filter, is_some, map, if◌then◌else◌}
+use Rattle.std.specs.Prelude.{ℕ, ◌<◌, Bool, false, List, Option, Some, None, ◌==◌, ◌&&◌, AllPairs}
+use Rattle.std.specs.Prelude.{filter, is_some, map, if◌then◌else◌}
 use Rattle.std.specs.Option.{option_map_or}
 use Rattle.ck_types.specs.Records.{is_set}
 use Rattle.ck_types.specs.declared.attributes.Attribute.TheVariants as attribute

@@ -94,7 +94,8 @@ fn named(store: &Store, view: View, handle: u64) -> Option<(u64, u64)>
 }
 
 /// Two session objects of session 1, the second private, a private token object, and a session
-/// object of session 2; their labels have 1 to 4 bytes. Where memory is refused, they are made again.
+/// object of session 2; their labels have 1 to 4 bytes. Where memory is refused, they are
+/// made again.
 fn filled(rt: &impl Abort, alloc: Global) -> Result<Store, Refusal> {
     match new_store(rt, alloc) {
         Err(Refusal::Memory) => new_store(rt, alloc),

@@ -1,10 +1,12 @@
 -- What a change of an object keeps
-use Rattle.std.proofs.Common.{◌≡◌, ℕ, Bool, true, false, cond, List, [], ◌∷◌, Some, None, refl, ap, ◌∙◌}
+use Rattle.std.proofs.Common.{◌≡◌, ℕ, Bool, true, false, cond, List, [], ◌∷◌, Some, None, refl, ap}
+use Rattle.std.proofs.Common.{◌∙◌}
 use Rattle.std.specs.Prelude.{◌==◌, find, option_and_then, option_map, unwrap_or}
 use Rattle.std.proofs.lemmas.Bool.{eqb-true}
 use Rattle.ck_types.specs.Attributes.{type_of, form_of, permission}
 use Rattle.ck_types.specs.Checks.{error_if, first_error}
-use Rattle.ck_types.specs.Templates.{value_at, value_or, flag_of, form_error, permission_error, template_error, has_conflict}
+use Rattle.ck_types.specs.Templates.{value_at, value_or, flag_of, form_error, permission_error}
+use Rattle.ck_types.specs.Templates.{template_error, has_conflict}
 use Rattle.ck_types.specs.Records.{with_given, is_set, changed_error}
 use Rattle.ck_types.specs.declared.attributes.Attribute.{Attribute}
 use Rattle.ck_types.specs.declared.attributes.Attribute.TheVariants as attribute
@@ -34,7 +36,8 @@ module _ (template : List Item) (kind : ℕ) (none : value_at template kind ≡ 
   same-first false item items t later = later
 
   -- its value stays
-  value_at-with_given : (items : List Item) → value_at (with_given template items) kind ≡ value_at items kind
+  value_at-with_given : (items : List Item)
+      → value_at (with_given template items) kind ≡ value_at items kind
   value_at-with_given [] = refl
   value_at-with_given (item ∷ items) =
       same-first (item.kind == kind) item items refl (value_at-with_given items)

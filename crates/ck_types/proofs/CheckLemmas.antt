@@ -1,5 +1,6 @@
 -- Checks that find no error
-use Rattle.std.proofs.Common.{◌≡◌, Bool, true, false, List, Option, Some, None, Result, Ok, Err, refl, drop-cons}
+use Rattle.std.proofs.Common.{◌≡◌, Bool, true, false, List, Option, Some, None, Result, Ok, Err}
+use Rattle.std.proofs.Common.{refl, drop-cons}
 use Rattle.std.proofs.lemmas.Grind.{common_steps}
 use Rattle.std.specs.Result.{result_and}
 use Rattle.ck_types.specs.Checks.{error_if, or_else, check_of}
@@ -10,7 +11,8 @@ use Rattle.ck_types.specs.declared.refusals.Refusal.{Refusal}
 use Rattle.ck_types.specs.declared.refusals.Refusal.TheVariants as refusal
 
 -- where neither of two checks finds an error
-pub or_else-none : (first later : Option RvError) → or_else first later ≡ None → (first ≡ None) × (later ≡ None)
+pub or_else-none : (first later : Option RvError) → or_else first later ≡ None
+    → (first ≡ None) × (later ≡ None)
 or_else-none None later e = (refl, e)
 or_else-none (Some error) later e = cc
 
@@ -24,12 +26,14 @@ check_of-ok None u e = refl
 check_of-ok (Some error) u e = cc
 
 -- the error that a check answers
-pub check_of-err : (check : Option RvError) (error : RvError) → check_of check ≡ Err error → check ≡ Some error
+pub check_of-err : (check : Option RvError) (error : RvError) → check_of check ≡ Err error
+    → check ≡ Some error
 check_of-err None error e = cc
 check_of-err (Some found) error e = cc
 
 -- two checks in order answer as the first, or where that is Ok as the second
-pub check_of-or_else : (first later : Option RvError) → check_of (or_else first later) ≡ result_and (check_of first) (check_of later)
+pub check_of-or_else : (first later : Option RvError)
+    → check_of (or_else first later) ≡ result_and (check_of first) (check_of later)
 check_of-or_else None later = refl
 check_of-or_else (Some error) later = refl
 
@@ -40,6 +44,7 @@ pub ruleset checks = (check_of-or_else)
 pub ruleset item_checks = (check_of-or_else, drop-cons, common_steps)
 
 -- what makes an object is refused with the error of its check
-pub record-refused : (check : Option RvError) (items : List Item) (r : Result (List Item) Refusal) (error : RvError)
+pub record-refused : (check : Option RvError) (items : List Item) (r : Result (List Item) Refusal)
+    (error : RvError)
     → check_of check ≡ Err error → r ≡ Err (refusal.Code error) → IsRecordUnless check items r
 record-refused check items r error e refused = rw refused (check_of-err check error e)

@@ -1,11 +1,15 @@
 -- What items with no fault in form give
-use Rattle.std.proofs.Common.{◌≡◌, ℕ, Bool, true, false, cond, List, [], ◌∷◌, Option, Some, None, not, ◌||◌, refl, inl, inr, sym, subst}
+use Rattle.std.proofs.Common.{◌≡◌, ℕ, Bool, true, false, cond, List, [], ◌∷◌, Option, Some, None}
+use Rattle.std.proofs.Common.{not, ◌||◌, refl, inl, inr, sym, subst}
 use Rattle.std.specs.Prelude.{◌==◌, find, option_and_then, option_map, unwrap_or}
 use Rattle.std.specs.Cmp.Lexicographic.{bytes_decides}
 use Rattle.std.proofs.lemmas.Bool.{eqb-true, or_cases, true≢false}
-use Rattle.ck_types.specs.Attributes.{type_of, form_of, is_of_form, permission, attribute_of, same_bytes, flag_bytes, number_bytes}
+use Rattle.ck_types.specs.Attributes.{type_of, form_of, is_of_form, permission, attribute_of}
+use Rattle.ck_types.specs.Attributes.{same_bytes, flag_bytes, number_bytes}
 use Rattle.ck_types.specs.Checks.{error_if, first_error}
-use Rattle.ck_types.specs.Templates.{value_at, value_or, form_error, value_error, creation_form_error, permission_error, error_of_permission, template_error, has_conflict, created_error}
+use Rattle.ck_types.specs.Templates.{value_at, value_or, form_error, value_error}
+use Rattle.ck_types.specs.Templates.{creation_form_error, permission_error, error_of_permission}
+use Rattle.ck_types.specs.Templates.{template_error, has_conflict, created_error}
 use Rattle.ck_types.specs.Records.{copied_error, changed_error}
 use Rattle.ck_types.specs.declared.attributes.Attribute.{Attribute}
 use Rattle.ck_types.specs.declared.attributes.Attribute.TheVariants as attribute
@@ -55,74 +59,100 @@ form_holds true e = refl
 form_holds false e = cc
 
 -- a value with no fault in form is of its attribute's form
-is_of_form-value : (a : Attribute) (value : List ℕ) → value_error (Some a) value ≡ None → is_of_form (form_of a) value ≡ true
+is_of_form-value : (a : Attribute) (value : List ℕ) → value_error (Some a) value ≡ None
+    → is_of_form (form_of a) value ≡ true
 is_of_form-value a value e = form_holds (is_of_form (form_of a) value) (error_if-none _ _ e)
 
 module _ (check : Item → Option RvError) (kind : ℕ) (value : List ℕ) where
   none-first : (test : Bool) (item : Item) (items : List Item)
-      → (first_error check items ≡ None → value_at items kind ≡ Some value → check (record { kind = kind; value = value }) ≡ None)
+      → (first_error check items ≡ None → value_at items kind ≡ Some value
+      → check (record { kind = kind; value = value }) ≡ None)
       → (item.kind == kind) ≡ test
       → first_error check (item ∷ items) ≡ None
-      → option_map (λ (i : Item). i.value) (cond test (Some item) (find (λ i. i.kind == kind) items)) ≡ Some value
+      → option_map (λ (i : Item). i.value)
+      (cond test (Some item) (find (λ i. i.kind == kind) items)) ≡ Some value
       → check (record { kind = kind; value = value }) ≡ None
   none-first true item items later t fine e =
       let here = (or_else-none (check item) (first_error check items) fine).0 in
       let same : item.value ≡ value = cc in
       subst (λ v. check (record { kind = kind; value = v }) ≡ None) same
-      (subst (λ n. check (record { kind = n; value = item.value }) ≡ None) (eqb-true item.kind kind t) here)
+      (subst (λ n. check (record { kind = n; value = item.value }) ≡ None)
+      (eqb-true item.kind kind t) here)
   none-first false item items later t fine e =
       later (or_else-none (check item) (first_error check items) fine).1 e
 
   -- a check that refuses no item doesn't refuse what the items give
-  none-given : (items : List Item) → first_error check items ≡ None → value_at items kind ≡ Some value → check (record { kind = kind; value = value }) ≡ None
+  none-given : (items : List Item) → first_error check items ≡ None
+      → value_at items kind ≡ Some value → check (record { kind = kind; value = value }) ≡ None
   none-given [] fine e = cc
   none-given (item ∷ items) fine e =
       none-first (item.kind == kind) item items (none-given items) refl fine e
 
 -- what items with no fault in form give an attribute has none
-value_error-given : (a : Attribute) (value : List ℕ) (items : List Item) → first_error form_error items ≡ None → value_at items (type_of a) ≡ Some value → value_error (Some a) value ≡ None
+value_error-given : (a : Attribute) (value : List ℕ) (items : List Item)
+    → first_error form_error items ≡ None → value_at items (type_of a) ≡ Some value
+    → value_error (Some a) value ≡ None
 value_error-given a value items fine e =
-    subst (λ o. value_error o value ≡ None) (attribute_of-type_of a) (none-given form_error (type_of a) value items fine e)
+    subst (λ o. value_error o value ≡ None) (attribute_of-type_of a)
+    (none-given form_error (type_of a) value items fine e)
 
-flag_bytes-test : (test : Bool) (value : List ℕ) → same_bytes value (flag_bytes true) ≡ test → (same_bytes value (flag_bytes false) || test) ≡ true → flag_bytes test ≡ value
+flag_bytes-test : (test : Bool) (value : List ℕ) → same_bytes value (flag_bytes true) ≡ test
+    → (same_bytes value (flag_bytes false) || test) ≡ true → flag_bytes test ≡ value
 flag_bytes-test true value t h = sym ((bytes_decides value (flag_bytes true)).0 t)
 flag_bytes-test false value t h =
-    elim (or_cases (same_bytes value (flag_bytes false)) false h) [ inl e ↦ sym ((bytes_decides value (flag_bytes false)).0 e) | inr e ↦ absurd (true≢false (sym e)) ]
+    elim (or_cases (same_bytes value (flag_bytes false)) false h) [
+      | inl e ↦ sym ((bytes_decides value (flag_bytes false)).0 e)
+      | inr e ↦ absurd (true≢false (sym e))
+    ]
 
 -- a value of the form of a flag is the bytes of the flag that it is
-pub flag_bytes-is_true : (value : List ℕ) → is_of_form form.Flag value ≡ true → flag_bytes (same_bytes value (flag_bytes true)) ≡ value
+pub flag_bytes-is_true : (value : List ℕ) → is_of_form form.Flag value ≡ true
+    → flag_bytes (same_bytes value (flag_bytes true)) ≡ value
 flag_bytes-is_true value h = flag_bytes-test (same_bytes value (flag_bytes true)) value refl h
 
 -- the flag that items with no fault in form give an attribute
-pub flag_bytes-given : (items : List Item) (a : Attribute) (value : List ℕ) → form_of a ≡ form.Flag → first_error form_error items ≡ None
-    → value_at items (type_of a) ≡ Some value → flag_bytes (same_bytes value (flag_bytes true)) ≡ value
+pub flag_bytes-given : (items : List Item) (a : Attribute) (value : List ℕ) → form_of a ≡ form.Flag
+    → first_error form_error items ≡ None
+    → value_at items (type_of a) ≡ Some value
+    → flag_bytes (same_bytes value (flag_bytes true)) ≡ value
 flag_bytes-given items a value flag fine e =
-    flag_bytes-is_true value (subst (λ f. is_of_form f value ≡ true) flag (is_of_form-value a value (value_error-given a value items fine e)))
+    flag_bytes-is_true value (subst (λ f. is_of_form f value ≡ true) flag
+    (is_of_form-value a value (value_error-given a value items fine e)))
 
 -- the same, where a test of the value says which flag it is
-pub flag_bytes-given_or : (items : List Item) (a : Attribute) (kind : ℕ) (value other : List ℕ) (test : Bool) → form_of a ≡ form.Flag → first_error form_error items ≡ None
-    → Some value ≡ value_at items kind → kind ≡ type_of a → test ≡ same_bytes value (flag_bytes true) → flag_bytes test ≡ value_or items (type_of a) other
+pub flag_bytes-given_or : (items : List Item) (a : Attribute) (kind : ℕ) (value other : List ℕ)
+    (test : Bool) → form_of a ≡ form.Flag → first_error form_error items ≡ None
+    → Some value ≡ value_at items kind → kind ≡ type_of a
+    → test ≡ same_bytes value (flag_bytes true) → flag_bytes test ≡ value_or items (type_of a) other
 flag_bytes-given_or items a kind value other test flag fine e k t =
-    let here : value_at items (type_of a) ≡ Some value = subst (λ n. value_at items n ≡ Some value) k (sym e) in
+    let here : value_at items (type_of a) ≡ Some value =
+    subst (λ n. value_at items n ≡ Some value) k (sym e) in
     rw (t, here) (flag_bytes-given items a value flag fine here)
 
 -- ---- a template that passes the checks of a creation
 
 -- its items have no fault in form
-pub form-creation : (items : List Item) → first_error creation_form_error items ≡ None → first_error form_error items ≡ None
+pub form-creation : (items : List Item) → first_error creation_form_error items ≡ None
+    → first_error form_error items ≡ None
 form-creation [] fine = refl
 form-creation (item ∷ items) fine =
-    let parts = or_else-none (creation_form_error item) (first_error creation_form_error items) fine in
+    let parts =
+    or_else-none (creation_form_error item) (first_error creation_form_error items) fine in
     rw ((or_else-none (form_error item) _ parts.0).0, form-creation items parts.1) refl
 
-pub form-created : (items : List Item) → created_error items ≡ None → first_error form_error items ≡ None
-form-created items fine = form-creation items (or_else-none (first_error creation_form_error items) _ fine).0
+pub form-created : (items : List Item) → created_error items ≡ None
+    → first_error form_error items ≡ None
+form-created items fine =
+    form-creation items (or_else-none (first_error creation_form_error items) _ fine).0
 
 -- a class that it gives is that of data objects
-class-value : (value : List ℕ) → creation_form_error (record { kind = type_of attribute.Class; value = value }) ≡ None → value ≡ number_bytes 0
+class-value : (value : List ℕ)
+    → creation_form_error (record { kind = type_of attribute.Class; value = value }) ≡ None
+    → value ≡ number_bytes 0
 class-value value e =
     let parts = or_else-none (value_error (Some attribute.Class) value) _ e in
-    class-test (same_bytes value (number_bytes 0)) (same_bytes value (number_bytes 4)) (λ t. (bytes_decides value (number_bytes 0)).0 t)
+    class-test (same_bytes value (number_bytes 0)) (same_bytes value (number_bytes 4))
+    (λ t. (bytes_decides value (number_bytes 0)).0 t)
     (is_of_form-value attribute.Class value parts.0) (error_if-none _ _ parts.1)
   where
     class-test : (data_class key_class : Bool) → (data_class ≡ true → value ≡ number_bytes 0)
@@ -130,19 +160,24 @@ class-value value e =
     class-test true key_class h fits supported = h refl
     class-test false key_class h fits supported = cc
 
-or-default : (o : Option (List ℕ)) (other : List ℕ) → ((value : List ℕ) → o ≡ Some value → value ≡ other) → unwrap_or o other ≡ other
+or-default : (o : Option (List ℕ)) (other : List ℕ)
+    → ((value : List ℕ) → o ≡ Some value → value ≡ other) → unwrap_or o other ≡ other
 or-default None other h = refl
 or-default (Some value) other h = h value refl
 
-pub given_or-class : (items : List Item) → created_error items ≡ None → value_or items (type_of attribute.Class) (number_bytes 0) ≡ number_bytes 0
+pub given_or-class : (items : List Item) → created_error items ≡ None
+    → value_or items (type_of attribute.Class) (number_bytes 0) ≡ number_bytes 0
 given_or-class items fine =
     or-default (value_at items (type_of attribute.Class)) (number_bytes 0)
-    (λ value e. class-value value (none-given creation_form_error (type_of attribute.Class) value items (or_else-none (first_error creation_form_error items) _ fine).0 e))
+    (λ value e. class-value value
+    (none-given creation_form_error (type_of attribute.Class) value items
+    (or_else-none (first_error creation_form_error items) _ fine).0 e))
 
 -- ---- a template that passes the checks of a copy or a change
 
 -- it doesn't give an attribute that it may not give
-pub no-value : (c : Class) (p : Purpose) (a : Attribute) (items : List Item) → permission c p a ≡ Some false
+pub no-value : (c : Class) (p : Purpose) (a : Attribute) (items : List Item)
+    → permission c p a ≡ Some false
     → first_error (permission_error c p) items ≡ None → value_at items (type_of a) ≡ None
 no-value c p a items read_only fine = cases (value_at items (type_of a)) refl
   where
@@ -152,16 +187,23 @@ no-value c p a items read_only fine = cases (value_at items (type_of a)) refl
         let passes = none-given (permission_error c p) (type_of a) value items fine e in
         let refused : error_of_permission (Some false) ≡ None =
         subst (λ o. error_of_permission o ≡ None) read_only
-        (subst (λ o. error_of_permission (option_and_then (permission c p) o) ≡ None) (attribute_of-type_of a) passes) in
+        (subst (λ o. error_of_permission (option_and_then (permission c p) o) ≡ None)
+        (attribute_of-type_of a) passes) in
         cc
 
 -- its items have no fault in form, and it doesn't give the class
-template-passes : (c : Class) (p : Purpose) (items : List Item) → permission c p attribute.Class ≡ Some false
-    → template_error c p items ≡ None → (first_error form_error items ≡ None) × (value_at items (type_of attribute.Class) ≡ None)
+template-passes : (c : Class) (p : Purpose) (items : List Item)
+    → permission c p attribute.Class ≡ Some false
+    → template_error c p items ≡ None
+    → (first_error form_error items ≡ None) × (value_at items (type_of attribute.Class) ≡ None)
 template-passes c p items read_only fine =
     let parts = or_else-none (first_error form_error items) _ fine in
-    let rest = (or_else-none (error_if (has_conflict items) rv_error.TemplateInconsistent) _ parts.1).1 in
-    (parts.0, no-value c p attribute.Class items read_only (or_else-none (first_error (permission_error c p) items) None rest).0)
+    let rest =
+    (or_else-none (error_if (has_conflict items) rv_error.TemplateInconsistent) _ parts.1).1 in (
+      parts.0,
+      no-value c p attribute.Class items read_only
+          (or_else-none (first_error (permission_error c p) items) None rest).0,
+    )
 
 copy-class : (c : Class) → permission c purpose.Copy attribute.Class ≡ Some false
 copy-class class.Data = refl
@@ -171,12 +213,16 @@ change-class : (c : Class) → permission c purpose.Set attribute.Class ≡ Some
 change-class class.Data = refl
 change-class class.SecretKey = refl
 
-pub copy-passes : (c : Class) (protections : Protections) (items : List Item) → copied_error c protections items ≡ None
+pub copy-passes : (c : Class) (protections : Protections) (items : List Item)
+    → copied_error c protections items ≡ None
     → (first_error form_error items ≡ None) × (value_at items (type_of attribute.Class) ≡ None)
 copy-passes c protections items fine =
-    template-passes c purpose.Copy items (copy-class c) (or_else-none (template_error c purpose.Copy items) _ fine).0
+    template-passes c purpose.Copy items (copy-class c)
+    (or_else-none (template_error c purpose.Copy items) _ fine).0
 
-pub change-passes : (c : Class) (protections : Protections) (items : List Item) → changed_error c protections items ≡ None
+pub change-passes : (c : Class) (protections : Protections) (items : List Item)
+    → changed_error c protections items ≡ None
     → (first_error form_error items ≡ None) × (value_at items (type_of attribute.Class) ≡ None)
 change-passes c protections items fine =
-    template-passes c purpose.Set items (change-class c) (or_else-none (template_error c purpose.Set items) _ fine).0
+    template-passes c purpose.Set items (change-class c)
+    (or_else-none (template_error c purpose.Set items) _ fine).0

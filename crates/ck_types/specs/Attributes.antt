@@ -1,6 +1,6 @@
--- The attributes that the token knows: their types, the forms of their values, the templates that may give them
--- and the values that an object has where its template gives none
--- (PKCS #11 Base 3.0, Common attributes; Current Mechanisms 3.0, Generic secret key)
+-- The attributes that the token knows: their types, the forms of their values, the templates that
+-- may give them and the values that an object has where its template gives none (PKCS #11 Base 3.0,
+-- Common attributes; Current Mechanisms 3.0, Generic secret key)
 use Rattle.std.specs.Prelude.{ℕ, Bool, true, false, List, [], ◌∷◌, Option, Some, None}
 use Rattle.std.specs.Prelude.{◌==◌, ◌||◌, find, length, replicate, option_map}
 use Rattle.std.specs.Int.{w64, to_le_bytes}
@@ -27,8 +27,8 @@ number_bytes n = to_le_bytes w64 n
 abbrev pub same_bytes : List ℕ → List ℕ → Bool
 same_bytes = pointwise ◌==◌
 
--- a value is of a form: a flag is one byte 0 or 1, a number 8 bytes; a class is 0 or 4, a key type 16
--- and, in a template, a key state 0 or 1
+-- a value is of a form: a flag is one byte 0 or 1, a number 8 bytes; a class is 0 or 4, a key type
+-- 16 and, in a template, a key state 0 or 1
 abbrev pub is_of_form : Form → List ℕ → Bool
 is_of_form form.Flag value =
     same_bytes value (flag_bytes false) || same_bytes value (flag_bytes true)
@@ -53,15 +53,15 @@ may_give purposes purpose.Generate = purposes.generate
 may_give purposes purpose.Copy = purposes.copy
 may_give purposes purpose.Set = purposes.set
 
--- the value of an attribute that a template doesn't give: the template must give it, it is these bytes, or the token
--- computes it from how the object came to be. Data objects aren't generated.
+-- the value of an attribute that a template doesn't give: the template must give it, it is these
+-- bytes, or the token computes it from how the object came to be. Data objects aren't generated.
 pub data Default : Type 0 where
   required : Default
   preset : List ℕ → Default
   computed : Default
 
--- an attribute of a class: the templates that may give it, and its value in a created and in a generated object where
--- they don't
+-- an attribute of a class: the templates that may give it, and its value in a created and in a
+-- generated object where they don't
 pub record Column : Type 0 where
   pub purposes : Purposes
   pub created : Default
@@ -114,14 +114,16 @@ row number form for_data for_keys =
 
 -- each line: type, form, for data objects, for secret keys
 abbrev pub table : Attribute → Row
-table attribute.Class = row 0x0 form.Class (column CG required computed) (column CG required (preset (number_bytes 4)))
+table attribute.Class =
+    row 0x0 form.Class (column CG required computed) (column CG required (preset (number_bytes 4)))
 table attribute.Token = row 0x1 form.Flag (column CGP off off) (column CGP off off)
 table attribute.Private = row 0x2 form.Flag (column CGP off off) (column CGP on on)
 table attribute.Label = row 0x3 form.Bytes (column CGPS empty empty) (column CGPS empty empty)
 table attribute.Application = row 0x10 form.Bytes (column CPS empty empty) None
 table attribute.Value = row 0x11 form.Bytes (column CPS empty empty) (column C required computed)
 table attribute.ObjectId = row 0x12 form.Bytes (column CPS empty empty) None
-table attribute.KeyType = row 0x100 form.KeyType None (column CG required (preset (number_bytes 16)))
+table attribute.KeyType =
+    row 0x100 form.KeyType None (column CG required (preset (number_bytes 16)))
 table attribute.Id = row 0x102 form.Bytes None (column CGPS empty empty)
 table attribute.Sensitive = row 0x103 form.Flag None (column CGPS off off)
 table attribute.Encrypt = row 0x104 form.Flag None (column CGPS off off)
@@ -137,12 +139,14 @@ table attribute.Local = row 0x163 form.Flag None (column nowhere off on)
 table attribute.NeverExtractable = row 0x164 form.Flag None (column nowhere off computed)
 table attribute.AlwaysSensitive = row 0x165 form.Flag None (column nowhere off computed)
 table attribute.KeyGenMechanism =
-    row 0x166 form.Number None (column nowhere (preset (replicate 8 255)) (preset (number_bytes 0x350)))
+    row 0x166 form.Number None
+    (column nowhere (preset (replicate 8 255)) (preset (number_bytes 0x350)))
 table attribute.Modifiable = row 0x170 form.Flag (column CGP on on) (column CGP on on)
 table attribute.Copyable = row 0x171 form.Flag (column CGP on on) (column CGP on on)
 table attribute.Destroyable = row 0x172 form.Flag (column CGP on on) (column CGP on on)
 table attribute.KeyState =
-    row 0x80000001 form.KeyState None (column CG (preset (number_bytes 1)) (preset (number_bytes 1)))
+    row 0x80000001 form.KeyState None
+    (column CG (preset (number_bytes 1)) (preset (number_bytes 1)))
 
 -- all attributes, in rising types
 abbrev pub attributes : List Attribute

@@ -1,11 +1,12 @@
--- The mechanisms that the token has (PKCS #11 Current Mechanisms 3.0, SHA-224 to SHA-512 and Generic
--- secret key)
-use Rattle.std.specs.Prelude.{ℕ, List, [], ◌∷◌, Option, Some, None, ◌==◌, find, map, option_map, option_and_then}
+-- The mechanisms that the token has (PKCS #11 Current Mechanisms 3.0, SHA-224 to SHA-512 and
+-- Generic secret key)
+use Rattle.std.specs.Prelude.{ℕ, List, [], ◌∷◌, Option, Some, None, ◌==◌, find, map, option_map}
+use Rattle.std.specs.Prelude.{option_and_then}
 use Rattle.ck_types.specs.declared.hashes.Hash.{Hash}
 use Rattle.ck_types.specs.declared.hashes.Hash.TheVariants as hash
 
--- what a mechanism computes: a digest, an HMAC, the first bytes of an HMAC, as many as its parameter
--- says, or a generic secret key
+-- what a mechanism computes: a digest, an HMAC, the first bytes of an HMAC, as many as its
+-- parameter says, or a generic secret key
 pub data Algorithm : Type 0 where
   digest : Hash → Algorithm
   hmac : Hash → Algorithm

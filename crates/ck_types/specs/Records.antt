@@ -1,8 +1,11 @@
 -- The attributes of an object, in the order of the table
-use Rattle.std.specs.Prelude.{◌≡◌, ℕ, Bool, true, false, List, [], ◌∷◌, Option, Some, None, Result, Ok, Err}
-use Rattle.std.specs.Prelude.{not, ◌&&◌, ◌||◌, if◌then◌else◌, map, option_map, option_and_then, unwrap_or}
+use Rattle.std.specs.Prelude.{◌≡◌, ℕ, Bool, true, false, List, [], ◌∷◌, Option, Some, None, Result}
+use Rattle.std.specs.Prelude.{Ok, Err}
+use Rattle.std.specs.Prelude.{not, ◌&&◌, ◌||◌, if◌then◌else◌, map, option_map, option_and_then}
+use Rattle.std.specs.Prelude.{unwrap_or}
 use Rattle.ck_types.specs.Attributes.{flag_bytes, number_bytes, same_bytes}
-use Rattle.ck_types.specs.Attributes.{Default, preset, Column, type_of, column_of, attribute_of, attributes}
+use Rattle.ck_types.specs.Attributes.{Default, preset, Column, type_of, column_of, attribute_of}
+use Rattle.ck_types.specs.Attributes.{attributes}
 use Rattle.std.specs.List.{flat_map, list_all}
 use Rattle.ck_types.specs.Checks.{error_if, first_of}
 use Rattle.ck_types.specs.Templates.{value_at, value_or, flag_at, template_error}
@@ -51,8 +54,8 @@ abbrev pub with_given : List Item → List Item → List Item
 with_given template items =
     map (λ (item : Item). record item { value = value_or template item.kind item.value }) items
 
--- the value of an attribute of a data object where the template gives none; the class, which it must give, is
--- CKO_DATA (0)
+-- the value of an attribute of a data object where the template gives none; the class, which it
+-- must give, is CKO_DATA (0)
 abbrev pub data_default : Default → List ℕ
 data_default (preset value) = value
 data_default other = number_bytes 0
@@ -81,7 +84,8 @@ is_set items a = unwrap_or (flag_at items a) false
 
 -- ---- what the checks of a template look at
 
--- the class of an object with these attributes: a secret key where CLASS is CKO_SECRET_KEY (4), else a data object
+-- the class of an object with these attributes: a secret key where CLASS is CKO_SECRET_KEY (4),
+-- else a data object
 abbrev pub class_of : List Item → Class
 class_of items =
     if same_bytes (value_or items (type_of attribute.Class) []) (number_bytes 4)
@@ -128,7 +132,8 @@ changed_error class protections template = first_of (
     ∷ error_if (exposes_key protections template) rv_error.AttributeReadOnly
     ∷ [])
 
--- the object with these attributes, or the refusal with this error; out of memory comes where the checks find nothing
+-- the object with these attributes, or the refusal with this error; out of memory comes where the
+-- checks find nothing
 abbrev pub IsRecordUnless : Option RvError → List Item → Result (List Item) Refusal → Type 0
 IsRecordUnless error items (Ok object) = (error ≡ None) × (object ≡ items)
 IsRecordUnless error items (Err (refusal.Code code)) = error ≡ Some code
@@ -141,7 +146,8 @@ abbrev pub has_item : List Item → Item → Bool
 has_item items item =
     unwrap_or (option_map (same_bytes item.value) (value_at items item.kind)) false
 
--- an object with these attributes matches a search template: it has each attribute of the template with equal bytes.
--- The template isn't checked, so a type that the object doesn't have, or two values of one type, match nothing.
+-- an object with these attributes matches a search template: it has each attribute of the template
+-- with equal bytes. The template isn't checked, so a type that the object doesn't have, or two
+-- values of one type, match nothing.
 abbrev pub matches : List Item → List Item → Bool
 matches items template = list_all (has_item items) template

@@ -1,6 +1,7 @@
 -- Templates and the checks that one must pass
 use Rattle.std.specs.Prelude.{ℕ, Bool, true, false, List, [], ◌∷◌, Option, Some, None}
-use Rattle.std.specs.Prelude.{◌==◌, ◌&&◌, not, find, option_map, option_and_then, unwrap_or, is_none}
+use Rattle.std.specs.Prelude.{◌==◌, ◌&&◌, not, find, option_map, option_and_then, unwrap_or}
+use Rattle.std.specs.Prelude.{is_none}
 use Rattle.std.specs.List.{list_any}
 use Rattle.ck_types.specs.Attributes.{flag_bytes, number_bytes, same_bytes, is_of_form}
 use Rattle.ck_types.specs.Attributes.{type_of, form_of, permission, attribute_of}
@@ -53,7 +54,8 @@ abbrev pub is_secret_key : Item → Bool
 is_secret_key item =
     (item.kind == type_of attribute.Class) && same_bytes item.value (number_bytes 4)
 
--- an item of a creation is well formed, and isn't the class of secret keys, which can't be created yet
+-- an item of a creation is well formed, and isn't the class of secret keys, which can't be created
+-- yet
 abbrev pub creation_form_error : Item → Option RvError
 creation_form_error item =
     or_else (form_error item) (error_if (is_secret_key item) rv_error.AttributeValueInvalid)
@@ -61,7 +63,8 @@ creation_form_error item =
 -- two items of one type have different values: an item's value isn't that of the first of its type
 abbrev pub has_conflict : List Item → Bool
 has_conflict items =
-    list_any (λ (item : Item). not (same_bytes item.value (value_or items item.kind item.value))) items
+    list_any (λ (item : Item). not (same_bytes item.value (value_or items item.kind item.value)))
+    items
 
 -- items of the attribute's type have different values: one isn't that of the first
 abbrev pub has_two_values : List Item → Attribute → Bool
@@ -88,8 +91,8 @@ created_error items = first_of (
     ∷ first_error (permission_error class.Data purpose.Create) items
     ∷ [])
 
--- the error of a template that changes an object of the class, or that a copy of one is made with, but for those
--- that depend on the object's other attributes
+-- the error of a template that changes an object of the class, or that a copy of one is made with,
+-- but for those that depend on the object's other attributes
 abbrev pub template_error : Class → Purpose → List Item → Option RvError
 template_error class purpose items = first_of (
     first_error form_error items

@@ -5,10 +5,16 @@ abbrev pub with_flag : Bool → ℕ → ℕ → ℕ
 with_flag false flag flags = flags
 with_flag true flag flags = bit_or flags flag
 
--- the flags of a token: a login is required; whether the user has a PIN and the token is initialized; and for each of
--- the two users whether any try of its PIN was wrong, only one is left, or none
+-- the flags of a token: a login is required; whether the user has a PIN and the token is
+-- initialized; and for each of the two users whether any try of its PIN was wrong, only one is
+-- left, or none
 abbrev pub token_flags : Bool → Bool → ℕ → ℕ → ℕ
 token_flags is_initialized has_user_pin user_tries so_tries =
-    with_flag (so_tries == 3) 0x400000 (with_flag (so_tries == 2) 0x200000 (with_flag (nat_le 1 so_tries) 0x100000
-    (with_flag (user_tries == 3) 0x40000 (with_flag (user_tries == 2) 0x20000 (with_flag (nat_le 1 user_tries) 0x10000
-    (with_flag is_initialized 0x400 (with_flag has_user_pin 0x8 0x4)))))))
+    with_flag (so_tries == 3) 0x400000
+    (with_flag (so_tries == 2) 0x200000
+    (with_flag (nat_le 1 so_tries) 0x100000
+    (with_flag (user_tries == 3) 0x40000
+    (with_flag (user_tries == 2) 0x20000
+    (with_flag (nat_le 1 user_tries) 0x10000
+    (with_flag is_initialized 0x400
+    (with_flag has_user_pin 0x8 0x4)))))))

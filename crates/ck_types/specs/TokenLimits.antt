@@ -8,7 +8,8 @@ pub record Ranges : Type 0 where
   pub creations : ℕ
   pub logins : ℕ
 
--- 1 to 64 sessions at once, and fewer than 2^32 openings, 2^32 creations and 2^31 logins, at least one of each
+-- 1 to 64 sessions at once, and fewer than 2^32 openings, 2^32 creations and 2^31 logins, at least
+-- one of each
 abbrev pub AreInRange : ℕ → ℕ → ℕ → ℕ → Type 0
 AreInRange sessions openings creations logins =
     (1 ≤ sessions) × (sessions ≤ 64) × (1 ≤ openings) × (openings < 2 ^ 32)

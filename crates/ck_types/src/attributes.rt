@@ -19,8 +19,8 @@ pub enum Purpose {
     Set,
 }
 
-/// An attribute that the token knows (PKCS #11 Base 3.0, Common attributes; Current Mechanisms 3.0, Generic
-/// secret key). `KeyState` is a vendor attribute of this token.
+/// An attribute that the token knows (PKCS #11 Base 3.0, Common attributes; Current Mechanisms 3.0,
+/// Generic secret key). `KeyState` is a vendor attribute of this token.
 #[derive(Clone, Copy, Debug, PartialEq, Eq)]
 pub enum Attribute {
     Class,
@@ -194,8 +194,8 @@ impl Attribute {
         }
     }
 
-    /// Whether the attribute may be given in a template of this purpose for an object of this class, or `None` where
-    /// objects of the class don't have it.
+    /// Whether the attribute may be given in a template of this purpose for an object of this
+    /// class, or `None` where objects of the class don't have it.
     pub fn permission(self, class: Class, purpose: Purpose) -> Option<bool>
         ensures { result ≡ permission class purpose self }
     {

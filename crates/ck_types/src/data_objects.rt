@@ -49,7 +49,8 @@ impl Data {
     /// A copy with the items' values of the attributes that they give.
     pub(crate) fn with(&self, alloc: Global, items: &[Item]) -> Result<Data, NoMemory>
         requires well_formed { first_error form_error items.now ≡ None }
-        requires class { value_or items.now (type_of attribute.Class) (number_bytes 0) ≡ number_bytes 0 }
+        requires class { value_or items.now (type_of attribute.Class) (number_bytes 0)
+            ≡ number_bytes 0 }
         ensures { IfOk result (λ made.
             data_items made ≡ with_given items.now (data_items self.now)) }
     {
@@ -73,7 +74,8 @@ impl Data {
     /// The value of an attribute, or `None` where data objects don't have it.
     #[tactic(auto, using(crate::proofs::FlagLemmas::flags))]
     pub(crate) fn field(&self, attribute: Attribute) -> Option<Field>
-        ensures value { option_map field_bytes result ≡ value_at (data_items self.now) (type_of attribute) }
+        ensures value { option_map field_bytes result
+            ≡ value_at (data_items self.now) (type_of attribute) }
         ensures flag { flag_field result ≡ flag_at (data_items self.now) attribute }
     {
         match attribute {

@@ -2,9 +2,9 @@ ghost use Rattle.std.specs.Prelude.{◌≡◌, Some, IfSome};
 
 use thiserror::Error;
 
-/// A return code that is an error (CK_RV but CKR_OK; PKCS #11 Base 3.0, Function return values), with the number that
-/// the standard gives it. `HostMemory` and `KeyTypeInconsistent` are answered by no call: out of memory is `NoMemory`,
-/// and there is one key type.
+/// A return code that is an error (CK_RV but CKR_OK; PKCS #11 Base 3.0, Function return values),
+/// with the number that the standard gives it. `HostMemory` and `KeyTypeInconsistent` are answered
+/// by no call: out of memory is `NoMemory`, and there is one key type.
 #[derive(Clone, Copy, Debug, PartialEq, Eq, Error)]
 pub enum RvError {
     #[error("CKR_HOST_MEMORY")]

@@ -3,7 +3,8 @@ ghost use Rattle.std.specs.List.{list_any};
 ghost use Rattle.std.specs.Option.{option_copied};
 ghost use Rattle.ck_types.specs.Attributes.{type_of, form_of, same_bytes, flag_bytes};
 ghost use Rattle.ck_types.specs.Checks.{check_of, first_error};
-ghost use Rattle.ck_types.specs.Templates.{value_at, value_or, flag_at, has_two_values, has_conflict};
+ghost use Rattle.ck_types.specs.Templates.{value_at, value_or, flag_at, has_two_values};
+ghost use Rattle.ck_types.specs.Templates.{has_conflict};
 ghost use Rattle.ck_types.specs.Templates.{form_error, creation_form_error, permission_error};
 ghost use Rattle.ck_types.specs.declared.forms.Form.TheVariants as form;
 
@@ -25,8 +26,8 @@ pub struct Item {
 impl Item {
     ghost use Rattle.ck_types.specs.Templates.{is_secret_key};
 
-    /// CKR_ATTRIBUTE_TYPE_INVALID for a type that the token doesn't know, CKR_ATTRIBUTE_VALUE_INVALID for a value
-    /// that isn't of the type's form.
+    /// CKR_ATTRIBUTE_TYPE_INVALID for a type that the token doesn't know,
+    /// CKR_ATTRIBUTE_VALUE_INVALID for a value that isn't of the type's form.
     fn check_form(&self) -> Result<(), RvError>
         ensures { result ≡ check_of (form_error self.now) }
     {
@@ -47,7 +48,8 @@ impl Item {
             && self.value.as_slice() == 4u64.to_le_bytes().as_slice()
     }
 
-    /// The check of the form, and CKR_ATTRIBUTE_VALUE_INVALID for the class of secret keys, which can't be created yet.
+    /// The check of the form, and CKR_ATTRIBUTE_VALUE_INVALID for the class of secret keys, which
+    /// can't be created yet.
     #[tactic(auto, using(crate::proofs::CheckLemmas::checks))]
     fn check_creation_form(&self) -> Result<(), RvError>
         ensures { result ≡ check_of (creation_form_error self.now) }
@@ -56,8 +58,8 @@ impl Item {
         error_if(self.is_secret_key(), RvError::AttributeValueInvalid)
     }
 
-    /// CKR_ATTRIBUTE_TYPE_INVALID for an attribute that objects of the class don't have, CKR_ATTRIBUTE_READ_ONLY for
-    /// one that a template of this purpose may not give.
+    /// CKR_ATTRIBUTE_TYPE_INVALID for an attribute that objects of the class don't have,
+    /// CKR_ATTRIBUTE_READ_ONLY for one that a template of this purpose may not give.
     fn check_permission(&self, class: Class, purpose: Purpose) -> Result<(), RvError>
         ensures { result ≡ check_of (permission_error class purpose self.now) }
     {
@@ -125,7 +127,8 @@ pub(crate) fn value_at(items: &[Item], kind: u64) -> Option<&Bytes>
     None
 }
 
-/// The flag that the items give the attribute, else this one. Well-formed items give a flag one byte, 0 or 1.
+/// The flag that the items give the attribute, else this one.
+/// Well-formed items give a flag one byte, 0 or 1.
 pub(crate) fn flag_or(items: &[Item], attribute: Attribute, other: bool) -> bool
     requires form { form_of attribute ≡ form.Flag }
     requires well_formed { first_error form_error items.now ≡ None }
@@ -173,8 +176,8 @@ fn has_conflict_in(attributes: &[Attribute], items: &[Item]) -> bool
         .any(|attribute| has_two_values(items, *attribute))
 }
 
-/// Whether two items of one type have different values. Each attribute takes one walk over the items, so that the
-/// time stays in proportion to their number.
+/// Whether two items of one type have different values. Each attribute takes one walk over the
+/// items, so that the time stays in proportion to their number.
 pub(crate) fn has_conflict(items: &[Item]) -> bool
     requires well_formed { first_error form_error items.now ≡ None }
     ensures { result ≡ has_conflict items.now }

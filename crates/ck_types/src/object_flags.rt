@@ -5,8 +5,8 @@ ghost use Rattle.ck_types.specs.Templates.{form_error};
 use crate::attributes::Attribute;
 use crate::items::{Item, flag_or};
 
-/// The attributes of an object that a template may not weaken: CKA_PRIVATE, CKA_SENSITIVE and CKA_EXTRACTABLE, each
-/// false where the object doesn't have it.
+/// The attributes of an object that a template may not weaken: CKA_PRIVATE, CKA_SENSITIVE and
+/// CKA_EXTRACTABLE, each false where the object doesn't have it.
 #[derive(Clone, Copy, Debug, PartialEq, Eq)]
 pub struct Protections {
     pub private: bool,
@@ -14,7 +14,8 @@ pub struct Protections {
     pub extractable: bool,
 }
 
-/// CKA_TOKEN and CKA_PRIVATE of an object: whether it is a token object or a session object, and whether it is private.
+/// CKA_TOKEN and CKA_PRIVATE of an object: whether it is a token object or a session object, and
+/// whether it is private.
 #[derive(Clone, Copy, Debug, PartialEq, Eq)]
 pub struct Placement {
     pub token: bool,
@@ -29,7 +30,8 @@ impl Placement {
     pub(crate) fn with(self, items: &[Item]) -> Placement
         requires { first_error form_error items.now ≡ None }
         ensures token { result.token ≡ unwrap_or (flag_at items.now attribute.Token) self.token }
-        ensures private { result.private ≡ unwrap_or (flag_at items.now attribute.Private) self.private }
+        ensures private { result.private
+            ≡ unwrap_or (flag_at items.now attribute.Private) self.private }
     {
         Placement {
             token: flag_or(items, Attribute::Token, self.token),

@@ -8,8 +8,8 @@ pub const SHORTEST_PIN: u64 = 4;
 /// The most bytes of a PIN that the token takes.
 pub const LONGEST_PIN: u64 = 64;
 
-/// What the token knows of a PIN: its length in bytes and its SHA-256 digest (FIPS 180-4). Two PINs are the
-/// same where both agree.
+/// What the token knows of a PIN: its length in bytes and its SHA-256 digest (FIPS 180-4). Two PINs
+/// are the same where both agree.
 #[derive(Clone, Copy, Debug, PartialEq, Eq)]
 pub struct Pin {
     pub len: u64,
@@ -29,8 +29,8 @@ impl Pin {
         }
     }
 
-    /// Whether the length is one that the token takes: 4 to 64 bytes. A call that sets another one is answered
-    /// CKR_PIN_LEN_RANGE.
+    /// Whether the length is one that the token takes: 4 to 64 bytes. A call that sets another one
+    /// is answered CKR_PIN_LEN_RANGE.
     pub fn fits(&self) -> bool
         ensures { result ≡ fits_a_pin self.now }
     {

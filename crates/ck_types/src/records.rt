@@ -48,8 +48,8 @@ impl Record {
     ghost use Rattle.ck_types.specs.Records.{flag_in, is_set, has_item, matches};
     ghost use Rattle.ck_types.specs.Fields.{field_bytes, flag_field};
 
-    /// The object that a template of C_CreateObject makes (PKCS #11 Base 3.0, Object management functions). It is
-    /// refused with the error of `Template::check_creation`.
+    /// The object that a template of C_CreateObject makes (PKCS #11 Base 3.0, Object management
+    /// functions). It is refused with the error of `Template::check_creation`.
     pub fn created(alloc: Global, template: &Template) -> Result<Record, Refusal>
         ensures { IsRecordUnless (created_error template.now.items)
             (created_items template.now.items) result }
@@ -70,8 +70,8 @@ impl Record {
         })
     }
 
-    /// A copy of the object with the values that a template of C_CopyObject gives (PKCS #11 Base 3.0, Object management
-    /// functions). The template is refused with the error of `check_copy`.
+    /// A copy of the object with the values that a template of C_CopyObject gives (PKCS #11 Base
+    /// 3.0, Object management functions). The template is refused with the error of `check_copy`.
     pub fn copied(&self, alloc: Global, template: &Template) -> Result<Record, Refusal>
         ensures { IsRecordUnless
             (copied_error (class_of self.now) (protections_of self.now) template.now.items)
@@ -81,12 +81,13 @@ impl Record {
         Ok(self.copy_with(alloc, template)?)
     }
 
-    /// The checks of a template of C_CopyObject for this object, of which the first that fails answers: a type that the
-    /// token doesn't know (CKR_ATTRIBUTE_TYPE_INVALID) or a value that isn't of its form
-    /// (CKR_ATTRIBUTE_VALUE_INVALID), item by item; two values of one type (CKR_TEMPLATE_INCONSISTENT); an attribute
-    /// that the object's class doesn't have (CKR_ATTRIBUTE_TYPE_INVALID) or that a copy may not be given
-    /// (CKR_ATTRIBUTE_READ_ONLY), item by item; CKA_SENSITIVE false for a sensitive key or CKA_EXTRACTABLE true for a
-    /// key that isn't extractable (CKR_ATTRIBUTE_READ_ONLY); CKA_PRIVATE false for a private object
+    /// The checks of a template of C_CopyObject for this object, of which the first that fails
+    /// answers: a type that the token doesn't know (CKR_ATTRIBUTE_TYPE_INVALID) or a value that
+    /// isn't of its form (CKR_ATTRIBUTE_VALUE_INVALID), item by item; two values of one type
+    /// (CKR_TEMPLATE_INCONSISTENT); an attribute that the object's class doesn't have
+    /// (CKR_ATTRIBUTE_TYPE_INVALID) or that a copy may not be given (CKR_ATTRIBUTE_READ_ONLY), item
+    /// by item; CKA_SENSITIVE false for a sensitive key or CKA_EXTRACTABLE true for a key that
+    /// isn't extractable (CKR_ATTRIBUTE_READ_ONLY); CKA_PRIVATE false for a private object
     /// (CKR_TEMPLATE_INCONSISTENT).
     #[tactic(auto, using(crate::proofs::CheckLemmas::checks))]
     pub fn check_copy(&self, template: &Template) -> Result<(), RvError>
@@ -107,23 +108,26 @@ impl Record {
 
     /// CKA_TOKEN and CKA_PRIVATE of a copy that is made with the template.
     pub fn copy_placement(&self, template: &Template) -> Placement
-        requires { copied_error (class_of self.now) (protections_of self.now) template.now.items ≡ None }
+        requires { copied_error (class_of self.now) (protections_of self.now) template.now.items
+            ≡ None }
         ensures { result ≡ placement_of (with_given template.now.items self.now) }
     {
         let Object::Data(data) = &self.object;
         data.placement().with(template.items.as_slice())
     }
 
-    /// A copy of the object with the values that a template gives which passes the checks of a copy.
+    /// A copy of the object with the values that a template gives
+    /// which passes the checks of a copy.
     pub fn copy_with(&self, alloc: Global, template: &Template) -> Result<Record, NoMemory>
-        requires { copied_error (class_of self.now) (protections_of self.now) template.now.items ≡ None }
+        requires { copied_error (class_of self.now) (protections_of self.now) template.now.items
+            ≡ None }
         ensures { IfOk result (λ made. made ≡ with_given template.now.items self.now) }
     {
         self.with(alloc, template.items.as_slice())
     }
 
-    /// The object with the values that a template of C_SetAttributeValue gives (PKCS #11 Base 3.0, Object management
-    /// functions). The template is refused with the error of `check_change`.
+    /// The object with the values that a template of C_SetAttributeValue gives (PKCS #11 Base 3.0,
+    /// Object management functions). The template is refused with the error of `check_change`.
     pub fn changed(&self, alloc: Global, template: &Template) -> Result<Record, Refusal>
         ensures { IsRecordUnless
             (changed_error (class_of self.now) (protections_of self.now) template.now.items)
@@ -133,8 +137,8 @@ impl Record {
         Ok(self.change_with(alloc, template)?)
     }
 
-    /// The checks of a template of C_SetAttributeValue for this object: those of `check_copy` but the last, for the
-    /// attributes that may be set (else CKR_ATTRIBUTE_READ_ONLY).
+    /// The checks of a template of C_SetAttributeValue for this object: those of `check_copy` but
+    /// the last, for the attributes that may be set (else CKR_ATTRIBUTE_READ_ONLY).
     #[tactic(auto, using(crate::proofs::CheckLemmas::checks))]
     pub fn check_change(&self, template: &Template) -> Result<(), RvError>
         ensures { result ≡ check_of
@@ -149,7 +153,8 @@ impl Record {
 
     /// The object with the values that a template gives which passes the checks of a change.
     pub fn change_with(&self, alloc: Global, template: &Template) -> Result<Record, NoMemory>
-        requires { changed_error (class_of self.now) (protections_of self.now) template.now.items ≡ None }
+        requires { changed_error (class_of self.now) (protections_of self.now) template.now.items
+            ≡ None }
         ensures { IfOk result (λ made. made ≡ with_given template.now.items self.now) }
     {
         self.with(alloc, template.items.as_slice())
@@ -195,9 +200,10 @@ impl Record {
         data.placement()
     }
 
-    /// Whether the object matches a template of C_FindObjectsInit (PKCS #11 Base 3.0, Object management functions): it
-    /// has each attribute of the template with equal bytes. The template isn't checked: one without items matches every
-    /// object, and a type that the object doesn't have, or two values of one type, match none.
+    /// Whether the object matches a template of C_FindObjectsInit (PKCS #11 Base 3.0, Object
+    /// management functions): it has each attribute of the template with equal bytes. The template
+    /// isn't checked: one without items matches every object, and a type that the object doesn't
+    /// have, or two values of one type, match none.
     pub fn matches(&self, template: &Template) -> bool
         ensures { result ≡ matches self.now template.now.items }
     {
@@ -232,7 +238,8 @@ impl Record {
         }
     }
 
-    /// How many bytes the value of an attribute has, or `None` where the object doesn't have the attribute.
+    /// How many bytes the value of an attribute has, or `None` where the object
+    /// doesn't have the attribute.
     pub fn length(&self, kind: u64) -> Option<u64>
         ensures { result ≡ option_map length (value_at self.now kind) }
     {

@@ -9,7 +9,8 @@ use crate::items::{
 use crate::object_flags::{Placement, Protections};
 use crate::sequences::Sequence;
 
-/// The attributes that a caller gives, in the caller's order (PKCS #11 Base 3.0, Object management functions).
+/// The attributes that a caller gives, in the caller's order (PKCS #11 Base 3.0,
+/// Object management functions).
 #[derive(Debug, Drop)]
 pub struct Template {
     pub items: Sequence<Item>,
@@ -18,13 +19,16 @@ pub struct Template {
 impl Template {
     ghost use Rattle.ck_types.specs.Checks.{check_of, first_error};
     ghost use Rattle.ck_types.specs.Templates.{form_error, created_error, template_error};
-    ghost use Rattle.ck_types.specs.Records.{created_items, placement_of, exposes_key, makes_public};
+    ghost use Rattle.ck_types.specs.Records.{created_items, placement_of, exposes_key};
+    ghost use Rattle.ck_types.specs.Records.{makes_public};
 
-    /// The checks of a template of C_CreateObject (PKCS #11 Base 3.0, Object management functions), of which the first
-    /// that fails answers: a type that the token doesn't know (CKR_ATTRIBUTE_TYPE_INVALID) or a value that isn't of
-    /// its form or, for now, is the class of secret keys (CKR_ATTRIBUTE_VALUE_INVALID), item by item; two values of
-    /// one type (CKR_TEMPLATE_INCONSISTENT); no class (CKR_TEMPLATE_INCOMPLETE); an attribute that the class doesn't
-    /// have (CKR_ATTRIBUTE_TYPE_INVALID) or that may not be given (CKR_ATTRIBUTE_READ_ONLY), item by item.
+    /// The checks of a template of C_CreateObject (PKCS #11 Base 3.0, Object management functions),
+    /// of which the first that fails answers: a type that the token doesn't know
+    /// (CKR_ATTRIBUTE_TYPE_INVALID) or a value that isn't of its form or, for now, is the class of
+    /// secret keys (CKR_ATTRIBUTE_VALUE_INVALID), item by item; two values of one type
+    /// (CKR_TEMPLATE_INCONSISTENT); no class (CKR_TEMPLATE_INCOMPLETE); an attribute that the class
+    /// doesn't have (CKR_ATTRIBUTE_TYPE_INVALID) or that may not be given
+    /// (CKR_ATTRIBUTE_READ_ONLY), item by item.
     pub fn check_creation(&self) -> Result<(), RvError>
         ensures { result ≡ check_of (created_error self.now.items) }
     {
@@ -49,8 +53,8 @@ impl Template {
         placement.with(self.items.as_slice())
     }
 
-    /// The checks of a template that changes an object of the class or that a copy of one is made with, but those that
-    /// look at the object's other attributes.
+    /// The checks of a template that changes an object of the class or that a copy of one is made
+    /// with, but those that look at the object's other attributes.
     pub(crate) fn check(&self, class: Class, purpose: Purpose) -> Result<(), RvError>
         ensures { result ≡ check_of (template_error class purpose self.now.items) }
     {

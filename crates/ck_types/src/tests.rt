@@ -32,7 +32,8 @@ fn template_of(alloc: Global, text: &str) -> Result<Template, Fail> {
 #[test]
 fn templates(rt: HostRuntime) -> Result<(), Fail> {
     for (text, expected) in [
-        // no class, a class of one byte, an attribute of keys, an unknown type, two values of one type
+        // no class, a class of one byte, an attribute of keys, an unknown type,
+        // two values of one type
         ("", 0xd0),
         ("0=00", 0x13),
         ("0=0000000000000000,103=01", 0x12),
@@ -213,7 +214,8 @@ fn placements(rt: HostRuntime) -> Result<(), Fail> {
     Ok(())
 }
 
-/// A template of many items, the first of whose second type stands in the middle, is checked in time.
+/// A template of many items, the first of whose second type stands in the middle, is checked
+/// in time.
 #[test]
 fn many_items(rt: HostRuntime) -> Result<(), Fail> {
     let mut items = Vec::new(rt.alloc());
@@ -229,7 +231,8 @@ fn many_items(rt: HostRuntime) -> Result<(), Fail> {
     Ok(())
 }
 
-/// What each of the three readers answers of an attribute. Where the copy's memory is refused, the next one is made.
+/// What each of the three readers answers of an attribute. Where the copy's memory is refused, the
+/// next one is made.
 fn check_attribute(
     rt: &impl Abort,
     alloc: Global,
@@ -303,8 +306,9 @@ fn given_template(alloc: Global) -> Result<Template, NoMemory> {
     Ok(Template { items })
 }
 
-/// Passes too where one growth is refused, whichever it is: `rt try --test --fail-alloc N` refuses the Nth of each
-/// test. Here 1 to 13 are of the template, 14 to 17 of the record and 18 to 27 of the values.
+/// Passes too where one growth is refused, whichever it is: `rt try --test --fail-alloc N` refuses
+/// the Nth of each test. Here 1 to 13 are of the template, 14 to 17 of the record and 18 to 27 of
+/// the values.
 #[test]
 fn given_values(rt: HostRuntime) -> Result<(), Fail> {
     let template = match given_template(rt.alloc()) {

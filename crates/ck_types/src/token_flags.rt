@@ -26,9 +26,11 @@ impl Flags for TokenFlags {
 
     ghost exact = { ⊤ };
 
-    ghost table = { (codes "LOGIN_REQUIRED", 0x4) ∷ (codes "USER_PIN_INITIALIZED", 0x8) ∷ (codes "TOKEN_INITIALIZED", 0x400)
-        ∷ (codes "USER_PIN_COUNT_LOW", 0x10000) ∷ (codes "USER_PIN_FINAL_TRY", 0x20000) ∷ (codes "USER_PIN_LOCKED", 0x40000)
-        ∷ (codes "SO_PIN_COUNT_LOW", 0x100000) ∷ (codes "SO_PIN_FINAL_TRY", 0x200000) ∷ (codes "SO_PIN_LOCKED", 0x400000) ∷ [] };
+    ghost table = { (codes "LOGIN_REQUIRED", 0x4)
+        ∷ (codes "USER_PIN_INITIALIZED", 0x8) ∷ (codes "TOKEN_INITIALIZED", 0x400)
+        ∷ (codes "USER_PIN_COUNT_LOW", 0x10000) ∷ (codes "USER_PIN_FINAL_TRY", 0x20000)
+        ∷ (codes "USER_PIN_LOCKED", 0x40000) ∷ (codes "SO_PIN_COUNT_LOW", 0x100000)
+        ∷ (codes "SO_PIN_FINAL_TRY", 0x200000) ∷ (codes "SO_PIN_LOCKED", 0x400000) ∷ [] };
 
     ghost set_of = { λ f. f.0 };
 
@@ -46,8 +48,8 @@ impl Flags for TokenFlags {
 }
 
 impl TokenFlags {
-    /// The flags of a token: whether it is initialized, whether the user has a PIN, and how many wrong tries of their
-    /// PINs the user and the security officer have made.
+    /// The flags of a token: whether it is initialized, whether the user has a PIN, and how many
+    /// wrong tries of their PINs the user and the security officer have made.
     pub fn of(
         is_initialized: bool,
         has_user_pin: bool,

@@ -1,7 +1,8 @@
 use std::marker::Model;
 
-/// The limits of one token: sessions open at once (1 to 64), openings of sessions in all and creations of objects in
-/// all (each 1 to 2^32 - 1), and OK logins of the user in all (1 to 2^31 - 1).
+/// The limits of one token: sessions open at once (1 to 64), openings of sessions in all and
+/// creations of objects in all (each 1 to 2^32 - 1), and OK logins of the user in all
+/// (1 to 2^31 - 1).
 #[derive(Clone, Copy, Debug, PartialEq, Eq)]
 pub struct Limits {
     sessions: u64,
@@ -86,7 +87,8 @@ impl Limits {
     /// The most sessions that may be open at once.
     pub fn sessions(&self) -> u64
         ensures value { result ≡ self.now.sessions }
-        ensures ranges { AreInRange self.now.sessions self.now.openings self.now.creations self.now.logins }
+        ensures ranges { AreInRange self.now.sessions self.now.openings self.now.creations
+            self.now.logins }
     {
         self.sessions
     }

@@ -23,8 +23,8 @@ impl UserType {
     }
 }
 
-/// The state of a session (CK_STATE; PKCS #11 Base 3.0, Session types): read-only or read/write, and who is logged
-/// in.
+/// The state of a session (CK_STATE; PKCS #11 Base 3.0, Session types): read-only or read/write,
+/// and who is logged in.
 #[derive(Clone, Copy, Debug, PartialEq, Eq)]
 pub enum SessionState {
     RoPublic,

@@ -225,7 +225,8 @@ pub const HMACS: [(usize, [u64; 4]); 12] = [
     ),
 ];
 
-/// How many bytes of a key, 0, 1, .., 250, 0, 1, .., and the first 8 bytes of the HMACs of "Hi There".
+/// How many bytes of a key, 0, 1, .., 250, 0, 1, .., and the first 8 bytes of the HMACs of
+/// "Hi There".
 pub const HMACS_BY_KEY: [(usize, [u64; 4]); 10] = [
     (
         0,
@@ -323,22 +324,28 @@ pub const HMACS_BY_KEY: [(usize, [u64; 4]); 10] = [
 pub const ABC: [&str; 4] = [
     "23097d223405d8228642a477bda255b32aadbce4bda0b3f7e36c9da7",
     "ba7816bf8f01cfea414140de5dae2223b00361a396177a9cb410ff61f20015ad",
-    "cb00753f45a35e8bb5a03d699ac65007272c32ab0eded1631a8b605a43ff5bed8086072ba1e7cc2358baeca134c825a7",
-    "ddaf35a193617abacc417349ae20413112e6fa4e89a97ea20a9eeee64b55d39a2192992a274fc1a836ba3c23a3feebbd454d4423643ce80e2a9ac94fa54ca49f",
+    "cb00753f45a35e8bb5a03d699ac65007272c32ab0eded1631a8b605a43ff5bed\
+     8086072ba1e7cc2358baeca134c825a7",
+    "ddaf35a193617abacc417349ae20413112e6fa4e89a97ea20a9eeee64b55d39a\
+     2192992a274fc1a836ba3c23a3feebbd454d4423643ce80e2a9ac94fa54ca49f",
 ];
 
 /// The digests of a million bytes "a" (FIPS 180-4, examples).
 pub const MILLION: [&str; 4] = [
     "20794655980c91d8bbb4c1ea97618a4bf03f42581948b2ee4ee7ad67",
     "cdc76e5c9914fb9281a1c7e284d73e67f1809a48a497200e046d39ccc7112cd0",
-    "9d0e1809716474cb086e834e310a4a1ced149e9c00f248527972cec5704c2a5b07b8b3dc38ecc4ebae97ddd87f3d8985",
-    "e718483d0ce769644e2e42c7bc15b4638e1f98b13b2044285632a803afa973ebde0ff244877ea60a4cb0432ce577c31beb009c5c2c49aa2e4eadb217ad8cc09b",
+    "9d0e1809716474cb086e834e310a4a1ced149e9c00f248527972cec5704c2a5b\
+     07b8b3dc38ecc4ebae97ddd87f3d8985",
+    "e718483d0ce769644e2e42c7bc15b4638e1f98b13b2044285632a803afa973eb\
+     de0ff244877ea60a4cb0432ce577c31beb009c5c2c49aa2e4eadb217ad8cc09b",
 ];
 
 /// The HMACs of "what do ya want for nothing?" under the key "Jefe" (RFC 4231, test case 2).
 pub const JEFE: [&str; 4] = [
     "a30e01098bc6dbbf45690f3a7e9e6d0f8bbea2a39e6148008fd05e44",
     "5bdcc146bf60754e6a042426089575c75a003f089d2739839dec58b964ec3843",
-    "af45d2e376484031617f78d2b58a6b1b9c7ef464f5a01b47e42ec3736322445e8e2240ca5e69e2c78b3239ecfab21649",
-    "164b7a7bfcf819e2e395fbe73b56e0a387bd64222e831fd610270cd7ea2505549758bf75c05a994a6d034f65f8f0e6fdcaeab1a34d4a6b4b636e070a38bce737",
+    "af45d2e376484031617f78d2b58a6b1b9c7ef464f5a01b47e42ec3736322445e\
+     8e2240ca5e69e2c78b3239ecfab21649",
+    "164b7a7bfcf819e2e395fbe73b56e0a387bd64222e831fd610270cd7ea250554\
+     9758bf75c05a994a6d034f65f8f0e6fdcaeab1a34d4a6b4b636e070a38bce737",
 ];

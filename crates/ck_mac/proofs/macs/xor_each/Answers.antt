@@ -6,5 +6,6 @@ use Rattle.ck_mac.proofs.macs.xor_each.Goals as goal
 
 pub loop-byte-preserved : goal.loop-byte-preserved
 loop-byte-preserved c =
-    map_over_more (λ byte. bit_xor byte c.args.pad) c.args.bytes.now _ _ _ (omega arith) c.loop-byte.invariant
+    map_over_more (λ byte. bit_xor byte c.args.pad) c.args.bytes.now _ _ _
+    (omega arith) c.loop-byte.invariant
     (get_or_default c.loop-byte.bytes _ _ _ (omega arith))

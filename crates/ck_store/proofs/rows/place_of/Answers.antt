@@ -6,6 +6,9 @@ use Rattle.ck_store.proofs.rows.place_of.Goals as goal
 
 pub returns-clause-place : goal.returns-clause-place
 returns-clause-place c = λ rise.
-    let searched = c.binary_search_by_key.ensures.position (λ (row : ObjectRow). row.number) (answers_always _ _ _ (λ f a r g called. search rules)) in
+    let searched =
+    c.binary_search_by_key.ensures.position (λ (row : ObjectRow). row.number)
+    (answers_always _ _ _ (λ f a r g called. search rules)) in
     c.ok.ensures.value
-    ∙ place-searched (λ (row : ObjectRow). row.number) c.args.number c.args.rows.now rise c.binary_search_by_key.result c.binary_search_by_key.ensures.bound searched
+    ∙ place-searched (λ (row : ObjectRow). row.number) c.args.number c.args.rows.now rise
+    c.binary_search_by_key.result c.binary_search_by_key.ensures.bound searched

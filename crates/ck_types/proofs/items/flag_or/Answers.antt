@@ -5,4 +5,5 @@ use Rattle.ck_types.proofs.items.flag_or.Goals as goal
 pub returns-in-Some-clause-bytes : goal.returns-in-Some-clause-bytes
 returns-in-Some-clause-bytes c =
     let test = rw (c.as_slice.ensures, c.as_slice-in-Some.ensures) at c.eq.ensures in
-    flag_bytes-given_or _ c.args.attribute _ c.in-Some.value.now _ c.eq.result c.requires.form c.requires.well_formed c.in-Some.ensures c.number.ensures test
+    flag_bytes-given_or _ c.args.attribute _ c.in-Some.value.now _ c.eq.result c.requires.form
+    c.requires.well_formed c.in-Some.ensures c.number.ensures test

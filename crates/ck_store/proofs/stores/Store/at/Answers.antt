@@ -10,7 +10,8 @@ returns-in_err-object c = λ h agree.
     let here = rw (← c.self.view_is) at agree in
     let missing = rw c.as_slice.ensures.value at c.in_err-object.ensures in
     ap option_copied c.from_residual.ensures
-    ∙ ap (option_map (λ (row : ObjectRow). row.attributes)) (missing (numbers_rise h _ here) ∙ find-numbered h _ here c.args.number)
+    ∙ ap (option_map (λ (row : ObjectRow). row.attributes))
+    (missing (numbers_rise h _ here) ∙ find-numbered h _ here c.args.number)
     ∙ row_at-attributes h c.args.number
 
 pub returns : goal.returns
@@ -18,5 +19,6 @@ returns c = λ h agree.
     let here = rw (← c.self.view_is) at agree in
     let found = rw c.as_slice.ensures.value at c.in_ok-object.ensures in
     ap Some c.attributes.ensures
-    ∙ ap (option_map (λ (row : ObjectRow). row.attributes)) (found (numbers_rise h _ here) ∙ find-numbered h _ here c.args.number)
+    ∙ ap (option_map (λ (row : ObjectRow). row.attributes))
+    (found (numbers_rise h _ here) ∙ find-numbered h _ here c.args.number)
     ∙ row_at-attributes h c.args.number

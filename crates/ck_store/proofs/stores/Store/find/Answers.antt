@@ -6,5 +6,6 @@ use Rattle.ck_store.proofs.stores.Store.find.Goals as goal
 pub returns : goal.returns
 returns c =
     IfOk-weaker c.find_matching.result _ _
-    (λ numbers found h agree view. found ∙ rw (c.as_slice.ensures.value, view) (matching-agree h _ (rw (← c.self.view_is) at agree) _))
+    (λ numbers found h agree view. found
+    ∙ rw (c.as_slice.ensures.value, view) (matching-agree h _ (rw (← c.self.view_is) at agree) _))
     c.find_matching.ensures

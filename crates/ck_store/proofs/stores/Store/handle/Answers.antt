@@ -10,7 +10,8 @@ returns-in_err-find_numbered c = λ h agree view.
     let here = rw (← c.self.view_is) at agree in
     let missing = rw c.as_slice.ensures.value at c.in_err-find_numbered.ensures in
     c.from_residual.ensures
-    ∙ ap (option_and_then (visible_handle (view_of h))) (missing (numbers_rise h _ here) ∙ find-numbered h _ here c.args.number)
+    ∙ ap (option_and_then (visible_handle (view_of h)))
+    (missing (numbers_rise h _ here) ∙ find-numbered h _ here c.args.number)
     ∙ row_at-handle h c.args.number
 
 pub returns : goal.returns
@@ -18,5 +19,6 @@ returns c = λ h agree view.
     let here = rw (← c.self.view_is) at agree in
     let found = rw c.as_slice.ensures.value at c.in_ok-find_numbered.ensures in
     (rw view at c.handle.ensures)
-    ∙ ap (option_and_then (visible_handle (view_of h))) (found (numbers_rise h _ here) ∙ find-numbered h _ here c.args.number)
+    ∙ ap (option_and_then (visible_handle (view_of h)))
+    (found (numbers_rise h _ here) ∙ find-numbered h _ here c.args.number)
     ∙ row_at-handle h c.args.number

@@ -7,4 +7,5 @@ pub with-requires-clause-class : goal.with-requires-clause-class
 with-requires-clause-class c =
     let record_items = c.args.self.now in
     rw c.as_slice.ensures
-    (change-passes (class_of record_items) (protections_of record_items) c.args.template.now.items c.requires).1
+    (change-passes (class_of record_items)
+    (protections_of record_items) c.args.template.now.items c.requires).1

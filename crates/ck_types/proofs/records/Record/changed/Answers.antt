@@ -6,5 +6,6 @@ use Rattle.ck_types.proofs.records.Record.changed.Goals as goal
 -- the error of the check is the refusal's
 pub returns-in_err-check_change : goal.returns-in_err-check_change
 returns-in_err-check_change c =
-    let refused : c.from_residual.result ≡ Err (refusal.Code c.in_err-check_change.field-0.0) = search rules in
+    let refused : c.from_residual.result ≡ Err (refusal.Code c.in_err-check_change.field-0.0) =
+    search rules in
     record-refused _ _ c.from_residual.result _ (sym c.in_err-check_change.ensures) refused
