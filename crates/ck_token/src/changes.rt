@@ -1,3 +1,4 @@
+use crate::boxed::Boxed;
 use ck_types::{Pin, Record, Sequence, UserType};
 
 /// What an answered call changes of sessions and objects.
@@ -32,12 +33,12 @@ pub(crate) enum Change {
     /// A creation, or a copy, in this session.
     CreateObject {
         session: u64,
-        attributes: Record,
+        attributes: Boxed<Record>,
     },
     /// New attributes of the object of this number.
     SetAttributes {
         number: u64,
-        attributes: Record,
+        attributes: Boxed<Record>,
     },
     DestroyObject {
         number: u64,
