@@ -48,12 +48,25 @@ impl Model for Token {
     ghost invariant = { λ t. TokenAgrees t.limits t.journal.history t.parts };
 }
 
-/// Drops what a call leaves that finds no memory. It is apart so that other calls take no time for it.
+/// Drops what a call leaves that finds no memory. A compiled function clears its slots where it begins, and a function
+/// that is inlined where it is called: so other calls take no time for this one's.
+#[inline(always)]
+fn out_of_memory<T: Drop>(left: T) -> NoMemory {
+    drop_apart(left);
+    NoMemory
+}
+
 #[cold]
 #[inline(never)]
-fn out_of_memory<T: Drop>(left: T) -> NoMemory {
+fn drop_apart<T: Drop>(left: T) {
     drop(left);
-    NoMemory
+}
+
+#[inline(always)]
+fn reply_with(rv: Rv, body: Body) -> Reply
+    ensures { result ≡ record { rv = rv; body = body } }
+{
+    Reply { rv, body }
 }
 
 /// All that may fail of entering a call: the journal's copy of the reply's body, and room for the entry and for what the
@@ -153,9 +166,9 @@ impl Token {
         self.journal.push_reserved(Entry {
             caller,
             call,
-            reply: Reply { rv, body: entered },
+            reply: reply_with(rv, entered),
         });
-        Ok(Reply { rv, body })
+        Ok(reply_with(rv, body))
     }
 
     /// The reply to a call, and what the call changes.

@@ -28,7 +28,7 @@ apply-requires-clause-counted c =
     counted c.self.inside.limits agree.ranges h c.prepare.new.parts agree.legal (c.prepare.ensures.agree h agree.parts)
     c.args.call (reply_of d) answered d.change is
 
-whole : (c : goal.After-push_reserved) → TokenAgrees c.self.inside.limits c.push_reserved.new.self.history c.apply.new.self
+whole : (c : goal.After-reply_with-2) → TokenAgrees c.self.inside.limits c.push_reserved.new.self.history c.apply.new.self
 whole c =
     let agree = c.self.invariant in
     let h = c.self.inside.journal.history in
@@ -36,8 +36,8 @@ whole c =
     let is = rw (← c.self.view_is) at c.in-Ok.ensures.change in
     let d = c.in-Ok.field-0 in
     let with_body : Body → Reply = λ b. record { rv = d.rv; body = b } in
-    entered-agrees c.self.inside.limits h c.self.inside.parts agree c.args.caller c.args.call (reply_of d) (with_body c.in-Ok-prepare.entered)
-    d.change c.apply.new.self c.push_reserved.new.self.history answered (ap with_body c.in-Ok-prepare.ensures.copy) is
+    entered-agrees c.self.inside.limits h c.self.inside.parts agree c.args.caller c.args.call (reply_of d) c.reply_with.result
+    d.change c.apply.new.self c.push_reserved.new.self.history answered (c.reply_with.ensures ∙ ap with_body c.in-Ok-prepare.ensures.copy) is
     (c.push_reserved.ensures.history ∙ rw c.prepare.ensures.history)
     (λ e legal change. c.apply.ensures.agree c.self.inside.limits h e legal change (c.prepare.ensures.agree h agree.parts))
 
