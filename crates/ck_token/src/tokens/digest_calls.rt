@@ -43,7 +43,7 @@ fn finish(session: u64, ends: bool) -> Change
 fn give(alloc: Global, session: u64, tag: &Tag) -> Result<Decision, NoMemory>
     ensures { IfOk result (λ decision. decision ≡ record {
       rv = rv.Ok;
-        body = body.Bytes tag.now;
+      body = body.Bytes tag.now;
       change = change.FinishOperation kind.Digest session true;
     }) }
 {
