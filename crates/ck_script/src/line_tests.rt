@@ -76,31 +76,41 @@ fn lines_have_their_meanings(rt: HostRuntime) -> Result<(), Fail> {
             ("2 GetTokenInfo", "Called { caller: 2, call: GetTokenInfo }"),
             (
                 "1 CreateObject 2 -",
-                "Called { caller: 1, call: CreateObject { session: 2, template: Template { items: Sequence { items: [] } } } }",
+                "Called { caller: 1, call: CreateObject { session: 2, template: Template { items: \
+                 Sequence { items: [] } } } }",
             ),
             (
                 "1 CreateObject 2 3=-",
-                "Called { caller: 1, call: CreateObject { session: 2, template: Template { items: Sequence { items: [Item { kind: 3, value: Sequence { items: [] } }] } } } }",
+                "Called { caller: 1, call: CreateObject { session: 2, template: Template { items: \
+                 Sequence { items: [Item { kind: 3, value: Sequence { items: [] } }] } } } }",
             ),
             (
                 "1 CreateObject 2 10a=6bC0,3=00",
-                "Called { caller: 1, call: CreateObject { session: 2, template: Template { items: Sequence { items: [Item { kind: 266, value: Sequence { items: [107, 192] } }, Item { kind: 3, value: Sequence { items: [0] } }] } } } }",
+                "Called { caller: 1, call: CreateObject { session: 2, template: Template { items: \
+                 Sequence { items: [Item { kind: 266, value: Sequence { items: [107, 192] } }, \
+                 Item { kind: 3, value: Sequence { items: [0] } }] } } } }",
             ),
             (
                 "1 GetAttributeValue 2 3 -",
-                "Called { caller: 1, call: GetAttributeValue { session: 2, object: 3, queries: Sequence { items: [] } } }",
+                "Called { caller: 1, call: GetAttributeValue { session: 2, object: 3, queries: \
+                 Sequence { items: [] } } }",
             ),
             (
                 "1 GetAttributeValue 2 3 11:?,0:10",
-                "Called { caller: 1, call: GetAttributeValue { session: 2, object: 3, queries: Sequence { items: [AttributeQuery { kind: 17, room: None }, AttributeQuery { kind: 0, room: Some(10) }] } } }",
+                "Called { caller: 1, call: GetAttributeValue { session: 2, object: 3, queries: \
+                 Sequence { items: [AttributeQuery { kind: 17, room: None }, AttributeQuery { \
+                 kind: 0, room: Some(10) }] } } }",
             ),
             (
                 "1 CopyObject 2 4294967297 3=00",
-                "Called { caller: 1, call: CopyObject { session: 2, object: 4294967297, template: Template { items: Sequence { items: [Item { kind: 3, value: Sequence { items: [0] } }] } } } }",
+                "Called { caller: 1, call: CopyObject { session: 2, object: 4294967297, template: \
+                 Template { items: Sequence { items: [Item { kind: 3, value: Sequence { items: [0] \
+                 } }] } } } }",
             ),
             (
                 "1 SetAttributeValue 2 3 -",
-                "Called { caller: 1, call: SetAttributeValue { session: 2, object: 3, template: Template { items: Sequence { items: [] } } } }",
+                "Called { caller: 1, call: SetAttributeValue { session: 2, object: 3, template: \
+                 Template { items: Sequence { items: [] } } } }",
             ),
             (
                 "1 DestroyObject 2 3",
@@ -108,11 +118,14 @@ fn lines_have_their_meanings(rt: HostRuntime) -> Result<(), Fail> {
             ),
             (
                 "1 FindObjectsInit 2 -",
-                "Called { caller: 1, call: FindObjectsInit { session: 2, template: Template { items: Sequence { items: [] } } } }",
+                "Called { caller: 1, call: FindObjectsInit { session: 2, template: Template { \
+                 items: Sequence { items: [] } } } }",
             ),
             (
                 "1 FindObjectsInit 2 10a=6bC0,3=-",
-                "Called { caller: 1, call: FindObjectsInit { session: 2, template: Template { items: Sequence { items: [Item { kind: 266, value: Sequence { items: [107, 192] } }, Item { kind: 3, value: Sequence { items: [] } }] } } } }",
+                "Called { caller: 1, call: FindObjectsInit { session: 2, template: Template { \
+                 items: Sequence { items: [Item { kind: 266, value: Sequence { items: [107, 192] } \
+                 }, Item { kind: 3, value: Sequence { items: [] } }] } } } }",
             ),
             (
                 "1 FindObjects 2 10",
