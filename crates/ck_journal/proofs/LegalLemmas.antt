@@ -1,6 +1,6 @@
 -- What is so in every legal history that starts from a sound base, where the limits are in range
 use Rattle.std.proofs.Common.{◌≡◌, ◌≢◌, ℕ, suc, ◌<◌, ◌≤◌, ◌^◌, Bool, true, false, cond, not, ◌&&◌, List, [], ◌∷◌, Option, Some, None, length, refl, sym, ap, ◌∙◌, subst, arith}
-use Rattle.std.specs.Prelude.{◌==◌, is_none, nat_le, bit_and, option_and_then}
+use Rattle.std.specs.Prelude.{◌==◌, ◌||◌, is_none, nat_le, nat_lt, bit_and, option_and_then}
 use Rattle.std.specs.List.{list_any}
 use Rattle.std.specs.Option.{option_map_or}
 use Rattle.std.proofs.lemmas.Bool.{eqb-true, eqb-false, ne_eqb, leb-false, not-false, false_from_ne_true, false≢true}
@@ -22,21 +22,26 @@ use Rattle.ck_types.specs.declared.return_codes.Rv.TheVariants as rv
 use Rattle.ck_types.specs.declared.users.UserType.{UserType}
 use Rattle.ck_types.specs.declared.users.UserType.TheVariants as user
 use Rattle.ck_types.specs.declared.object_flags.Protections.{Protections}
+use Rattle.ck_mac.specs.Digests.{digest_of}
 use Rattle.ck_types.proofs.ChangeLemmas.{token-kept, private-kept}
 use Rattle.ck_types.proofs.CheckLemmas.{or_else-none, error_if-none}
 use Rattle.ck_journal.specs.declared.bases.Base.{Base}
 use Rattle.ck_journal.specs.declared.calls.Call.{Call}
 use Rattle.ck_journal.specs.declared.calls.Call.TheVariants as call
 use Rattle.ck_journal.specs.declared.calls.Entry.{Entry}
+use Rattle.ck_journal.specs.declared.operations.OperationKind.{OperationKind}
+use Rattle.ck_journal.specs.declared.operations.OperationKind.TheVariants as kind
+use Rattle.ck_journal.specs.declared.replies.Body.TheVariants as body
 use Rattle.ck_journal.specs.declared.replies.Reply.{Reply}
-use Rattle.ck_journal.specs.Answers.{unless, refusal, session_error, pin_error, init_token_error, init_pin_error, set_pin_error, known_login_error, user_login_error, logged_in_error, read_only_error, logins_error, object_error, prohibited_error, placement_error, read_only_session_error, creations_error, call_error, allowed_reply, answer, IsLegal, is_so, is_so_state}
+use Rattle.ck_journal.specs.Answers.{unless, refusal, session_error, pin_error, init_token_error, init_pin_error, set_pin_error, known_login_error, user_login_error, logged_in_error, read_only_error, logins_error, object_error, prohibited_error, placement_error, read_only_session_error, creations_error, too_small, ok, bytes_reply, call_error, allowed_reply, answer, IsLegal, is_so, is_so_state}
 use Rattle.ck_journal.specs.Bases.{base_tries, IsSound}
 use Rattle.ck_journal.specs.Histories.{History, start, ◌◁◌, start_of, done, wrong_try, is_ok, is_wrong_pin}
 use Rattle.ck_journal.specs.Objects.{creates, creations, object_at, object_after, attributes_named, named_attributes, session_of, view_of, names_with, is_session_object}
+use Rattle.ck_journal.specs.Operations.{starts, ends, finishes, is_active, hash_in, message_in}
 use Rattle.ck_journal.specs.Pins.{about, is_about, is_user, is_locked, is_initialized, is_pin, pin_owner, present_pin, resets, tries}
 use Rattle.ck_journal.specs.Queries.{is_missing, lacks_room}
 use Rattle.ck_journal.specs.Searches.{starts_search, ends_search, is_searching}
-use Rattle.ck_journal.specs.Sessions.{opens, openings, closes, is_open, open_sessions, has_rw_flag, is_read_write, login, logs_user_in, user_logins, state_of}
+use Rattle.ck_journal.specs.Sessions.{opens, openings, closes, ends_operations, is_open, open_sessions, has_rw_flag, is_read_write, login, logs_user_in, user_logins, state_of}
 use Rattle.ck_journal.proofs.ObjectMoves.{object_at-within}
 use Rattle.ck_journal.proofs.SessionMoves.{is_open-within}
 
@@ -334,11 +339,24 @@ queries-other true longer = refl
 queries-other false true = refl
 queries-other false false = refl
 
+bytes-other : (room : Option ℕ) (bytes : List ℕ) → is_wrong_pin (bytes_reply room bytes).rv ≡ false
+bytes-other None bytes = refl
+bytes-other (Some room) bytes = cases (nat_lt room (length bytes))
+  where
+    cases : (longer : Bool)
+        → is_wrong_pin (cond longer (too_small (length bytes)) (ok (body.Bytes bytes))).rv ≡ false
+    cases true = refl
+    cases false = refl
+
 allowed-other : (limits : Ranges) (h : History) (c : Call)
     → is_wrong_pin (allowed_reply limits h c).rv ≡ false
 allowed-other limits h (call.GetAttributeValue session object queries) =
     queries-other (list_any (is_missing (named_attributes h object)) queries)
     (list_any (lacks_room (named_attributes h object)) queries)
+allowed-other limits h (call.Digest session bytes room) =
+    bytes-other room (digest_of (hash_in kind.Digest h session) bytes)
+allowed-other limits h (call.DigestFinal session room) =
+    bytes-other room (digest_of (hash_in kind.Digest h session) (message_in kind.Digest h session))
 allowed-other limits h other = refl
 
 wrong_answer : (limits : Ranges) (h : History) (c : Call)
@@ -387,59 +405,97 @@ tries-bound limits (e ◁ h) sound legal u =
     (subst (λ (reply : Reply). is_wrong_pin reply.rv ≡ true) legal.0 tried.0))
     (is_user-some u (about h (Some e.call)) tried.1))
 
--- ---- searches
+-- ---- operations of sessions
 
-opened-or : (opened was_open : Bool) → was_open ≡ true → cond opened true was_open ≡ true
-opened-or true was_open e = refl
-opened-or false was_open e = e
+-- a session stays open where an entry leaves or starts something in it that a closing would end
+stays-open : (d : Option Call) (h : History) (s : ℕ) (started ended active : Bool)
+    → (closes d s ≡ true → (started ≡ false) × (ended ≡ true))
+    → (started ≡ true → is_open h s ≡ true) → (active ≡ true → is_open h s ≡ true)
+    → cond started true (cond ended false active) ≡ true
+    → cond (opens d && s == suc (openings h)) true (cond (closes d s) false (is_open h s)) ≡ true
+stays-open d h s started ended active closing now before e =
+    cases (opens d) (s == suc (openings h)) (closes d s) started ended active closing now before e
+  where
+    was-open : (started ended active : Bool) → (started ≡ true → is_open h s ≡ true)
+        → (active ≡ true → is_open h s ≡ true) → cond started true (cond ended false active) ≡ true
+        → is_open h s ≡ true
+    was-open true ended active now before e = now refl
+    was-open false true active now before e = cc
+    was-open false false active now before e = before e
 
-unless-ended : (ended searching is_so : Bool) → (searching ≡ true → is_so ≡ true)
-    → cond ended false searching ≡ true → is_so ≡ true
-unless-ended true searching is_so before e = cc
-unless-ended false searching is_so before e = before e
+    not-ended : (started ended active : Bool) → started ≡ false → ended ≡ true
+        → cond started true (cond ended false active) ≡ true → ⊥
+    not-ended true ended active f t e = cc
+    not-ended false true active f t e = cc
+    not-ended false false active f t e = cc
 
-unless-closed : (closed searching was_open : Bool) → (searching ≡ true → was_open ≡ true)
-    → cond closed false searching ≡ true
-    → cond closed false was_open ≡ true
-unless-closed true searching was_open before e = cc
-unless-closed false searching was_open before e = before e
+    cases : (opened next closed started ended active : Bool)
+        → (closed ≡ true → (started ≡ false) × (ended ≡ true))
+        → (started ≡ true → is_open h s ≡ true) → (active ≡ true → is_open h s ≡ true)
+        → cond started true (cond ended false active) ≡ true
+        → cond (opened && next) true (cond closed false (is_open h s)) ≡ true
+    cases true true closed started ended active closing now before e = refl
+    cases true false true started ended active closing now before e =
+        absurd (not-ended started ended active (closing refl).0 (closing refl).1 e)
+    cases true false false started ended active closing now before e =
+        was-open started ended active now before e
+    cases false next true started ended active closing now before e =
+        absurd (not-ended started ended active (closing refl).0 (closing refl).1 e)
+    cases false next false started ended active closing now before e =
+        was-open started ended active now before e
 
-started-or : (started searching was_open : Bool) → (started ≡ true → was_open ≡ true)
-    → (searching ≡ true → was_open ≡ true) → cond started true searching ≡ true
-    → was_open ≡ true
-started-or true searching was_open now before e = now refl
-started-or false searching was_open now before e = before e
+closing-search : (d : Option Call) (s : ℕ) → closes d s ≡ true
+    → (starts_search d s ≡ false) × (ends_search d s ≡ true)
+closing-search (Some (call.CloseSession session)) s e = (refl, e)
+closing-search (Some call.CloseAllSessions) s e = (refl, refl)
+closing-search other s e = cc
 
-module _ (h : History) (s : ℕ) (before : is_searching h s ≡ true → is_open h s ≡ true) where
-  abbrev StaysOpen : Option Call → Type 0
-  StaysOpen d =
-      cond (starts_search d s) true (cond (ends_search d s) false (is_searching h s)) ≡ true
-      → cond (opens d && s == suc (openings h)) true (cond (closes d s) false (is_open h s)) ≡ true
-
-  stays-open : (limits : Ranges) (c : Call) → call_error limits h c ≡ None → StaysOpen (Some c)
-  stays-open limits (call.OpenSession flags) p active =
-      opened-or (s == suc (openings h)) (is_open h s) (before active)
-  stays-open limits (call.CloseSession session) p active =
-      unless-closed (session == s) (is_searching h s) (is_open h s) before active
-  stays-open limits call.CloseAllSessions p active = cc
-  stays-open limits (call.Logout session) p active = cc
-  stays-open limits (call.FindObjectsInit session template) p active =
-      let named = session-open h session (or_else-none (session_error h session) _ p).0 in
-      started-or (session == s) (is_searching h s) (is_open h s)
-      (λ same. subst (λ k. is_open h k ≡ true) (eqb-true session s same) named) before active
-  stays-open limits (call.FindObjectsFinal session) p active =
-      unless-ended (session == s) (is_searching h s) (is_open h s) before active
-  stays-open limits other p active = before active
+searched-open : (limits : Ranges) (h : History) (s : ℕ) (c : Call) → call_error limits h c ≡ None
+    → starts_search (Some c) s ≡ true → is_open h s ≡ true
+searched-open limits h s (call.FindObjectsInit session template) p same =
+    subst (λ k. is_open h k ≡ true) (eqb-true session s same)
+    (session-open h session (or_else-none (session_error h session) _ p).0)
+searched-open limits h s other p same = cc
 
 -- a session with an active search is open
 pub is_searching-open : (limits : Ranges) (h : History) → IsLegal limits h → (s : ℕ)
     → is_searching h s ≡ true → is_open h s ≡ true
 is_searching-open limits (start b) legal s active = cc
 is_searching-open limits (e ◁ h) legal s active =
-    let before = is_searching-open limits h legal.1 s in
-    by-done limits e h legal (StaysOpen h s before) before (stays-open h s before limits) active
+    stays-open (done e) h s (starts_search (done e) s) (ends_search (done e) s) (is_searching h s)
+    (closing-search (done e) s)
+    (by-done limits e h legal (λ d. starts_search d s ≡ true → is_open h s ≡ true) (λ t. cc)
+    (searched-open limits h s))
+    (is_searching-open limits h legal.1 s) active
 
--- the next session has none
+closing-operation : (k : OperationKind) (d : Option Call) (finished : Bool) (s : ℕ) → closes d s ≡ true
+    → (starts d k s ≡ false) × ((ends_operations d s || finished) ≡ true)
+closing-operation k (Some (call.CloseSession session)) finished s e = (refl, rw e refl)
+closing-operation k (Some call.CloseAllSessions) finished s e = (refl, refl)
+closing-operation k other finished s e = cc
+
+begun-open : (limits : Ranges) (h : History) (c : Call) (k : OperationKind) (s : ℕ)
+    → call_error limits h c ≡ None → starts (Some c) k s ≡ true → is_open h s ≡ true
+begun-open limits h (call.DigestInit session mechanism) kind.Digest s p same =
+    subst (λ k. is_open h k ≡ true) (eqb-true session s same)
+    (session-open h session (or_else-none (session_error h session) _ p).0)
+begun-open limits h (call.DigestInit session mechanism) kind.Sign s p same = cc
+begun-open limits h (call.DigestInit session mechanism) kind.Verify s p same = cc
+begun-open limits h other k s p same = cc
+
+-- a session with an active operation is open
+pub is_active-open : (limits : Ranges) (h : History) → IsLegal limits h → (k : OperationKind) (s : ℕ)
+    → is_active k h s ≡ true → is_open h s ≡ true
+is_active-open limits (start b) legal k s active = cc
+is_active-open limits (e ◁ h) legal k s active =
+    stays-open (done e) h s (starts (done e) k s) (ends k e s) (is_active k h s)
+    (closing-operation k (done e) (finishes e.call k e.reply s) s)
+    (by-done limits e h legal (λ d. starts d k s ≡ true → is_open h s ≡ true)
+    (λ t. cc)
+    (λ c p. begun-open limits h c k s p))
+    (is_active-open limits h legal.1 k s) active
+
+-- the next session has no search
 pub is_searching-next : (limits : Ranges) (h : History) → IsLegal limits h
     → is_searching h (suc (openings h)) ≡ false
 is_searching-next limits h legal =

@@ -4,6 +4,7 @@ pub mod LegalLemmas
 pub mod LoginMoves
 pub mod NumberTests
 pub mod ObjectMoves
+pub mod OperationMoves
 pub mod RisingLemmas
 pub mod SearchMoves
 pub mod Selections

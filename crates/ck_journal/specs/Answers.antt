@@ -1,11 +1,12 @@
 -- What each call answers, read off the history just before it: a list of checks, of which the first that
 -- fails gives the code, and the reply where none does. Who calls makes no difference.
-use Rattle.std.specs.Prelude.{◌≡◌, ℕ, suc, List, [], ◌∷◌, Option, Some, None, ◌==◌, ◌&&◌, not, is_none, is_some, nat_le, length, map, take, bit_and, if◌then◌else◌, Bool, true, false}
+use Rattle.std.specs.Prelude.{◌≡◌, ℕ, suc, List, [], ◌∷◌, Option, Some, None, ◌==◌, ◌&&◌, not, is_none, is_some, nat_le, nat_lt, length, map, take, bit_and, if◌then◌else◌, Bool, true, false}
 use Rattle.std.specs.List.{list_any}
 use Rattle.std.specs.Option.{option_map_or}
 use Rattle.ck_types.specs.Pins.{fits_a_pin}
 use Rattle.ck_types.specs.Records.{created_items, with_given, is_set, class_of, protections_of, placement_of, copied_error, changed_error}
 use Rattle.ck_types.specs.Checks.{error_if, first_of}
+use Rattle.ck_types.specs.Mechanisms.{digest_hash}
 use Rattle.ck_types.specs.Templates.{created_error}
 use Rattle.ck_types.specs.TokenFlagBits.{token_flags}
 use Rattle.ck_types.specs.TokenLimits.{Ranges}
@@ -18,11 +19,15 @@ use Rattle.ck_types.specs.declared.return_codes.Rv.TheVariants as rv
 use Rattle.ck_types.specs.declared.errors.RvError.{RvError}
 use Rattle.ck_types.specs.declared.errors.RvError.TheVariants as rv_error
 use Rattle.ck_types.specs.declared.items.Item.{Item}
+use Rattle.ck_types.specs.declared.mechanisms.Mechanism.{Mechanism}
 use Rattle.ck_types.specs.declared.token_flags.TokenFlags.{TokenFlags}
 use Rattle.ck_types.specs.declared.users.SessionState.{SessionState}
 use Rattle.ck_types.specs.declared.users.SessionState.TheVariants as state
 use Rattle.ck_types.specs.declared.users.UserType.{UserType}
 use Rattle.ck_types.specs.declared.users.UserType.TheVariants as user
+use Rattle.ck_mac.specs.Digests.{digest_of}
+use Rattle.ck_journal.specs.declared.operations.OperationKind.{OperationKind}
+use Rattle.ck_journal.specs.declared.operations.OperationKind.TheVariants as kind
 use Rattle.ck_journal.specs.declared.replies.Body.{Body}
 use Rattle.ck_journal.specs.declared.replies.Body.TheVariants as body
 use Rattle.ck_journal.specs.declared.calls.Call.{Call}
@@ -30,6 +35,7 @@ use Rattle.ck_journal.specs.declared.calls.Call.TheVariants as call
 use Rattle.ck_journal.specs.declared.replies.Reply.{Reply}
 use Rattle.ck_journal.specs.Histories.{History, start, ◌◁◌}
 use Rattle.ck_journal.specs.Objects.{creations, view_of, is_user_in, handle_with, handle_of, attributes_named, named_attributes}
+use Rattle.ck_journal.specs.Operations.{is_active, is_updated, is_long_piece, hash_in, message_in}
 use Rattle.ck_journal.specs.Pins.{is_initialized, is_pin, pin_owner, present_pin, user_pin, tries, is_locked}
 use Rattle.ck_journal.specs.Queries.{queries_reply}
 use Rattle.ck_journal.specs.Searches.{is_searching, search_rest}
@@ -228,6 +234,39 @@ search_error h session = first_of (
     ∷ error_if (not (is_searching h session)) rv_error.OperationNotInitialized
     ∷ [])
 
+-- an operation of the kind is active in the session
+abbrev pub operation_error : OperationKind → History → ℕ → Option RvError
+operation_error k h session = first_of (
+    session_error h session
+    ∷ error_if (not (is_active k h session)) rv_error.OperationNotInitialized
+    ∷ [])
+
+-- the mechanism is a digest's, which has no parameter
+abbrev pub digest_init_error : History → ℕ → Mechanism → Option RvError
+digest_init_error h session mechanism = first_of (
+    session_error h session
+    ∷ error_if (is_active kind.Digest h session) rv_error.OperationActive
+    ∷ error_if (is_none (digest_hash mechanism.kind)) rv_error.MechanismInvalid
+    ∷ error_if (not (length mechanism.parameter == 0)) rv_error.MechanismParamInvalid
+    ∷ [])
+
+abbrev pub piece_error : List ℕ → Option RvError
+piece_error bytes = error_if (is_long_piece bytes) rv_error.DataLenRange
+
+-- a message that was begun by updates is finished by C_DigestFinal alone
+abbrev pub digest_error : History → ℕ → List ℕ → Option RvError
+digest_error h session bytes = first_of (
+    operation_error kind.Digest h session
+    ∷ error_if (is_updated kind.Digest h session) rv_error.OperationNotInitialized
+    ∷ piece_error bytes
+    ∷ [])
+
+abbrev pub digest_update_error : History → ℕ → List ℕ → Option RvError
+digest_update_error h session bytes = first_of (
+    operation_error kind.Digest h session
+    ∷ piece_error bytes
+    ∷ [])
+
 -- ---- the answer
 
 -- the error of a call: that of the first of its checks that fails
@@ -252,6 +291,10 @@ call_error limits h (call.DestroyObject session object) = destroy_object_error h
 call_error limits h (call.FindObjectsInit session template) = find_objects_init_error h session
 call_error limits h (call.FindObjects session max) = search_error h session
 call_error limits h (call.FindObjectsFinal session) = search_error h session
+call_error limits h (call.DigestInit session mechanism) = digest_init_error h session mechanism
+call_error limits h (call.Digest session bytes room) = digest_error h session bytes
+call_error limits h (call.DigestUpdate session bytes) = digest_update_error h session bytes
+call_error limits h (call.DigestFinal session room) = operation_error kind.Digest h session
 
 -- the handle of a new object with these attributes
 abbrev pub new_handle : History → List Item → ℕ
@@ -261,6 +304,15 @@ new_handle h attributes = handle_with (view_of h) attributes (suc (creations h))
 abbrev pub flags_of_token : History → TokenFlags
 flags_of_token h =
     record { 0 = token_flags (is_initialized h) (is_some (user_pin h)) (tries user.User h) (tries user.So h) }
+
+abbrev pub too_small : ℕ → Reply
+too_small n = record { rv = rv.Error rv_error.BufferTooSmall; body = body.Length n }
+
+-- the reply that gives these bytes where there is room for them, and else their length; no room asks for it
+abbrev pub bytes_reply : Option ℕ → List ℕ → Reply
+bytes_reply None bytes = ok (body.Length (length bytes))
+bytes_reply (Some room) bytes =
+    if nat_lt room (length bytes) then too_small (length bytes) else ok (body.Bytes bytes)
 
 -- the reply to a call that passes its checks
 abbrev pub allowed_reply : Ranges → History → Call → Reply
@@ -276,6 +328,10 @@ allowed_reply limits h (call.GetAttributeValue session object queries) =
     queries_reply (named_attributes h object) queries
 allowed_reply limits h (call.FindObjects session max) =
     ok (body.Handles (map (handle_of h) (take max (search_rest h session))))
+allowed_reply limits h (call.Digest session bytes room) =
+    bytes_reply room (digest_of (hash_in kind.Digest h session) bytes)
+allowed_reply limits h (call.DigestFinal session room) =
+    bytes_reply room (digest_of (hash_in kind.Digest h session) (message_in kind.Digest h session))
 allowed_reply limits h other = ok body.Empty
 
 abbrev pub answer : Ranges → History → Call → Reply

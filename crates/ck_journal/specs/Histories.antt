@@ -1,6 +1,6 @@
 -- A history is a base and the answered calls since: `start b` is the base b alone, and `e ◁ h` is the history
 -- h and then the entry e. A front of a history is what is left where its last entries are taken away.
-use Rattle.std.specs.Prelude.{ℕ, suc, Bool, true, false, List, [], ◌∷◌, Option, Some, None, ◌==◌, if◌then◌else◌}
+use Rattle.std.specs.Prelude.{ℕ, suc, Bool, true, false, List, [], ◌∷◌, Option, Some, None, ◌==◌, ◌||◌, if◌then◌else◌}
 use Rattle.ck_types.specs.declared.return_codes.Rv.{Rv}
 use Rattle.ck_types.specs.declared.return_codes.Rv.TheVariants as rv
 use Rattle.ck_types.specs.declared.errors.RvError.TheVariants as rv_error
@@ -62,15 +62,16 @@ wrong_try e = if is_wrong_pin e.reply.rv then Some e.call else None
 
 -- ---- what an entry may change
 
--- sessions, the login or PINs, but for wrong tries, which are read off `wrong_try`; objects; operations of
--- sessions, as searches are
+-- sessions, the login or PINs, but for wrong tries, which are read off `wrong_try`; objects; searches; operations
+-- that take a message in pieces
 pub record Effects : Type 0 where
   pub sessions : Bool
   pub objects : Bool
+  pub searches : Bool
   pub operations : Bool
 
 abbrev nothing : Effects
-nothing = record { sessions = false; objects = false; operations = false }
+nothing = record { sessions = false; objects = false; searches = false; operations = false }
 
 abbrev on_sessions : Effects
 on_sessions = record nothing { sessions = true }
@@ -78,17 +79,19 @@ on_sessions = record nothing { sessions = true }
 abbrev on_objects : Effects
 on_objects = record nothing { objects = true }
 
+abbrev on_searches : Effects
+on_searches = record nothing { searches = true }
+
 abbrev on_operations : Effects
 on_operations = record nothing { operations = true }
 
 abbrev on_sessions_and_objects : Effects
-on_sessions_and_objects = record { sessions = true; objects = true; operations = false }
+on_sessions_and_objects = record nothing { sessions = true; objects = true }
 
 abbrev on_all : Effects
-on_all = record { sessions = true; objects = true; operations = true }
+on_all = record { sessions = true; objects = true; searches = true; operations = true }
 
--- what a call that was answered OK may change; one that wasn't may still count as a wrong try of a PIN, and
--- changes nothing else
+-- what a call that was answered OK may change
 abbrev pub effects_of : Option Call → Effects
 effects_of None = nothing
 effects_of (Some (call.InitToken pin)) = on_sessions_and_objects
@@ -106,9 +109,22 @@ effects_of (Some (call.CopyObject session object template)) = on_objects
 effects_of (Some (call.GetAttributeValue session object queries)) = nothing
 effects_of (Some (call.SetAttributeValue session object template)) = on_objects
 effects_of (Some (call.DestroyObject session object)) = on_objects
-effects_of (Some (call.FindObjectsInit session template)) = on_operations
-effects_of (Some (call.FindObjects session max)) = on_operations
-effects_of (Some (call.FindObjectsFinal session)) = on_operations
+effects_of (Some (call.FindObjectsInit session template)) = on_searches
+effects_of (Some (call.FindObjects session max)) = on_searches
+effects_of (Some (call.FindObjectsFinal session)) = on_searches
+effects_of (Some (call.DigestInit session mechanism)) = on_operations
+effects_of (Some (call.Digest session bytes room)) = on_operations
+effects_of (Some (call.DigestUpdate session bytes)) = on_operations
+effects_of (Some (call.DigestFinal session room)) = on_operations
 
+-- the calls that may end an operation also where they are refused
+abbrev pub ends_refused : Call → Bool
+ends_refused (call.Digest session bytes room) = true
+ends_refused (call.DigestUpdate session bytes) = true
+ends_refused (call.DigestFinal session room) = true
+ends_refused other = false
+
+-- what an entry may change; a refusal that ends no operation may still count as a wrong try of a PIN, and
+-- changes nothing else
 abbrev pub effects : Entry → Effects
-effects e = effects_of (done e)
+effects e = record (effects_of (done e)) { operations = (effects_of (done e)).operations || ends_refused e.call }

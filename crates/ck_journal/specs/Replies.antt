@@ -7,4 +7,5 @@ use Rattle.ck_journal.specs.declared.replies.Body.TheVariants as body
 abbrev pub has_list : Body → Bool
 has_list (body.Attributes answers) = true
 has_list (body.Handles handles) = true
+has_list (body.Bytes bytes) = true
 has_list other = false

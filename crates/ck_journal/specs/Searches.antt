@@ -9,7 +9,7 @@ use Rattle.ck_journal.specs.declared.calls.Call.TheVariants as call
 use Rattle.ck_journal.specs.declared.calls.Entry.{Entry}
 use Rattle.ck_journal.specs.Histories.{History, start, ◌◁◌, done}
 use Rattle.ck_journal.specs.Objects.{creations, object_at, view_of, is_some_with, is_visible_with, is_visible}
-use Rattle.ck_journal.specs.Sessions.{numbers}
+use Rattle.ck_journal.specs.Sessions.{numbers, ends_operations}
 use Rattle.ck_journal.specs.declared.views.View.{View}
 
 -- ---- a session's search
@@ -19,14 +19,10 @@ abbrev pub starts_search : Option Call → ℕ → Bool
 starts_search (Some (call.FindObjectsInit session template)) s = session == s
 starts_search other s = false
 
--- the call ends the session's search: C_FindObjectsFinal, the closing of the session or of all sessions, and
--- any logout
+-- the call ends the session's search: C_FindObjectsFinal, and what ends all its operations
 abbrev pub ends_search : Option Call → ℕ → Bool
 ends_search (Some (call.FindObjectsFinal session)) s = session == s
-ends_search (Some (call.CloseSession session)) s = session == s
-ends_search (Some call.CloseAllSessions) s = true
-ends_search (Some (call.Logout session)) s = true
-ends_search other s = false
+ends_search other s = ends_operations other s
 
 -- a search is active in the session: one was started, and no later call ended it
 abbrev pub is_searching : History → ℕ → Bool

@@ -36,6 +36,14 @@ is_open (e ◁ h) s =
     else if closes (done e) s then false
     else is_open h s
 
+-- what ends all operations of the session, its search among them: its closing, the closing of all sessions, and
+-- any logout
+abbrev pub ends_operations : Option Call → ℕ → Bool
+ends_operations (Some (call.CloseSession session)) s = session == s
+ends_operations (Some call.CloseAllSessions) s = true
+ends_operations (Some (call.Logout session)) s = true
+ends_operations other s = false
+
 abbrev pub opening_flags : Option Call → ℕ
 opening_flags (Some (call.OpenSession flags)) = flags
 opening_flags other = 0

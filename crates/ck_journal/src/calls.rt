@@ -1,5 +1,5 @@
 use crate::replies::Reply;
-use ck_types::{Pin, Sequence, Template};
+use ck_types::{Bytes, Mechanism, Pin, Sequence, Template};
 
 /// What C_GetAttributeValue is asked of one attribute: its type, and the room for its value in bytes. Room
 /// `None`, like a NULL pValue, asks for the value's length alone (PKCS #11 Base 3.0, Object management
@@ -80,6 +80,40 @@ pub enum Call {
     FindObjectsFinal {
         session: u64,
     },
+    DigestInit {
+        session: u64,
+        mechanism: Mechanism,
+    },
+    Digest {
+        session: u64,
+        bytes: Bytes,
+        /// The room for the digest in bytes, or `None`, like a NULL pDigest, to ask for its length.
+        room: Option<u64>,
+    },
+    DigestUpdate {
+        session: u64,
+        bytes: Bytes,
+    },
+    DigestFinal {
+        session: u64,
+        /// As that of `Digest`.
+        room: Option<u64>,
+    },
+}
+
+impl Call {
+    ghost use Rattle.std.specs.Prelude.{◌≡◌};
+    ghost use Rattle.ck_journal.specs.Operations.{added_bytes};
+
+    /// The bytes that an update adds to the message of its operation; none for every other call.
+    pub fn added_bytes(&self) -> &[u8]
+        ensures { result.now ≡ added_bytes self.now }
+    {
+        match self {
+            Call::DigestUpdate { bytes, .. } => bytes.as_slice(),
+            _ => &[],
+        }
+    }
 }
 
 /// An answered call: who made it, what was called and what was answered. Callers have numbers of the

@@ -5,6 +5,7 @@
 mod bases;
 mod calls;
 mod journals;
+mod operations;
 mod replies;
 mod session_flags;
 #[cfg(test)]
@@ -14,6 +15,7 @@ mod views;
 pub use bases::{Base, KeptObject};
 pub use calls::{AttributeQuery, Call, Entry};
 pub use journals::Journal;
+pub use operations::{OperationKind, is_long_piece};
 pub use replies::{Answer, Body, Reply};
 pub use session_flags::{RW_SESSION, SERIAL_SESSION, is_read_write};
 pub use views::{View, number_of_handle};

@@ -36,6 +36,11 @@ pub enum Body {
     Attributes(Sequence<Answer>),
     /// The handles of the objects that a search returns, in the order of their creations.
     Handles(Sequence<u64>),
+    /// The length in bytes of what the call would give, where the room for it is too small or its
+    /// length was asked for.
+    Length(u64),
+    /// A digest.
+    Bytes(Bytes),
 }
 
 /// What a call is answered.
@@ -106,6 +111,11 @@ impl Body {
             Body::Handles(handles) => {
                 let handles = Vec::from_slice(alloc, handles.as_slice())?;
                 Ok(Body::Handles(Sequence::from_vec(handles)))
+            }
+            Body::Length(length) => Ok(Body::Length(*length)),
+            Body::Bytes(bytes) => {
+                let bytes = Bytes::from_slice(alloc, bytes.as_slice())?;
+                Ok(Body::Bytes(bytes))
             }
         }
     }

@@ -36,6 +36,18 @@ impl Running {
         Running { hasher }
     }
 
+    /// The hash function.
+    pub fn hash(&self) -> Hash
+        ensures { (hash : Hash) (message : List ℕ) → Holds hash self.now message → result ≡ hash }
+    {
+        match &self.hasher {
+            Hasher::Sha224(_) => Hash::Sha224,
+            Hasher::Sha256(_) => Hash::Sha256,
+            Hasher::Sha384(_) => Hash::Sha384,
+            Hasher::Sha512(_) => Hash::Sha512,
+        }
+    }
+
     /// Adds the bytes to the end of the message.
     pub fn update(&mut self, bytes: &[u8])
         ensures { (hash : Hash) (message : List ℕ)
@@ -83,7 +95,7 @@ impl Clone for Running {
 ghost use Rattle.ck_mac.specs.Digests.{digest_of};
 
 /// The digest of the message.
-pub(crate) fn digest(hash: Hash, message: &[u8]) -> Tag
+pub fn digest(hash: Hash, message: &[u8]) -> Tag
     ensures { result ≡ digest_of hash message.now }
 {
     let mut running = Running::new(hash);

@@ -6,7 +6,7 @@ mod digests;
 mod macs;
 mod tags;
 
-pub use digests::Running;
+pub use digests::{Running, digest};
 pub use macs::Mac;
 pub use tags::Tag;
 

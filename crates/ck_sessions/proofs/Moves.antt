@@ -83,7 +83,7 @@ module _ (h : History) (old : SessionsState) (agree : SessionsAgree h old) (e : 
   openings-stay : (c : Call) → done e ≡ Some c → opens (Some c) ≡ false → old.openings ≡ openings (e ◁ h)
   openings-stay c d o = agree.openings ∙ sym (openings-later e h (ap opens d ∙ o))
 
-  module _ (c : Call) (d : done e ≡ Some c) (o : opens (Some c) ≡ false) (cl : (s : ℕ) → closes (Some c) s ≡ false) (ls : (effects_of (Some c)).operations ≡ false) where
+  module _ (c : Call) (d : done e ≡ Some c) (o : opens (Some c) ≡ false) (cl : (s : ℕ) → closes (Some c) s ≡ false) (ls : (effects_of (Some c)).searches ≡ false) where
     no_opening : opens (done e) ≡ false
     no_opening = ap opens d ∙ o
 
@@ -91,7 +91,7 @@ module _ (h : History) (old : SessionsState) (agree : SessionsAgree h old) (e : 
     no_closing s = ap (λ x. closes x s) d ∙ cl s
 
     rows-stay : old.rows ≡ session_rows session_row (e ◁ h)
-    rows-stay = agree.rows ∙ sym (session_rows-same e h no_opening session_row (row-left e h no_opening (ap (λ o. (effects_of o).operations) d ∙ ls)) no_closing)
+    rows-stay = agree.rows ∙ sym (session_rows-same e h no_opening session_row (row-left e h no_opening (ap (λ o. (effects_of o).searches) d ∙ ls)) no_closing)
 
     sessions-stay : open_sessions (e ◁ h) ≡ open_sessions h
     sessions-stay = sym (open_sessions-rows (e ◁ h)) ∙ session_rows-same e h no_opening (λ h s. s) (λ k. refl) no_closing ∙ open_sessions-rows h
@@ -136,10 +136,10 @@ module _ (h : History) (old : SessionsState) (agree : SessionsAgree h old) (e : 
     initialized = ap (λ (c : Credential). is_some c.pin) so ∙ agree.initialized ∙ sym (is_initialized-left e h l);
   }
 
-  rows-left : (effects e).sessions ≡ false → (effects e).operations ≡ false → session_rows session_row (e ◁ h) ≡ session_rows session_row h
+  rows-left : (effects e).sessions ≡ false → (effects e).searches ≡ false → session_rows session_row (e ◁ h) ≡ session_rows session_row h
   rows-left l ls = session_rows-left e h l session_row (row-left e h (opens-left (done e) l) ls)
 
-  pub sessions-left : (effects e).sessions ≡ false → (effects e).operations ≡ false → ((u : UserType) → is_about u h (wrong_try e) ≡ false) → SessionsAgree (e ◁ h) old
+  pub sessions-left : (effects e).sessions ≡ false → (effects e).searches ≡ false → ((u : UserType) → is_about u h (wrong_try e) ≡ false) → SessionsAgree (e ◁ h) old
   sessions-left l ls w = SessionsAgree-same l w old (agree.rows ∙ sym (rows-left l ls)) refl refl refl refl refl
 
   -- a call about searches, which is answered OK
@@ -164,7 +164,7 @@ module _ (h : History) (old : SessionsState) (agree : SessionsAgree h old) (e : 
   SessionsAgree-wrong u new d a rows count login logins so_pin user_pin so_tries user_tries =
       let l : (effects e).sessions ≡ false = ap (λ o. (effects_of o).sessions) d in
       record {
-        rows = rows ∙ agree.rows ∙ sym (rows-left l (ap (λ o. (effects_of o).operations) d));
+        rows = rows ∙ agree.rows ∙ sym (rows-left l (ap (λ o. (effects_of o).searches) d));
         openings = count ∙ agree.openings ∙ sym (openings-left e h l);
         login = login ∙ agree.login ∙ sym (login-left e h l);
         logins = logins ∙ agree.logins ∙ sym (user_logins-left e h l);

@@ -41,7 +41,7 @@ module _ (e : Entry) (h : History) where
   search_of-step k o d =
       ap (λ x. search_step x (matching_objects (e ◁ h) (search_template x)) (handles_in e.reply.body) k (is_searching h k) (found_objects h k) (last_number h k)) d
 
-  search_of-left : (effects e).operations ≡ false → (k : ℕ) → search_of (e ◁ h) k ≡ search_of h k
+  search_of-left : (effects e).searches ≡ false → (k : ℕ) → search_of (e ◁ h) k ≡ search_of h k
   search_of-left l k =
       ap (λ t. active_search t (found_objects (e ◁ h) k) (last_number (e ◁ h) k)) (is_searching-left e h l k)
       ∙ ap (λ f. active_search (is_searching h k) f (last_number (e ◁ h) k)) (found_objects-left e h l k)
@@ -53,20 +53,20 @@ module _ (e : Entry) (h : History) where
   row-moved k search o s = ap (λ f. row k f (search_of (e ◁ h) k)) (flags_of-later e h o k) ∙ ap (row k (flags_of h k)) s
 
   -- a call that opens nothing and leaves searches
-  pub row-left : opens (done e) ≡ false → (effects e).operations ≡ false → (k : ℕ) → session_row (e ◁ h) k ≡ session_row h k
+  pub row-left : opens (done e) ≡ false → (effects e).searches ≡ false → (k : ℕ) → session_row (e ◁ h) k ≡ session_row h k
   row-left o l k = row-moved k (search_of h k) o (search_of-left l k)
 
   -- an opening: the sessions before it, and the new one
   module _ (flags : ℕ) (d : done e ≡ Some (call.OpenSession flags)) where
     pub row-below : (k : ℕ) → k ≤ openings h → session_row (e ◁ h) k ≡ session_row h k
     row-below k below =
-        ap (λ f. row k f (search_of (e ◁ h) k)) (flags_of-below e h flags d k below) ∙ ap (row k (flags_of h k)) (search_of-left (ap (λ o. (effects_of o).operations) d) k)
+        ap (λ f. row k f (search_of (e ◁ h) k)) (flags_of-below e h flags d k below) ∙ ap (row k (flags_of h k)) (search_of-left (ap (λ o. (effects_of o).searches) d) k)
 
     pub row-opened : is_searching h (suc (openings h)) ≡ false → session_row (e ◁ h) (suc (openings h)) ≡ row (suc (openings h)) flags None
     row-opened none =
         let n = suc (openings h) in
         ap (λ f. row n f (search_of (e ◁ h) n)) (flags_of-opened e h flags d)
-        ∙ ap (row n flags) (search_of-left (ap (λ o. (effects_of o).operations) d) n ∙ ap (λ t. active_search t (found_objects h n) (last_number h n)) none)
+        ∙ ap (row n flags) (search_of-left (ap (λ o. (effects_of o).searches) d) n ∙ ap (λ t. active_search t (found_objects h n) (last_number h n)) none)
 
   -- the closing of another session
   pub row-other : (session : ℕ) → done e ≡ Some (call.CloseSession session) → (k : ℕ) → (is_open h k && not (closes (done e) k)) ≡ true → session_row (e ◁ h) k ≡ session_row h k

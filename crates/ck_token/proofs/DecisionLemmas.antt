@@ -1,6 +1,6 @@
 -- Decisions by the checks of a call, one after the other
-use Rattle.std.proofs.Common.{◌≡◌, ℕ, Bool, true, false, cond, not, List, Option, Some, None, Result, Ok, Err, refl, sym, ap, ◌∙◌, subst}
-use Rattle.std.specs.Prelude.{◌&&◌, is_none}
+use Rattle.std.proofs.Common.{◌≡◌, ℕ, Bool, true, false, cond, not, List, Option, Some, None, Result, Ok, Err, length, refl, sym, ap, ◌∙◌, subst}
+use Rattle.std.specs.Prelude.{◌&&◌, is_none, nat_lt}
 use Rattle.std.specs.List.{list_any}
 use Rattle.std.specs.Result.{IsErrAnd}
 use Rattle.std.specs.Option.{option_map_or}
@@ -15,7 +15,12 @@ use Rattle.ck_types.specs.declared.users.UserType.{UserType}
 use Rattle.ck_journal.specs.declared.calls.Call.TheVariants as call
 use Rattle.ck_journal.specs.declared.replies.Body.{Body}
 use Rattle.ck_journal.specs.declared.replies.Reply.{Reply}
-use Rattle.ck_journal.specs.Answers.{unless, answer, allowed_reply, call_error, session_error, object_error}
+use Rattle.ck_mac.specs.Digests.{digest_of}
+use Rattle.ck_journal.specs.declared.operations.OperationKind.{OperationKind}
+use Rattle.ck_journal.specs.declared.operations.OperationKind.TheVariants as kind
+use Rattle.ck_journal.specs.declared.replies.Body.TheVariants as body
+use Rattle.ck_journal.specs.Operations.{hash_in, message_in}
+use Rattle.ck_journal.specs.Answers.{ok, too_small, bytes_reply, unless, answer, allowed_reply, call_error, session_error, object_error}
 use Rattle.ck_journal.specs.Queries.{is_missing, lacks_room}
 use Rattle.ck_journal.specs.Replies.{has_list}
 use Rattle.ck_journal.specs.Histories.{History}
@@ -23,7 +28,7 @@ use Rattle.ck_journal.specs.Objects.{attributes_named, named_attributes}
 use Rattle.ck_journal.specs.Pins.{about}
 use Rattle.ck_journal.specs.Sessions.{is_open}
 use Rattle.ck_token.specs.Agreement.{adds}
-use Rattle.ck_token.specs.Changes.{change_of, refusal_change, effect, effect_by}
+use Rattle.ck_token.specs.Changes.{change_of, end_unless_length, end_unless_too_small, end_if_too_long, refusal_change, refused_change, effect, effect_by}
 use Rattle.ck_token.specs.Decisions.{IsDecision, takes_memory, may_run_out}
 use Rattle.ck_token.specs.declared.changes.Change.{Change}
 use Rattle.ck_token.specs.declared.changes.Change.TheVariants as change
@@ -38,12 +43,12 @@ refusal_change-nobody other = refl
 
 -- such a call that a check refuses
 pub refused-decision : (limits : Ranges) (h : History) (c : Call) (result : Result Decision Refused) (code : RvError)
-    → IsErrAnd result (λ made. made ≡ refused.Error code change.Nothing) → call_error limits h c ≡ Some code → about h (Some c) ≡ None
-    → IsDecision limits h c result
+    → IsErrAnd result (λ made. made ≡ refused.Error code change.Nothing) → call_error limits h c ≡ Some code
+    → refused_change c code (about h (Some c)) ≡ refusal_change code None → IsDecision limits h c result
 refused-decision limits h c (Ok decision) code made fails nobody = absurd made
 refused-decision limits h c (Err reason) code made fails nobody =
     subst (λ (reason : Refused). IsDecision limits h c (Err reason)) (sym made)
-    (fails, sym (ap (refusal_change code) nobody ∙ refusal_change-nobody code))
+    (fails, sym (nobody ∙ refusal_change-nobody code))
 
 -- a call that passes its checks and finds no memory
 pub memory-decision : (limits : Ranges) (h : History) (c : Call) (result : Result Decision Refused)
@@ -51,6 +56,22 @@ pub memory-decision : (limits : Ranges) (h : History) (c : Call) (result : Resul
 memory-decision limits h c (Ok decision) made passes takes = absurd made
 memory-decision limits h c (Err reason) made passes takes =
     subst (λ (reason : Refused). IsDecision limits h c (Err reason)) (sym made) (rw (passes, takes) refl)
+
+-- a reply that gives bytes or their length
+by_room : (h : History) (c : Call) (k : OperationKind) (session : ℕ)
+    → ((b : Body) → change_of h c b ≡ end_unless_length k session b)
+    → refused_change c rv_error.BufferTooSmall (about h (Some c)) ≡ change.Nothing
+    → (room : Option ℕ) (bytes : List ℕ)
+    → change_of h c (bytes_reply room bytes).body ≡ effect h c (bytes_reply room bytes)
+by_room h c k session of stays None bytes = refl
+by_room h c k session of stays (Some room) bytes = cases (nat_lt room (length bytes))
+  where
+    reply : Bool → Reply
+    reply longer = cond longer (too_small (length bytes)) (ok (body.Bytes bytes))
+
+    cases : (longer : Bool) → change_of h c (reply longer).body ≡ effect h c (reply longer)
+    cases true = of (body.Length (length bytes)) ∙ sym stays
+    cases false = refl
 
 -- the change of a call that passes its checks is that of its entry
 pub allowed-effect : (limits : Ranges) (h : History) (c : Call) → change_of h c (allowed_reply limits h c).body ≡ effect h c (allowed_reply limits h c)
@@ -63,6 +84,12 @@ allowed-effect limits h (call.GetAttributeValue session object queries) =
     by_code true longer body = refl
     by_code false true body = refl
     by_code false false body = refl
+allowed-effect limits h (call.Digest session bytes room) =
+    by_room h (call.Digest session bytes room) kind.Digest session (λ b. refl) refl
+    room (digest_of (hash_in kind.Digest h session) bytes)
+allowed-effect limits h (call.DigestFinal session room) =
+    by_room h (call.DigestFinal session room) kind.Digest session (λ b. refl) refl
+    room (digest_of (hash_in kind.Digest h session) (message_in kind.Digest h session))
 allowed-effect limits h other = refl
 
 -- ---- what takes no memory
@@ -78,6 +105,8 @@ no_list limits h c r answered free = ap (λ (r : Reply). has_list r.body) answer
         by_call : (c : Call) → takes_memory c ≡ false → has_list (allowed_reply limits h c).body ≡ false
         by_call (call.GetAttributeValue session object queries) free = cc
         by_call (call.FindObjects session max) free = cc
+        by_call (call.Digest session bytes room) free = cc
+        by_call (call.DigestFinal session room) free = cc
         by_call other free = refl
 
 -- and adds nothing
@@ -86,19 +115,36 @@ pub adds_nothing : (limits : Ranges) (h : History) (c : Call) (r : Reply) (made 
 adds_nothing limits h c r made answered is free =
     ap adds is ∙ ap (λ (r : Reply). adds (effect h c r)) answered ∙ by_error (call_error limits h c) free
   where
-    by_refusal : (code : RvError) (who : Option UserType) → adds (refusal_change code who) ≡ false
-    by_refusal rv_error.PinIncorrect None = refl
-    by_refusal rv_error.PinIncorrect (Some u) = refl
-    by_refusal other who = refl
+    by_pin : (code : RvError) (who : Option UserType) → adds (refusal_change code who) ≡ false
+    by_pin rv_error.PinIncorrect None = refl
+    by_pin rv_error.PinIncorrect (Some u) = refl
+    by_pin other who = refl
+
+    unless_small : (k : OperationKind) (session : ℕ) (code : RvError) → adds (end_unless_too_small k session code) ≡ false
+    unless_small k session rv_error.BufferTooSmall = refl
+    unless_small k session other = refl
+
+    if_long : (k : OperationKind) (session : ℕ) (code : RvError) → adds (end_if_too_long k session code) ≡ false
+    if_long k session rv_error.DataLenRange = refl
+    if_long k session other = refl
+
+    by_refusal : (c : Call) (code : RvError) (who : Option UserType) → adds (refused_change c code who) ≡ false
+    by_refusal (call.Digest session bytes room) code who = unless_small kind.Digest session code
+    by_refusal (call.DigestUpdate session bytes) code who = if_long kind.Digest session code
+    by_refusal (call.DigestFinal session room) code who = unless_small kind.Digest session code
+    by_refusal other code who = by_pin code who
 
     by_error : (error : Option RvError) → (is_none error && takes_memory c) ≡ false → adds (effect h c (unless error (allowed_reply limits h c))) ≡ false
-    by_error (Some code) free = by_refusal code (about h (Some c))
+    by_error (Some code) free = by_refusal c code (about h (Some c))
     by_error None free = ap adds (sym (allowed-effect limits h c)) ∙ by_call c (allowed_reply limits h c).body free
       where
         by_call : (c : Call) (b : Body) → takes_memory c ≡ false → adds (change_of h c b) ≡ false
         by_call (call.OpenSession flags) b free = cc
         by_call (call.CreateObject session template) b free = cc
         by_call (call.CopyObject session object template) b free = cc
+        by_call (call.DigestInit session mechanism) b free = cc
+        by_call (call.Digest session bytes room) b free = cc
+        by_call (call.DigestFinal session room) b free = cc
         by_call other b free = refl
 
 -- ---- checks in order, of which all before one pass
@@ -137,3 +183,18 @@ object-checks h session object checks attributes error is_so named is =
     last : (error : Option RvError) → or_else error None ≡ error
     last None = refl
     last (Some code) = refl
+
+-- ---- replies that give bytes or their length
+
+pub gives-length : (k : OperationKind) (session : ℕ) (d : Decision) (reply expected : Reply) (n : ℕ)
+    → d ≡ record { reply = reply; change = change.Nothing } → reply ≡ expected → reply.body ≡ body.Length n
+    → (d.reply ≡ expected) × (d.change ≡ end_unless_length k session d.reply.body)
+gives-length k session d reply expected n is same length =
+    rw is (same, sym (ap (end_unless_length k session) length))
+
+pub gives-bytes : (k : OperationKind) (session : ℕ) (d : Decision) (tag bytes : List ℕ) (expected : Reply)
+    → d ≡ record { reply = ok (body.Bytes tag); change = change.EndOperation k session }
+    → expected ≡ ok (body.Bytes bytes) → tag ≡ bytes
+    → (d.reply ≡ expected) × (d.change ≡ end_unless_length k session d.reply.body)
+gives-bytes k session d tag bytes expected is given same =
+    rw is (ap (λ bytes. ok (body.Bytes bytes)) same ∙ sym given, refl)

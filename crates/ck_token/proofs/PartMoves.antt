@@ -21,7 +21,9 @@ use Rattle.ck_types.proofs.CheckLemmas.{or_else-none}
 use Rattle.ck_journal.specs.declared.calls.Call.{Call}
 use Rattle.ck_journal.specs.declared.calls.Call.TheVariants as call
 use Rattle.ck_journal.specs.declared.calls.Entry.{Entry}
+use Rattle.ck_journal.specs.declared.operations.OperationKind.TheVariants as kind
 use Rattle.ck_journal.specs.declared.replies.Body.{Body}
+use Rattle.ck_journal.specs.declared.replies.Body.TheVariants as body
 use Rattle.ck_journal.specs.Answers.{call_error, session_error, object_error, read_only_session_error, prohibited_error, known_login_error}
 use Rattle.ck_journal.specs.Histories.{History, ◌◁◌, done, wrong_try, is_ok, is_wrong_pin, effects_of}
 use Rattle.ck_journal.specs.Objects.{creates, named_attributes, object_named, object_at}
@@ -32,22 +34,23 @@ use Rattle.ck_sessions.proofs.Moves.{sessions-left}
 use Rattle.ck_sessions.specs.Agreement.{SessionsState, SessionsAgree}
 use Rattle.ck_store.proofs.Moves.{objects-left}
 use Rattle.ck_store.specs.Agreement.{StoreState, StoreAgrees}
-use Rattle.ck_token.specs.Changes.{change_of, refusal_change, effect, effect_by}
+use Rattle.ck_token.proofs.OperationMoves.{small-no_try, long-no_try}
+use Rattle.ck_token.specs.Changes.{change_of, refusal_change, refused_change, effect, effect_by}
 use Rattle.ck_token.specs.declared.changes.Change.TheVariants as change
 
 -- ---- the part that a call leaves as it is
 
 module _ (h : History) (e : Entry) (c : Call) (d : done e ≡ Some c) where
-  pub sessions-kept : (s : SessionsState) → (effects_of (Some c)).sessions ≡ false → (effects_of (Some c)).operations ≡ false
+  pub sessions-kept : (s : SessionsState) → (effects_of (Some c)).sessions ≡ false → (effects_of (Some c)).searches ≡ false
       → SessionsAgree h s → SessionsAgree (e ◁ h) s
   sessions-kept s fixed idle agree =
-      sessions-left h s agree e (ap (λ o. (effects_of o).sessions) d ∙ fixed) (ap (λ o. (effects_of o).operations) d ∙ idle)
+      sessions-left h s agree e (ap (λ o. (effects_of o).sessions) d ∙ fixed) (ap (λ o. (effects_of o).searches) d ∙ idle)
       (λ u. ap (is_about u h) (wrong_try-done e c d))
 
   pub objects-kept : (o : StoreState) → (effects_of (Some c)).objects ≡ false → StoreAgrees h o → StoreAgrees (e ◁ h) o
   objects-kept o fixed agree = objects-left h o agree e (ap (λ o. (effects_of o).objects) d ∙ fixed)
 
-  creation-kept : (c : Call) → creates (Some c) ≡ true → ((effects_of (Some c)).sessions ≡ false) × ((effects_of (Some c)).operations ≡ false)
+  creation-kept : (c : Call) → creates (Some c) ≡ true → ((effects_of (Some c)).sessions ≡ false) × ((effects_of (Some c)).searches ≡ false)
   creation-kept (call.CreateObject session template) t = (refl, refl)
   creation-kept (call.CopyObject session object template) t = (refl, refl)
   creation-kept other t = cc
@@ -61,10 +64,12 @@ module _ (h : History) (e : Entry) (c : Call) (d : done e ≡ Some c) where
 -- what was done where the change is nothing
 module _ (h : History) where
   nothing_done : (c : Call) (b : Body) → change.Nothing ≡ change_of h c b
-      → ((effects_of (Some c)).sessions ≡ false) × ((effects_of (Some c)).operations ≡ false) × ((effects_of (Some c)).objects ≡ false)
+      → ((effects_of (Some c)).sessions ≡ false) × ((effects_of (Some c)).searches ≡ false) × ((effects_of (Some c)).objects ≡ false)
   nothing_done (call.GetSessionInfo session) b is = (refl, refl, refl)
   nothing_done call.GetTokenInfo b is = (refl, refl, refl)
   nothing_done (call.GetAttributeValue session object queries) b is = (refl, refl, refl)
+  nothing_done (call.Digest session bytes room) b is = (refl, refl, refl)
+  nothing_done (call.DigestFinal session room) b is = (refl, refl, refl)
   nothing_done other b is = cc
 
   -- a refusal that changes nothing is no wrong try of anybody's PIN
@@ -77,11 +82,27 @@ module _ (h : History) where
       tried (Some other) is = cc
   nothing_tried other c u is = refl
 
+  -- nor is one of a call about nobody
+  nobody_tried : (wrong : Bool) (c : Call) (u : UserType) → about h (Some c) ≡ None
+      → is_about u h (cond wrong (Some c) None) ≡ false
+  nobody_tried true c u e = ap (is_user u) e
+  nobody_tried false c u e = refl
+
+  nothing_refused : (code : RvError) (c : Call) (u : UserType) → change.Nothing ≡ refused_change c code (about h (Some c))
+      → is_about u h (cond (is_wrong_pin (rv.Error code)) (Some c) None) ≡ false
+  nothing_refused code (call.Digest session bytes room) u is =
+      nobody_tried (is_wrong_pin (rv.Error code)) (call.Digest session bytes room) u refl
+  nothing_refused code (call.DigestUpdate session bytes) u is =
+      nobody_tried (is_wrong_pin (rv.Error code)) (call.DigestUpdate session bytes) u refl
+  nothing_refused code (call.DigestFinal session room) u is =
+      nobody_tried (is_wrong_pin (rv.Error code)) (call.DigestFinal session room) u refl
+  nothing_refused code other u is = nothing_tried code other u is
+
   nothing_step : (c : Call) (v : Rv) (b : Body) → change.Nothing ≡ effect_by h c v b
-      → ((effects_of (cond (is_ok v) (Some c) None)).sessions ≡ false) × ((effects_of (cond (is_ok v) (Some c) None)).operations ≡ false)
+      → ((effects_of (cond (is_ok v) (Some c) None)).sessions ≡ false) × ((effects_of (cond (is_ok v) (Some c) None)).searches ≡ false)
       × ((effects_of (cond (is_ok v) (Some c) None)).objects ≡ false) × ((u : UserType) → is_about u h (cond (is_wrong_pin v) (Some c) None) ≡ false)
   nothing_step c rv.Ok b is = let n = nothing_done c b is in (n.0, n.1, n.2, λ u. refl)
-  nothing_step c (rv.Error code) b is = (refl, refl, refl, λ u. nothing_tried code c u is)
+  nothing_step c (rv.Error code) b is = (refl, refl, refl, λ u. nothing_refused code c u is)
 
 pub sessions-unchanged : (h : History) (e : Entry) (s : SessionsState) → change.Nothing ≡ effect h e.call e.reply → SessionsAgree h s → SessionsAgree (e ◁ h) s
 sessions-unchanged h e s is agree =
@@ -97,7 +118,10 @@ objects-unchanged h e o is agree =
 
 module _ (h : History) where
   tried_done : (c : Call) (b : Body) (u : UserType) → change.WrongTry u ≡ change_of h c b → ⊥
-  tried_done (call.GetSessionInfo session) b u is = cc
+  tried_done (call.Digest session bytes room) (body.Length n) u is = cc
+  tried_done (call.Digest session bytes room) b u is = cc
+  tried_done (call.DigestFinal session room) (body.Length n) u is = cc
+  tried_done (call.DigestFinal session room) b u is = cc
   tried_done other b u is = cc
 
   tried_refusal : (code : RvError) (c : Call) (u : UserType) → change.WrongTry u ≡ refusal_change code (about h (Some c))
@@ -109,10 +133,17 @@ module _ (h : History) where
       tried (Some other) is = cc
   tried_refusal other c u is = cc
 
+  tried_refused : (code : RvError) (c : Call) (u : UserType) → change.WrongTry u ≡ refused_change c code (about h (Some c))
+      → about h (cond (is_wrong_pin (rv.Error code)) (Some c) None) ≡ Some u
+  tried_refused code (call.Digest session bytes room) u is = absurd (small-no_try code kind.Digest session u is)
+  tried_refused code (call.DigestUpdate session bytes) u is = absurd (long-no_try code kind.Digest session u is)
+  tried_refused code (call.DigestFinal session room) u is = absurd (small-no_try code kind.Digest session u is)
+  tried_refused code other u is = tried_refusal code other u is
+
   tried_step : (c : Call) (v : Rv) (b : Body) (u : UserType) → change.WrongTry u ≡ effect_by h c v b
       → (cond (is_ok v) (Some c) None ≡ None) × (about h (cond (is_wrong_pin v) (Some c) None) ≡ Some u)
   tried_step c rv.Ok b u is = absurd (tried_done c b u is)
-  tried_step c (rv.Error code) b u is = (refl, tried_refusal code c u is)
+  tried_step c (rv.Error code) b u is = (refl, tried_refused code c u is)
 
 -- nothing was done, and the user's PIN was tried
 pub tried : (h : History) (e : Entry) (u : UserType) → change.WrongTry u ≡ effect h e.call e.reply

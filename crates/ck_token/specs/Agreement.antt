@@ -4,6 +4,7 @@ use Rattle.ck_types.specs.TokenLimits.{Ranges, AreInRange}
 use Rattle.ck_types.specs.declared.users.UserType.TheVariants as user
 use Rattle.ck_journal.specs.Answers.{IsLegal}
 use Rattle.ck_journal.specs.Histories.{History}
+use Rattle.ck_operations.specs.Agreement.{OperationsAgree}
 use Rattle.ck_sessions.specs.Agreement.{SessionsAgree, credential_of}
 use Rattle.ck_store.specs.Agreement.{StoreAgrees}
 use Rattle.ck_token.specs.declared.changes.Change.{Change}
@@ -13,6 +14,7 @@ use Rattle.ck_token.specs.declared.parts.Parts.{Parts}
 pub record PartsAgree (h : History) (p : Parts) : Type 0 where
   pub sessions : SessionsAgree h p.sessions
   pub objects : StoreAgrees h p.objects
+  pub operations : OperationsAgree h p.operations
 
 -- the limits are in range, the history is legal, and the token's parts are what it says
 pub record TokenAgrees (limits : Ranges) (h : History) (p : Parts) : Type 0 where
@@ -22,16 +24,18 @@ pub record TokenAgrees (limits : Ranges) (h : History) (p : Parts) : Type 0 wher
 
 -- ---- what a change needs of the parts
 
--- the change adds a session or an object
+-- the change adds a session, an object or an operation
 abbrev pub adds : Change → Bool
 adds (change.OpenSession flags) = true
 adds (change.CreateObject session attributes) = true
+adds (change.StartOperation kind session hash) = true
 adds other = false
 
--- room for one more session or object, where the change adds one
+-- room for one more session, object or operation, where the change adds one
 abbrev pub HasRoom : Parts → Change → Type 0
 HasRoom p (change.OpenSession flags) = 0 < p.sessions.spare
 HasRoom p (change.CreateObject session attributes) = 0 < p.objects.spare
+HasRoom p (change.StartOperation kind session hash) = 0 < p.operations.spare
 HasRoom p other = Unit {0}
 
 -- the count that it raises stays in range, and a PIN that is changed is there

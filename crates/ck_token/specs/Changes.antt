@@ -1,16 +1,21 @@
--- What an answered call changes of sessions and objects, read off the history just before it
-use Rattle.std.specs.Prelude.{Option, Some, map, unwrap_or}
+-- What an answered call changes of sessions, objects and operations, read off the history just before it
+use Rattle.std.specs.Prelude.{ℕ, Option, Some, map, unwrap_or}
+use Rattle.ck_types.specs.Mechanisms.{digest_hash}
 use Rattle.ck_types.specs.Records.{created_items, with_given}
 use Rattle.ck_types.specs.Users.{user_of}
 use Rattle.ck_types.specs.declared.return_codes.Rv.{Rv}
 use Rattle.ck_types.specs.declared.return_codes.Rv.TheVariants as rv
 use Rattle.ck_types.specs.declared.errors.RvError.{RvError}
 use Rattle.ck_types.specs.declared.errors.RvError.TheVariants as rv_error
+use Rattle.ck_types.specs.declared.hashes.Hash.TheVariants as hash
 use Rattle.ck_types.specs.declared.users.UserType.{UserType}
 use Rattle.ck_types.specs.declared.users.UserType.TheVariants as user
 use Rattle.ck_journal.specs.declared.calls.Call.{Call}
 use Rattle.ck_journal.specs.declared.calls.Call.TheVariants as call
+use Rattle.ck_journal.specs.declared.operations.OperationKind.{OperationKind}
+use Rattle.ck_journal.specs.declared.operations.OperationKind.TheVariants as kind
 use Rattle.ck_journal.specs.declared.replies.Body.{Body}
+use Rattle.ck_journal.specs.declared.replies.Body.TheVariants as body
 use Rattle.ck_journal.specs.declared.replies.Reply.{Reply}
 use Rattle.ck_journal.specs.Histories.{History}
 use Rattle.ck_journal.specs.Objects.{object_named, named_attributes}
@@ -19,6 +24,11 @@ use Rattle.ck_journal.specs.Searches.{matching_objects, last_number, last_or, nu
 use Rattle.ck_journal.specs.Sessions.{state_of}
 use Rattle.ck_token.specs.declared.changes.Change.{Change}
 use Rattle.ck_token.specs.declared.changes.Change.TheVariants as change
+
+-- the end of an operation, where the reply doesn't give a length alone
+abbrev pub end_unless_length : OperationKind → ℕ → Body → Change
+end_unless_length k session (body.Length n) = change.Nothing
+end_unless_length k session other = change.EndOperation k session
 
 -- the change of a call that was answered OK with this body
 abbrev pub change_of : History → Call → Body → Change
@@ -41,19 +51,41 @@ change_of h (call.FindObjectsInit session template) body =
 change_of h (call.FindObjects session max) body =
     change.AdvanceSearch session (last_or (last_number h session) (map number_of_handle (handles_in body)))
 change_of h (call.FindObjectsFinal session) body = change.EndSearch session
+change_of h (call.DigestInit session mechanism) body =
+    change.StartOperation kind.Digest session (unwrap_or (digest_hash mechanism.kind) hash.Sha256)
+change_of h (call.Digest session bytes room) body = end_unless_length kind.Digest session body
+change_of h (call.DigestUpdate session bytes) body = change.AddPiece kind.Digest session
+change_of h (call.DigestFinal session room) body = end_unless_length kind.Digest session body
 change_of h (call.GetSessionInfo session) body = change.Nothing
 change_of h call.GetTokenInfo body = change.Nothing
 change_of h (call.GetAttributeValue session object queries) body = change.Nothing
 
--- the change of a call that was refused, by the user that it is about: a wrong PIN is a wrong try
+-- the change of a refusal by the user that the call is about: a wrong PIN is a wrong try
 abbrev pub refusal_change : RvError → Option UserType → Change
 refusal_change rv_error.PinIncorrect (Some u) = change.WrongTry u
 refusal_change other who = change.Nothing
 
+-- the end of an operation, where its call wasn't refused for too little room
+abbrev pub end_unless_too_small : OperationKind → ℕ → RvError → Change
+end_unless_too_small k session rv_error.BufferTooSmall = change.Nothing
+end_unless_too_small k session other = change.EndOperation k session
+
+-- the end of an operation, where a piece was too long
+abbrev pub end_if_too_long : OperationKind → ℕ → RvError → Change
+end_if_too_long k session rv_error.DataLenRange = change.EndOperation k session
+end_if_too_long k session other = change.Nothing
+
+-- the change of a call that was refused
+abbrev pub refused_change : Call → RvError → Option UserType → Change
+refused_change (call.Digest session bytes room) code who = end_unless_too_small kind.Digest session code
+refused_change (call.DigestUpdate session bytes) code who = end_if_too_long kind.Digest session code
+refused_change (call.DigestFinal session room) code who = end_unless_too_small kind.Digest session code
+refused_change other code who = refusal_change code who
+
 -- the change of an answered call
 abbrev pub effect_by : History → Call → Rv → Body → Change
 effect_by h c rv.Ok body = change_of h c body
-effect_by h c (rv.Error code) body = refusal_change code (about h (Some c))
+effect_by h c (rv.Error code) body = refused_change c code (about h (Some c))
 
 abbrev pub effect : History → Call → Reply → Change
 effect h c reply = effect_by h c reply.rv reply.body

@@ -8,13 +8,13 @@ use Rattle.ck_journal.specs.declared.calls.Call.TheVariants as call
 use Rattle.ck_journal.specs.Answers.{call_error, allowed_reply}
 use Rattle.ck_journal.specs.Histories.{History}
 use Rattle.ck_journal.specs.Pins.{about}
-use Rattle.ck_token.specs.Changes.{change_of, refusal_change}
+use Rattle.ck_token.specs.Changes.{change_of, refusal_change, refused_change}
 use Rattle.ck_token.specs.declared.decisions.Decision.{Decision}
 use Rattle.ck_token.specs.declared.decisions.Refused.{Refused}
 use Rattle.ck_token.specs.declared.decisions.Refused.TheVariants as refused
 
--- the calls that may take memory beside that of their entry: for a session, an object, a search or a list in
--- the reply
+-- the calls that may take memory beside that of their entry: for a session, an object, a search, an operation
+-- or a list in the reply
 abbrev pub takes_memory : Call → Bool
 takes_memory (call.OpenSession flags) = true
 takes_memory (call.CreateObject session template) = true
@@ -23,6 +23,9 @@ takes_memory (call.GetAttributeValue session object queries) = true
 takes_memory (call.SetAttributeValue session object template) = true
 takes_memory (call.FindObjectsInit session template) = true
 takes_memory (call.FindObjects session max) = true
+takes_memory (call.DigestInit session mechanism) = true
+takes_memory (call.Digest session bytes room) = true
+takes_memory (call.DigestFinal session room) = true
 takes_memory other = false
 
 -- such a call, and it passes its checks
@@ -45,5 +48,5 @@ IsDecision limits h c (Ok decision) =
     × (decision.reply ≡ allowed_reply limits h c)
     × (decision.change ≡ change_of h c decision.reply.body)
 IsDecision limits h c (Err (refused.Error code change)) =
-    (call_error limits h c ≡ Some code) × (change ≡ refusal_change code (about h (Some c)))
+    (call_error limits h c ≡ Some code) × (change ≡ refused_change c code (about h (Some c)))
 IsDecision limits h c (Err refused.Memory) = may_run_out limits h c ≡ true

@@ -1,6 +1,7 @@
-use ck_types::{Pin, Record, Sequence, UserType};
+use ck_journal::OperationKind;
+use ck_types::{Hash, Pin, Record, Sequence, UserType};
 
-/// What an answered call changes of sessions and objects.
+/// What an answered call changes of sessions, objects and operations.
 #[derive(Drop)]
 pub(crate) enum Change {
     Nothing,
@@ -53,6 +54,21 @@ pub(crate) enum Change {
         number: u64,
     },
     EndSearch {
+        session: u64,
+    },
+    StartOperation {
+        kind: OperationKind,
+        session: u64,
+        hash: Hash,
+    },
+    /// The bytes of the call are one more piece.
+    AddPiece {
+        kind: OperationKind,
+        session: u64,
+    },
+    /// The end of an operation, where one is active.
+    EndOperation {
+        kind: OperationKind,
         session: u64,
     },
 }

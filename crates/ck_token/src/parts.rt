@@ -1,14 +1,17 @@
 use crate::changes::Change;
+use ck_journal::Call;
+use ck_operations::Operations;
 use ck_sessions::Sessions;
 use ck_store::Store;
 use ck_types::NoMemory;
 
-/// The sessions and the objects of a token. While a call is carried out they are ahead of the journal, so
-/// what ties them to a history stands in the contracts.
+/// The sessions, the objects and the operations of a token. While a call is carried out they are ahead of
+/// the journal, so what ties them to a history stands in the contracts.
 #[derive(Debug, Drop)]
 pub(crate) struct Parts {
     pub(crate) sessions: Sessions,
     pub(crate) objects: Store,
+    pub(crate) operations: Operations,
 }
 
 impl Parts {
@@ -29,16 +32,17 @@ impl Parts {
         match change {
             Change::OpenSession { .. } => self.sessions.reserve(),
             Change::CreateObject { session, .. } => self.objects.reserve(*session),
+            Change::StartOperation { .. } => self.operations.reserve(),
             _ => Ok(()),
         }
     }
 
     /// Carries out the change of an answered call, and takes no memory.
-    pub(crate) fn apply(&mut self, change: Change)
+    pub(crate) fn apply(&mut self, change: Change, call: &Call)
         requires room { HasRoom self.old change }
         requires counted { IsCounted self.old change }
         ensures agree { (limits : Ranges) (h : History) (e : Entry) → IsLegal limits (e ◁ h)
-            → change ≡ effect h e.call e.reply
+            → change ≡ effect h e.call e.reply → call.now ≡ e.call
             → PartsAgree h self.old → PartsAgree (e ◁ h) self.new }
     {
         match change {
@@ -54,15 +58,18 @@ impl Parts {
             Change::CloseSession { session } => {
                 self.sessions.close(session);
                 self.objects.end_session(session);
+                self.operations.end_session(session);
             }
             Change::CloseAllSessions => {
                 self.sessions.close_all();
                 self.objects.end_all_sessions();
+                self.operations.end_all();
             }
             Change::LogIn { user } => self.sessions.log_in(user),
             Change::LogOut => {
                 self.sessions.log_out();
                 self.objects.end_private();
+                self.operations.end_all();
             }
             Change::CreateObject {
                 session,
@@ -77,6 +84,16 @@ impl Parts {
                 self.sessions.advance_search(session, number)
             }
             Change::EndSearch { session } => self.sessions.end_search(session),
+            Change::StartOperation {
+                kind,
+                session,
+                hash,
+            } => self.operations.start(kind, session, hash),
+            Change::AddPiece { kind, session } => {
+                self.operations
+                    .add_piece(kind, session, call.added_bytes())
+            }
+            Change::EndOperation { kind, session } => self.operations.end(kind, session),
         }
     }
 }

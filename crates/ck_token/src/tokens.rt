@@ -2,21 +2,22 @@ use crate::changes::Change;
 use crate::decisions::{Decision, Refused, refusal};
 use crate::parts::Parts;
 use ck_journal::{Call, Entry, Journal, Reply};
+use ck_operations::Operations;
 use ck_sessions::Sessions;
 use ck_store::Store;
 use ck_types::{Limits, NoMemory};
 use std::alloc::Global;
 use std::marker::Model;
 
+mod digest_calls;
 mod object_calls;
 mod pin_calls;
 mod readings;
 mod search_calls;
 mod session_calls;
 
-/// A token with its sessions and objects, wholly in memory. Contracts see its limits, the history of its
-/// journal and for how many more entries the journal has room; that sessions and objects are what the history
-/// says, and that the history is legal, is true of every token.
+/// A token with its sessions, objects and operations, wholly in memory. Contracts see its limits, the history
+/// of its journal and for how many more entries the journal has room; that its parts are what the history says, and that the history is legal, is true of every token.
 #[derive(Debug, Drop)]
 pub struct Token {
     limits: Limits,
@@ -62,6 +63,7 @@ impl Token {
             parts: Parts {
                 sessions: Sessions::new(alloc),
                 objects: Store::new(alloc),
+                operations: Operations::new(alloc),
             },
             journal: Journal::new(alloc),
         }
@@ -94,8 +96,8 @@ impl Token {
 
     /// Answers a call and enters it in the journal. Where there is no memory for it, nothing has changed and
     /// the call isn't in the journal. Where the journal has room, only a call that passes its checks can run
-    /// out of memory, and only one that opens a session, creates or changes an object, searches or reads
-    /// attributes.
+    /// out of memory, and only one that opens a session, creates or changes an object, searches, reads
+    /// attributes, or starts or finishes a digest.
     pub fn call(&mut self, alloc: Global, caller: u32, call: Call) -> Result<Reply, NoMemory>
         ensures answered { IfOk result (λ reply. IsAnswered self.old self.new caller call reply) }
         ensures unchanged { OnErr result (IsUnchanged self.old self.new) }
@@ -109,7 +111,7 @@ impl Token {
         let entered = reply.duplicate(alloc)?;
         self.parts.reserve(&change)?;
         self.journal.reserve(1)?;
-        self.parts.apply(change);
+        self.parts.apply(change, &call);
         self.journal.push_reserved(Entry {
             caller,
             call,
@@ -176,6 +178,16 @@ impl Token {
             }
             Call::FindObjects { session, max } => self.find_objects(alloc, *session, *max),
             Call::FindObjectsFinal { session } => self.find_objects_final(*session),
+            Call::DigestInit { session, mechanism } => self.digest_init(*session, mechanism),
+            Call::Digest {
+                session,
+                bytes,
+                room,
+            } => self.digest(alloc, *session, bytes.as_slice(), *room),
+            Call::DigestUpdate { session, bytes } => {
+                self.digest_update(*session, bytes.as_slice())
+            }
+            Call::DigestFinal { session, room } => self.digest_final(alloc, *session, *room),
         }
     }
 }

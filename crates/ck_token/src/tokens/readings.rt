@@ -4,7 +4,8 @@ ghost use Rattle.ck_types.specs.declared.users.UserType.TheVariants as user;
 ghost use Rattle.ck_journal.specs.Pins.{is_user};
 
 use super::Token;
-use ck_journal::View;
+use ck_journal::{OperationKind, View};
+use ck_operations::Operation;
 use ck_sessions::{Credential, Session};
 use ck_types::{Record, RvError, SessionState, UserType};
 
@@ -36,6 +37,8 @@ impl Token {
     ghost use Rattle.ck_journal.specs.Objects.{creations, view_of, is_user_in, object_named, attributes_named};
     ghost use Rattle.ck_journal.specs.Pins.{is_initialized, present_pin, tries};
     ghost use Rattle.ck_journal.specs.Sessions.{openings, is_open, open_sessions, is_read_write, rw_sessions, login, user_logins, state_of};
+    ghost use Rattle.ck_journal.specs.Operations.{is_active, hash_in, message_in, is_updated};
+    ghost use Rattle.ck_operations.specs.Rows.{HoldsMessage, has_update};
     ghost use Rattle.ck_sessions.specs.Agreement.{session_row};
 
     pub(super) fn is_initialized(&self) -> bool
@@ -132,6 +135,22 @@ impl Token {
         ensures { result ≡ creations self.now.history }
     {
         self.parts.objects.creations()
+    }
+
+    /// The session's active operation of the kind, else CKR_OPERATION_NOT_INITIALIZED.
+    pub(super) fn operation(&self, kind: OperationKind, session: u64) -> Result<&Operation, RvError>
+        ensures active { IfOk result (λ operation. is_active kind self.now.history session ≡ true) }
+        ensures message { IfOk result (λ operation. HoldsMessage (hash_in kind self.now.history session)
+            operation.now (message_in kind self.now.history session)) }
+        ensures updated { IfOk result (λ operation.
+            has_update operation.now ≡ is_updated kind self.now.history session) }
+        ensures none { IfErr result (λ code. code ≡ rv_error.OperationNotInitialized) }
+        ensures idle { IfErr result (λ code. is_active kind self.now.history session ≡ false) }
+    {
+        match self.parts.operations.get(kind, session) {
+            Some(operation) => Ok(operation),
+            None => Err(RvError::OperationNotInitialized),
+        }
     }
 
     /// The number and the attributes of the object that the handle names, else CKR_OBJECT_HANDLE_INVALID.

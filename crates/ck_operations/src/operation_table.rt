@@ -1,0 +1,109 @@
+use crate::active_operations::Operation;
+use crate::rows::{add_piece, find_operation, remove_operation, remove_session};
+use ck_journal::OperationKind;
+use ck_types::{Hash, NoMemory};
+use std::alloc::Global;
+use std::marker::Model;
+
+/// The active operations of all sessions that take a message in pieces, at most one of a kind in a
+/// session (PKCS #11 Base 3.0, Message digesting functions).
+#[derive(Debug, Drop)]
+pub struct Operations {
+    rows: Vec<Operation>,
+}
+
+impl Model for Operations {
+    ghost use Rattle.std.specs.Prelude.{vec_len, vec_capacity, ◌-◌};
+    ghost use Rattle.ck_operations.specs.Agreement.{OperationsState};
+
+    ghost Value = { OperationsState };
+
+    ghost view = { λ o. record {
+      rows = o.rows.items;
+      spare = vec_capacity o.rows - vec_len o.rows;
+    } };
+}
+
+impl Operations {
+    ghost use Rattle.std.specs.Prelude.{◌≡◌, ◌<◌, ℕ, false, OnOk, IsOk};
+    ghost use Rattle.std.specs.Option.{option_copied};
+    ghost use Rattle.ck_journal.specs.Bases.{empty_base};
+    ghost use Rattle.ck_journal.specs.Histories.{History, start, ◌◁◌};
+    ghost use Rattle.ck_journal.specs.Operations.{is_active};
+    ghost use Rattle.ck_journal.specs.declared.calls.Entry.{Entry};
+    ghost use Rattle.ck_operations.specs.Agreement.{OperationsAgree, AreSame, operation_at};
+    ghost use Rattle.ck_operations.specs.Moves.{Start, Add, End, OnlyIn, OnlyInSession, InAll};
+
+    /// No operations, which takes no memory.
+    pub fn new(alloc: Global) -> Operations
+        ensures { OperationsAgree (start empty_base) result }
+    {
+        Operations {
+            rows: Vec::new(alloc),
+        }
+    }
+
+    /// Makes room for one more operation.
+    pub fn reserve(&mut self) -> Result<(), NoMemory>
+        ensures agree { (h : History) → OperationsAgree h self.old → OperationsAgree h self.new }
+        ensures room { OnOk result (0 < self.new.spare) }
+        ensures succeeds { 0 < self.old.spare → IsOk result }
+    {
+        self.rows.reserve(1)?;
+        Ok(())
+    }
+
+    /// The session's operation of the kind, where one is active.
+    pub fn get(&self, kind: OperationKind, session: u64) -> Option<&Operation>
+        ensures { (h : History) → OperationsAgree h self.now
+            → AreSame (option_copied result) (operation_at kind h session) }
+    {
+        find_operation(self.rows.as_slice(), kind, session)
+    }
+
+    // ---- changes, each by what the entry of an answered call does to operations
+
+    /// Starts an operation where the session has none of the kind and there is room for it, and takes
+    /// no memory.
+    pub fn start(&mut self, kind: OperationKind, session: u64, hash: Hash)
+        requires { 0 < self.old.spare }
+        ensures agree { (h : History) (e : Entry) → OnlyIn kind session (Start hash) e
+            → is_active kind h session ≡ false
+            → OperationsAgree h self.old → OperationsAgree (e ◁ h) self.new }
+    {
+        let operation = Operation::new(kind, session, hash);
+        self.rows.push(operation).unwrap();
+    }
+
+    /// Adds a piece to the message of the session's operation of the kind.
+    pub fn add_piece(&mut self, kind: OperationKind, session: u64, bytes: &[u8])
+        ensures agree { (h : History) (e : Entry) → OnlyIn kind session (Add bytes.now) e
+            → OperationsAgree h self.old → OperationsAgree (e ◁ h) self.new }
+    {
+        add_piece(&mut self.rows, kind, session, bytes);
+    }
+
+    /// Ends the session's operation of the kind, where one is active.
+    pub fn end(&mut self, kind: OperationKind, session: u64)
+        ensures agree { (h : History) (e : Entry) → OnlyIn kind session End e
+            → OperationsAgree h self.old → OperationsAgree (e ◁ h) self.new }
+    {
+        remove_operation(&mut self.rows, kind, session);
+    }
+
+    /// Ends all operations of the session.
+    pub fn end_session(&mut self, session: u64)
+        ensures agree { (h : History) (e : Entry) → OnlyInSession session End e
+            → OperationsAgree h self.old → OperationsAgree (e ◁ h) self.new }
+    {
+        remove_session(&mut self.rows, session);
+    }
+
+    /// Ends all operations of all sessions.
+    pub fn end_all(&mut self)
+        ensures agree { (h : History) (e : Entry) → InAll End e
+            → OperationsAgree h self.old → OperationsAgree (e ◁ h) self.new }
+    {
+        self.rows.clear();
+    }
+}

@@ -1,0 +1,47 @@
+ghost use Rattle.std.specs.Prelude.{◌≡◌, not, filter, find, position};
+ghost use Rattle.std.specs.Option.{option_copied};
+ghost use Rattle.ck_operations.specs.declared.active_operations.Operation.{Operation};
+ghost use Rattle.ck_operations.specs.Rows.{is_operation, is_of_session, IsAdded};
+
+use crate::active_operations::Operation;
+use ck_journal::OperationKind;
+
+pub(crate) fn find_operation(
+    rows: &[Operation],
+    kind: OperationKind,
+    session: u64,
+) -> Option<&Operation>
+    ensures { option_copied result ≡ find (is_operation kind session) rows.now }
+{
+    rows.iter().find(|row| row.is(kind, session))
+}
+
+fn place_of(rows: &[Operation], kind: OperationKind, session: u64) -> Option<usize>
+    ensures { result ≡ position (is_operation kind session) rows.now }
+{
+    rows.iter().position(|row| row.is(kind, session))
+}
+
+/// Adds a piece to the message of the session's operation of the kind, where there is one.
+pub(crate) fn add_piece(rows: &mut Vec<Operation>, kind: OperationKind, session: u64, bytes: &[u8])
+    ensures { IsAdded kind session bytes.now rows.old.items rows.new.items }
+{
+    if let Some(place) = place_of(rows.as_slice(), kind, session) {
+        let row = &mut rows[place];
+        row.add_piece(bytes);
+    }
+}
+
+pub(crate) fn remove_operation(rows: &mut Vec<Operation>, kind: OperationKind, session: u64)
+    ensures { rows.new.items
+        ≡ filter (λ (row : Operation). not (is_operation kind session row)) rows.old.items }
+{
+    rows.retain(|row| !row.is(kind, session));
+}
+
+pub(crate) fn remove_session(rows: &mut Vec<Operation>, session: u64)
+    ensures { rows.new.items
+        ≡ filter (λ (row : Operation). not (is_of_session session row)) rows.old.items }
+{
+    rows.retain(|row| !row.is_of_session(session));
+}

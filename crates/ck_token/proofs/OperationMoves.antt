@@ -1,0 +1,314 @@
+-- What the calls do to operations
+use Rattle.std.proofs.Common.{◌≡◌, ℕ, Bool, true, false, cond, not, List, [], ◌∷◌, Option, Some, None, refl, sym, ap, ◌∙◌, subst}
+use Rattle.std.specs.Prelude.{◌==◌, ◌&&◌, ◌||◌, option_and_then, unwrap_or, is_none}
+use Rattle.ck_types.specs.Checks.{error_if, or_else}
+use Rattle.ck_types.specs.Mechanisms.{digest_hash}
+use Rattle.ck_types.specs.TokenLimits.{Ranges}
+use Rattle.ck_types.specs.declared.errors.RvError.{RvError}
+use Rattle.ck_types.specs.declared.errors.RvError.TheVariants as rv_error
+use Rattle.ck_types.specs.declared.hashes.Hash.{Hash}
+use Rattle.ck_types.specs.declared.hashes.Hash.TheVariants as hash
+use Rattle.ck_types.specs.declared.mechanisms.Mechanism.{Mechanism}
+use Rattle.ck_types.specs.declared.return_codes.Rv.{Rv}
+use Rattle.ck_types.specs.declared.return_codes.Rv.TheVariants as rv
+use Rattle.ck_types.specs.declared.users.UserType.{UserType}
+use Rattle.ck_types.proofs.CheckLemmas.{or_else-none}
+use Rattle.ck_journal.specs.declared.calls.Call.{Call}
+use Rattle.ck_journal.specs.declared.calls.Call.TheVariants as call
+use Rattle.ck_journal.specs.declared.calls.Entry.{Entry}
+use Rattle.ck_journal.specs.declared.operations.OperationKind.{OperationKind}
+use Rattle.ck_journal.specs.declared.operations.OperationKind.TheVariants as kind
+use Rattle.ck_journal.specs.declared.replies.Body.{Body}
+use Rattle.ck_journal.specs.declared.replies.Body.TheVariants as body
+use Rattle.ck_journal.specs.declared.replies.Reply.{Reply}
+use Rattle.ck_journal.specs.Answers.{call_error, session_error}
+use Rattle.ck_journal.specs.Histories.{History, ◌◁◌, done, is_ok, is_wrong_pin, effects_of, effects, ends_refused}
+use Rattle.ck_journal.specs.Operations.{starts, ends, finishes, piece_of, is_active, leaves_active, is_too_long, init_mechanism, hash_for}
+use Rattle.ck_journal.specs.Pins.{about, is_about}
+use Rattle.ck_journal.specs.Sessions.{ends_operations}
+use Rattle.ck_journal.proofs.OperationMoves.{starts_none, ends_none, adds_none}
+use Rattle.ck_operations.specs.Agreement.{OperationsState, OperationsAgree}
+use Rattle.ck_operations.specs.Moves.{Move, Stay, Start, Add, End, Does, OnlyIn, OnlyInSession, InAll}
+use Rattle.ck_operations.specs.Rows.{same_kind}
+use Rattle.ck_operations.proofs.Moves.{operations-left}
+use Rattle.ck_token.specs.Changes.{refusal_change, end_unless_too_small, end_if_too_long, effect_by}
+use Rattle.ck_token.specs.declared.changes.Change.{Change}
+use Rattle.ck_token.specs.declared.changes.Change.TheVariants as change
+
+-- ---- a call that was answered OK
+
+call-done : (ok : Bool) (made c : Call) → cond ok (Some made) None ≡ Some c → made ≡ c
+call-done true made c e = cc
+call-done false made c e = cc
+
+module _ (e : Entry) (c : Call) (d : done e ≡ Some c) where
+  finishes-done : (k : OperationKind) (s : ℕ) → finishes e.call k e.reply s ≡ finishes c k e.reply s
+  finishes-done k s = ap (λ x. finishes x k e.reply s) (call-done (is_ok e.reply.rv) e.call c d)
+
+  -- one that leaves operations as they are
+  pub operations-kept : (h : History) (o : OperationsState) → (effects_of (Some c)).operations ≡ false
+      → ends_refused c ≡ false → OperationsAgree h o → OperationsAgree (e ◁ h) o
+  operations-kept h o idle quiet agree =
+      let called = call-done (is_ok e.reply.rv) e.call c d in
+      let l : (effects e).operations ≡ false =
+      ap (λ o. (effects_of o).operations || ends_refused e.call) d ∙ ap (λ t. t || ends_refused e.call) idle
+      ∙ ap ends_refused called ∙ quiet in
+      operations-left h o agree e (λ k s. (starts_none e l k s, ends_none e l k s, adds_none e l k s))
+
+  -- one that may end operations, and starts none
+  ends-done : (starts_nothing : (k : OperationKind) (s : ℕ) → starts (Some c) k s ≡ false)
+      → (quiet : (k : OperationKind) (s : ℕ) → finishes c k e.reply s ≡ false)
+      → (piece : (k : OperationKind) (s : ℕ) → piece_of (Some c) k s ≡ [])
+      → (k : OperationKind) (s : ℕ) (t : Bool) → ends_operations (Some c) s ≡ t → Does (cond t End Stay) e k s
+  ends-done none quiet piece k s true e_s = (
+    ap (λ x. starts x k s) d ∙ none k s,
+    ap (λ x. ends_operations x s || finishes e.call k e.reply s) d ∙ ap (λ t. t || finishes e.call k e.reply s) e_s,
+  )
+  ends-done none quiet piece k s false e_s = (
+    ap (λ x. starts x k s) d ∙ none k s,
+    ap (λ x. ends_operations x s || finishes e.call k e.reply s) d
+        ∙ ap (λ t. t || finishes e.call k e.reply s) e_s ∙ finishes-done k s ∙ quiet k s,
+    ap (λ x. piece_of x k s) d ∙ piece k s,
+  )
+
+pub closed-one : (e : Entry) (session : ℕ) → done e ≡ Some (call.CloseSession session) → OnlyInSession session End e
+closed-one e session d k s =
+    ends-done e (call.CloseSession session) d (λ k s. refl) (λ k s. refl) (λ k s. refl) k s (session == s) refl
+
+pub closed-all : (e : Entry) → done e ≡ Some call.CloseAllSessions → InAll End e
+closed-all e d k s = ends-done e call.CloseAllSessions d (λ k s. refl) (λ k s. refl) (λ k s. refl) k s true refl
+
+pub logged-out : (e : Entry) (session : ℕ) → done e ≡ Some (call.Logout session) → InAll End e
+logged-out e session d k s = ends-done e (call.Logout session) d (λ k s. refl) (λ k s. refl) (λ k s. refl) k s true refl
+
+-- ---- pieces
+
+done-ok : (ok : Bool) (made c : Call) → cond ok (Some made) None ≡ Some c → ok ≡ true
+done-ok true made c e = refl
+done-ok false made c e = cc
+
+too_long-ok : (v : Rv) → is_ok v ≡ true → is_too_long v ≡ false
+too_long-ok rv.Ok e = refl
+too_long-ok (rv.Error code) e = cc
+
+and-false : (t : Bool) → (t && false) ≡ false
+and-false true = refl
+and-false false = refl
+
+and-true : (t : Bool) → (t && true) ≡ t
+and-true true = refl
+and-true false = refl
+
+-- what a call does in a session that it names, and nothing in others
+module _ (e : Entry) (c : Call) (d : done e ≡ Some c) (ops : (s : ℕ) → ends_operations (Some c) s ≡ false)
+    (k : OperationKind) (s : ℕ) (quiet : finishes c k e.reply s ≡ false) where
+  ends-nothing : ends k e s ≡ false
+  ends-nothing =
+      ap (λ x. ends_operations x s || finishes e.call k e.reply s) d
+      ∙ ap (λ t. t || finishes e.call k e.reply s) (ops s) ∙ finishes-done e c d k s ∙ quiet
+
+  does-stay : starts (Some c) k s ≡ false → piece_of (Some c) k s ≡ [] → Does Stay e k s
+  does-stay none nowhere = (ap (λ x. starts x k s) d ∙ none, ends-nothing, ap (λ x. piece_of x k s) d ∙ nowhere)
+
+module _ (e : Entry) (session : ℕ) where
+  pub digest-started : (mechanism : Mechanism) (hash : Hash) → done e ≡ Some (call.DigestInit session mechanism)
+      → digest_hash mechanism.kind ≡ Some hash → OnlyIn kind.Digest session (Start hash) e
+  digest-started mechanism hash d known kind.Digest s = here (session == s) refl
+    where
+      here : (t : Bool) → session == s ≡ t → Does (cond t (Start hash) Stay) e kind.Digest s
+      here true is = (
+        ap (λ x. starts x kind.Digest s) d ∙ is,
+        ap (λ x. option_and_then (hash_for kind.Digest) (init_mechanism x)) d ∙ known,
+      )
+      here false is = does-stay e (call.DigestInit session mechanism) d (λ s. refl) kind.Digest s refl is refl
+  digest-started mechanism hash d known kind.Sign s =
+      does-stay e (call.DigestInit session mechanism) d (λ s. refl) kind.Sign s refl refl refl
+  digest-started mechanism hash d known kind.Verify s =
+      does-stay e (call.DigestInit session mechanism) d (λ s. refl) kind.Verify s refl refl refl
+
+  pub piece-added : (bytes : List ℕ) → done e ≡ Some (call.DigestUpdate session bytes)
+      → OnlyIn kind.Digest session (Add bytes) e
+  piece-added bytes d kind.Digest s = here (session == s) refl
+    where
+      quiet : finishes (call.DigestUpdate session bytes) kind.Digest e.reply s ≡ false
+      quiet =
+          ap (λ t. session == s && t) (too_long-ok e.reply.rv (done-ok (is_ok e.reply.rv) e.call (call.DigestUpdate session bytes) d))
+          ∙ and-false (session == s)
+
+      here : (t : Bool) → session == s ≡ t → Does (cond t (Add bytes) Stay) e kind.Digest s
+      here true is = (
+        ap (λ x. starts x kind.Digest s) d,
+        ends-nothing e (call.DigestUpdate session bytes) d (λ s. refl) kind.Digest s quiet,
+        ap (λ x. piece_of x kind.Digest s) d ∙ ap (λ t. cond t (bytes ∷ []) []) is,
+      )
+      here false is =
+          does-stay e (call.DigestUpdate session bytes) d (λ s. refl) kind.Digest s quiet refl
+          (ap (λ t. cond t (bytes ∷ []) []) is)
+  piece-added bytes d kind.Sign s =
+      does-stay e (call.DigestUpdate session bytes) d (λ s. refl) kind.Sign s refl refl refl
+  piece-added bytes d kind.Verify s =
+      does-stay e (call.DigestUpdate session bytes) d (λ s. refl) kind.Verify s refl refl refl
+
+-- ---- an end by the reply, and nothing
+
+-- a refusal of a call about a PIN ends nothing
+refusal_change-ends : (code : RvError) (who : Option UserType) (k : OperationKind) (session : ℕ)
+    → change.EndOperation k session ≡ refusal_change code who → ⊥
+refusal_change-ends rv_error.PinIncorrect None k session is = cc
+refusal_change-ends rv_error.PinIncorrect (Some u) k session is = cc
+refusal_change-ends other who k session is = cc
+
+abbrev entry : ℕ → Call → Rv → Body → Entry
+entry n c v b = record { caller = n; call = c; reply = record { rv = v; body = b } }
+
+-- the call that was answered OK, if it was
+abbrev done_of : Call → Rv → Option Call
+done_of c v = cond (is_ok v) (Some c) None
+
+-- the reply to the call ends the session's digest, and does nothing else
+pub record IsEnd (h : History) (session : ℕ) (n : ℕ) (c : Call) (v : Rv) (b : Body) : Type 0 where
+  pub none : (k : OperationKind) (s : ℕ) → starts (done_of c v) k s ≡ false
+  pub open : (s : ℕ) → ends_operations (done_of c v) s ≡ false
+  pub nowhere : (k : OperationKind) (s : ℕ) → piece_of (done_of c v) k s ≡ []
+  pub ends : (k : OperationKind) (s : ℕ)
+      → finishes c k (record { rv = v; body = b }) s ≡ (same_kind kind.Digest k && session == s)
+  pub sessions : (effects_of (done_of c v)).sessions ≡ false
+  pub objects : (effects_of (done_of c v)).objects ≡ false
+  pub searches : (effects_of (done_of c v)).searches ≡ false
+  pub untried : (u : UserType) → is_about u h (cond (is_wrong_pin v) (Some c) None) ≡ false
+
+finishes-digest : (x : ℕ) (bytes : List ℕ) (room : Option ℕ) (r : Reply) (session : ℕ) → leaves_active r.rv r.body ≡ false
+    → session ≡ x → (k : OperationKind) (s : ℕ)
+    → finishes (call.Digest x bytes room) k r s ≡ (same_kind kind.Digest k && session == s)
+finishes-digest x bytes room r session ends same kind.Digest s =
+    ap (λ t. x == s && not t) ends ∙ and-true (x == s) ∙ ap (λ y. y == s) (sym same)
+finishes-digest x bytes room r session ends same kind.Sign s = refl
+finishes-digest x bytes room r session ends same kind.Verify s = refl
+
+finishes-final : (x : ℕ) (room : Option ℕ) (r : Reply) (session : ℕ) → leaves_active r.rv r.body ≡ false
+    → session ≡ x → (k : OperationKind) (s : ℕ)
+    → finishes (call.DigestFinal x room) k r s ≡ (same_kind kind.Digest k && session == s)
+finishes-final x room r session ends same kind.Digest s =
+    ap (λ t. x == s && not t) ends ∙ and-true (x == s) ∙ ap (λ y. y == s) (sym same)
+finishes-final x room r session ends same kind.Sign s = refl
+finishes-final x room r session ends same kind.Verify s = refl
+
+finishes-update : (x : ℕ) (bytes : List ℕ) (r : Reply) (session : ℕ) → is_too_long r.rv ≡ true
+    → session ≡ x → (k : OperationKind) (s : ℕ)
+    → finishes (call.DigestUpdate x bytes) k r s ≡ (same_kind kind.Digest k && session == s)
+finishes-update x bytes r session long same kind.Digest s =
+    ap (λ t. x == s && t) long ∙ and-true (x == s) ∙ ap (λ y. y == s) (sym same)
+finishes-update x bytes r session long same kind.Sign s = refl
+finishes-update x bytes r session long same kind.Verify s = refl
+
+pub ended-is : (h : History) (n : ℕ) (c : Call) (v : Rv) (b : Body) (k : OperationKind) (session : ℕ)
+    → change.EndOperation k session ≡ effect_by h c v b → (k ≡ kind.Digest) × IsEnd h session n c v b
+ended-is h n (call.Digest x bytes room) rv.Ok (body.Length m) k session is = cc
+ended-is h n (call.Digest x bytes room) rv.Ok b k session is = (cc, record {
+  none = λ k s. refl; open = λ s. refl; nowhere = λ k s. refl; ends = finishes-digest x bytes room _ session refl cc;
+  sessions = refl; objects = refl; searches = refl; untried = λ u. refl;
+})
+ended-is h n (call.Digest x bytes room) (rv.Error rv_error.BufferTooSmall) b k session is = cc
+ended-is h n (call.Digest x bytes room) (rv.Error code) b k session is = (cc, record {
+  none = λ k s. refl; open = λ s. refl; nowhere = λ k s. refl; ends = finishes-digest x bytes room _ session refl cc;
+  sessions = refl; objects = refl; searches = refl; untried = λ u. refl;
+})
+ended-is h n (call.DigestFinal x room) rv.Ok (body.Length m) k session is = cc
+ended-is h n (call.DigestFinal x room) rv.Ok b k session is = (cc, record {
+  none = λ k s. refl; open = λ s. refl; nowhere = λ k s. refl; ends = finishes-final x room _ session refl cc;
+  sessions = refl; objects = refl; searches = refl; untried = λ u. refl;
+})
+ended-is h n (call.DigestFinal x room) (rv.Error rv_error.BufferTooSmall) b k session is = cc
+ended-is h n (call.DigestFinal x room) (rv.Error code) b k session is = (cc, record {
+  none = λ k s. refl; open = λ s. refl; nowhere = λ k s. refl; ends = finishes-final x room _ session refl cc;
+  sessions = refl; objects = refl; searches = refl; untried = λ u. refl;
+})
+ended-is h n (call.DigestUpdate x bytes) (rv.Error rv_error.DataLenRange) b k session is = (cc, record {
+  none = λ k s. refl; open = λ s. refl; nowhere = λ k s. refl; ends = finishes-update x bytes _ session refl cc;
+  sessions = refl; objects = refl; searches = refl; untried = λ u. refl;
+})
+ended-is h n (call.DigestUpdate x bytes) (rv.Error code) b k session is = cc
+ended-is h n (call.DigestUpdate x bytes) rv.Ok b k session is = cc
+ended-is h n other rv.Ok b k session is = cc
+ended-is h n other (rv.Error code) b k session is =
+    absurd (refusal_change-ends code (about h (Some other)) k session is)
+
+-- it ends that one operation
+pub only-ended : (h : History) (n : ℕ) (c : Call) (v : Rv) (b : Body) (session : ℕ) → IsEnd h session n c v b
+    → OnlyIn kind.Digest session End (entry n c v b)
+only-ended h n c v b session is k s = here (same_kind kind.Digest k && session == s) refl
+  where
+    ends-by : (t : Bool) → (same_kind kind.Digest k && session == s) ≡ t → ends k (entry n c v b) s ≡ t
+    ends-by t e =
+        ap (λ t. t || finishes c k (record { rv = v; body = b }) s) (is.open s) ∙ is.ends k s ∙ e
+
+    here : (t : Bool) → (same_kind kind.Digest k && session == s) ≡ t → Does (cond t End Stay) (entry n c v b) k s
+    here true e = (is.none k s, ends-by true e)
+    here false e = (is.none k s, ends-by false e, is.nowhere k s)
+
+-- ---- a reply that leaves operations as they are
+
+quiet-digest : (x : ℕ) (bytes : List ℕ) (room : Option ℕ) (r : Reply) → leaves_active r.rv r.body ≡ true
+    → (k : OperationKind) (s : ℕ) → finishes (call.Digest x bytes room) k r s ≡ false
+quiet-digest x bytes room r leaves kind.Digest s = ap (λ t. x == s && not t) leaves ∙ and-false (x == s)
+quiet-digest x bytes room r leaves kind.Sign s = refl
+quiet-digest x bytes room r leaves kind.Verify s = refl
+
+quiet-final : (x : ℕ) (room : Option ℕ) (r : Reply) → leaves_active r.rv r.body ≡ true
+    → (k : OperationKind) (s : ℕ) → finishes (call.DigestFinal x room) k r s ≡ false
+quiet-final x room r leaves kind.Digest s = ap (λ t. x == s && not t) leaves ∙ and-false (x == s)
+quiet-final x room r leaves kind.Sign s = refl
+quiet-final x room r leaves kind.Verify s = refl
+
+quiet-update : (x : ℕ) (bytes : List ℕ) (r : Reply) → is_too_long r.rv ≡ false
+    → (k : OperationKind) (s : ℕ) → finishes (call.DigestUpdate x bytes) k r s ≡ false
+quiet-update x bytes r short kind.Digest s = ap (λ t. x == s && t) short ∙ and-false (x == s)
+quiet-update x bytes r short kind.Sign s = refl
+quiet-update x bytes r short kind.Verify s = refl
+
+pub nothing-stays : (h : History) (n : ℕ) (c : Call) (v : Rv) (b : Body) → change.Nothing ≡ effect_by h c v b
+    → InAll Stay (entry n c v b)
+nothing-stays h n (call.Digest x bytes room) rv.Ok (body.Length m) is k s =
+    (refl, quiet-digest x bytes room _ refl k s, refl)
+nothing-stays h n (call.Digest x bytes room) rv.Ok b is k s = cc
+nothing-stays h n (call.Digest x bytes room) (rv.Error rv_error.BufferTooSmall) b is k s =
+    (refl, quiet-digest x bytes room _ refl k s, refl)
+nothing-stays h n (call.Digest x bytes room) (rv.Error code) b is k s = cc
+nothing-stays h n (call.DigestFinal x room) rv.Ok (body.Length m) is k s =
+    (refl, quiet-final x room _ refl k s, refl)
+nothing-stays h n (call.DigestFinal x room) rv.Ok b is k s = cc
+nothing-stays h n (call.DigestFinal x room) (rv.Error rv_error.BufferTooSmall) b is k s =
+    (refl, quiet-final x room _ refl k s, refl)
+nothing-stays h n (call.DigestFinal x room) (rv.Error code) b is k s = cc
+nothing-stays h n (call.DigestUpdate x bytes) rv.Ok b is k s = cc
+nothing-stays h n (call.DigestUpdate x bytes) (rv.Error rv_error.DataLenRange) b is k s = cc
+nothing-stays h n (call.DigestUpdate x bytes) (rv.Error code) b is k s =
+    (refl, quiet-update x bytes _ refl k s, refl)
+nothing-stays h n (call.GetSessionInfo session) rv.Ok b is k s = (refl, refl, refl)
+nothing-stays h n call.GetTokenInfo rv.Ok b is k s = (refl, refl, refl)
+nothing-stays h n (call.GetAttributeValue session object queries) rv.Ok b is k s = (refl, refl, refl)
+nothing-stays h n other rv.Ok b is k s = cc
+nothing-stays h n other (rv.Error code) b is k s = (refl, refl, refl)
+
+-- a try of a PIN
+pub small-no_try : (code : RvError) (k : OperationKind) (session : ℕ) (u : UserType)
+    → change.WrongTry u ≡ end_unless_too_small k session code → ⊥
+small-no_try rv_error.BufferTooSmall k session u is = cc
+small-no_try other k session u is = cc
+
+pub long-no_try : (code : RvError) (k : OperationKind) (session : ℕ) (u : UserType)
+    → change.WrongTry u ≡ end_if_too_long k session code → ⊥
+long-no_try rv_error.DataLenRange k session u is = cc
+long-no_try other k session u is = cc
+
+pub tried-stays : (h : History) (n : ℕ) (c : Call) (v : Rv) (b : Body) (u : UserType)
+    → change.WrongTry u ≡ effect_by h c v b → InAll Stay (entry n c v b)
+tried-stays h n (call.Digest x bytes room) rv.Ok (body.Length m) u is k s = cc
+tried-stays h n (call.Digest x bytes room) rv.Ok b u is k s = cc
+tried-stays h n (call.Digest x bytes room) (rv.Error code) b u is k s = absurd (small-no_try code kind.Digest x u is)
+tried-stays h n (call.DigestFinal x room) rv.Ok (body.Length m) u is k s = cc
+tried-stays h n (call.DigestFinal x room) rv.Ok b u is k s = cc
+tried-stays h n (call.DigestFinal x room) (rv.Error code) b u is k s = absurd (small-no_try code kind.Digest x u is)
+tried-stays h n (call.DigestUpdate x bytes) (rv.Error code) b u is k s = absurd (long-no_try code kind.Digest x u is)
+tried-stays h n other rv.Ok b u is k s = cc
+tried-stays h n other (rv.Error code) b u is k s = (refl, refl, refl)
