@@ -11,6 +11,7 @@ use Rattle.ck_types.specs.Attributes.{same_bytes}
 use Rattle.ck_types.specs.Pins.{pin_of}
 use Rattle.ck_types.specs.declared.pins.Pin.{Pin}
 use Rattle.ck_types.specs.declared.items.Item.{Item}
+use Rattle.ck_types.specs.declared.mechanisms.Mechanism.{Mechanism}
 use Rattle.ck_types.specs.declared.templates.Template.{Template}
 use Rattle.ck_journal.specs.declared.calls.AttributeQuery.{AttributeQuery}
 use Rattle.ck_script.specs.Parts.{parts_of, with_two}
@@ -57,7 +58,7 @@ numeral_value base digits =
 abbrev pub number_in : List ℕ → Option ℕ
 number_in text = if list_all is_ascii_digit text then numeral_value 10 text else None
 
--- a code number, in hexadecimal: flags, attribute types
+-- a code number, in hexadecimal: flags, types of attributes and of mechanisms
 abbrev pub code_number_in : List ℕ → Option ℕ
 code_number_in text = if list_all is_code_digit text then numeral_value 16 text else None
 
@@ -77,7 +78,7 @@ abbrev pub each : {A : Type 0} → (List ℕ → Option A) → List (List ℕ) �
 each meaning [] = Some []
 each meaning (part ∷ parts) = both (λ a rest. a ∷ rest) (meaning part) (each meaning parts)
 
--- ---- bytes, PINs, rooms, templates and queries
+-- ---- bytes, PINs, rooms, mechanisms, templates and queries
 
 -- `-` stands for nothing
 abbrev pub is_dash : List ℕ → Bool
@@ -97,6 +98,18 @@ pin_in text = option_map pin_of (bytes_in text)
 -- `?` asks for the length alone
 abbrev pub room_in : List ℕ → Option (Option ℕ)
 room_in text = if same_bytes text (codes "?") then Some None else option_map Some (number_in text)
+
+-- the parts of a mechanism: its type, and its parameter where it has one
+abbrev pub mechanism_of : List (List ℕ) → Option Mechanism
+mechanism_of (kind ∷ []) =
+    option_map (λ k. record { kind = k; parameter = [] }) (code_number_in kind)
+mechanism_of (kind ∷ parameter ∷ []) =
+    both (λ k p. record { kind = k; parameter = p }) (code_number_in kind) (bytes_in parameter)
+mechanism_of others = None
+
+-- a mechanism: `type`, or `type:bytes`
+abbrev pub mechanism_in : List ℕ → Option Mechanism
+mechanism_in text = mechanism_of (parts_of colon text)
 
 -- one item of a template: `type=bytes`
 abbrev pub item_in : List ℕ → Option Item

@@ -26,6 +26,10 @@ names =
     ∷ (function.FindObjectsInit, codes "FindObjectsInit")
     ∷ (function.FindObjects, codes "FindObjects")
     ∷ (function.FindObjectsFinal, codes "FindObjectsFinal")
+    ∷ (function.DigestInit, codes "DigestInit")
+    ∷ (function.Digest, codes "Digest")
+    ∷ (function.DigestUpdate, codes "DigestUpdate")
+    ∷ (function.DigestFinal, codes "DigestFinal")
     ∷ []
 
 -- the row of this name

@@ -3,7 +3,8 @@ use Rattle.std.specs.Prelude.{ℕ, List, Option, option_map, option_and_then}
 use Rattle.ck_journal.specs.declared.calls.Call.{Call}
 use Rattle.ck_journal.specs.declared.calls.Call.TheVariants as call
 use Rattle.ck_script.specs.Parts.{with_none, with_one, with_two, with_three}
-use Rattle.ck_script.specs.Arguments.{number_in, code_number_in, pin_in, template_in, queries_in}
+use Rattle.ck_script.specs.Arguments.{number_in, code_number_in, bytes_in, pin_in, room_in}
+use Rattle.ck_script.specs.Arguments.{mechanism_in, template_in, queries_in}
 use Rattle.ck_script.specs.Arguments.{both, all_three}
 use Rattle.ck_script.specs.CallNames.{row_named}
 use Rattle.ck_script.specs.declared.call_names.Function.{Function}
@@ -62,6 +63,10 @@ call_of function.SetAttributeValue =
 call_of function.FindObjectsInit = takes_two number_in template_in call.FindObjectsInit
 call_of function.FindObjects = takes_two number_in number_in call.FindObjects
 call_of function.FindObjectsFinal = takes_one number_in call.FindObjectsFinal
+call_of function.DigestInit = takes_two number_in mechanism_in call.DigestInit
+call_of function.Digest = takes_three number_in bytes_in room_in call.Digest
+call_of function.DigestUpdate = takes_two number_in bytes_in call.DigestUpdate
+call_of function.DigestFinal = takes_two number_in room_in call.DigestFinal
 
 -- the call of this name with these arguments
 abbrev pub call_in : List ℕ → List (List ℕ) → Option Call

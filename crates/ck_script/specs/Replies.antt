@@ -48,6 +48,8 @@ body_text (body.Token flags limit sessions rw_sessions) =
     ++ codes " " ++ decimal sessions ++ codes " " ++ decimal rw_sessions
 body_text (body.Attributes answers) = codes " " ++ answers_text answers
 body_text (body.Handles handles) = codes " " ++ handles_text handles
+body_text (body.Length length) = codes " :" ++ decimal length
+body_text (body.Bytes bytes) = codes " " ++ bytes_text bytes
 
 abbrev pub reply_text : Reply → List ℕ
 reply_text reply = hexadecimal (number_of reply.rv) ++ body_text reply.body ++ LINE_END ∷ []

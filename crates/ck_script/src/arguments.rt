@@ -6,13 +6,13 @@ ghost use Rattle.std.specs.Char.{is_ascii_digit};
 ghost use Rattle.std.specs.Str.Parse.{AllDigits};
 ghost use Rattle.ck_script.specs.Arguments.{is_code_digit, has_leading_zero, numeral_value};
 ghost use Rattle.ck_script.specs.Arguments.{number_in, code_number_in, is_dash, bytes_in, pin_in};
-ghost use Rattle.ck_script.specs.Arguments.{room_in, item_in, query_in, list_in};
+ghost use Rattle.ck_script.specs.Arguments.{room_in, mechanism_in, item_in, query_in, list_in};
 ghost use Rattle.ck_script.specs.Arguments.{template_in, queries_in};
 
 use crate::line_errors::{BadLine, LineError, NumberError};
 use crate::parts::Parts;
 use ck_journal::AttributeQuery;
-use ck_types::{Bytes, Item, Pin, Sequence, Template};
+use ck_types::{Bytes, Item, Mechanism, Pin, Sequence, Template};
 use hex::FromHexError;
 use std::alloc::Global;
 use std::marker::Model;
@@ -21,7 +21,8 @@ use std::str;
 /// The byte between two values of a list.
 pub(crate) const COMMA: u8 = b',';
 
-/// The byte between an attribute's type and the room for its value.
+/// The byte between an attribute's type and the room for its value, and between a mechanism's type
+/// and its parameter.
 pub(crate) const COLON: u8 = b':';
 
 /// The byte between an attribute's type and its value.
@@ -83,7 +84,7 @@ pub(crate) fn number_in(text: &[u8]) -> Result<u64, BadLine>
     Ok(numeral_value(text, 10)?)
 }
 
-/// A number in hexadecimal digits: flags, attribute types.
+/// A number in hexadecimal digits: flags, types of attributes and of mechanisms.
 #[tactic(auto, using(crate::proofs::DigitLemmas::digits))]
 fn code_number_in(text: &[u8]) -> Result<u64, BadLine>
     ensures { result_ok result ≡ code_number_in text.now }
@@ -135,6 +136,25 @@ fn room_in(text: &[u8]) -> Result<Option<u64>, BadLine>
         return Ok(None);
     }
     Ok(Some(number_in(text)?))
+}
+
+/// A mechanism: `type`, or `type:bytes` with its parameter.
+fn mechanism_in(alloc: Global, text: &[u8]) -> Result<Mechanism, LineError>
+    ensures mechanism { IfOk result (λ mechanism. mechanism_in text.now ≡ Some mechanism) }
+    ensures bad { IfErr result (λ e. (e ≡ LineError.Memory) ⊎ (mechanism_in text.now ≡ None)) }
+{
+    let mut parts = Parts::new(text, COLON);
+    let (kind, parameter) = match (parts.next(), parts.next(), parts.next()) {
+        (Some(kind), None, _) => (kind, None),
+        (Some(kind), Some(parameter), None) => (kind, Some(parameter)),
+        _ => return Err(LineError::Bad(BadLine::Mechanism)),
+    };
+    let kind = code_number_in(kind)?;
+    let parameter = match parameter {
+        Some(bytes) => bytes_in(alloc, bytes)?,
+        None => Sequence::new(alloc),
+    };
+    Ok(Mechanism { kind, parameter })
 }
 
 /// One item of a template: `type=bytes`.
@@ -244,6 +264,30 @@ impl Argument for Pin {
 
     fn value_in(alloc: Global, text: &[u8]) -> Result<Pin, LineError> {
         pin_in(alloc, text)
+    }
+}
+
+impl Argument for Bytes {
+    ghost value_in = { bytes_in };
+
+    fn value_in(alloc: Global, text: &[u8]) -> Result<Bytes, LineError> {
+        bytes_in(alloc, text)
+    }
+}
+
+impl Argument for Option<u64> {
+    ghost value_in = { room_in };
+
+    fn value_in(_alloc: Global, text: &[u8]) -> Result<Option<u64>, LineError> {
+        Ok(room_in(text)?)
+    }
+}
+
+impl Argument for Mechanism {
+    ghost value_in = { mechanism_in };
+
+    fn value_in(alloc: Global, text: &[u8]) -> Result<Mechanism, LineError> {
+        mechanism_in(alloc, text)
     }
 }
 

@@ -46,6 +46,10 @@ pub enum Function {
     FindObjectsInit,
     FindObjects,
     FindObjectsFinal,
+    DigestInit,
+    Digest,
+    DigestUpdate,
+    DigestFinal,
 }
 
 /// A function that a script calls, with its name there: that of the standard without `C_`.
@@ -54,7 +58,7 @@ pub struct CallName(pub(crate) Function, &'static str);
 
 impl CallName {
     /// All calls of a script.
-    pub fn all() -> [CallName; 18]
+    pub fn all() -> [CallName; 22]
         ensures { map (λ name. (name.0, name.1.now)) result ≡ names }
     {
         [
@@ -76,6 +80,10 @@ impl CallName {
             CallName(Function::FindObjectsInit, "FindObjectsInit"),
             CallName(Function::FindObjects, "FindObjects"),
             CallName(Function::FindObjectsFinal, "FindObjectsFinal"),
+            CallName(Function::DigestInit, "DigestInit"),
+            CallName(Function::Digest, "Digest"),
+            CallName(Function::DigestUpdate, "DigestUpdate"),
+            CallName(Function::DigestFinal, "DigestFinal"),
         ]
     }
 

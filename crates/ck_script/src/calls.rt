@@ -138,6 +138,20 @@ fn call_of(arguments: Arguments) -> Result<Call, LineError>
         }),
         Function::FindObjects => arguments.two(|session, max| Call::FindObjects { session, max }),
         Function::FindObjectsFinal => arguments.one(|session| Call::FindObjectsFinal { session }),
+        Function::DigestInit => arguments.two(|session, mechanism| Call::DigestInit {
+            session,
+            mechanism,
+        }),
+        Function::Digest => arguments.three(|session, bytes, room| Call::Digest {
+            session,
+            bytes,
+            room,
+        }),
+        Function::DigestUpdate => arguments.two(|session, bytes| Call::DigestUpdate {
+            session,
+            bytes,
+        }),
+        Function::DigestFinal => arguments.two(|session, room| Call::DigestFinal { session, room }),
     }
 }
 

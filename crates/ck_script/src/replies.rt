@@ -150,6 +150,15 @@ fn push_body(out: &mut Vec<u8>, body: &Body) -> Result<(), NoMemory>
             out.push(SPACE)?;
             push_handles(out, handles.as_slice())
         }
+        Body::Length(length) => {
+            out.push(SPACE)?;
+            out.push(COLON)?;
+            push_number(out, *length, 10)
+        }
+        Body::Bytes(bytes) => {
+            out.push(SPACE)?;
+            push_bytes(out, bytes.as_slice())
+        }
     }
 }
 
