@@ -19,7 +19,7 @@ use Rattle.ck_mac.specs.Digests.{digest_of}
 use Rattle.ck_journal.specs.declared.operations.OperationKind.{OperationKind}
 use Rattle.ck_journal.specs.declared.operations.OperationKind.TheVariants as kind
 use Rattle.ck_journal.specs.declared.replies.Body.TheVariants as body
-use Rattle.ck_journal.specs.Operations.{hash_in, message_in}
+use Rattle.ck_journal.specs.Operations.{leaves_active, hash_in, message_in}
 use Rattle.ck_journal.specs.Answers.{ok, too_small, bytes_reply, unless, answer, allowed_reply, call_error, session_error, object_error}
 use Rattle.ck_journal.specs.Queries.{is_missing, lacks_room}
 use Rattle.ck_journal.specs.Replies.{has_list}
@@ -28,7 +28,7 @@ use Rattle.ck_journal.specs.Objects.{attributes_named, named_attributes}
 use Rattle.ck_journal.specs.Pins.{about}
 use Rattle.ck_journal.specs.Sessions.{is_open}
 use Rattle.ck_token.specs.Agreement.{adds}
-use Rattle.ck_token.specs.Changes.{change_of, end_unless_length, end_unless_too_small, end_if_too_long, refusal_change, refused_change, effect, effect_by}
+use Rattle.ck_token.specs.Changes.{change_of, end_if_too_long, refusal_change, refused_change, effect, effect_by}
 use Rattle.ck_token.specs.Decisions.{IsDecision, takes_memory, may_run_out}
 use Rattle.ck_token.specs.declared.changes.Change.{Change}
 use Rattle.ck_token.specs.declared.changes.Change.TheVariants as change
@@ -58,13 +58,13 @@ memory-decision limits h c (Err reason) made passes takes =
     subst (λ (reason : Refused). IsDecision limits h c (Err reason)) (sym made) (rw (passes, takes) refl)
 
 -- a reply that gives bytes or their length
-by_room : (h : History) (c : Call) (k : OperationKind) (session : ℕ)
-    → ((b : Body) → change_of h c b ≡ end_unless_length k session b)
-    → refused_change c rv_error.BufferTooSmall (about h (Some c)) ≡ change.Nothing
+by_room : (h : History) (c : Call) (session : ℕ)
+    → ((b : Body) → change_of h c b ≡ change.FinishOperation kind.Digest session (not (leaves_active rv.Ok b)))
+    → refused_change c rv_error.BufferTooSmall (about h (Some c)) ≡ change.FinishOperation kind.Digest session false
     → (room : Option ℕ) (bytes : List ℕ)
     → change_of h c (bytes_reply room bytes).body ≡ effect h c (bytes_reply room bytes)
-by_room h c k session of stays None bytes = refl
-by_room h c k session of stays (Some room) bytes = cases (nat_lt room (length bytes))
+by_room h c session of stays None bytes = refl
+by_room h c session of stays (Some room) bytes = cases (nat_lt room (length bytes))
   where
     reply : Bool → Reply
     reply longer = cond longer (too_small (length bytes)) (ok (body.Bytes bytes))
@@ -85,10 +85,10 @@ allowed-effect limits h (call.GetAttributeValue session object queries) =
     by_code false true body = refl
     by_code false false body = refl
 allowed-effect limits h (call.Digest session bytes room) =
-    by_room h (call.Digest session bytes room) kind.Digest session (λ b. refl) refl
+    by_room h (call.Digest session bytes room) session (λ b. refl) refl
     room (digest_of (hash_in kind.Digest h session) bytes)
 allowed-effect limits h (call.DigestFinal session room) =
-    by_room h (call.DigestFinal session room) kind.Digest session (λ b. refl) refl
+    by_room h (call.DigestFinal session room) session (λ b. refl) refl
     room (digest_of (hash_in kind.Digest h session) (message_in kind.Digest h session))
 allowed-effect limits h other = refl
 
@@ -120,18 +120,14 @@ adds_nothing limits h c r made answered is free =
     by_pin rv_error.PinIncorrect (Some u) = refl
     by_pin other who = refl
 
-    unless_small : (k : OperationKind) (session : ℕ) (code : RvError) → adds (end_unless_too_small k session code) ≡ false
-    unless_small k session rv_error.BufferTooSmall = refl
-    unless_small k session other = refl
-
     if_long : (k : OperationKind) (session : ℕ) (code : RvError) → adds (end_if_too_long k session code) ≡ false
     if_long k session rv_error.DataLenRange = refl
     if_long k session other = refl
 
     by_refusal : (c : Call) (code : RvError) (who : Option UserType) → adds (refused_change c code who) ≡ false
-    by_refusal (call.Digest session bytes room) code who = unless_small kind.Digest session code
+    by_refusal (call.Digest session bytes room) code who = refl
     by_refusal (call.DigestUpdate session bytes) code who = if_long kind.Digest session code
-    by_refusal (call.DigestFinal session room) code who = unless_small kind.Digest session code
+    by_refusal (call.DigestFinal session room) code who = refl
     by_refusal other code who = by_pin code who
 
     by_error : (error : Option RvError) → (is_none error && takes_memory c) ≡ false → adds (effect h c (unless error (allowed_reply limits h c))) ≡ false
@@ -186,15 +182,15 @@ object-checks h session object checks attributes error is_so named is =
 
 -- ---- replies that give bytes or their length
 
-pub gives-length : (k : OperationKind) (session : ℕ) (d : Decision) (reply expected : Reply) (n : ℕ)
-    → d ≡ record { reply = reply; change = change.Nothing } → reply ≡ expected → reply.body ≡ body.Length n
-    → (d.reply ≡ expected) × (d.change ≡ end_unless_length k session d.reply.body)
-gives-length k session d reply expected n is same length =
-    rw is (same, sym (ap (end_unless_length k session) length))
+pub gives-length : (session : ℕ) (reply expected : Reply) (made : Change) (n : ℕ)
+    → made ≡ change.FinishOperation kind.Digest session false → reply ≡ expected → reply.body ≡ body.Length n
+    → (reply ≡ expected) × (made ≡ change.FinishOperation kind.Digest session (not (leaves_active rv.Ok reply.body)))
+gives-length session reply expected made n is same length =
+    (same, is ∙ ap (λ b. change.FinishOperation kind.Digest session (not (leaves_active rv.Ok b))) (sym length))
 
-pub gives-bytes : (k : OperationKind) (session : ℕ) (d : Decision) (tag bytes : List ℕ) (expected : Reply)
-    → d ≡ record { reply = ok (body.Bytes tag); change = change.EndOperation k session }
+pub gives-bytes : (session : ℕ) (d : Decision) (tag bytes : List ℕ) (expected : Reply)
+    → d ≡ record { reply = ok (body.Bytes tag); change = change.FinishOperation kind.Digest session true }
     → expected ≡ ok (body.Bytes bytes) → tag ≡ bytes
-    → (d.reply ≡ expected) × (d.change ≡ end_unless_length k session d.reply.body)
-gives-bytes k session d tag bytes expected is given same =
+    → (d.reply ≡ expected) × (d.change ≡ change.FinishOperation kind.Digest session (not (leaves_active rv.Ok d.reply.body)))
+gives-bytes session d tag bytes expected is given same =
     rw is (ap (λ bytes. ok (body.Bytes bytes)) same ∙ sym given, refl)

@@ -28,17 +28,17 @@ use Rattle.ck_journal.specs.Objects.{creates, creation_session, creation_attribu
 use Rattle.ck_journal.specs.Pins.{pin_owner, about}
 use Rattle.ck_journal.specs.Searches.{matching_objects, last_number, last_or, number_of_handle, handles_in}
 use Rattle.ck_journal.specs.Sessions.{state_of}
-use Rattle.ck_token.specs.Changes.{change_of, end_unless_length, end_unless_too_small, end_if_too_long, refusal_change, refused_change, effect, effect_by}
+use Rattle.ck_token.specs.Changes.{change_of, end_if_too_long, refusal_change, refused_change, effect, effect_by}
 use Rattle.ck_token.specs.declared.changes.Change.{Change}
 use Rattle.ck_token.specs.declared.changes.Change.TheVariants as change
 
 -- ---- a change of a call that was answered OK
 
--- neither nothing, nor a wrong try, nor the end of an operation, which may be of a refusal
+-- neither nothing, nor a wrong try, nor what finishes an operation, which may be of a refusal
 abbrev pub is_of_call : Change → Bool
 is_of_call change.Nothing = false
 is_of_call (change.WrongTry u) = false
-is_of_call (change.EndOperation k session) = false
+is_of_call (change.FinishOperation k session ends) = false
 is_of_call other = true
 
 is_of_call-refusal : (code : RvError) (who : Option UserType) → is_of_call (refusal_change code who) ≡ false
@@ -46,18 +46,14 @@ is_of_call-refusal rv_error.PinIncorrect None = refl
 is_of_call-refusal rv_error.PinIncorrect (Some u) = refl
 is_of_call-refusal other who = refl
 
-is_of_call-small : (k : OperationKind) (session : ℕ) (code : RvError) → is_of_call (end_unless_too_small k session code) ≡ false
-is_of_call-small k session rv_error.BufferTooSmall = refl
-is_of_call-small k session other = refl
-
 is_of_call-long : (k : OperationKind) (session : ℕ) (code : RvError) → is_of_call (end_if_too_long k session code) ≡ false
 is_of_call-long k session rv_error.DataLenRange = refl
 is_of_call-long k session other = refl
 
 is_of_call-refused : (c : Call) (code : RvError) (who : Option UserType) → is_of_call (refused_change c code who) ≡ false
-is_of_call-refused (call.Digest session bytes room) code who = is_of_call-small kind.Digest session code
+is_of_call-refused (call.Digest session bytes room) code who = refl
 is_of_call-refused (call.DigestUpdate session bytes) code who = is_of_call-long kind.Digest session code
-is_of_call-refused (call.DigestFinal session room) code who = is_of_call-small kind.Digest session code
+is_of_call-refused (call.DigestFinal session room) code who = refl
 is_of_call-refused other code who = is_of_call-refusal code who
 
 done_step : (h : History) (c : Call) (v : Rv) (b : Body) → is_of_call (effect_by h c v b) ≡ true
@@ -73,16 +69,6 @@ done-of_call h e made is kind =
     (d.0, is ∙ d.1)
 
 -- ---- one call for each change
-
-end-no_start : (b : Body) (l : OperationKind) (other : ℕ) (k : OperationKind) (session : ℕ) (made : Hash)
-    → change.StartOperation k session made ≡ end_unless_length l other b → ⊥
-end-no_start (body.Length n) l other k session made e = cc
-end-no_start b l other k session made e = cc
-
-end-no_piece : (b : Body) (l : OperationKind) (other : ℕ) (k : OperationKind) (session : ℕ)
-    → change.AddPiece k session ≡ end_unless_length l other b → ⊥
-end-no_piece (body.Length n) l other k session e = cc
-end-no_piece b l other k session e = cc
 
 module _ (h : History) (b : Body) where
   pub of-InitToken : (c : Call) (pin : Pin) → change.InitToken pin ≡ change_of h c b → c ≡ call.InitToken pin
@@ -155,15 +141,11 @@ module _ (h : History) (b : Body) where
       → (mechanism : Mechanism) × (c ≡ call.DigestInit session mechanism) × (k ≡ kind.Digest)
       × (made ≡ unwrap_or (digest_hash mechanism.kind) hash.Sha256)
   of-StartOperation (call.DigestInit other mechanism) k session made e = (mechanism, cc, cc, cc)
-  of-StartOperation (call.Digest other bytes room) k session hash e = absurd (end-no_start b kind.Digest other k session made e)
-  of-StartOperation (call.DigestFinal other room) k session hash e = absurd (end-no_start b kind.Digest other k session made e)
   of-StartOperation other k session made e = cc
 
   pub of-AddPiece : (c : Call) (k : OperationKind) (session : ℕ) → change.AddPiece k session ≡ change_of h c b
       → (bytes : List ℕ) × (c ≡ call.DigestUpdate session bytes) × (k ≡ kind.Digest)
   of-AddPiece (call.DigestUpdate other bytes) k session e = (bytes, cc, cc)
-  of-AddPiece (call.Digest other bytes room) k session e = absurd (end-no_piece b kind.Digest other k session e)
-  of-AddPiece (call.DigestFinal other room) k session e = absurd (end-no_piece b kind.Digest other k session e)
   of-AddPiece other k session e = cc
 
 -- ---- the call of an entry, by its change

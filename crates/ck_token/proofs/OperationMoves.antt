@@ -12,7 +12,7 @@ use Rattle.ck_types.specs.declared.mechanisms.Mechanism.{Mechanism}
 use Rattle.ck_types.specs.declared.return_codes.Rv.{Rv}
 use Rattle.ck_types.specs.declared.return_codes.Rv.TheVariants as rv
 use Rattle.ck_types.specs.declared.users.UserType.{UserType}
-use Rattle.ck_types.proofs.CheckLemmas.{or_else-none}
+use Rattle.ck_types.proofs.CheckLemmas.{or_else-none, error_if-none}
 use Rattle.ck_journal.specs.declared.calls.Call.{Call}
 use Rattle.ck_journal.specs.declared.calls.Call.TheVariants as call
 use Rattle.ck_journal.specs.declared.calls.Entry.{Entry}
@@ -24,14 +24,15 @@ use Rattle.ck_journal.specs.declared.replies.Reply.{Reply}
 use Rattle.ck_journal.specs.Answers.{call_error, session_error}
 use Rattle.ck_journal.specs.Histories.{History, ◌◁◌, done, is_ok, is_wrong_pin, effects_of, effects, ends_refused}
 use Rattle.ck_journal.specs.Operations.{starts, ends, finishes, piece_of, is_active, leaves_active, is_too_long, init_mechanism, hash_for}
-use Rattle.ck_journal.specs.Pins.{about, is_about}
+use Rattle.ck_journal.specs.Objects.{creates}
+use Rattle.ck_journal.specs.Pins.{about, is_about, is_user}
 use Rattle.ck_journal.specs.Sessions.{ends_operations}
 use Rattle.ck_journal.proofs.OperationMoves.{starts_none, ends_none, adds_none}
 use Rattle.ck_operations.specs.Agreement.{OperationsState, OperationsAgree}
 use Rattle.ck_operations.specs.Moves.{Move, Stay, Start, Add, End, Does, OnlyIn, OnlyInSession, InAll}
 use Rattle.ck_operations.specs.Rows.{same_kind}
 use Rattle.ck_operations.proofs.Moves.{operations-left}
-use Rattle.ck_token.specs.Changes.{refusal_change, end_unless_too_small, end_if_too_long, effect_by}
+use Rattle.ck_token.specs.Changes.{refusal_change, end_if_too_long, effect_by}
 use Rattle.ck_token.specs.declared.changes.Change.{Change}
 use Rattle.ck_token.specs.declared.changes.Change.TheVariants as change
 
@@ -54,6 +55,14 @@ module _ (e : Entry) (c : Call) (d : done e ≡ Some c) where
       ap (λ o. (effects_of o).operations || ends_refused e.call) d ∙ ap (λ t. t || ends_refused e.call) idle
       ∙ ap ends_refused called ∙ quiet in
       operations-left h o agree e (λ k s. (starts_none e l k s, ends_none e l k s, adds_none e l k s))
+
+  creation-quiet : (c : Call) → creates (Some c) ≡ true → ((effects_of (Some c)).operations ≡ false) × (ends_refused c ≡ false)
+  creation-quiet (call.CreateObject session template) t = (refl, refl)
+  creation-quiet (call.CopyObject session object template) t = (refl, refl)
+  creation-quiet other t = cc
+
+  pub operations-created : creates (Some c) ≡ true → (h : History) (o : OperationsState) → OperationsAgree h o → OperationsAgree (e ◁ h) o
+  operations-created t h o agree = let q = creation-quiet c t in operations-kept h o q.0 q.1 agree
 
   -- one that may end operations, and starts none
   ends-done : (starts_nothing : (k : OperationKind) (s : ℕ) → starts (Some c) k s ≡ false)
@@ -81,7 +90,25 @@ closed-all e d k s = ends-done e call.CloseAllSessions d (λ k s. refl) (λ k s.
 pub logged-out : (e : Entry) (session : ℕ) → done e ≡ Some (call.Logout session) → InAll End e
 logged-out e session d k s = ends-done e (call.Logout session) d (λ k s. refl) (λ k s. refl) (λ k s. refl) k s true refl
 
--- ---- pieces
+-- ---- starts and pieces
+
+passes-known : (found : Option Hash) (later : Option RvError)
+    → or_else (error_if (is_none found) rv_error.MechanismInvalid) later ≡ None
+    → found ≡ Some (unwrap_or found hash.Sha256)
+passes-known None later e = cc
+passes-known (Some hash) later e = refl
+
+-- a digest that starts had none before it, and its mechanism is a digest's
+pub digest-passed : (limits : Ranges) (h : History) (session : ℕ) (mechanism : Mechanism)
+    → call_error limits h (call.DigestInit session mechanism) ≡ None
+    → (is_active kind.Digest h session ≡ false)
+    × (digest_hash mechanism.kind ≡ Some (unwrap_or (digest_hash mechanism.kind) hash.Sha256))
+digest-passed limits h session mechanism e =
+    let after = (or_else-none (session_error h session) _ e).1 in
+    let idle = or_else-none (error_if (is_active kind.Digest h session) rv_error.OperationActive) _ after in (
+      error_if-none (is_active kind.Digest h session) rv_error.OperationActive idle.0,
+      passes-known (digest_hash mechanism.kind) _ idle.1,
+    )
 
 done-ok : (ok : Bool) (made c : Call) → cond ok (Some made) None ≡ Some c → ok ≡ true
 done-ok true made c e = refl
@@ -149,116 +176,174 @@ module _ (e : Entry) (session : ℕ) where
   piece-added bytes d kind.Verify s =
       does-stay e (call.DigestUpdate session bytes) d (λ s. refl) kind.Verify s refl refl refl
 
--- ---- an end by the reply, and nothing
+-- ---- what the reply makes of an operation
 
--- a refusal of a call about a PIN ends nothing
-refusal_change-ends : (code : RvError) (who : Option UserType) (k : OperationKind) (session : ℕ)
-    → change.EndOperation k session ≡ refusal_change code who → ⊥
-refusal_change-ends rv_error.PinIncorrect None k session is = cc
-refusal_change-ends rv_error.PinIncorrect (Some u) k session is = cc
-refusal_change-ends other who k session is = cc
-
-abbrev entry : ℕ → Call → Rv → Body → Entry
+abbrev pub entry : ℕ → Call → Rv → Body → Entry
 entry n c v b = record { caller = n; call = c; reply = record { rv = v; body = b } }
 
 -- the call that was answered OK, if it was
 abbrev done_of : Call → Rv → Option Call
 done_of c v = cond (is_ok v) (Some c) None
 
--- the reply to the call ends the session's digest, and does nothing else
-pub record IsEnd (h : History) (session : ℕ) (n : ℕ) (c : Call) (v : Rv) (b : Body) : Type 0 where
+-- the call is a digest's, and its reply ends the session's digest or does nothing
+pub record IsFinish (h : History) (session : ℕ) (last : Bool) (c : Call) (v : Rv) (b : Body) : Type 0 where
   pub none : (k : OperationKind) (s : ℕ) → starts (done_of c v) k s ≡ false
-  pub open : (s : ℕ) → ends_operations (done_of c v) s ≡ false
+  pub unclosed : (s : ℕ) → ends_operations (done_of c v) s ≡ false
   pub nowhere : (k : OperationKind) (s : ℕ) → piece_of (done_of c v) k s ≡ []
-  pub ends : (k : OperationKind) (s : ℕ)
-      → finishes c k (record { rv = v; body = b }) s ≡ (same_kind kind.Digest k && session == s)
+  pub finishes : (k : OperationKind) (s : ℕ)
+      → finishes c k (record { rv = v; body = b }) s ≡ (last && (same_kind kind.Digest k && session == s))
   pub sessions : (effects_of (done_of c v)).sessions ≡ false
   pub objects : (effects_of (done_of c v)).objects ≡ false
   pub searches : (effects_of (done_of c v)).searches ≡ false
   pub untried : (u : UserType) → is_about u h (cond (is_wrong_pin v) (Some c) None) ≡ false
 
-finishes-digest : (x : ℕ) (bytes : List ℕ) (room : Option ℕ) (r : Reply) (session : ℕ) → leaves_active r.rv r.body ≡ false
-    → session ≡ x → (k : OperationKind) (s : ℕ)
-    → finishes (call.Digest x bytes room) k r s ≡ (same_kind kind.Digest k && session == s)
-finishes-digest x bytes room r session ends same kind.Digest s =
-    ap (λ t. x == s && not t) ends ∙ and-true (x == s) ∙ ap (λ y. y == s) (sym same)
-finishes-digest x bytes room r session ends same kind.Sign s = refl
-finishes-digest x bytes room r session ends same kind.Verify s = refl
+and-sym : (a b : Bool) → (a && b) ≡ (b && a)
+and-sym true true = refl
+and-sym true false = refl
+and-sym false true = refl
+and-sym false false = refl
 
-finishes-final : (x : ℕ) (room : Option ℕ) (r : Reply) (session : ℕ) → leaves_active r.rv r.body ≡ false
-    → session ≡ x → (k : OperationKind) (s : ℕ)
-    → finishes (call.DigestFinal x room) k r s ≡ (same_kind kind.Digest k && session == s)
-finishes-final x room r session ends same kind.Digest s =
-    ap (λ t. x == s && not t) ends ∙ and-true (x == s) ∙ ap (λ y. y == s) (sym same)
-finishes-final x room r session ends same kind.Sign s = refl
-finishes-final x room r session ends same kind.Verify s = refl
+finishes-digest : (x : ℕ) (bytes : List ℕ) (room : Option ℕ) (r : Reply) (session : ℕ) (last : Bool) → session ≡ x
+    → last ≡ not (leaves_active r.rv r.body) → (k : OperationKind) (s : ℕ)
+    → finishes (call.Digest x bytes room) k r s ≡ (last && (same_kind kind.Digest k && session == s))
+finishes-digest x bytes room r session last same is kind.Digest s =
+    and-sym (x == s) (not (leaves_active r.rv r.body)) ∙ ap (λ y. not (leaves_active r.rv r.body) && (y == s)) (sym same)
+    ∙ ap (λ t. t && (session == s)) (sym is)
+finishes-digest x bytes room r session last same is kind.Sign s = sym (and-false last)
+finishes-digest x bytes room r session last same is kind.Verify s = sym (and-false last)
 
-finishes-update : (x : ℕ) (bytes : List ℕ) (r : Reply) (session : ℕ) → is_too_long r.rv ≡ true
-    → session ≡ x → (k : OperationKind) (s : ℕ)
-    → finishes (call.DigestUpdate x bytes) k r s ≡ (same_kind kind.Digest k && session == s)
-finishes-update x bytes r session long same kind.Digest s =
-    ap (λ t. x == s && t) long ∙ and-true (x == s) ∙ ap (λ y. y == s) (sym same)
-finishes-update x bytes r session long same kind.Sign s = refl
-finishes-update x bytes r session long same kind.Verify s = refl
+finishes-final : (x : ℕ) (room : Option ℕ) (r : Reply) (session : ℕ) (last : Bool) → session ≡ x
+    → last ≡ not (leaves_active r.rv r.body) → (k : OperationKind) (s : ℕ)
+    → finishes (call.DigestFinal x room) k r s ≡ (last && (same_kind kind.Digest k && session == s))
+finishes-final x room r session last same is kind.Digest s =
+    and-sym (x == s) (not (leaves_active r.rv r.body)) ∙ ap (λ y. not (leaves_active r.rv r.body) && (y == s)) (sym same)
+    ∙ ap (λ t. t && (session == s)) (sym is)
+finishes-final x room r session last same is kind.Sign s = sym (and-false last)
+finishes-final x room r session last same is kind.Verify s = sym (and-false last)
 
-pub ended-is : (h : History) (n : ℕ) (c : Call) (v : Rv) (b : Body) (k : OperationKind) (session : ℕ)
-    → change.EndOperation k session ≡ effect_by h c v b → (k ≡ kind.Digest) × IsEnd h session n c v b
-ended-is h n (call.Digest x bytes room) rv.Ok (body.Length m) k session is = cc
-ended-is h n (call.Digest x bytes room) rv.Ok b k session is = (cc, record {
-  none = λ k s. refl; open = λ s. refl; nowhere = λ k s. refl; ends = finishes-digest x bytes room _ session refl cc;
-  sessions = refl; objects = refl; searches = refl; untried = λ u. refl;
-})
-ended-is h n (call.Digest x bytes room) (rv.Error rv_error.BufferTooSmall) b k session is = cc
-ended-is h n (call.Digest x bytes room) (rv.Error code) b k session is = (cc, record {
-  none = λ k s. refl; open = λ s. refl; nowhere = λ k s. refl; ends = finishes-digest x bytes room _ session refl cc;
-  sessions = refl; objects = refl; searches = refl; untried = λ u. refl;
-})
-ended-is h n (call.DigestFinal x room) rv.Ok (body.Length m) k session is = cc
-ended-is h n (call.DigestFinal x room) rv.Ok b k session is = (cc, record {
-  none = λ k s. refl; open = λ s. refl; nowhere = λ k s. refl; ends = finishes-final x room _ session refl cc;
-  sessions = refl; objects = refl; searches = refl; untried = λ u. refl;
-})
-ended-is h n (call.DigestFinal x room) (rv.Error rv_error.BufferTooSmall) b k session is = cc
-ended-is h n (call.DigestFinal x room) (rv.Error code) b k session is = (cc, record {
-  none = λ k s. refl; open = λ s. refl; nowhere = λ k s. refl; ends = finishes-final x room _ session refl cc;
-  sessions = refl; objects = refl; searches = refl; untried = λ u. refl;
-})
-ended-is h n (call.DigestUpdate x bytes) (rv.Error rv_error.DataLenRange) b k session is = (cc, record {
-  none = λ k s. refl; open = λ s. refl; nowhere = λ k s. refl; ends = finishes-update x bytes _ session refl cc;
-  sessions = refl; objects = refl; searches = refl; untried = λ u. refl;
-})
-ended-is h n (call.DigestUpdate x bytes) (rv.Error code) b k session is = cc
-ended-is h n (call.DigestUpdate x bytes) rv.Ok b k session is = cc
-ended-is h n other rv.Ok b k session is = cc
-ended-is h n other (rv.Error code) b k session is =
-    absurd (refusal_change-ends code (about h (Some other)) k session is)
+finishes-update : (x : ℕ) (bytes : List ℕ) (r : Reply) (session : ℕ) (last : Bool) → session ≡ x
+    → last ≡ is_too_long r.rv → (k : OperationKind) (s : ℕ)
+    → finishes (call.DigestUpdate x bytes) k r s ≡ (last && (same_kind kind.Digest k && session == s))
+finishes-update x bytes r session last same is kind.Digest s =
+    and-sym (x == s) (is_too_long r.rv) ∙ ap (λ y. is_too_long r.rv && (y == s)) (sym same)
+    ∙ ap (λ t. t && (session == s)) (sym is)
+finishes-update x bytes r session last same is kind.Sign s = sym (and-false last)
+finishes-update x bytes r session last same is kind.Verify s = sym (and-false last)
 
--- it ends that one operation
-pub only-ended : (h : History) (n : ℕ) (c : Call) (v : Rv) (b : Body) (session : ℕ) → IsEnd h session n c v b
-    → OnlyIn kind.Digest session End (entry n c v b)
-only-ended h n c v b session is k s = here (same_kind kind.Digest k && session == s) refl
+refusal_change-finishes : (code : RvError) (who : Option UserType) (k : OperationKind) (session : ℕ) (last : Bool)
+    → change.FinishOperation k session last ≡ refusal_change code who → ⊥
+refusal_change-finishes rv_error.PinIncorrect None k session last is = cc
+refusal_change-finishes rv_error.PinIncorrect (Some u) k session last is = cc
+refusal_change-finishes other who k session last is = cc
+
+-- a refusal's code says whether it leaves an operation active, whatever its body
+any_body : (code : RvError) (b given : Body) → leaves_active (rv.Error code) b ≡ leaves_active (rv.Error code) given
+any_body rv_error.BufferTooSmall b given = refl
+any_body other b given = refl
+
+-- a call about nobody is no wrong try of anybody's PIN
+pub nobody-tried : (h : History) (wrong : Bool) (c : Call) → about h (Some c) ≡ None
+    → (u : UserType) → is_about u h (cond wrong (Some c) None) ≡ false
+nobody-tried h true c e u = ap (is_user u) e
+nobody-tried h false c e u = refl
+
+finish-injected : (k l : OperationKind) (session x : ℕ) (last t : Bool)
+    → change.FinishOperation k session last ≡ change.FinishOperation l x t → (k ≡ l) × (session ≡ x) × (last ≡ t)
+finish-injected k l session x last t is = (cc, cc, cc)
+
+pub finished-is : (h : History) (c : Call) (v : Rv) (b : Body) (k : OperationKind) (session : ℕ) (last : Bool)
+    → change.FinishOperation k session last ≡ effect_by h c v b → (k ≡ kind.Digest) × IsFinish h session last c v b
+finished-is h (call.Digest x bytes room) rv.Ok b k session last is =
+    let i = finish-injected k kind.Digest session x last _ is in (
+      i.0,
+      record {
+        none = λ k s. refl;
+        unclosed = λ s. refl;
+        nowhere = λ k s. refl;
+        finishes = finishes-digest x bytes room (record { rv = rv.Ok; body = b }) session last i.1 i.2;
+        sessions = refl;
+        objects = refl;
+        searches = refl;
+        untried = λ u. refl;
+      },
+    )
+finished-is h (call.Digest x bytes room) (rv.Error code) b k session last is =
+    let i = finish-injected k kind.Digest session x last _ is in (
+      i.0,
+      record {
+        none = λ k s. refl;
+        unclosed = λ s. refl;
+        nowhere = λ k s. refl;
+        finishes = finishes-digest x bytes room (record { rv = rv.Error code; body = b }) session last i.1 (i.2 ∙ ap not (any_body code body.Empty b));
+        sessions = refl;
+        objects = refl;
+        searches = refl;
+        untried = nobody-tried h (is_wrong_pin (rv.Error code)) (call.Digest x bytes room) refl;
+      },
+    )
+finished-is h (call.DigestFinal x room) rv.Ok b k session last is =
+    let i = finish-injected k kind.Digest session x last _ is in (
+      i.0,
+      record {
+        none = λ k s. refl;
+        unclosed = λ s. refl;
+        nowhere = λ k s. refl;
+        finishes = finishes-final x room (record { rv = rv.Ok; body = b }) session last i.1 i.2;
+        sessions = refl;
+        objects = refl;
+        searches = refl;
+        untried = λ u. refl;
+      },
+    )
+finished-is h (call.DigestFinal x room) (rv.Error code) b k session last is =
+    let i = finish-injected k kind.Digest session x last _ is in (
+      i.0,
+      record {
+        none = λ k s. refl;
+        unclosed = λ s. refl;
+        nowhere = λ k s. refl;
+        finishes = finishes-final x room (record { rv = rv.Error code; body = b }) session last i.1 (i.2 ∙ ap not (any_body code body.Empty b));
+        sessions = refl;
+        objects = refl;
+        searches = refl;
+        untried = nobody-tried h (is_wrong_pin (rv.Error code)) (call.DigestFinal x room) refl;
+      },
+    )
+finished-is h (call.DigestUpdate x bytes) rv.Ok b k session last is = cc
+finished-is h (call.DigestUpdate x bytes) (rv.Error rv_error.DataLenRange) b k session last is =
+    let i = finish-injected k kind.Digest session x last _ is in (
+      i.0,
+      record {
+        none = λ k s. refl;
+        unclosed = λ s. refl;
+        nowhere = λ k s. refl;
+        finishes = finishes-update x bytes (record { rv = rv.Error rv_error.DataLenRange; body = b }) session last i.1 i.2;
+        sessions = refl;
+        objects = refl;
+        searches = refl;
+        untried = λ u. refl;
+      },
+    )
+finished-is h (call.DigestUpdate x bytes) (rv.Error code) b k session last is = cc
+finished-is h other rv.Ok b k session last is = cc
+finished-is h other (rv.Error code) b k session last is =
+    absurd (refusal_change-finishes code (about h (Some other)) k session last is)
+
+-- what it ends is that one operation, and nothing where it doesn't end it
+pub finish-does : (h : History) (n : ℕ) (c : Call) (v : Rv) (b : Body) (session : ℕ) (last : Bool) → IsFinish h session last c v b
+    → (k : OperationKind) (s : ℕ)
+    → Does (cond (last && (same_kind kind.Digest k && session == s)) End Stay) (entry n c v b) k s
+finish-does h n c v b session last is k s = here (last && (same_kind kind.Digest k && session == s)) refl
   where
-    ends-by : (t : Bool) → (same_kind kind.Digest k && session == s) ≡ t → ends k (entry n c v b) s ≡ t
+    ends-by : (t : Bool) → (last && (same_kind kind.Digest k && session == s)) ≡ t → ends k (entry n c v b) s ≡ t
     ends-by t e =
-        ap (λ t. t || finishes c k (record { rv = v; body = b }) s) (is.open s) ∙ is.ends k s ∙ e
+        ap (λ t. t || finishes c k (record { rv = v; body = b }) s) (is.unclosed s) ∙ is.finishes k s ∙ e
 
-    here : (t : Bool) → (same_kind kind.Digest k && session == s) ≡ t → Does (cond t End Stay) (entry n c v b) k s
+    here : (t : Bool) → (last && (same_kind kind.Digest k && session == s)) ≡ t → Does (cond t End Stay) (entry n c v b) k s
     here true e = (is.none k s, ends-by true e)
     here false e = (is.none k s, ends-by false e, is.nowhere k s)
 
 -- ---- a reply that leaves operations as they are
-
-quiet-digest : (x : ℕ) (bytes : List ℕ) (room : Option ℕ) (r : Reply) → leaves_active r.rv r.body ≡ true
-    → (k : OperationKind) (s : ℕ) → finishes (call.Digest x bytes room) k r s ≡ false
-quiet-digest x bytes room r leaves kind.Digest s = ap (λ t. x == s && not t) leaves ∙ and-false (x == s)
-quiet-digest x bytes room r leaves kind.Sign s = refl
-quiet-digest x bytes room r leaves kind.Verify s = refl
-
-quiet-final : (x : ℕ) (room : Option ℕ) (r : Reply) → leaves_active r.rv r.body ≡ true
-    → (k : OperationKind) (s : ℕ) → finishes (call.DigestFinal x room) k r s ≡ false
-quiet-final x room r leaves kind.Digest s = ap (λ t. x == s && not t) leaves ∙ and-false (x == s)
-quiet-final x room r leaves kind.Sign s = refl
-quiet-final x room r leaves kind.Verify s = refl
 
 quiet-update : (x : ℕ) (bytes : List ℕ) (r : Reply) → is_too_long r.rv ≡ false
     → (k : OperationKind) (s : ℕ) → finishes (call.DigestUpdate x bytes) k r s ≡ false
@@ -268,19 +353,8 @@ quiet-update x bytes r short kind.Verify s = refl
 
 pub nothing-stays : (h : History) (n : ℕ) (c : Call) (v : Rv) (b : Body) → change.Nothing ≡ effect_by h c v b
     → InAll Stay (entry n c v b)
-nothing-stays h n (call.Digest x bytes room) rv.Ok (body.Length m) is k s =
-    (refl, quiet-digest x bytes room _ refl k s, refl)
-nothing-stays h n (call.Digest x bytes room) rv.Ok b is k s = cc
-nothing-stays h n (call.Digest x bytes room) (rv.Error rv_error.BufferTooSmall) b is k s =
-    (refl, quiet-digest x bytes room _ refl k s, refl)
 nothing-stays h n (call.Digest x bytes room) (rv.Error code) b is k s = cc
-nothing-stays h n (call.DigestFinal x room) rv.Ok (body.Length m) is k s =
-    (refl, quiet-final x room _ refl k s, refl)
-nothing-stays h n (call.DigestFinal x room) rv.Ok b is k s = cc
-nothing-stays h n (call.DigestFinal x room) (rv.Error rv_error.BufferTooSmall) b is k s =
-    (refl, quiet-final x room _ refl k s, refl)
 nothing-stays h n (call.DigestFinal x room) (rv.Error code) b is k s = cc
-nothing-stays h n (call.DigestUpdate x bytes) rv.Ok b is k s = cc
 nothing-stays h n (call.DigestUpdate x bytes) (rv.Error rv_error.DataLenRange) b is k s = cc
 nothing-stays h n (call.DigestUpdate x bytes) (rv.Error code) b is k s =
     (refl, quiet-update x bytes _ refl k s, refl)
@@ -290,25 +364,7 @@ nothing-stays h n (call.GetAttributeValue session object queries) rv.Ok b is k s
 nothing-stays h n other rv.Ok b is k s = cc
 nothing-stays h n other (rv.Error code) b is k s = (refl, refl, refl)
 
--- a try of a PIN
-pub small-no_try : (code : RvError) (k : OperationKind) (session : ℕ) (u : UserType)
-    → change.WrongTry u ≡ end_unless_too_small k session code → ⊥
-small-no_try rv_error.BufferTooSmall k session u is = cc
-small-no_try other k session u is = cc
-
 pub long-no_try : (code : RvError) (k : OperationKind) (session : ℕ) (u : UserType)
     → change.WrongTry u ≡ end_if_too_long k session code → ⊥
 long-no_try rv_error.DataLenRange k session u is = cc
 long-no_try other k session u is = cc
-
-pub tried-stays : (h : History) (n : ℕ) (c : Call) (v : Rv) (b : Body) (u : UserType)
-    → change.WrongTry u ≡ effect_by h c v b → InAll Stay (entry n c v b)
-tried-stays h n (call.Digest x bytes room) rv.Ok (body.Length m) u is k s = cc
-tried-stays h n (call.Digest x bytes room) rv.Ok b u is k s = cc
-tried-stays h n (call.Digest x bytes room) (rv.Error code) b u is k s = absurd (small-no_try code kind.Digest x u is)
-tried-stays h n (call.DigestFinal x room) rv.Ok (body.Length m) u is k s = cc
-tried-stays h n (call.DigestFinal x room) rv.Ok b u is k s = cc
-tried-stays h n (call.DigestFinal x room) (rv.Error code) b u is k s = absurd (small-no_try code kind.Digest x u is)
-tried-stays h n (call.DigestUpdate x bytes) (rv.Error code) b u is k s = absurd (long-no_try code kind.Digest x u is)
-tried-stays h n other rv.Ok b u is k s = cc
-tried-stays h n other (rv.Error code) b u is k s = (refl, refl, refl)

@@ -23,7 +23,6 @@ use Rattle.ck_journal.specs.declared.calls.Call.TheVariants as call
 use Rattle.ck_journal.specs.declared.calls.Entry.{Entry}
 use Rattle.ck_journal.specs.declared.operations.OperationKind.TheVariants as kind
 use Rattle.ck_journal.specs.declared.replies.Body.{Body}
-use Rattle.ck_journal.specs.declared.replies.Body.TheVariants as body
 use Rattle.ck_journal.specs.Answers.{call_error, session_error, object_error, read_only_session_error, prohibited_error, known_login_error}
 use Rattle.ck_journal.specs.Histories.{History, ◌◁◌, done, wrong_try, is_ok, is_wrong_pin, effects_of}
 use Rattle.ck_journal.specs.Objects.{creates, named_attributes, object_named, object_at}
@@ -34,7 +33,8 @@ use Rattle.ck_sessions.proofs.Moves.{sessions-left}
 use Rattle.ck_sessions.specs.Agreement.{SessionsState, SessionsAgree}
 use Rattle.ck_store.proofs.Moves.{objects-left}
 use Rattle.ck_store.specs.Agreement.{StoreState, StoreAgrees}
-use Rattle.ck_token.proofs.OperationMoves.{small-no_try, long-no_try}
+use Rattle.ck_operations.specs.Moves.{Stay, Does, InAll}
+use Rattle.ck_token.proofs.OperationMoves.{entry, long-no_try, nobody-tried}
 use Rattle.ck_token.specs.Changes.{change_of, refusal_change, refused_change, effect, effect_by}
 use Rattle.ck_token.specs.declared.changes.Change.TheVariants as change
 
@@ -68,8 +68,6 @@ module _ (h : History) where
   nothing_done (call.GetSessionInfo session) b is = (refl, refl, refl)
   nothing_done call.GetTokenInfo b is = (refl, refl, refl)
   nothing_done (call.GetAttributeValue session object queries) b is = (refl, refl, refl)
-  nothing_done (call.Digest session bytes room) b is = (refl, refl, refl)
-  nothing_done (call.DigestFinal session room) b is = (refl, refl, refl)
   nothing_done other b is = cc
 
   -- a refusal that changes nothing is no wrong try of anybody's PIN
@@ -82,20 +80,14 @@ module _ (h : History) where
       tried (Some other) is = cc
   nothing_tried other c u is = refl
 
-  -- nor is one of a call about nobody
-  nobody_tried : (wrong : Bool) (c : Call) (u : UserType) → about h (Some c) ≡ None
-      → is_about u h (cond wrong (Some c) None) ≡ false
-  nobody_tried true c u e = ap (is_user u) e
-  nobody_tried false c u e = refl
-
   nothing_refused : (code : RvError) (c : Call) (u : UserType) → change.Nothing ≡ refused_change c code (about h (Some c))
       → is_about u h (cond (is_wrong_pin (rv.Error code)) (Some c) None) ≡ false
   nothing_refused code (call.Digest session bytes room) u is =
-      nobody_tried (is_wrong_pin (rv.Error code)) (call.Digest session bytes room) u refl
+      nobody-tried h (is_wrong_pin (rv.Error code)) (call.Digest session bytes room) refl u
   nothing_refused code (call.DigestUpdate session bytes) u is =
-      nobody_tried (is_wrong_pin (rv.Error code)) (call.DigestUpdate session bytes) u refl
+      nobody-tried h (is_wrong_pin (rv.Error code)) (call.DigestUpdate session bytes) refl u
   nothing_refused code (call.DigestFinal session room) u is =
-      nobody_tried (is_wrong_pin (rv.Error code)) (call.DigestFinal session room) u refl
+      nobody-tried h (is_wrong_pin (rv.Error code)) (call.DigestFinal session room) refl u
   nothing_refused code other u is = nothing_tried code other u is
 
   nothing_step : (c : Call) (v : Rv) (b : Body) → change.Nothing ≡ effect_by h c v b
@@ -118,10 +110,7 @@ objects-unchanged h e o is agree =
 
 module _ (h : History) where
   tried_done : (c : Call) (b : Body) (u : UserType) → change.WrongTry u ≡ change_of h c b → ⊥
-  tried_done (call.Digest session bytes room) (body.Length n) u is = cc
-  tried_done (call.Digest session bytes room) b u is = cc
-  tried_done (call.DigestFinal session room) (body.Length n) u is = cc
-  tried_done (call.DigestFinal session room) b u is = cc
+  tried_done (call.GetSessionInfo session) b u is = cc
   tried_done other b u is = cc
 
   tried_refusal : (code : RvError) (c : Call) (u : UserType) → change.WrongTry u ≡ refusal_change code (about h (Some c))
@@ -135,9 +124,9 @@ module _ (h : History) where
 
   tried_refused : (code : RvError) (c : Call) (u : UserType) → change.WrongTry u ≡ refused_change c code (about h (Some c))
       → about h (cond (is_wrong_pin (rv.Error code)) (Some c) None) ≡ Some u
-  tried_refused code (call.Digest session bytes room) u is = absurd (small-no_try code kind.Digest session u is)
+  tried_refused code (call.Digest session bytes room) u is = cc
   tried_refused code (call.DigestUpdate session bytes) u is = absurd (long-no_try code kind.Digest session u is)
-  tried_refused code (call.DigestFinal session room) u is = absurd (small-no_try code kind.Digest session u is)
+  tried_refused code (call.DigestFinal session room) u is = cc
   tried_refused code other u is = tried_refusal code other u is
 
   tried_step : (c : Call) (v : Rv) (b : Body) (u : UserType) → change.WrongTry u ≡ effect_by h c v b
@@ -152,6 +141,14 @@ tried h e u is = tried_step h e.call e.reply.rv e.reply.body u is
 
 pub objects-tried : (h : History) (e : Entry) (o : StoreState) → done e ≡ None → StoreAgrees h o → StoreAgrees (e ◁ h) o
 objects-tried h e o none agree = objects-left h o agree e (ap (λ d. (effects_of d).objects) none)
+
+pub tried-stays : (h : History) (n : ℕ) (c : Call) (v : Rv) (b : Body) (u : UserType)
+    → change.WrongTry u ≡ effect_by h c v b → InAll Stay (entry n c v b)
+tried-stays h n c rv.Ok b u is k s = absurd (tried_done h c b u is)
+tried-stays h n (call.Digest x bytes room) (rv.Error code) b u is k s = cc
+tried-stays h n (call.DigestFinal x room) (rv.Error code) b u is k s = cc
+tried-stays h n (call.DigestUpdate x bytes) (rv.Error code) b u is k s = absurd (long-no_try code kind.Digest x u is)
+tried-stays h n other (rv.Error code) b u is k s = (refl, refl, refl)
 
 -- ---- what the checks of a call say
 

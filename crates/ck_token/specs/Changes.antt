@@ -1,5 +1,5 @@
 -- What an answered call changes of sessions, objects and operations, read off the history just before it
-use Rattle.std.specs.Prelude.{ℕ, Option, Some, map, unwrap_or}
+use Rattle.std.specs.Prelude.{ℕ, true, not, Option, Some, map, unwrap_or}
 use Rattle.ck_types.specs.Mechanisms.{digest_hash}
 use Rattle.ck_types.specs.Records.{created_items, with_given}
 use Rattle.ck_types.specs.Users.{user_of}
@@ -19,16 +19,12 @@ use Rattle.ck_journal.specs.declared.replies.Body.TheVariants as body
 use Rattle.ck_journal.specs.declared.replies.Reply.{Reply}
 use Rattle.ck_journal.specs.Histories.{History}
 use Rattle.ck_journal.specs.Objects.{object_named, named_attributes}
+use Rattle.ck_journal.specs.Operations.{leaves_active}
 use Rattle.ck_journal.specs.Pins.{pin_owner, about}
 use Rattle.ck_journal.specs.Searches.{matching_objects, last_number, last_or, number_of_handle, handles_in}
 use Rattle.ck_journal.specs.Sessions.{state_of}
 use Rattle.ck_token.specs.declared.changes.Change.{Change}
 use Rattle.ck_token.specs.declared.changes.Change.TheVariants as change
-
--- the end of an operation, where the reply doesn't give a length alone
-abbrev pub end_unless_length : OperationKind → ℕ → Body → Change
-end_unless_length k session (body.Length n) = change.Nothing
-end_unless_length k session other = change.EndOperation k session
 
 -- the change of a call that was answered OK with this body
 abbrev pub change_of : History → Call → Body → Change
@@ -53,9 +49,11 @@ change_of h (call.FindObjects session max) body =
 change_of h (call.FindObjectsFinal session) body = change.EndSearch session
 change_of h (call.DigestInit session mechanism) body =
     change.StartOperation kind.Digest session (unwrap_or (digest_hash mechanism.kind) hash.Sha256)
-change_of h (call.Digest session bytes room) body = end_unless_length kind.Digest session body
+change_of h (call.Digest session bytes room) b =
+    change.FinishOperation kind.Digest session (not (leaves_active rv.Ok b))
 change_of h (call.DigestUpdate session bytes) body = change.AddPiece kind.Digest session
-change_of h (call.DigestFinal session room) body = end_unless_length kind.Digest session body
+change_of h (call.DigestFinal session room) b =
+    change.FinishOperation kind.Digest session (not (leaves_active rv.Ok b))
 change_of h (call.GetSessionInfo session) body = change.Nothing
 change_of h call.GetTokenInfo body = change.Nothing
 change_of h (call.GetAttributeValue session object queries) body = change.Nothing
@@ -65,21 +63,18 @@ abbrev pub refusal_change : RvError → Option UserType → Change
 refusal_change rv_error.PinIncorrect (Some u) = change.WrongTry u
 refusal_change other who = change.Nothing
 
--- the end of an operation, where its call wasn't refused for too little room
-abbrev pub end_unless_too_small : OperationKind → ℕ → RvError → Change
-end_unless_too_small k session rv_error.BufferTooSmall = change.Nothing
-end_unless_too_small k session other = change.EndOperation k session
-
 -- the end of an operation, where a piece was too long
 abbrev pub end_if_too_long : OperationKind → ℕ → RvError → Change
-end_if_too_long k session rv_error.DataLenRange = change.EndOperation k session
+end_if_too_long k session rv_error.DataLenRange = change.FinishOperation k session true
 end_if_too_long k session other = change.Nothing
 
 -- the change of a call that was refused
 abbrev pub refused_change : Call → RvError → Option UserType → Change
-refused_change (call.Digest session bytes room) code who = end_unless_too_small kind.Digest session code
+refused_change (call.Digest session bytes room) code who =
+    change.FinishOperation kind.Digest session (not (leaves_active (rv.Error code) body.Empty))
 refused_change (call.DigestUpdate session bytes) code who = end_if_too_long kind.Digest session code
-refused_change (call.DigestFinal session room) code who = end_unless_too_small kind.Digest session code
+refused_change (call.DigestFinal session room) code who =
+    change.FinishOperation kind.Digest session (not (leaves_active (rv.Error code) body.Empty))
 refused_change other code who = refusal_change code who
 
 -- the change of an answered call

@@ -66,9 +66,11 @@ pub(crate) enum Change {
         kind: OperationKind,
         session: u64,
     },
-    /// The end of an operation, where one is active.
-    EndOperation {
+    /// What the reply to a call that may end an operation makes of it.
+    FinishOperation {
         kind: OperationKind,
         session: u64,
+        /// Whether it ends, where one is active.
+        ends: bool,
     },
 }

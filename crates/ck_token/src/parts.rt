@@ -90,10 +90,17 @@ impl Parts {
                 hash,
             } => self.operations.start(kind, session, hash),
             Change::AddPiece { kind, session } => {
-                self.operations
-                    .add_piece(kind, session, call.added_bytes())
+                self.operations.add_piece(kind, session, call.added_bytes())
             }
-            Change::EndOperation { kind, session } => self.operations.end(kind, session),
+            Change::FinishOperation {
+                kind,
+                session,
+                ends,
+            } => {
+                if ends {
+                    self.operations.end(kind, session);
+                }
+            }
         }
     }
 }

@@ -1,4 +1,4 @@
-ghost use Rattle.std.specs.Prelude.{◌≡◌, ℕ, List, length, IfOk, IfSome, MatchOption};
+ghost use Rattle.std.specs.Prelude.{◌≡◌, ℕ, true, List, length, IfOk, IfSome, MatchOption};
 ghost use Rattle.ck_journal.specs.Answers.{ok, bytes_reply};
 ghost use Rattle.ck_journal.specs.declared.operations.OperationKind.TheVariants as kind;
 ghost use Rattle.ck_journal.specs.declared.replies.Body.TheVariants as body;
@@ -30,33 +30,37 @@ fn length_reply(len: u64, room: Option<u64>) -> Option<Reply>
     }
 }
 
+fn finish(session: u64, ends: bool) -> Change
+    ensures { result ≡ change.FinishOperation kind.Digest session ends }
+{
+    Change::FinishOperation {
+        kind: OperationKind::Digest,
+        session,
+        ends,
+    }
+}
+
 /// Gives a digest, which ends the session's operation.
 fn give(alloc: Global, session: u64, tag: &Tag) -> Result<Decision, NoMemory>
     ensures { IfOk result (λ decision. decision ≡ record {
-        reply = ok (body.Bytes tag.now);
-        change = change.EndOperation kind.Digest session;
+      reply = ok (body.Bytes tag.now);
+      change = change.FinishOperation kind.Digest session true;
     }) }
 {
     let bytes = Bytes::from_slice(alloc, tag.bytes())?;
     Ok(Decision {
         reply: ok(Body::Bytes(bytes)),
-        change: Change::EndOperation {
-            kind: OperationKind::Digest,
-            session,
-        },
+        change: finish(session, true),
     })
 }
 
 /// A refusal that ends the session's operation, where one is active.
 fn refused(session: u64, error: RvError) -> Refused
-    ensures { result ≡ refused.Error error (change.EndOperation kind.Digest session) }
+    ensures { result ≡ refused.Error error (change.FinishOperation kind.Digest session true) }
 {
     Refused::Error {
         error,
-        change: Change::EndOperation {
-            kind: OperationKind::Digest,
-            session,
-        },
+        change: finish(session, true),
     }
 }
 
@@ -140,7 +144,10 @@ impl Token {
             Ok(operation) => operation.hash(),
         };
         if let Some(reply) = length_reply(hash.len(), room) {
-            return Ok(Decision::of_reply(reply));
+            return Ok(Decision {
+                reply,
+                change: finish(session, false),
+            });
         }
         Ok(give(alloc, session, &digest(hash, bytes))?)
     }
@@ -172,7 +179,10 @@ impl Token {
             Ok(operation) => operation,
         };
         if let Some(reply) = length_reply(operation.hash().len(), room) {
-            return Ok(Decision::of_reply(reply));
+            return Ok(Decision {
+                reply,
+                change: finish(session, false),
+            });
         }
         Ok(give(alloc, session, &operation.tag())?)
     }

@@ -36,7 +36,7 @@ whole c =
     entered-agrees c.self.inside.limits h c.self.inside.parts agree c.args.caller c.args.call c.in_ok-reply.field-0.reply c.in_ok-entered.entered
     c.in_ok-reply.field-0.change c.apply.new.self c.push_reserved.new.self.history answered c.in_ok-entered.ensures.copy is
     (c.push_reserved.ensures.history ∙ rw c.in_ok-reserve-2.ensures.history)
-    (λ e legal change. c.apply.ensures.agree c.self.inside.limits h e legal change (c.reserve.ensures.agree h agree.parts))
+    (λ e legal change called. c.apply.ensures.agree c.self.inside.limits h e legal change called (c.reserve.ensures.agree h agree.parts))
 
 pub invariant_of-self-2 : goal.invariant_of-self-2
 invariant_of-self-2 c = whole c

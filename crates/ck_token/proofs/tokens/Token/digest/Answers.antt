@@ -13,9 +13,10 @@ returns-in-Some c =
     let hash = hash_in kind.Digest h c.args.session in
     let same = c.hash-hash.ensures hash (message_in kind.Digest h c.args.session) c.in-Ok.ensures.message in
     let len = length-digest_of hash c.args.bytes.now ∙ sym (c.len.ensures ∙ ap digest_length same) in
-    (c.in-Ok.ensures.passes,
-    gives-length kind.Digest c.args.session _ _ _ _ c.of_reply.ensures
-    (c.in-Some.ensures.reply (digest_of hash c.args.bytes.now) len) c.in-Some.ensures.length)
+    let given =
+    gives-length c.args.session _ _ _ _ c.finish.ensures
+    (c.in-Some.ensures.reply (digest_of hash c.args.bytes.now) len) c.in-Some.ensures.length in
+    (c.in-Ok.ensures.passes, given.0, given.1)
 
 pub returns : goal.returns
 returns c =
@@ -23,7 +24,8 @@ returns c =
     let hash = hash_in kind.Digest h c.args.session in
     let same = c.hash-hash.ensures hash (message_in kind.Digest h c.args.session) c.in-Ok.ensures.message in
     let len = length-digest_of hash c.args.bytes.now ∙ sym (c.len.ensures ∙ ap digest_length same) in
-    (c.in-Ok.ensures.passes,
-    gives-bytes kind.Digest c.args.session _ _ _ _ c.in_ok-give.ensures
+    let given =
+    gives-bytes c.args.session _ _ _ _ c.in_ok-give.ensures
     (c.in_default.ensures.reply (digest_of hash c.args.bytes.now) len)
-    (c.digest.ensures ∙ ap (λ hash. digest_of hash c.args.bytes.now) same))
+    (c.digest.ensures ∙ ap (λ hash. digest_of hash c.args.bytes.now) same) in
+    (c.in-Ok.ensures.passes, given.0, given.1)

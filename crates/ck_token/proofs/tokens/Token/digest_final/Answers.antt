@@ -14,9 +14,10 @@ returns-in-Some c =
     let message = message_in kind.Digest h c.args.session in
     let same = c.hash.ensures hash message c.in-Ok.ensures.message in
     let len = length-digest_of hash message ∙ sym (c.len.ensures ∙ ap digest_length same) in
-    (c.in-Ok.ensures.passes,
-    gives-length kind.Digest c.args.session _ _ _ _ c.of_reply.ensures
-    (c.in-Some.ensures.reply (digest_of hash message) len) c.in-Some.ensures.length)
+    let given =
+    gives-length c.args.session _ _ _ _ c.finish.ensures
+    (c.in-Some.ensures.reply (digest_of hash message) len) c.in-Some.ensures.length in
+    (c.in-Ok.ensures.passes, given.0, given.1)
 
 pub returns : goal.returns
 returns c =
@@ -25,7 +26,8 @@ returns c =
     let message = message_in kind.Digest h c.args.session in
     let same = c.hash.ensures hash message c.in-Ok.ensures.message in
     let len = length-digest_of hash message ∙ sym (c.len.ensures ∙ ap digest_length same) in
-    (c.in-Ok.ensures.passes,
-    gives-bytes kind.Digest c.args.session _ _ _ _ c.in_ok-give.ensures
+    let given =
+    gives-bytes c.args.session _ _ _ _ c.in_ok-give.ensures
     (c.in_default.ensures.reply (digest_of hash message) len)
-    (c.tag.ensures hash message c.in-Ok.ensures.message))
+    (c.tag.ensures hash message c.in-Ok.ensures.message) in
+    (c.in-Ok.ensures.passes, given.0, given.1)
