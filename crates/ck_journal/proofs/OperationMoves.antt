@@ -6,7 +6,7 @@ use Rattle.ck_journal.specs.declared.calls.Call.TheVariants as call
 use Rattle.ck_journal.specs.declared.calls.Entry.{Entry}
 use Rattle.ck_journal.specs.declared.operations.OperationKind.{OperationKind}
 use Rattle.ck_journal.specs.declared.replies.Reply.{Reply}
-use Rattle.ck_journal.specs.Histories.{done, effects_of, effects, ends_refused}
+use Rattle.ck_journal.specs.Histories.{done, effects_of, effects, may_end_refused}
 use Rattle.ck_journal.specs.Operations.{starts, ends, finishes, piece_of}
 use Rattle.ck_journal.specs.Sessions.{ends_operations}
 
@@ -24,7 +24,7 @@ piece_of-left : (c : Option Call) (k : OperationKind) (s : ℕ) → (effects_of 
 piece_of-left (Some (call.DigestUpdate session bytes)) k s l = cc
 piece_of-left other k s l = refl
 
-finishes-left : (c : Call) (k : OperationKind) (reply : Reply) (s : ℕ) → ends_refused c ≡ false
+finishes-left : (c : Call) (k : OperationKind) (reply : Reply) (s : ℕ) → may_end_refused c ≡ false
     → finishes c k reply s ≡ false
 finishes-left (call.Digest session bytes room) k reply s l = cc
 finishes-left (call.DigestUpdate session bytes) k reply s l = cc
@@ -37,8 +37,8 @@ neither false b e = (refl, e)
 
 -- an entry that leaves operations as they are
 module _ (e : Entry) (l : (effects e).operations ≡ false) (k : OperationKind) (s : ℕ) where
-  both : ((effects_of (done e)).operations ≡ false) × (ends_refused e.call ≡ false)
-  both = neither (effects_of (done e)).operations (ends_refused e.call) l
+  both : ((effects_of (done e)).operations ≡ false) × (may_end_refused e.call ≡ false)
+  both = neither (effects_of (done e)).operations (may_end_refused e.call) l
 
   pub starts_none : starts (done e) k s ≡ false
   starts_none = starts-left (done e) k s both.0

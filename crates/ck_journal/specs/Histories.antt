@@ -118,13 +118,13 @@ effects_of (Some (call.DigestUpdate session bytes)) = on_operations
 effects_of (Some (call.DigestFinal session room)) = on_operations
 
 -- the calls that may end an operation also where they are refused
-abbrev pub ends_refused : Call → Bool
-ends_refused (call.Digest session bytes room) = true
-ends_refused (call.DigestUpdate session bytes) = true
-ends_refused (call.DigestFinal session room) = true
-ends_refused other = false
+abbrev pub may_end_refused : Call → Bool
+may_end_refused (call.Digest session bytes room) = true
+may_end_refused (call.DigestUpdate session bytes) = true
+may_end_refused (call.DigestFinal session room) = true
+may_end_refused other = false
 
 -- what an entry may change; a refusal that ends no operation may still count as a wrong try of a PIN, and
 -- changes nothing else
 abbrev pub effects : Entry → Effects
-effects e = record (effects_of (done e)) { operations = (effects_of (done e)).operations || ends_refused e.call }
+effects e = record (effects_of (done e)) { operations = (effects_of (done e)).operations || may_end_refused e.call }

@@ -33,9 +33,9 @@ leaves_active (rv.Error rv_error.BufferTooSmall) given = true
 leaves_active rv.Ok (body.Length n) = true
 leaves_active other given = false
 
-abbrev pub is_too_long : Rv → Bool
-is_too_long (rv.Error rv_error.DataLenRange) = true
-is_too_long other = false
+abbrev pub is_data_len_range : Rv → Bool
+is_data_len_range (rv.Error rv_error.DataLenRange) = true
+is_data_len_range other = false
 
 -- the call ends the session's operation of the kind by this reply: C_Digest and C_DigestFinal by every other than
 -- those above, C_DigestUpdate where its piece is too long
@@ -44,7 +44,7 @@ finishes (call.Digest session bytes room) kind.Digest reply s =
     session == s && not (leaves_active reply.rv reply.body)
 finishes (call.DigestFinal session room) kind.Digest reply s =
     session == s && not (leaves_active reply.rv reply.body)
-finishes (call.DigestUpdate session bytes) kind.Digest reply s = session == s && is_too_long reply.rv
+finishes (call.DigestUpdate session bytes) kind.Digest reply s = session == s && is_data_len_range reply.rv
 finishes other k reply s = false
 
 -- the entry ends the session's operation of the kind
@@ -75,7 +75,8 @@ abbrev pub hash_for : OperationKind → Mechanism → Option Hash
 hash_for kind.Digest mechanism = digest_hash mechanism.kind
 hash_for other mechanism = hmac_hash mechanism.kind
 
--- the hash function of the session's last operation of the kind; SHA-256 where there was none
+-- the hash function of the session's last operation of the kind; SHA-256 where there was none, or its
+-- mechanism has no such function
 abbrev pub hash_in : OperationKind → History → ℕ → Hash
 hash_in k h s = unwrap_or (option_and_then (hash_for k) (mechanism_in k h s)) hash.Sha256
 

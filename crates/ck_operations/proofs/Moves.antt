@@ -13,9 +13,9 @@ use Rattle.ck_journal.specs.declared.calls.Entry.{Entry}
 use Rattle.ck_journal.specs.declared.operations.OperationKind.{OperationKind}
 use Rattle.ck_journal.specs.Histories.{History, ◌◁◌, done}
 use Rattle.ck_journal.specs.Operations.{starts, ends, is_active, mechanism_in, init_mechanism, hash_for, hash_in, piece_of, pieces_in, message_in, is_updated}
-use Rattle.ck_operations.specs.Agreement.{OperationsState, ActiveOperation, operation_at, AreSame, IsOperation, OperationsAgree}
+use Rattle.ck_operations.specs.Agreement.{OperationsState, ActiveOperation, operation_at, OptionAgrees, OperationAgrees, OperationsAgree}
 use Rattle.ck_operations.specs.Moves.{Move, Stay, Start, Add, End, Does, OnlyIn, OnlyInSession, InAll}
-use Rattle.ck_operations.specs.Rows.{same_kind, is_operation, is_of_session, IsFresh, IsAdded, IsAddedTo, HasAdded}
+use Rattle.ck_operations.specs.Rows.{same_kind, is_operation, is_of_session, IsFresh, IsUpdateOfRows, IsUpdateOf, IsUpdateOfOption}
 use Rattle.ck_operations.specs.declared.active_operations.Operation.{Operation}
 use Rattle.ck_operations.proofs.RowLemmas.{find-kept, find-removed, operation-is, same_kind-eq, and-both, apart, apart-back}
 
@@ -76,7 +76,7 @@ module _ (k : OperationKind) (e : Entry) (h : History) (s : ℕ) where
 -- ---- operations that are looked for, and those of the history
 
 -- none is found where none is active
-none-found : (found : Option Operation) → AreSame found None → found ≡ None
+none-found : (found : Option Operation) → OptionAgrees found None → found ≡ None
 none-found None same = refl
 none-found (Some o) same = absurd same
 
@@ -85,7 +85,7 @@ idle-none k h s idle =
     ap (λ t. cond t (Some (record { hash = hash_in k h s; message = message_in k h s; updated = is_updated k h s })) None) idle
 
 added-same : (bytes : List ℕ) (old new : Option Operation) (before : Option ActiveOperation)
-    → HasAdded bytes old new → AreSame old before → AreSame new (moved (Add bytes) before)
+    → IsUpdateOfOption bytes old new → OptionAgrees old before → OptionAgrees new (moved (Add bytes) before)
 added-same bytes (Some a) (Some b) (Some before) added same =
     record { message = added.message before.hash before.message same.message; updated = added.updated }
 added-same bytes (Some a) (Some b) None added same = absurd same
@@ -103,10 +103,10 @@ module _ (h : History) (old : OperationsState) (agree : OperationsAgree h old) (
   moves : (new : OperationsState) (move : OperationKind → ℕ → Move)
       → ((k : OperationKind) (s : ℕ) → Does (move k s) e k s)
       → ((k : OperationKind) (s : ℕ)
-      → AreSame (find (is_operation k s) new.rows) (moved (move k s) (operation_at k h s)))
+      → OptionAgrees (find (is_operation k s) new.rows) (moved (move k s) (operation_at k h s)))
       → OperationsAgree (e ◁ h) new
   moves new move does same = record {
-    each = λ k s. subst (AreSame (find (is_operation k s) new.rows)) (sym (operation_at-moved k e h s (move k s) (does k s)))
+    each = λ k s. subst (OptionAgrees (find (is_operation k s) new.rows)) (sym (operation_at-moved k e h s (move k s) (does k s)))
         (same k s);
   }
 
@@ -123,17 +123,17 @@ module _ (h : History) (old : OperationsState) (agree : OperationsAgree h old) (
       moves new (only kind session End) does (λ k s. ended k s (same_kind kind k && session == s) refl)
     where
       ended : (k : OperationKind) (s : ℕ) (t : Bool) → (same_kind kind k && session == s) ≡ t
-          → AreSame (find (is_operation k s) new.rows) (moved (cond t End Stay) (operation_at k h s))
+          → OptionAgrees (find (is_operation k s) new.rows) (moved (cond t End Stay) (operation_at k h s))
       ended k s true here =
           let both = and-both (same_kind kind k) (session == s) here in
           let same : (o : Operation) → is_operation k s o ≡ is_operation kind session o =
           λ o. rw (← same_kind-eq kind k both.0, ← eqb-true session s both.1) refl in
-          subst (λ found. AreSame found None)
+          subst (λ found. OptionAgrees found None)
           (sym (ap (find (is_operation k s)) rows
           ∙ find-removed (is_operation k s) (λ o. not (is_operation kind session o))
           (λ o passes. ap not (sym (same o) ∙ passes)) old.rows)) tt
       ended k s false there =
-          subst (λ found. AreSame found (operation_at k h s))
+          subst (λ found. OptionAgrees found (operation_at k h s))
           (sym (ap (find (is_operation k s)) rows
           ∙ find-kept (is_operation k s) (λ o. not (is_operation kind session o))
           (λ o passes. ap not (apart-back kind k session s there o passes)) old.rows)) (agree.each k s)
@@ -145,14 +145,14 @@ module _ (h : History) (old : OperationsState) (agree : OperationsAgree h old) (
       moves new (λ k s. cond (session == s) End Stay) does (λ k s. closed k s (session == s) refl)
     where
       closed : (k : OperationKind) (s : ℕ) (t : Bool) → session == s ≡ t
-          → AreSame (find (is_operation k s) new.rows) (moved (cond t End Stay) (operation_at k h s))
+          → OptionAgrees (find (is_operation k s) new.rows) (moved (cond t End Stay) (operation_at k h s))
       closed k s true here =
-          subst (λ found. AreSame found None)
+          subst (λ found. OptionAgrees found None)
           (sym (ap (find (is_operation k s)) rows
           ∙ find-removed (is_operation k s) (λ o. not (is_of_session session o))
           (λ o passes. ap not (ap (λ n. n == session) (operation-is k s o passes).1 ∙ eqb-back s session true here)) old.rows)) tt
       closed k s false there =
-          subst (λ found. AreSame found (operation_at k h s))
+          subst (λ found. OptionAgrees found (operation_at k h s))
           (sym (ap (find (is_operation k s)) rows
           ∙ find-kept (is_operation k s) (λ o. not (is_of_session session o))
           (λ o passes. ap not (ap (λ n. n == session) (operation-is k s o passes).1 ∙ eqb-back s session false there)) old.rows))
@@ -161,22 +161,22 @@ module _ (h : History) (old : OperationsState) (agree : OperationsAgree h old) (
   pub operations-all_ended : InAll End e → (new : OperationsState) → new.rows ≡ [] → OperationsAgree (e ◁ h) new
   operations-all_ended does new rows =
       moves new (λ k s. End) does
-      (λ k s. subst (λ found. AreSame found None) (sym (ap (find (is_operation k s)) rows)) tt)
+      (λ k s. subst (λ found. OptionAgrees found None) (sym (ap (find (is_operation k s)) rows)) tt)
 
   pub operations-added : (kind : OperationKind) (session : ℕ) (bytes : List ℕ) → OnlyIn kind session (Add bytes) e
-      → (new : OperationsState) → IsAdded kind session bytes old.rows new.rows → OperationsAgree (e ◁ h) new
+      → (new : OperationsState) → IsUpdateOfRows kind session bytes old.rows new.rows → OperationsAgree (e ◁ h) new
   operations-added kind session bytes does new is =
       moves new (only kind session (Add bytes)) does (λ k s. added k s (same_kind kind k && session == s) refl)
     where
       added : (k : OperationKind) (s : ℕ) (t : Bool) → (same_kind kind k && session == s) ≡ t
-          → AreSame (find (is_operation k s) new.rows) (moved (cond t (Add bytes) Stay) (operation_at k h s))
+          → OptionAgrees (find (is_operation k s) new.rows) (moved (cond t (Add bytes) Stay) (operation_at k h s))
       added k s true here =
           let both = and-both (same_kind kind k) (session == s) here in
           rw (← same_kind-eq kind k both.0, ← eqb-true session s both.1)
           (added-same bytes (find (is_operation kind session) old.rows) (find (is_operation kind session) new.rows)
           (operation_at kind h session) is.added (agree.each kind session))
       added k s false there =
-          subst (λ found. AreSame found (operation_at k h s)) (sym (is.others k s there)) (agree.each k s)
+          subst (λ found. OptionAgrees found (operation_at k h s)) (sym (is.others k s there)) (agree.each k s)
 
   pub operations-started : (kind : OperationKind) (session : ℕ) (hash : Hash) → OnlyIn kind session (Start hash) e
       → is_active kind h session ≡ false → (new : OperationsState) (o : Operation) → IsFresh kind session hash o
@@ -185,18 +185,18 @@ module _ (h : History) (old : OperationsState) (agree : OperationsAgree h old) (
       moves new (only kind session (Start hash)) does (λ k s. started k s (same_kind kind k && session == s) refl)
     where
       started : (k : OperationKind) (s : ℕ) (t : Bool) → (same_kind kind k && session == s) ≡ t
-          → AreSame (find (is_operation k s) new.rows) (moved (cond t (Start hash) Stay) (operation_at k h s))
+          → OptionAgrees (find (is_operation k s) new.rows) (moved (cond t (Start hash) Stay) (operation_at k h s))
       started k s true here =
           let both = and-both (same_kind kind k) (session == s) here in
           let p = is_operation k s in
           let passes : p o ≡ true = rw (fresh.session, fresh.kind) here in
           let inactive : operation_at k h s ≡ None =
           rw (← same_kind-eq kind k both.0, ← eqb-true session s both.1) (idle-none kind h session idle) in
-          let none : find p old.rows ≡ None = none-found (find p old.rows) (subst (AreSame (find p old.rows)) inactive (agree.each k s)) in
+          let none : find p old.rows ≡ None = none-found (find p old.rows) (subst (OptionAgrees (find p old.rows)) inactive (agree.each k s)) in
           let last : find p new.rows ≡ Some o =
           ap (find p) rows ∙ find-append p old.rows (o ∷ []) ∙ ap (λ found. option_or found (find p (o ∷ []))) none
           ∙ ap (λ t. cond t (Some o) None) passes in
-          subst (λ found. AreSame found (Some (record { hash = hash; message = []; updated = false }))) (sym last)
+          subst (λ found. OptionAgrees found (Some (record { hash = hash; message = []; updated = false }))) (sym last)
           (record { message = fresh.message; updated = fresh.updated })
       started k s false there =
           let p = is_operation k s in
@@ -204,4 +204,4 @@ module _ (h : History) (old : OperationsState) (agree : OperationsAgree h old) (
           let before : find p new.rows ≡ find p old.rows =
           ap (find p) rows ∙ find-append p old.rows (o ∷ []) ∙ ap (λ t. option_or (find p old.rows) (cond t (Some o) None)) fails
           ∙ or-none (find p old.rows) in
-          subst (λ found. AreSame found (operation_at k h s)) (sym before) (agree.each k s)
+          subst (λ found. OptionAgrees found (operation_at k h s)) (sym before) (agree.each k s)

@@ -12,7 +12,7 @@ use Rattle.ck_journal.specs.declared.operations.OperationKind.TheVariants as kin
 use Rattle.ck_journal.specs.Lists.{change_first}
 use Rattle.ck_operations.specs.declared.active_operations.Operation.{Operation}
 use Rattle.ck_journal.proofs.Changes.{change_first-place}
-use Rattle.ck_operations.specs.Rows.{same_kind, is_operation, is_of_session, IsAdded, IsAddedTo, HasAdded}
+use Rattle.ck_operations.specs.Rows.{same_kind, is_operation, is_of_session, IsUpdateOfRows, IsUpdateOf, IsUpdateOfOption}
 
 module _ {X : Type 0} (test keeps : X → Bool) where
   kept-step : (x : X) (xs : List X) → (test x ≡ true → keeps x ≡ true)
@@ -117,12 +117,12 @@ find-nowhere test rows none =
     ∙ slice_get_past rows (position_or_len test rows) (ltb-false _ _ (none-case _ (position_or_len test rows) none))
 
 has-added : (bytes : List ℕ) (old new : Operation) (a b : Option Operation) → a ≡ Some old → b ≡ Some new
-    → IsAddedTo bytes old new → HasAdded bytes a b
+    → IsUpdateOf bytes old new → IsUpdateOfOption bytes a b
 has-added bytes old new a b x y is = rw (x, y) is
 
 module _ (k : OperationKind) (session : ℕ) (bytes : List ℕ) (rows : List Operation) where
   pub added-at : (place : ℕ) (old new : Operation) → Some place ≡ position (is_operation k session) rows
-      → old ≡ get_or rows place old → IsAddedTo bytes old new → IsAdded k session bytes rows (set rows place new)
+      → old ≡ get_or rows place old → IsUpdateOf bytes old new → IsUpdateOfRows k session bytes rows (set rows place new)
   added-at place old new found item is =
       let at = position-Some (is_operation k session) rows place old (sym found) in
       let p = place-cases _ place (position_or_len (is_operation k session) rows) (sym found) in
@@ -139,10 +139,10 @@ module _ (k : OperationKind) (session : ℕ) (bytes : List ℕ) (rows : List Ope
             (apart k l session s apart-from) rows;
       }
 
-  nothing-added : (found : Option Operation) → found ≡ None → HasAdded bytes found found
+  nothing-added : (found : Option Operation) → found ≡ None → IsUpdateOfOption bytes found found
   nothing-added found e = rw e tt
 
-  pub added-nowhere : None ≡ position (is_operation k session) rows → IsAdded k session bytes rows rows
+  pub added-nowhere : None ≡ position (is_operation k session) rows → IsUpdateOfRows k session bytes rows rows
   added-nowhere none = record {
     added = nothing-added (find (is_operation k session) rows) (find-nowhere (is_operation k session) rows (sym none));
     others = λ l s apart-from. refl;

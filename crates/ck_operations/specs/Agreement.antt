@@ -25,16 +25,16 @@ operation_at k h s =
     then Some (record { hash = hash_in k h s; message = message_in k h s; updated = is_updated k h s })
     else None
 
-pub record IsOperation (o : Operation) (a : ActiveOperation) : Type 0 where
+pub record OperationAgrees (o : Operation) (a : ActiveOperation) : Type 0 where
   pub message : HoldsMessage a.hash o a.message
   pub updated : has_update o ≡ a.updated
 
-abbrev pub AreSame : Option Operation → Option ActiveOperation → Type 0
-AreSame (Some o) (Some a) = IsOperation o a
-AreSame None None = Unit {0}
-AreSame o a = ⊥
+abbrev pub OptionAgrees : Option Operation → Option ActiveOperation → Type 0
+OptionAgrees (Some o) (Some a) = OperationAgrees o a
+OptionAgrees None None = Unit {0}
+OptionAgrees o a = ⊥
 
 -- a session has an operation of a kind exactly where the history has one active, and then it has taken in the
 -- pieces that the history says
 pub record OperationsAgree (h : History) (o : OperationsState) : Type 0 where
-  pub each : (k : OperationKind) (s : ℕ) → AreSame (find (is_operation k s) o.rows) (operation_at k h s)
+  pub each : (k : OperationKind) (s : ℕ) → OptionAgrees (find (is_operation k s) o.rows) (operation_at k h s)

@@ -35,20 +35,20 @@ pub record IsFresh (k : OperationKind) (s : ℕ) (hash : Hash) (o : Operation) :
   pub updated : o.updated ≡ false
 
 -- the operation after an update
-pub record IsAddedTo (bytes : List ℕ) (old new : Operation) : Type 0 where
+pub record IsUpdateOf (bytes : List ℕ) (old new : Operation) : Type 0 where
   pub kind : new.kind ≡ old.kind
   pub session : new.session ≡ old.session
   pub message : (hash : Hash) (message : List ℕ) → HoldsMessage hash old message → HoldsMessage hash new (message ++ bytes)
   pub updated : new.updated ≡ true
 
 -- where there is one
-abbrev pub HasAdded : List ℕ → Option Operation → Option Operation → Type 0
-HasAdded bytes (Some old) (Some new) = IsAddedTo bytes old new
-HasAdded bytes None None = Unit {0}
-HasAdded bytes old new = ⊥
+abbrev pub IsUpdateOfOption : List ℕ → Option Operation → Option Operation → Type 0
+IsUpdateOfOption bytes (Some old) (Some new) = IsUpdateOf bytes old new
+IsUpdateOfOption bytes None None = Unit {0}
+IsUpdateOfOption bytes old new = ⊥
 
 -- the first operation of this kind in this session after an update, and the others as they were
-pub record IsAdded (k : OperationKind) (session : ℕ) (bytes : List ℕ) (old new : List Operation) : Type 0 where
-  pub added : HasAdded bytes (find (is_operation k session) old) (find (is_operation k session) new)
+pub record IsUpdateOfRows (k : OperationKind) (session : ℕ) (bytes : List ℕ) (old new : List Operation) : Type 0 where
+  pub added : IsUpdateOfOption bytes (find (is_operation k session) old) (find (is_operation k session) new)
   pub others : (l : OperationKind) (s : ℕ) → (same_kind k l && session == s) ≡ false
       → find (is_operation l s) new ≡ find (is_operation l s) old

@@ -1,7 +1,7 @@
 ghost use Rattle.std.specs.Prelude.{◌≡◌, ℕ, List, false};
 ghost use Rattle.ck_types.specs.declared.hashes.Hash.{Hash};
 ghost use Rattle.ck_mac.specs.Digests.{Holds, digest_of};
-ghost use Rattle.ck_operations.specs.Rows.{is_operation, is_of_session, IsAddedTo, HoldsMessage, has_update, IsFresh};
+ghost use Rattle.ck_operations.specs.Rows.{is_operation, is_of_session, IsUpdateOf, HoldsMessage, has_update, IsFresh};
 
 use ck_journal::OperationKind;
 use ck_mac::{Running, Tag};
@@ -68,7 +68,7 @@ impl Operation {
 
     /// Adds a piece to its message.
     pub(crate) fn add_piece(&mut self, bytes: &[u8])
-        ensures { IsAddedTo bytes.now self.old self.new }
+        ensures { IsUpdateOf bytes.now self.old self.new }
     {
         self.running.update(bytes);
         self.updated = true;

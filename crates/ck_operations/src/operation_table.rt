@@ -31,7 +31,7 @@ impl Operations {
     ghost use Rattle.ck_journal.specs.Histories.{History, start, ◌◁◌};
     ghost use Rattle.ck_journal.specs.Operations.{is_active};
     ghost use Rattle.ck_journal.specs.declared.calls.Entry.{Entry};
-    ghost use Rattle.ck_operations.specs.Agreement.{OperationsAgree, AreSame, operation_at};
+    ghost use Rattle.ck_operations.specs.Agreement.{OperationsAgree, OptionAgrees, operation_at};
     ghost use Rattle.ck_operations.specs.Moves.{Start, Add, End, OnlyIn, OnlyInSession, InAll};
 
     /// No operations, which takes no memory.
@@ -56,7 +56,7 @@ impl Operations {
     /// The session's operation of the kind, where one is active.
     pub fn get(&self, kind: OperationKind, session: u64) -> Option<&Operation>
         ensures { (h : History) → OperationsAgree h self.now
-            → AreSame (option_copied result) (operation_at kind h session) }
+            → OptionAgrees (option_copied result) (operation_at kind h session) }
     {
         find_operation(self.rows.as_slice(), kind, session)
     }

@@ -1,7 +1,7 @@
 ghost use Rattle.std.specs.Prelude.{◌≡◌, not, filter, find, position};
 ghost use Rattle.std.specs.Option.{option_copied};
 ghost use Rattle.ck_operations.specs.declared.active_operations.Operation.{Operation};
-ghost use Rattle.ck_operations.specs.Rows.{is_operation, is_of_session, IsAdded};
+ghost use Rattle.ck_operations.specs.Rows.{is_operation, is_of_session, IsUpdateOfRows};
 
 use crate::active_operations::Operation;
 use ck_journal::OperationKind;
@@ -24,7 +24,7 @@ fn place_of(rows: &[Operation], kind: OperationKind, session: u64) -> Option<usi
 
 /// Adds a piece to the message of the session's operation of the kind, where there is one.
 pub(crate) fn add_piece(rows: &mut Vec<Operation>, kind: OperationKind, session: u64, bytes: &[u8])
-    ensures { IsAdded kind session bytes.now rows.old.items rows.new.items }
+    ensures { IsUpdateOfRows kind session bytes.now rows.old.items rows.new.items }
 {
     if let Some(place) = place_of(rows.as_slice(), kind, session) {
         let row = &mut rows[place];

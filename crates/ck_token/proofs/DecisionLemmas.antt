@@ -1,6 +1,6 @@
 -- Decisions by the checks of a call, one after the other
 use Rattle.std.proofs.Common.{◌≡◌, ℕ, Bool, true, false, cond, not, List, Option, Some, None, Result, Ok, Err, length, refl, sym, ap, ◌∙◌, subst}
-use Rattle.std.specs.Prelude.{◌&&◌, is_none, nat_lt}
+use Rattle.std.specs.Prelude.{◌&&◌, is_none, is_some, nat_lt}
 use Rattle.std.specs.List.{list_any}
 use Rattle.std.specs.Result.{IsErrAnd}
 use Rattle.std.specs.Option.{option_map_or}
@@ -28,7 +28,7 @@ use Rattle.ck_journal.specs.Objects.{attributes_named, named_attributes}
 use Rattle.ck_journal.specs.Pins.{about}
 use Rattle.ck_journal.specs.Sessions.{is_open}
 use Rattle.ck_token.specs.Agreement.{adds}
-use Rattle.ck_token.specs.Changes.{change_of, end_if_too_long, refusal_change, refused_change, effect, effect_by}
+use Rattle.ck_token.specs.Changes.{change_of, end_if_too_long, wrong_try_change, refused_change, effect, effect_by}
 use Rattle.ck_token.specs.Decisions.{IsDecision, takes_memory, may_run_out, reply_of}
 use Rattle.ck_token.specs.declared.changes.Change.{Change}
 use Rattle.ck_token.specs.declared.changes.Change.TheVariants as change
@@ -37,18 +37,18 @@ use Rattle.ck_token.specs.declared.decisions.Refused.{Refused}
 use Rattle.ck_token.specs.declared.decisions.Refused.TheVariants as refused
 
 -- a refusal of a call that is about nobody's PIN changes nothing
-refusal_change-nobody : (code : RvError) → refusal_change code None ≡ change.Nothing
-refusal_change-nobody rv_error.PinIncorrect = refl
-refusal_change-nobody other = refl
+wrong_try_change-nobody : (code : RvError) → wrong_try_change code None ≡ change.Nothing
+wrong_try_change-nobody rv_error.PinIncorrect = refl
+wrong_try_change-nobody other = refl
 
 -- such a call that a check refuses
 pub refused-decision : (limits : Ranges) (h : History) (c : Call) (result : Result Decision Refused) (code : RvError)
     → IsErrAnd result (λ made. made ≡ refused.Error code change.Nothing) → call_error limits h c ≡ Some code
-    → refused_change c code (about h (Some c)) ≡ refusal_change code None → IsDecision limits h c result
+    → refused_change c code (about h (Some c)) ≡ wrong_try_change code None → IsDecision limits h c result
 refused-decision limits h c (Ok decision) code made fails nobody = absurd made
 refused-decision limits h c (Err reason) code made fails nobody =
     subst (λ (reason : Refused). IsDecision limits h c (Err reason)) (sym made)
-    (fails, sym (nobody ∙ refusal_change-nobody code))
+    (fails, sym (nobody ∙ wrong_try_change-nobody code))
 
 -- a call that passes its checks and finds no memory
 pub memory-decision : (limits : Ranges) (h : History) (c : Call) (result : Result Decision Refused)
@@ -105,8 +105,10 @@ no_list limits h c r answered free = ap (λ (r : Reply). has_list r.body) answer
         by_call : (c : Call) → takes_memory c ≡ false → has_list (allowed_reply limits h c).body ≡ false
         by_call (call.GetAttributeValue session object queries) free = cc
         by_call (call.FindObjects session max) free = cc
-        by_call (call.Digest session bytes room) free = cc
-        by_call (call.DigestFinal session room) free = cc
+        by_call (call.Digest session bytes None) free = refl
+        by_call (call.Digest session bytes (Some room)) free = cc
+        by_call (call.DigestFinal session None) free = refl
+        by_call (call.DigestFinal session (Some room)) free = cc
         by_call other free = refl
 
 -- and adds nothing
@@ -115,7 +117,7 @@ pub adds_nothing : (limits : Ranges) (h : History) (c : Call) (r : Reply) (made 
 adds_nothing limits h c r made answered is free =
     ap adds is ∙ ap (λ (r : Reply). adds (effect h c r)) answered ∙ by_error (call_error limits h c) free
   where
-    by_pin : (code : RvError) (who : Option UserType) → adds (refusal_change code who) ≡ false
+    by_pin : (code : RvError) (who : Option UserType) → adds (wrong_try_change code who) ≡ false
     by_pin rv_error.PinIncorrect None = refl
     by_pin rv_error.PinIncorrect (Some u) = refl
     by_pin other who = refl
@@ -139,8 +141,6 @@ adds_nothing limits h c r made answered is free =
         by_call (call.CreateObject session template) b free = cc
         by_call (call.CopyObject session object template) b free = cc
         by_call (call.DigestInit session mechanism) b free = cc
-        by_call (call.Digest session bytes room) b free = cc
-        by_call (call.DigestFinal session room) b free = cc
         by_call other b free = refl
 
 -- ---- checks in order, of which all before one pass
@@ -181,6 +181,14 @@ object-checks h session object checks attributes error is_so named is =
     last (Some code) = refl
 
 -- ---- a reply that gives bytes
+
+-- it was given room
+pub room-given : (room : Option ℕ) (bytes : List ℕ) → bytes_reply room bytes ≡ ok (body.Bytes bytes) → is_some room ≡ true
+room-given None bytes e = absurd (no_bytes (length bytes) bytes (ap (λ (r : Reply). r.body) e))
+  where
+    no_bytes : (n : ℕ) (bytes : List ℕ) → body.Length n ≡ body.Bytes bytes → ⊥
+    no_bytes n bytes e = cc
+room-given (Some room) bytes e = refl
 
 pub gives-bytes : (session : ℕ) (d : Decision) (tag bytes : List ℕ) (expected : Reply)
     → d ≡ record { rv = rv.Ok; body = body.Bytes tag; change = change.FinishOperation kind.Digest session true }

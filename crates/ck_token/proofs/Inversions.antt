@@ -28,7 +28,7 @@ use Rattle.ck_journal.specs.Objects.{creates, creation_session, creation_attribu
 use Rattle.ck_journal.specs.Pins.{pin_owner, about}
 use Rattle.ck_journal.specs.Searches.{matching_objects, last_number, last_or, number_of_handle, handles_in}
 use Rattle.ck_journal.specs.Sessions.{state_of}
-use Rattle.ck_token.specs.Changes.{change_of, end_if_too_long, refusal_change, refused_change, effect, effect_by}
+use Rattle.ck_token.specs.Changes.{change_of, end_if_too_long, wrong_try_change, refused_change, effect, effect_by}
 use Rattle.ck_token.specs.declared.changes.Change.{Change}
 use Rattle.ck_token.specs.declared.changes.Change.TheVariants as change
 
@@ -41,10 +41,10 @@ is_of_call (change.WrongTry u) = false
 is_of_call (change.FinishOperation k session ends) = false
 is_of_call other = true
 
-is_of_call-refusal : (code : RvError) (who : Option UserType) → is_of_call (refusal_change code who) ≡ false
-is_of_call-refusal rv_error.PinIncorrect None = refl
-is_of_call-refusal rv_error.PinIncorrect (Some u) = refl
-is_of_call-refusal other who = refl
+is_of_call-wrong_try : (code : RvError) (who : Option UserType) → is_of_call (wrong_try_change code who) ≡ false
+is_of_call-wrong_try rv_error.PinIncorrect None = refl
+is_of_call-wrong_try rv_error.PinIncorrect (Some u) = refl
+is_of_call-wrong_try other who = refl
 
 is_of_call-long : (k : OperationKind) (session : ℕ) (code : RvError) → is_of_call (end_if_too_long k session code) ≡ false
 is_of_call-long k session rv_error.DataLenRange = refl
@@ -54,7 +54,7 @@ is_of_call-refused : (c : Call) (code : RvError) (who : Option UserType) → is_
 is_of_call-refused (call.Digest session bytes room) code who = refl
 is_of_call-refused (call.DigestUpdate session bytes) code who = is_of_call-long kind.Digest session code
 is_of_call-refused (call.DigestFinal session room) code who = refl
-is_of_call-refused other code who = is_of_call-refusal code who
+is_of_call-refused other code who = is_of_call-wrong_try code who
 
 done_step : (h : History) (c : Call) (v : Rv) (b : Body) → is_of_call (effect_by h c v b) ≡ true
     → (cond (is_ok v) (Some c) None ≡ Some c) × (effect_by h c v b ≡ change_of h c b)

@@ -22,8 +22,8 @@ use Rattle.ck_journal.specs.declared.replies.Body.{Body}
 use Rattle.ck_journal.specs.declared.replies.Body.TheVariants as body
 use Rattle.ck_journal.specs.declared.replies.Reply.{Reply}
 use Rattle.ck_journal.specs.Answers.{call_error, session_error}
-use Rattle.ck_journal.specs.Histories.{History, ◌◁◌, done, is_ok, is_wrong_pin, effects_of, effects, ends_refused}
-use Rattle.ck_journal.specs.Operations.{starts, ends, finishes, piece_of, is_active, leaves_active, is_too_long, init_mechanism, hash_for}
+use Rattle.ck_journal.specs.Histories.{History, ◌◁◌, done, is_ok, is_wrong_pin, effects_of, effects, may_end_refused}
+use Rattle.ck_journal.specs.Operations.{starts, ends, finishes, piece_of, is_active, leaves_active, is_data_len_range, init_mechanism, hash_for}
 use Rattle.ck_journal.specs.Objects.{creates}
 use Rattle.ck_journal.specs.Pins.{about, is_about, is_user}
 use Rattle.ck_journal.specs.Sessions.{ends_operations}
@@ -32,7 +32,7 @@ use Rattle.ck_operations.specs.Agreement.{OperationsState, OperationsAgree}
 use Rattle.ck_operations.specs.Moves.{Move, Stay, Start, Add, End, Does, OnlyIn, OnlyInSession, InAll}
 use Rattle.ck_operations.specs.Rows.{same_kind}
 use Rattle.ck_operations.proofs.Moves.{operations-left}
-use Rattle.ck_token.specs.Changes.{refusal_change, end_if_too_long, effect_by}
+use Rattle.ck_token.specs.Changes.{wrong_try_change, end_if_too_long, effect_by}
 use Rattle.ck_token.specs.declared.changes.Change.{Change}
 use Rattle.ck_token.specs.declared.changes.Change.TheVariants as change
 
@@ -48,15 +48,15 @@ module _ (e : Entry) (c : Call) (d : done e ≡ Some c) where
 
   -- one that leaves operations as they are
   pub operations-kept : (h : History) (o : OperationsState) → (effects_of (Some c)).operations ≡ false
-      → ends_refused c ≡ false → OperationsAgree h o → OperationsAgree (e ◁ h) o
+      → may_end_refused c ≡ false → OperationsAgree h o → OperationsAgree (e ◁ h) o
   operations-kept h o idle quiet agree =
       let called = call-done (is_ok e.reply.rv) e.call c d in
       let l : (effects e).operations ≡ false =
-      ap (λ o. (effects_of o).operations || ends_refused e.call) d ∙ ap (λ t. t || ends_refused e.call) idle
-      ∙ ap ends_refused called ∙ quiet in
+      ap (λ o. (effects_of o).operations || may_end_refused e.call) d ∙ ap (λ t. t || may_end_refused e.call) idle
+      ∙ ap may_end_refused called ∙ quiet in
       operations-left h o agree e (λ k s. (starts_none e l k s, ends_none e l k s, adds_none e l k s))
 
-  creation-quiet : (c : Call) → creates (Some c) ≡ true → ((effects_of (Some c)).operations ≡ false) × (ends_refused c ≡ false)
+  creation-quiet : (c : Call) → creates (Some c) ≡ true → ((effects_of (Some c)).operations ≡ false) × (may_end_refused c ≡ false)
   creation-quiet (call.CreateObject session template) t = (refl, refl)
   creation-quiet (call.CopyObject session object template) t = (refl, refl)
   creation-quiet other t = cc
@@ -114,9 +114,9 @@ done-ok : (ok : Bool) (made c : Call) → cond ok (Some made) None ≡ Some c �
 done-ok true made c e = refl
 done-ok false made c e = cc
 
-too_long-ok : (v : Rv) → is_ok v ≡ true → is_too_long v ≡ false
-too_long-ok rv.Ok e = refl
-too_long-ok (rv.Error code) e = cc
+data_len_range-ok : (v : Rv) → is_ok v ≡ true → is_data_len_range v ≡ false
+data_len_range-ok rv.Ok e = refl
+data_len_range-ok (rv.Error code) e = cc
 
 and-false : (t : Bool) → (t && false) ≡ false
 and-false true = refl
@@ -159,7 +159,7 @@ module _ (e : Entry) (session : ℕ) where
     where
       quiet : finishes (call.DigestUpdate session bytes) kind.Digest e.reply s ≡ false
       quiet =
-          ap (λ t. session == s && t) (too_long-ok e.reply.rv (done-ok (is_ok e.reply.rv) e.call (call.DigestUpdate session bytes) d))
+          ap (λ t. session == s && t) (data_len_range-ok e.reply.rv (done-ok (is_ok e.reply.rv) e.call (call.DigestUpdate session bytes) d))
           ∙ and-false (session == s)
 
       here : (t : Bool) → session == s ≡ t → Does (cond t (Add bytes) Stay) e kind.Digest s
@@ -222,19 +222,19 @@ finishes-final x room r session last same is kind.Sign s = sym (and-false last)
 finishes-final x room r session last same is kind.Verify s = sym (and-false last)
 
 finishes-update : (x : ℕ) (bytes : List ℕ) (r : Reply) (session : ℕ) (last : Bool) → session ≡ x
-    → last ≡ is_too_long r.rv → (k : OperationKind) (s : ℕ)
+    → last ≡ is_data_len_range r.rv → (k : OperationKind) (s : ℕ)
     → finishes (call.DigestUpdate x bytes) k r s ≡ (last && (same_kind kind.Digest k && session == s))
 finishes-update x bytes r session last same is kind.Digest s =
-    and-sym (x == s) (is_too_long r.rv) ∙ ap (λ y. is_too_long r.rv && (y == s)) (sym same)
+    and-sym (x == s) (is_data_len_range r.rv) ∙ ap (λ y. is_data_len_range r.rv && (y == s)) (sym same)
     ∙ ap (λ t. t && (session == s)) (sym is)
 finishes-update x bytes r session last same is kind.Sign s = sym (and-false last)
 finishes-update x bytes r session last same is kind.Verify s = sym (and-false last)
 
-refusal_change-finishes : (code : RvError) (who : Option UserType) (k : OperationKind) (session : ℕ) (last : Bool)
-    → change.FinishOperation k session last ≡ refusal_change code who → ⊥
-refusal_change-finishes rv_error.PinIncorrect None k session last is = cc
-refusal_change-finishes rv_error.PinIncorrect (Some u) k session last is = cc
-refusal_change-finishes other who k session last is = cc
+wrong_try_change-finishes : (code : RvError) (who : Option UserType) (k : OperationKind) (session : ℕ) (last : Bool)
+    → change.FinishOperation k session last ≡ wrong_try_change code who → ⊥
+wrong_try_change-finishes rv_error.PinIncorrect None k session last is = cc
+wrong_try_change-finishes rv_error.PinIncorrect (Some u) k session last is = cc
+wrong_try_change-finishes other who k session last is = cc
 
 -- a refusal's code says whether it leaves an operation active, whatever its body
 any_body : (code : RvError) (b given : Body) → leaves_active (rv.Error code) b ≡ leaves_active (rv.Error code) given
@@ -327,7 +327,7 @@ finished-is h (call.DigestUpdate x bytes) (rv.Error rv_error.DataLenRange) b k s
 finished-is h (call.DigestUpdate x bytes) (rv.Error code) b k session last is = cc
 finished-is h other rv.Ok b k session last is = cc
 finished-is h other (rv.Error code) b k session last is =
-    absurd (refusal_change-finishes code (about h (Some other)) k session last is)
+    absurd (wrong_try_change-finishes code (about h (Some other)) k session last is)
 
 -- what it ends is that one operation, and nothing where it doesn't end it
 pub finish-does : (h : History) (n : ℕ) (c : Call) (v : Rv) (b : Body) (session : ℕ) (last : Bool) → IsFinish h session last c v b
@@ -345,7 +345,7 @@ finish-does h n c v b session last is k s = here (last && (same_kind kind.Digest
 
 -- ---- a reply that leaves operations as they are
 
-quiet-update : (x : ℕ) (bytes : List ℕ) (r : Reply) → is_too_long r.rv ≡ false
+quiet-update : (x : ℕ) (bytes : List ℕ) (r : Reply) → is_data_len_range r.rv ≡ false
     → (k : OperationKind) (s : ℕ) → finishes (call.DigestUpdate x bytes) k r s ≡ false
 quiet-update x bytes r short kind.Digest s = ap (λ t. x == s && t) short ∙ and-false (x == s)
 quiet-update x bytes r short kind.Sign s = refl

@@ -35,7 +35,7 @@ use Rattle.ck_store.proofs.Moves.{objects-left}
 use Rattle.ck_store.specs.Agreement.{StoreState, StoreAgrees}
 use Rattle.ck_operations.specs.Moves.{Stay, Does, InAll}
 use Rattle.ck_token.proofs.OperationMoves.{entry, long-no_try, nobody-tried}
-use Rattle.ck_token.specs.Changes.{change_of, refusal_change, refused_change, effect, effect_by}
+use Rattle.ck_token.specs.Changes.{change_of, wrong_try_change, refused_change, effect, effect_by}
 use Rattle.ck_token.specs.declared.changes.Change.TheVariants as change
 
 -- ---- the part that a call leaves as it is
@@ -71,11 +71,11 @@ module _ (h : History) where
   nothing_done other b is = cc
 
   -- a refusal that changes nothing is no wrong try of anybody's PIN
-  nothing_tried : (code : RvError) (c : Call) (u : UserType) → change.Nothing ≡ refusal_change code (about h (Some c))
+  nothing_tried : (code : RvError) (c : Call) (u : UserType) → change.Nothing ≡ wrong_try_change code (about h (Some c))
       → is_about u h (cond (is_wrong_pin (rv.Error code)) (Some c) None) ≡ false
   nothing_tried rv_error.PinIncorrect c u is = tried (about h (Some c)) is
     where
-      tried : (who : Option UserType) → change.Nothing ≡ refusal_change rv_error.PinIncorrect who → is_user u who ≡ false
+      tried : (who : Option UserType) → change.Nothing ≡ wrong_try_change rv_error.PinIncorrect who → is_user u who ≡ false
       tried None is = refl
       tried (Some other) is = cc
   nothing_tried other c u is = refl
@@ -113,11 +113,11 @@ module _ (h : History) where
   tried_done (call.GetSessionInfo session) b u is = cc
   tried_done other b u is = cc
 
-  tried_refusal : (code : RvError) (c : Call) (u : UserType) → change.WrongTry u ≡ refusal_change code (about h (Some c))
+  tried_refusal : (code : RvError) (c : Call) (u : UserType) → change.WrongTry u ≡ wrong_try_change code (about h (Some c))
       → about h (cond (is_wrong_pin (rv.Error code)) (Some c) None) ≡ Some u
   tried_refusal rv_error.PinIncorrect c u is = tried (about h (Some c)) is
     where
-      tried : (who : Option UserType) → change.WrongTry u ≡ refusal_change rv_error.PinIncorrect who → who ≡ Some u
+      tried : (who : Option UserType) → change.WrongTry u ≡ wrong_try_change rv_error.PinIncorrect who → who ≡ Some u
       tried None is = cc
       tried (Some other) is = cc
   tried_refusal other c u is = cc

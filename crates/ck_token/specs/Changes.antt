@@ -26,7 +26,7 @@ use Rattle.ck_journal.specs.Sessions.{state_of}
 use Rattle.ck_token.specs.declared.changes.Change.{Change}
 use Rattle.ck_token.specs.declared.changes.Change.TheVariants as change
 
--- the change of a call that was answered OK with this body
+-- the change of a call that passes its checks and is answered this body
 abbrev pub change_of : History → Call → Body → Change
 change_of h (call.InitToken pin) body = change.InitToken pin
 change_of h (call.InitPin session pin) body = change.InitPin pin
@@ -59,9 +59,9 @@ change_of h call.GetTokenInfo body = change.Nothing
 change_of h (call.GetAttributeValue session object queries) body = change.Nothing
 
 -- the change of a refusal by the user that the call is about: a wrong PIN is a wrong try
-abbrev pub refusal_change : RvError → Option UserType → Change
-refusal_change rv_error.PinIncorrect (Some u) = change.WrongTry u
-refusal_change other who = change.Nothing
+abbrev pub wrong_try_change : RvError → Option UserType → Change
+wrong_try_change rv_error.PinIncorrect (Some u) = change.WrongTry u
+wrong_try_change other who = change.Nothing
 
 -- the end of an operation, where a piece was too long
 abbrev pub end_if_too_long : OperationKind → ℕ → RvError → Change
@@ -75,7 +75,7 @@ refused_change (call.Digest session bytes room) code who =
 refused_change (call.DigestUpdate session bytes) code who = end_if_too_long kind.Digest session code
 refused_change (call.DigestFinal session room) code who =
     change.FinishOperation kind.Digest session (not (leaves_active (rv.Error code) body.Empty))
-refused_change other code who = refusal_change code who
+refused_change other code who = wrong_try_change code who
 
 -- the change of an answered call
 abbrev pub effect_by : History → Call → Rv → Body → Change

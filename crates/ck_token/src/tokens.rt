@@ -149,7 +149,7 @@ impl Token {
     /// Answers a call and enters it in the journal. Where there is no memory for it, nothing has changed and
     /// the call isn't in the journal. Where the journal has room, only a call that passes its checks can run
     /// out of memory, and only one that opens a session, creates or changes an object, searches, reads
-    /// attributes, or starts or finishes a digest.
+    /// attributes, starts a digest or gives one.
     pub fn call(&mut self, alloc: Global, caller: u32, call: Call) -> Result<Reply, NoMemory>
         ensures answered { IfOk result (λ reply. IsAnswered self.old self.new caller call reply) }
         ensures unchanged { OnErr result (IsUnchanged self.old self.new) }

@@ -1,10 +1,11 @@
 use Rattle.std.proofs.Common.{sym, ap, ◌∙◌}
 use Rattle.ck_types.specs.Hashes.{digest_length}
 use Rattle.ck_journal.specs.Operations.{hash_in, message_in}
+use Rattle.ck_journal.specs.declared.calls.Call.TheVariants as call
 use Rattle.ck_journal.specs.declared.operations.OperationKind.TheVariants as kind
 use Rattle.ck_mac.specs.Digests.{digest_of}
 use Rattle.ck_mac.proofs.LengthLemmas.{length-digest_of}
-use Rattle.ck_token.proofs.DecisionLemmas.{gives-bytes}
+use Rattle.ck_token.proofs.DecisionLemmas.{gives-bytes, memory-decision, room-given}
 use Rattle.ck_token.proofs.tokens.Token.digest.Goals as goal
 
 pub returns-in-Some : goal.returns-in-Some
@@ -26,3 +27,12 @@ returns c =
     (c.in_default.ensures (digest_of hash c.args.bytes.now) len)
     (c.digest.ensures ∙ ap (λ hash. digest_of hash c.args.bytes.now) same) in
     (c.in-Ok.ensures.passes, given.0, given.1)
+
+pub returns-in_err-give : goal.returns-in_err-give
+returns-in_err-give c =
+    let h = c.args.self.now.history in
+    let hash = hash_in kind.Digest h c.args.session in
+    let same = c.hash-hash.ensures hash (message_in kind.Digest h c.args.session) c.in-Ok.ensures.message in
+    let len = length-digest_of hash c.args.bytes.now ∙ sym (c.len-len.ensures ∙ ap digest_length same) in
+    memory-decision c.args.self.now.limits h (call.Digest c.args.session c.args.bytes.now c.args.room) _ c.from_residual.ensures.1 c.in-Ok.ensures.passes
+    (room-given c.args.room (digest_of hash c.args.bytes.now) (c.in_default.ensures (digest_of hash c.args.bytes.now) len))
