@@ -1,5 +1,7 @@
 -- Lines that are read on, and lines that are too long
-use Rattle.std.proofs.Common.{◌≡◌, ℕ, ◌<◌, ◌≤◌, Bool, true, false, cond, List, [], ◌∷◌, ◌++◌, Option, Some, None, Err, length, refl, sym, ap, ◌∙◌, inl, inr, arith, append_assoc}
+use Rattle.std.proofs.Common.{◌≡◌, ℕ, ◌<◌, ◌≤◌, Bool, true, false, cond, List, [], ◌∷◌, ◌++◌}
+use Rattle.std.proofs.Common.{Option, Some, None, Err, length, refl, sym, ap, ◌∙◌, inl, inr, arith}
+use Rattle.std.proofs.Common.{append_assoc}
 use Rattle.std.proofs.lemmas.Bool.{ltb-true, ltb-false}
 use Rattle.std.proofs.lemmas.Bool.Decides.{nat_tests}
 use Rattle.std.specs.Prelude.{◌==◌, ◌⊎◌, nat_lt as ltb, Result}
@@ -63,7 +65,8 @@ record HasFirst (lines : List (List ℕ)) : Type 0 where
   rest : List (List ℕ)
   parts : lines ≡ first ∷ rest
 
-has_first-step : (x : ℕ) (test : Bool) (lines : List (List ℕ)) → HasFirst (cond test ([] ∷ lines) (onto_first x lines))
+has_first-step : (x : ℕ) (test : Bool) (lines : List (List ℕ))
+    → HasFirst (cond test ([] ∷ lines) (onto_first x lines))
 has_first-step x true lines = record { first = []; rest = lines; parts = refl }
 has_first-step x false [] = record { first = x ∷ []; rest = []; parts = refl }
 has_first-step x false (l ∷ lines) = record { first = x ∷ l; rest = lines; parts = refl }
@@ -76,35 +79,44 @@ onto-empty : (lines : List (List ℕ)) → HasFirst lines → lines ≡ onto [] 
 onto-empty [] h = cc h.parts
 onto-empty (l ∷ lines) h = refl
 
-glue-ended : (lines more : List (List ℕ)) → HasFirst lines → [] ∷ glue lines more ≡ glue ([] ∷ lines) more
+glue-ended : (lines more : List (List ℕ)) → HasFirst lines
+    → [] ∷ glue lines more ≡ glue ([] ∷ lines) more
 glue-ended [] more h = cc h.parts
 glue-ended (l ∷ lines) more h = refl
 
-glue-byte : (x : ℕ) (lines more : List (List ℕ)) → HasFirst lines → onto_first x (glue lines more) ≡ glue (onto_first x lines) more
+glue-byte : (x : ℕ) (lines more : List (List ℕ)) → HasFirst lines
+    → onto_first x (glue lines more) ≡ glue (onto_first x lines) more
 glue-byte x [] [] h = refl
 glue-byte x [] (m ∷ more) h = refl
 glue-byte x (l ∷ []) [] h = refl
 glue-byte x (l ∷ []) (m ∷ more) h = refl
 glue-byte x (l ∷ k ∷ lines) more h = refl
 
-glue-step : (x : ℕ) (test : Bool) (lines more : List (List ℕ)) → HasFirst lines → cond test ([] ∷ glue lines more) (onto_first x (glue lines more)) ≡ glue (cond test ([] ∷ lines) (onto_first x lines)) more
+glue-step : (x : ℕ) (test : Bool) (lines more : List (List ℕ)) → HasFirst lines
+    → cond test ([] ∷ glue lines more) (onto_first x (glue lines more))
+    ≡ glue (cond test ([] ∷ lines) (onto_first x lines)) more
 glue-step x true lines more h = glue-ended lines more h
 glue-step x false lines more h = glue-byte x lines more h
 
 lines_in-append : (xs ys : List ℕ) → lines_in (xs ++ ys) ≡ glue (lines_in xs) (lines_in ys)
 lines_in-append [] ys = onto-empty (lines_in ys) (has_first ys)
 lines_in-append (x ∷ xs) ys =
-    ap (λ lines. cond (x == LINE_END) ([] ∷ lines) (onto_first x lines)) (lines_in-append xs ys) ∙ glue-step x (x == LINE_END) (lines_in xs) (lines_in ys) (has_first xs)
+    ap (λ lines. cond (x == LINE_END) ([] ∷ lines) (onto_first x lines)) (lines_in-append xs ys)
+    ∙ glue-step x (x == LINE_END) (lines_in xs) (lines_in ys) (has_first xs)
 
-glue-last : (before : List (List ℕ)) (l : List ℕ) (more : List (List ℕ)) → glue (before ++ l ∷ []) more ≡ before ++ onto l more
+glue-last : (before : List (List ℕ)) (l : List ℕ) (more : List (List ℕ))
+    → glue (before ++ l ∷ []) more ≡ before ++ onto l more
 glue-last [] l more = refl
 glue-last (b ∷ []) l more = refl
 glue-last (b ∷ c ∷ before) l more = ap (λ lines. b ∷ lines) (glue-last (c ∷ before) l more)
 
 -- what is read next goes on with the line that has no end yet
-pub lines_in-read_on : (script more : List ℕ) (before : List (List ℕ)) (l : List ℕ) → lines_in script ≡ before ++ l ∷ [] → lines_in (script ++ more) ≡ before ++ onto l (lines_in more)
+pub lines_in-read_on : (script more : List ℕ) (before : List (List ℕ)) (l : List ℕ)
+    → lines_in script ≡ before ++ l ∷ []
+    → lines_in (script ++ more) ≡ before ++ onto l (lines_in more)
 lines_in-read_on script more before l parts =
-    lines_in-append script more ∙ ap (λ lines. glue lines (lines_in more)) parts ∙ glue-last before l (lines_in more)
+    lines_in-append script more ∙ ap (λ lines. glue lines (lines_in more)) parts
+    ∙ glue-last before l (lines_in more)
 
 -- the line before further bytes has its end
 pub is_over-lines_in : (xs : List ℕ) → is_over (lines_in xs) false ≡ true
@@ -112,10 +124,16 @@ is_over-lines_in xs = rw (has_first xs).parts
 
 -- the first line to come goes on with the open line
 pub first_later : (all before later more : List (List ℕ)) (open_line piece : List ℕ)
-    → all ≡ before ++ onto open_line later → later ≡ piece ∷ more → all ≡ before ++ (open_line ++ piece) ∷ more
-first_later all before later more open_line piece e f = e ∙ ap (λ lines. before ++ onto open_line lines) f
+    → all ≡ before ++ onto open_line later → later ≡ piece ∷ more
+    → all ≡ before ++ (open_line ++ piece) ∷ more
+first_later all before later more open_line piece e f =
+    e ∙ ap (λ lines. before ++ onto open_line lines) f
 
 -- once it is answered, the next line is open
-pub next_later : (all before : List (List ℕ)) (l open_line more : List ℕ) → all ≡ before ++ l ∷ lines_in more → open_line ≡ [] → all ≡ (before ++ l ∷ []) ++ onto open_line (lines_in more)
+pub next_later : (all before : List (List ℕ)) (l open_line more : List ℕ)
+    → all ≡ before ++ l ∷ lines_in more → open_line ≡ []
+    → all ≡ (before ++ l ∷ []) ++ onto open_line (lines_in more)
 next_later all before l open_line more e none =
-    e ∙ ap (λ lines. before ++ l ∷ lines) (onto-empty (lines_in more) (has_first more) ∙ ap (λ bytes. onto bytes (lines_in more)) (sym none)) ∙ sym (append_assoc before (l ∷ []) (onto open_line (lines_in more)))
+    e ∙ ap (λ lines. before ++ l ∷ lines) (onto-empty (lines_in more) (has_first more)
+    ∙ ap (λ bytes. onto bytes (lines_in more)) (sym none))
+    ∙ sym (append_assoc before (l ∷ []) (onto open_line (lines_in more)))

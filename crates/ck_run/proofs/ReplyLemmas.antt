@@ -1,5 +1,6 @@
 -- The calls of further lines, and the history after further calls
-use Rattle.std.proofs.Common.{◌≡◌, ℕ, List, [], ◌∷◌, ◌++◌, Option, Some, None, refl, sym, ap, ◌∙◌, false}
+use Rattle.std.proofs.Common.{◌≡◌, ℕ, List, [], ◌∷◌, ◌++◌, Option, Some, None, refl, sym, ap, ◌∙◌}
+use Rattle.std.proofs.Common.{false}
 use Rattle.ck_types.specs.TokenLimits.{Ranges}
 use Rattle.ck_journal.specs.Bases.{empty_base}
 use Rattle.ck_journal.specs.Histories.{History, start}
@@ -16,7 +17,8 @@ with_call-append (Some (line.Called caller call)) cs ds = refl
 with_call-append (Some line.Skipped) cs ds = refl
 with_call-append None cs ds = refl
 
-calls_in-append : (lines more : List (List ℕ)) → calls_in (lines ++ more) ≡ calls_in lines ++ calls_in more
+calls_in-append : (lines more : List (List ℕ))
+    → calls_in (lines ++ more) ≡ calls_in lines ++ calls_in more
 calls_in-append [] more = refl
 calls_in-append (l ∷ lines) more =
     ap (with_call (meaning l)) (calls_in-append lines more)

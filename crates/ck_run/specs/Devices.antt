@@ -1,5 +1,6 @@
 -- What was read of a source and written to a sink
-use Rattle.std.specs.Prelude.{◌≡◌, ℕ, zero, suc, Bool, ◌&&◌, ◌==◌, ◌++◌, min, not, List, [], Option, Some, Result, Ok, Err, length, take, if◌then◌else◌}
+use Rattle.std.specs.Prelude.{◌≡◌, ℕ, zero, suc, Bool, ◌&&◌, ◌==◌, ◌++◌, min, not, List, [], Option}
+use Rattle.std.specs.Prelude.{Some, Result, Ok, Err, length, take, if◌then◌else◌}
 
 -- the script, the bytes of it that were read, those that were read before the last read, and how
 -- many reads were made, found the end, and failed

@@ -1,5 +1,6 @@
 -- Where playing stands between two lines
-use Rattle.std.specs.Prelude.{◌≡◌, ◌<◌, ◌≤◌, ℕ, suc, Bool, true, false, List, [], ◌∷◌, ◌++◌, Ok, Err, length, min}
+use Rattle.std.specs.Prelude.{◌≡◌, ◌<◌, ◌≤◌, ℕ, suc, Bool, true, false, List, [], ◌∷◌, ◌++◌, Ok}
+use Rattle.std.specs.Prelude.{Err, length, min}
 use Rattle.ck_types.specs.TokenLimits.{Ranges}
 use Rattle.ck_journal.specs.Answers.{answer}
 use Rattle.ck_journal.specs.declared.calls.Call.{Call}
@@ -8,7 +9,8 @@ use Rattle.ck_script.specs.Replies.{reply_text}
 use Rattle.ck_script.specs.declared.lines.TheConstants.{LONGEST_LINE}
 use Rattle.ck_token.specs.TokenStates.{TokenState}
 use Rattle.ck_run.specs.Devices.{Reading, Writing, wrote, failed_write, IsCount}
-use Rattle.ck_run.specs.Plays.{AreGood, called, history_of, output_of, Outcome, failed_writes, is_over, after_reads, IsPlayed}
+use Rattle.ck_run.specs.Plays.{AreGood, called, history_of, output_of, Outcome, failed_writes}
+use Rattle.ck_run.specs.Plays.{is_over, after_reads, IsPlayed}
 use Rattle.ck_run.specs.declared.faults.PlayFault.{PlayFault}
 use Rattle.ck_run.specs.declared.faults.PlayFault.TheVariants as fault
 use Rattle.ck_run.specs.declared.players.Player.{Player}

@@ -1,5 +1,6 @@
 -- What playing a script writes, and how it ends
-use Rattle.std.specs.Prelude.{◌≡◌, ◌⊎◌, ◌<◌, ◌≤◌, ◌+◌, ℕ, zero, suc, Bool, true, false, List, [], ◌∷◌, ◌++◌, Option, Some, None, Result, Ok, Err, length}
+use Rattle.std.specs.Prelude.{◌≡◌, ◌⊎◌, ◌<◌, ◌≤◌, ◌+◌, ℕ, zero, suc, Bool, true, false, List, []}
+use Rattle.std.specs.Prelude.{◌∷◌, ◌++◌, Option, Some, None, Result, Ok, Err, length}
 use Rattle.ck_types.specs.TokenLimits.{Ranges}
 use Rattle.ck_journal.specs.Bases.{empty_base}
 use Rattle.ck_journal.specs.Histories.{History, start, ◌◁◌}
@@ -193,4 +194,5 @@ pub record IsPlayed (limits : Ranges) (turns : ℕ) (read : Reading) (written : 
     failures = failed_writes written.failures result;
   })
   pub within : AreReads turns reads result
-  pub outcome : Outcome limits (lines_in script) ended (ended_lines (lines_in earlier)) output result
+  pub outcome : Outcome limits (lines_in script) ended
+      (ended_lines (lines_in earlier)) output result

@@ -167,13 +167,17 @@ fn a_writer_that_fails_has_a_beginning_of_the_replies(rt: HostRuntime) -> Result
 fn faults_have_their_texts_and_statuses(rt: HostRuntime) -> Result<(), Fail> {
     let rows = [
         (
-            PlayFault::Line(2, BadLine::ArgumentCount(CallName::Login, Arity::Three)),
+            PlayFault::Line(
+                2,
+                BadLine::ArgumentCount(CallName::of(b"Login").unwrap(), Arity::Three),
+            ),
             "line 2: bad script: Login takes 3 arguments",
             1,
         ),
         (
             PlayFault::Line(u64::MAX, BadLine::CarriageReturn),
-            "line 18446744073709551615: bad script: a carriage return stands at the end of the line",
+            "line 18446744073709551615: bad script: a carriage return stands at the end of the \
+             line",
             1,
         ),
         (PlayFault::Read, "read fault", 3),

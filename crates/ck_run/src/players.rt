@@ -1,9 +1,11 @@
 //! A token that is played a script, line by line.
-ghost use Rattle.std.specs.Prelude.{◌≡◌, ◌++◌, ◌<◌, ◌≤◌, suc, [], length, take, min, IfOk, IfErr, OnOk, OnErr};
+ghost use Rattle.std.specs.Prelude.{◌≡◌, ◌++◌, ◌<◌, ◌≤◌, suc, [], length, take, min, IfOk, IfErr};
+ghost use Rattle.std.specs.Prelude.{OnOk, OnErr};
 ghost use Rattle.ck_journal.specs.Answers.{answer};
 ghost use Rattle.ck_script.specs.Replies.{reply_text};
 ghost use Rattle.ck_run.specs.Devices.{Writing, wrote, failed_write};
-ghost use Rattle.ck_run.specs.Players.{IsUnwritten, IsRefused, IsCalled, AnswersLine, StopsAtLine, AnswersChunk, StopsInChunk, next_number};
+ghost use Rattle.ck_run.specs.Players.{IsUnwritten, IsRefused, IsCalled, AnswersLine, StopsAtLine};
+ghost use Rattle.ck_run.specs.Players.{AnswersChunk, StopsInChunk, next_number};
 
 use crate::devices::Sink;
 use crate::faults::PlayFault;

@@ -1,5 +1,6 @@
 //! Scripts that are read from a source, and answered to a sink.
-ghost use Rattle.std.specs.Prelude.{◌≡◌, ◌<◌, ◌≤◌, ◌==◌, [], length, take, IfOk, IfErr, OnErr, if◌then◌else◌};
+ghost use Rattle.std.specs.Prelude.{◌≡◌, ◌<◌, ◌≤◌, ◌==◌, [], length, take, IfOk, IfErr, OnErr};
+ghost use Rattle.std.specs.Prelude.{if◌then◌else◌};
 ghost use Rattle.ck_types.specs.TokenLimits.{Ranges};
 ghost use Rattle.ck_run.specs.Devices.{Reading, Writing, end_read, failed_read, read_on};
 ghost use Rattle.ck_run.specs.Players.{IsReading, TakesTurn, StopsInTurn};

@@ -3,3 +3,4 @@ pub mod DigitLemmas
 pub mod NumberLemmas
 pub mod JoinLemmas
 pub mod LineLemmas
+pub mod NameLemmas

@@ -1,5 +1,6 @@
 -- The first of the parts of a text
-use Rattle.std.proofs.Common.{◌≡◌, ℕ, ◌+◌, ◌-◌, ◌≤◌, ◌<◌, Bool, true, false, cond, List, [], ◌∷◌, Some, None, length, take, drop, refl, sym, ap, ◌∙◌, arith}
+use Rattle.std.proofs.Common.{◌≡◌, ℕ, ◌+◌, ◌-◌, ◌≤◌, ◌<◌, Bool, true, false, cond, List, [], ◌∷◌}
+use Rattle.std.proofs.Common.{Some, None, length, take, drop, refl, sym, ap, ◌∙◌, arith}
 use Rattle.std.specs.Prelude.{◌==◌, nat_lt, position}
 use Rattle.std.specs.List.{slice_split, position_or_len}
 use Rattle.std.proofs.lemmas.List.Splits.{slice_split_first, slice_split_none}
@@ -9,20 +10,24 @@ use Rattle.ck_script.specs.Parts.{parts_left}
 use borrow.Author.Tests.{ltb-true, ltb-false}
 
 module _ (p : ℕ → Bool) (text : List ℕ) where
-  within : (test : Bool) (end : ℕ) → nat_lt (position_or_len p text) (length text) ≡ test → cond test (Some (position_or_len p text)) None ≡ Some end
+  within : (test : Bool) (end : ℕ) → nat_lt (position_or_len p text) (length text) ≡ test
+      → cond test (Some (position_or_len p text)) None ≡ Some end
       → (position_or_len p text < length text) × (position_or_len p text ≡ end)
   within true end t e = (ltb-true _ _ t, cc)
   within false end t e = cc
 
-  past : (test : Bool) → nat_lt (position_or_len p text) (length text) ≡ test → cond test (Some (position_or_len p text)) None ≡ None
+  past : (test : Bool) → nat_lt (position_or_len p text) (length text) ≡ test
+      → cond test (Some (position_or_len p text)) None ≡ None
       → length text ≤ position_or_len p text
   past true t e = cc
   past false t e = ltb-false _ _ t
 
-  pub slice_split-some : (end : ℕ) → position p text ≡ Some end → slice_split p text ≡ take end text ∷ slice_split p (drop (end + 1) text)
+  pub slice_split-some : (end : ℕ) → position p text ≡ Some end
+      → slice_split p text ≡ take end text ∷ slice_split p (drop (end + 1) text)
   slice_split-some end e =
       let found = within (nat_lt (position_or_len p text) (length text)) end refl e in
-      slice_split_first p text 0 found.0 ∙ ap (λ n. take n text ∷ slice_split p (drop (n + 1) text)) found.1
+      slice_split_first p text 0 found.0
+      ∙ ap (λ n. take n text ∷ slice_split p (drop (n + 1) text)) found.1
 
   pub slice_split-none : position p text ≡ None → slice_split p text ≡ text ∷ []
   slice_split-none e =
@@ -30,13 +35,19 @@ module _ (p : ℕ → Bool) (text : List ℕ) where
       slice_split_none p text (λ k d l. fails_before_first p text k d (omega arith))
 
 -- the parts that are left before and after the next one is taken off
-pub parts_left-some : (separator : ℕ) (is_done : Bool) (text : List ℕ) (end : ℕ) → is_done ≡ false → Some end ≡ position (λ byte. byte == separator) text
-    → parts_left separator is_done text ≡ take end text ∷ parts_left separator is_done (take (length text - (end + 1)) (drop (end + 1) text))
+pub parts_left-some : (separator : ℕ) (is_done : Bool) (text : List ℕ) (end : ℕ) → is_done ≡ false
+    → Some end ≡ position (λ byte. byte == separator) text
+    → parts_left separator is_done text
+    ≡ take end text ∷ parts_left separator is_done
+    (take (length text - (end + 1)) (drop (end + 1) text))
 parts_left-some separator true text end done e = cc
 parts_left-some separator false text end done e =
-    slice_split-some _ text end (sym e) ∙ ap (λ rest. take end text ∷ slice_split (λ byte. byte == separator) rest) (sym (take_rest text (end + 1)))
+    slice_split-some _ text end (sym e)
+    ∙ ap (λ rest. take end text ∷ slice_split (λ byte. byte == separator) rest)
+    (sym (take_rest text (end + 1)))
 
-pub parts_left-none : (separator : ℕ) (is_done : Bool) (text : List ℕ) → is_done ≡ false → None ≡ position (λ byte. byte == separator) text
+pub parts_left-none : (separator : ℕ) (is_done : Bool) (text : List ℕ) → is_done ≡ false
+    → None ≡ position (λ byte. byte == separator) text
     → parts_left separator is_done text ≡ text ∷ []
 parts_left-none separator true text done e = cc
 parts_left-none separator false text done e = slice_split-none _ text (sym e)

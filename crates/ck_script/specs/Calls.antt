@@ -3,108 +3,72 @@ use Rattle.std.specs.Prelude.{ℕ, List, Option, option_map, option_and_then}
 use Rattle.ck_journal.specs.declared.calls.Call.{Call}
 use Rattle.ck_journal.specs.declared.calls.Call.TheVariants as call
 use Rattle.ck_script.specs.Parts.{with_none, with_one, with_two, with_three}
-use Rattle.ck_script.specs.Arguments.{number_in, code_number_in, pin_in, template_in, queries_in, both, all_three}
-use Rattle.ck_script.specs.CallNames.{name_in}
-use Rattle.ck_script.specs.declared.call_names.CallName.{CallName}
-use Rattle.ck_script.specs.declared.call_names.CallName.TheVariants as name
+use Rattle.ck_script.specs.Arguments.{number_in, code_number_in, bytes_in, pin_in, room_in}
+use Rattle.ck_script.specs.Arguments.{mechanism_in, template_in, queries_in}
+use Rattle.ck_script.specs.Arguments.{both, all_three}
+use Rattle.ck_script.specs.CallNames.{row_named}
+use Rattle.ck_script.specs.declared.call_names.Function.{Function}
+use Rattle.ck_script.specs.declared.call_names.Function.TheVariants as function
 
--- ---- calls, each by its arguments
+-- ---- as many arguments as a call takes, each with its meaning
 
-abbrev pub init_token_in : List (List ℕ) → Option Call
-init_token_in = with_one (λ pin. option_map call.InitToken (pin_in pin))
+abbrev pub two_in : {A B : Type 0}
+    → (List ℕ → Option A) → (List ℕ → Option B) → List (List ℕ) → Option (A × B)
+two_in first second = with_two (λ a b. both (λ x y. (x, y)) (first a) (second b))
 
-abbrev pub init_pin_in : List (List ℕ) → Option Call
-init_pin_in = with_two (λ session pin. both call.InitPin (number_in session) (pin_in pin))
+abbrev pub three_in : {A B C : Type 0}
+    → (List ℕ → Option A) → (List ℕ → Option B) → (List ℕ → Option C)
+    → List (List ℕ) → Option (A × B × C)
+three_in first second third =
+    with_three (λ a b c. all_three (λ x y z. (x, y, z)) (first a) (second b) (third c))
 
-abbrev pub set_pin_in : List (List ℕ) → Option Call
-set_pin_in =
-    with_three (λ session old new. all_three call.SetPin (number_in session) (pin_in old) (pin_in new))
+-- ---- the call that arguments make
 
-abbrev pub get_token_info_in : List (List ℕ) → Option Call
-get_token_info_in = with_none call.GetTokenInfo
+abbrev pub takes_none : Call → List (List ℕ) → Option Call
+takes_none made arguments = with_none made arguments
 
-abbrev pub open_session_in : List (List ℕ) → Option Call
-open_session_in = with_one (λ flags. option_map call.OpenSession (code_number_in flags))
+abbrev pub takes_one : {A : Type 0} → (List ℕ → Option A) → (A → Call) → List (List ℕ) → Option Call
+takes_one meaning made arguments = option_map made (with_one meaning arguments)
 
-abbrev pub close_session_in : List (List ℕ) → Option Call
-close_session_in = with_one (λ session. option_map call.CloseSession (number_in session))
+abbrev pub takes_two : {A B : Type 0} → (List ℕ → Option A) → (List ℕ → Option B)
+    → (A → B → Call) → List (List ℕ) → Option Call
+takes_two {A} {B} first second made arguments =
+    option_map (λ (p : A × B). made p.0 p.1) (two_in first second arguments)
 
-abbrev pub close_all_sessions_in : List (List ℕ) → Option Call
-close_all_sessions_in = with_none call.CloseAllSessions
+abbrev pub takes_three : {A B C : Type 0} → (List ℕ → Option A) → (List ℕ → Option B)
+    → (List ℕ → Option C) → (A → B → C → Call) → List (List ℕ) → Option Call
+takes_three {A} {B} {C} first second third made arguments =
+    option_map (λ (p : A × B × C). made p.0 p.1 p.2) (three_in first second third arguments)
 
-abbrev pub get_session_info_in : List (List ℕ) → Option Call
-get_session_info_in = with_one (λ session. option_map call.GetSessionInfo (number_in session))
+-- ---- the calls by their functions
 
-abbrev pub login_in : List (List ℕ) → Option Call
-login_in =
-    with_three (λ session user pin. all_three call.Login (number_in session) (number_in user) (pin_in pin))
-
-abbrev pub logout_in : List (List ℕ) → Option Call
-logout_in = with_one (λ session. option_map call.Logout (number_in session))
-
-abbrev pub create_object_in : List (List ℕ) → Option Call
-create_object_in =
-    with_two (λ session template.
-    both (λ s items. call.CreateObject s (record { items = items }))
-    (number_in session) (template_in template))
-
-abbrev pub copy_object_in : List (List ℕ) → Option Call
-copy_object_in =
-    with_three (λ session object template.
-    all_three (λ s o items. call.CopyObject s o (record { items = items }))
-    (number_in session) (number_in object) (template_in template))
-
-abbrev pub destroy_object_in : List (List ℕ) → Option Call
-destroy_object_in =
-    with_two (λ session object. both call.DestroyObject (number_in session) (number_in object))
-
-abbrev pub get_attribute_value_in : List (List ℕ) → Option Call
-get_attribute_value_in =
-    with_three (λ session object queries.
-    all_three (λ s o q. call.GetAttributeValue s o q)
-    (number_in session) (number_in object) (queries_in queries))
-
-abbrev pub set_attribute_value_in : List (List ℕ) → Option Call
-set_attribute_value_in =
-    with_three (λ session object template.
-    all_three (λ s o items. call.SetAttributeValue s o (record { items = items }))
-    (number_in session) (number_in object) (template_in template))
-
-abbrev pub find_objects_init_in : List (List ℕ) → Option Call
-find_objects_init_in =
-    with_two (λ session template.
-    both (λ s items. call.FindObjectsInit s (record { items = items }))
-    (number_in session) (template_in template))
-
-abbrev pub find_objects_in : List (List ℕ) → Option Call
-find_objects_in =
-    with_two (λ session max. both call.FindObjects (number_in session) (number_in max))
-
-abbrev pub find_objects_final_in : List (List ℕ) → Option Call
-find_objects_final_in = with_one (λ session. option_map call.FindObjectsFinal (number_in session))
-
--- ---- calls by their names
-
-abbrev pub call_of : CallName → List (List ℕ) → Option Call
-call_of name.InitToken arguments = init_token_in arguments
-call_of name.InitPin arguments = init_pin_in arguments
-call_of name.SetPin arguments = set_pin_in arguments
-call_of name.GetTokenInfo arguments = get_token_info_in arguments
-call_of name.OpenSession arguments = open_session_in arguments
-call_of name.CloseSession arguments = close_session_in arguments
-call_of name.CloseAllSessions arguments = close_all_sessions_in arguments
-call_of name.GetSessionInfo arguments = get_session_info_in arguments
-call_of name.Login arguments = login_in arguments
-call_of name.Logout arguments = logout_in arguments
-call_of name.CreateObject arguments = create_object_in arguments
-call_of name.CopyObject arguments = copy_object_in arguments
-call_of name.DestroyObject arguments = destroy_object_in arguments
-call_of name.GetAttributeValue arguments = get_attribute_value_in arguments
-call_of name.SetAttributeValue arguments = set_attribute_value_in arguments
-call_of name.FindObjectsInit arguments = find_objects_init_in arguments
-call_of name.FindObjects arguments = find_objects_in arguments
-call_of name.FindObjectsFinal arguments = find_objects_final_in arguments
+abbrev pub call_of : Function → List (List ℕ) → Option Call
+call_of function.InitToken = takes_one pin_in call.InitToken
+call_of function.InitPin = takes_two number_in pin_in call.InitPin
+call_of function.SetPin = takes_three number_in pin_in pin_in call.SetPin
+call_of function.GetTokenInfo = takes_none call.GetTokenInfo
+call_of function.OpenSession = takes_one code_number_in call.OpenSession
+call_of function.CloseSession = takes_one number_in call.CloseSession
+call_of function.CloseAllSessions = takes_none call.CloseAllSessions
+call_of function.GetSessionInfo = takes_one number_in call.GetSessionInfo
+call_of function.Login = takes_three number_in number_in pin_in call.Login
+call_of function.Logout = takes_one number_in call.Logout
+call_of function.CreateObject = takes_two number_in template_in call.CreateObject
+call_of function.CopyObject = takes_three number_in number_in template_in call.CopyObject
+call_of function.DestroyObject = takes_two number_in number_in call.DestroyObject
+call_of function.GetAttributeValue =
+    takes_three number_in number_in queries_in call.GetAttributeValue
+call_of function.SetAttributeValue =
+    takes_three number_in number_in template_in call.SetAttributeValue
+call_of function.FindObjectsInit = takes_two number_in template_in call.FindObjectsInit
+call_of function.FindObjects = takes_two number_in number_in call.FindObjects
+call_of function.FindObjectsFinal = takes_one number_in call.FindObjectsFinal
+call_of function.DigestInit = takes_two number_in mechanism_in call.DigestInit
+call_of function.Digest = takes_three number_in bytes_in room_in call.Digest
+call_of function.DigestUpdate = takes_two number_in bytes_in call.DigestUpdate
+call_of function.DigestFinal = takes_two number_in room_in call.DigestFinal
 
 -- the call of this name with these arguments
 abbrev pub call_in : List ℕ → List (List ℕ) → Option Call
-call_in name arguments = option_and_then (λ (n : CallName). call_of n arguments) (name_in name)
+call_in name arguments =
+    option_and_then (λ (row : Function × List ℕ). call_of row.0 arguments) (row_named name)

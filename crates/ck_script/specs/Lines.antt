@@ -1,5 +1,6 @@
 -- The lines of a script, and what one of them means. A line's bytes stand here without its end.
-use Rattle.std.specs.Prelude.{ℕ, Bool, List, ◌∷◌, Option, Some, None, ◌==◌, ◌&&◌, ◌||◌, nat_le, nat_lt, length, slice_index, option_and_then, if◌then◌else◌}
+use Rattle.std.specs.Prelude.{ℕ, Bool, List, ◌∷◌, Option, Some, None, option_and_then}
+use Rattle.std.specs.Prelude.{◌==◌, ◌&&◌, ◌||◌, nat_le, nat_lt, length, slice_index, if◌then◌else◌}
 use Rattle.std.specs.List.{slice_split}
 use Rattle.ck_script.specs.Parts.{parts_of}
 use Rattle.ck_script.specs.Arguments.{number_in, both}
@@ -22,7 +23,8 @@ caller_in text = option_and_then caller_of (number_in text)
 
 -- words: the caller, the call's name and its arguments
 abbrev pub words_meaning : List (List ℕ) → Option Line
-words_meaning (caller ∷ name ∷ arguments) = both line.Called (caller_in caller) (call_in name arguments)
+words_meaning (caller ∷ name ∷ arguments) =
+    both line.Called (caller_in caller) (call_in name arguments)
 words_meaning others = None
 
 -- an empty line, and one that begins as a comment

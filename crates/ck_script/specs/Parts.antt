@@ -1,8 +1,10 @@
 -- The parts of a text between separators
-use Rattle.std.specs.Prelude.{ℕ, Bool, true, false, List, [], ◌∷◌, Option, Some, None, ◌==◌, length, option_and_then, if◌then◌else◌}
+use Rattle.std.specs.Prelude.{ℕ, Bool, true, false, List, [], ◌∷◌, Option, Some, None, ◌==◌}
+use Rattle.std.specs.Prelude.{length, option_and_then, if◌then◌else◌}
 use Rattle.std.specs.List.{slice_split}
 
--- a text without a separator is one part; between two separators that stand together is an empty one
+-- a text without a separator is one part; between two separators that stand together is an empty
+-- one
 abbrev pub parts_of : ℕ → List ℕ → List (List ℕ)
 parts_of separator text = slice_split (λ b. b == separator) text
 
@@ -34,5 +36,7 @@ with_one meaning parts = option_and_then meaning (one_of parts)
 abbrev pub with_two : {A : Type 0} → (List ℕ → List ℕ → Option A) → List (List ℕ) → Option A
 with_two meaning parts = option_and_then (λ (p : List ℕ × List ℕ). meaning p.0 p.1) (two_of parts)
 
-abbrev pub with_three : {A : Type 0} → (List ℕ → List ℕ → List ℕ → Option A) → List (List ℕ) → Option A
-with_three meaning parts = option_and_then (λ (p : List ℕ × List ℕ × List ℕ). meaning p.0 p.1 p.2) (three_of parts)
+abbrev pub with_three : {A : Type 0}
+    → (List ℕ → List ℕ → List ℕ → Option A) → List (List ℕ) → Option A
+with_three meaning parts =
+    option_and_then (λ (p : List ℕ × List ℕ × List ℕ). meaning p.0 p.1 p.2) (three_of parts)

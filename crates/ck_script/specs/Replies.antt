@@ -10,6 +10,7 @@ use Rattle.ck_journal.specs.declared.replies.Answer.TheVariants as answer
 use Rattle.ck_journal.specs.declared.replies.Body.{Body}
 use Rattle.ck_journal.specs.declared.replies.Body.TheVariants as body
 use Rattle.ck_journal.specs.declared.replies.Reply.{Reply}
+use Rattle.ck_script.specs.Arguments.{comma}
 use Rattle.ck_script.specs.declared.lines.TheConstants.{LINE_END}
 
 -- a number in hexadecimal, in lower case
@@ -26,25 +27,29 @@ answer_text (answer.Value bytes) = codes "=" ++ bytes_text bytes
 answer_text (answer.Length length) = codes ":" ++ decimal length
 answer_text answer.Unavailable = codes "!"
 
--- answers, joined by commas (44), and `-` for none
+-- answers, joined by commas, and `-` for none
 abbrev pub answers_text : List Answer → List ℕ
 answers_text [] = codes "-"
-answers_text (a ∷ answers) = join_with_byte 44 (map answer_text (a ∷ answers))
+answers_text (a ∷ answers) = join_with_byte comma (map answer_text (a ∷ answers))
 
--- handles, joined by commas (44), and `-` for none
+-- handles, joined by commas, and `-` for none
 abbrev pub handles_text : List ℕ → List ℕ
 handles_text [] = codes "-"
-handles_text (h ∷ handles) = join_with_byte 44 (map decimal (h ∷ handles))
+handles_text (h ∷ handles) = join_with_byte comma (map decimal (h ∷ handles))
 
 -- what stands after the code
 abbrev pub body_text : Body → List ℕ
 body_text body.Empty = []
 body_text (body.Handle handle) = codes " " ++ decimal handle
-body_text (body.Session state flags) = codes " " ++ decimal (state_number state) ++ codes " " ++ hexadecimal flags
+body_text (body.Session state flags) =
+    codes " " ++ decimal (state_number state) ++ codes " " ++ hexadecimal flags
 body_text (body.Token flags limit sessions rw_sessions) =
-    codes " " ++ hexadecimal flags.0 ++ codes " " ++ decimal limit ++ codes " " ++ decimal sessions ++ codes " " ++ decimal rw_sessions
+    codes " " ++ hexadecimal flags.0 ++ codes " " ++ decimal limit
+    ++ codes " " ++ decimal sessions ++ codes " " ++ decimal rw_sessions
 body_text (body.Attributes answers) = codes " " ++ answers_text answers
 body_text (body.Handles handles) = codes " " ++ handles_text handles
+body_text (body.Length length) = codes " :" ++ decimal length
+body_text (body.Bytes bytes) = codes " " ++ bytes_text bytes
 
 abbrev pub reply_text : Reply → List ℕ
 reply_text reply = hexadecimal (number_of reply.rv) ++ body_text reply.body ++ LINE_END ∷ []

@@ -1,17 +1,35 @@
-ghost use Rattle.std.specs.Prelude.{◌≡◌, ◌≤◌, ◌⊎◌, ℕ, List, Option, Some, None, IfOk, IfErr, IsAscii};
+ghost use Rattle.std.specs.Prelude.{◌≡◌, ◌≤◌, ◌⊎◌, ℕ, List, Option, Some, None};
+ghost use Rattle.std.specs.Prelude.{IfOk, IfErr, IsAscii};
 ghost use Rattle.std.specs.List.{list_all};
 ghost use Rattle.std.specs.Result.{result_ok};
 ghost use Rattle.std.specs.Char.{is_ascii_digit};
 ghost use Rattle.std.specs.Str.Parse.{AllDigits};
-ghost use Rattle.ck_script.specs.Arguments.{is_code_digit, has_leading_zero, numeral_value, number_in, code_number_in, is_dash, bytes_in, pin_in, room_in, item_in, query_in, list_in};
+ghost use Rattle.ck_script.specs.Arguments.{is_code_digit, has_leading_zero, numeral_value};
+ghost use Rattle.ck_script.specs.Arguments.{number_in, code_number_in, is_dash, bytes_in, pin_in};
+ghost use Rattle.ck_script.specs.Arguments.{room_in, mechanism_in, item_in, query_in, list_in};
+ghost use Rattle.ck_script.specs.Arguments.{template_in, queries_in};
 
 use crate::line_errors::{BadLine, LineError, NumberError};
 use crate::parts::Parts;
 use ck_journal::AttributeQuery;
-use ck_types::{Bytes, Item, Pin, Sequence};
+use ck_types::{Bytes, Item, Mechanism, Pin, Sequence, Template};
 use hex::FromHexError;
 use std::alloc::Global;
+use std::marker::Model;
 use std::str;
+
+/// The byte between two values of a list.
+pub(crate) const COMMA: u8 = b',';
+
+/// The byte between an attribute's type and the room for its value, and between a mechanism's type
+/// and its parameter.
+pub(crate) const COLON: u8 = b':';
+
+/// The byte between an attribute's type and its value.
+pub(crate) const EQUALS_SIGN: u8 = b'=';
+
+/// The byte that stands for nothing.
+pub(crate) const DASH: u8 = b'-';
 
 /// A digit of a code number: lower case alone.
 fn is_code_digit(byte: u8) -> bool
@@ -66,9 +84,9 @@ pub(crate) fn number_in(text: &[u8]) -> Result<u64, BadLine>
     Ok(numeral_value(text, 10)?)
 }
 
-/// A number in hexadecimal digits: flags, attribute types.
+/// A number in hexadecimal digits: flags, types of attributes and of mechanisms.
 #[tactic(auto, using(crate::proofs::DigitLemmas::digits))]
-pub(crate) fn code_number_in(text: &[u8]) -> Result<u64, BadLine>
+fn code_number_in(text: &[u8]) -> Result<u64, BadLine>
     ensures { result_ok result ≡ code_number_in text.now }
 {
     if text.is_empty() || !are_code_digits(text) {
@@ -80,7 +98,7 @@ pub(crate) fn code_number_in(text: &[u8]) -> Result<u64, BadLine>
 fn is_dash(text: &[u8]) -> bool
     ensures { result ≡ is_dash text.now }
 {
-    text == b"-".as_slice()
+    text == [DASH].as_slice()
 }
 
 /// Bytes in hexadecimal digits of either case; `-` stands for none.
@@ -102,7 +120,7 @@ fn bytes_in(alloc: Global, text: &[u8]) -> Result<Bytes, LineError>
 }
 
 /// A PIN by its bytes, of which its length and its digest are taken.
-pub(crate) fn pin_in(alloc: Global, text: &[u8]) -> Result<Pin, LineError>
+fn pin_in(alloc: Global, text: &[u8]) -> Result<Pin, LineError>
     ensures pin { IfOk result (λ pin. pin_in text.now ≡ Some pin) }
     ensures bad { IfErr result (λ e. (e ≡ LineError.Memory) ⊎ (pin_in text.now ≡ None)) }
 {
@@ -120,12 +138,31 @@ fn room_in(text: &[u8]) -> Result<Option<u64>, BadLine>
     Ok(Some(number_in(text)?))
 }
 
+/// A mechanism: `type`, or `type:bytes` with its parameter.
+fn mechanism_in(alloc: Global, text: &[u8]) -> Result<Mechanism, LineError>
+    ensures mechanism { IfOk result (λ mechanism. mechanism_in text.now ≡ Some mechanism) }
+    ensures bad { IfErr result (λ e. (e ≡ LineError.Memory) ⊎ (mechanism_in text.now ≡ None)) }
+{
+    let mut parts = Parts::new(text, COLON);
+    let (kind, parameter) = match (parts.next(), parts.next(), parts.next()) {
+        (Some(kind), None, _) => (kind, None),
+        (Some(kind), Some(parameter), None) => (kind, Some(parameter)),
+        _ => return Err(LineError::Bad(BadLine::Mechanism)),
+    };
+    let kind = code_number_in(kind)?;
+    let parameter = match parameter {
+        Some(bytes) => bytes_in(alloc, bytes)?,
+        None => Sequence::new(alloc),
+    };
+    Ok(Mechanism { kind, parameter })
+}
+
 /// One item of a template: `type=bytes`.
 fn item_in(alloc: Global, text: &[u8]) -> Result<Item, LineError>
     ensures item { IfOk result (λ item. item_in text.now ≡ Some item) }
     ensures bad { IfErr result (λ e. (e ≡ LineError.Memory) ⊎ (item_in text.now ≡ None)) }
 {
-    let (kind, value) = Parts::new(text, b'=').two().ok_or(BadLine::Item)?;
+    let (kind, value) = Parts::new(text, EQUALS_SIGN).two().ok_or(BadLine::Item)?;
     let kind = code_number_in(kind)?;
     let value = bytes_in(alloc, value)?;
     Ok(Item { kind, value })
@@ -135,7 +172,7 @@ fn item_in(alloc: Global, text: &[u8]) -> Result<Item, LineError>
 fn query_in(text: &[u8]) -> Result<AttributeQuery, BadLine>
     ensures { result_ok result ≡ query_in text.now }
 {
-    let (kind, room) = Parts::new(text, b':').two().ok_or(BadLine::Query)?;
+    let (kind, room) = Parts::new(text, COLON).two().ok_or(BadLine::Query)?;
     let kind = code_number_in(kind)?;
     let room = room_in(room)?;
     Ok(AttributeQuery { kind, room })
@@ -168,10 +205,7 @@ impl Listed for AttributeQuery {
 }
 
 /// The values between commas; `-` stands for none.
-pub(crate) fn list_in<T: Listed + Drop>(
-    alloc: Global,
-    text: &[u8],
-) -> Result<Sequence<T>, LineError>
+fn list_in<T: Listed + Drop>(alloc: Global, text: &[u8]) -> Result<Sequence<T>, LineError>
     ensures list { IfOk result (λ list. list_in T.part_in text.now ≡ Some list) }
     ensures bad { IfErr result (λ e. (e ≡ LineError.Memory) ⊎ (list_in T.part_in text.now ≡ None)) }
 {
@@ -179,10 +213,97 @@ pub(crate) fn list_in<T: Listed + Drop>(
         return Ok(Sequence::new(alloc));
     }
     let mut items = Vec::new(alloc);
-    let mut parts = Parts::new(text, b',');
+    let mut parts = Parts::new(text, COMMA);
     while let Some(part) = parts.next() {
         let item = T::part_in(alloc, part)?;
         items.push(item)?;
     }
     Ok(Sequence::from_vec(items))
+}
+
+/// The value of one argument.
+pub(crate) trait Argument: Sized {
+    // What the text of the argument means.
+    ghost value_in: { List ℕ → Option Self };
+
+    fn value_in(alloc: Global, text: &[u8]) -> Result<Self, LineError>
+        ensures value { IfOk result (λ value. value_in text.now ≡ Some value) }
+        ensures bad { IfErr result (λ e. (e ≡ LineError.Memory) ⊎ (value_in text.now ≡ None)) };
+}
+
+impl Argument for u64 {
+    ghost value_in = { number_in };
+
+    fn value_in(_alloc: Global, text: &[u8]) -> Result<u64, LineError> {
+        Ok(number_in(text)?)
+    }
+}
+
+/// A number that stands in hexadecimal digits.
+#[derive(Drop)]
+pub(crate) struct CodeNumber(pub(crate) u64);
+
+impl Model for CodeNumber {
+    ghost use Rattle.std.specs.Prelude.{ℕ};
+
+    ghost Value = { ℕ };
+
+    ghost view = { λ n. n.0 };
+}
+
+impl Argument for CodeNumber {
+    ghost value_in = { code_number_in };
+
+    fn value_in(_alloc: Global, text: &[u8]) -> Result<CodeNumber, LineError> {
+        Ok(CodeNumber(code_number_in(text)?))
+    }
+}
+
+impl Argument for Pin {
+    ghost value_in = { pin_in };
+
+    fn value_in(alloc: Global, text: &[u8]) -> Result<Pin, LineError> {
+        pin_in(alloc, text)
+    }
+}
+
+impl Argument for Bytes {
+    ghost value_in = { bytes_in };
+
+    fn value_in(alloc: Global, text: &[u8]) -> Result<Bytes, LineError> {
+        bytes_in(alloc, text)
+    }
+}
+
+impl Argument for Option<u64> {
+    ghost value_in = { room_in };
+
+    fn value_in(_alloc: Global, text: &[u8]) -> Result<Option<u64>, LineError> {
+        Ok(room_in(text)?)
+    }
+}
+
+impl Argument for Mechanism {
+    ghost value_in = { mechanism_in };
+
+    fn value_in(alloc: Global, text: &[u8]) -> Result<Mechanism, LineError> {
+        mechanism_in(alloc, text)
+    }
+}
+
+impl Argument for Template {
+    ghost value_in = { template_in };
+
+    fn value_in(alloc: Global, text: &[u8]) -> Result<Template, LineError> {
+        let items = list_in(alloc, text)?;
+        Ok(Template { items })
+    }
+}
+
+impl Argument for Sequence<AttributeQuery> {
+    ghost value_in = { queries_in };
+
+    fn value_in(alloc: Global, text: &[u8]) -> Result<Sequence<AttributeQuery>, LineError> {
+        list_in(alloc, text)
+    }
 }

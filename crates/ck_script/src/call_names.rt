@@ -1,7 +1,7 @@
-ghost use Rattle.std.specs.Prelude.{◌≡◌};
+ghost use Rattle.std.specs.Prelude.{◌≡◌, map, option_map};
 ghost use Rattle.std.specs.List.{find};
 ghost use Rattle.ck_types.specs.Attributes.{same_bytes};
-ghost use Rattle.ck_script.specs.CallNames.{name_text, name_in};
+ghost use Rattle.ck_script.specs.CallNames.{names, row_named};
 
 use std::fmt;
 
@@ -25,9 +25,9 @@ impl fmt::Display for Arity {
     }
 }
 
-/// The calls of a script. Their names are those of the standard's functions without `C_`.
+/// The functions of the standard that a script calls.
 #[derive(Clone, Copy, Debug, PartialEq, Eq)]
-pub enum CallName {
+pub enum Function {
     InitToken,
     InitPin,
     SetPin,
@@ -46,84 +46,59 @@ pub enum CallName {
     FindObjectsInit,
     FindObjects,
     FindObjectsFinal,
+    DigestInit,
+    Digest,
+    DigestUpdate,
+    DigestFinal,
 }
 
+/// A function that a script calls, with its name there: that of the standard without `C_`.
+#[derive(Clone, Copy, Debug, PartialEq, Eq)]
+pub struct CallName(pub(crate) Function, &'static str);
+
 impl CallName {
-    pub const ALL: [CallName; 18] = [
-        CallName::InitToken,
-        CallName::InitPin,
-        CallName::SetPin,
-        CallName::GetTokenInfo,
-        CallName::OpenSession,
-        CallName::CloseSession,
-        CallName::CloseAllSessions,
-        CallName::GetSessionInfo,
-        CallName::Login,
-        CallName::Logout,
-        CallName::CreateObject,
-        CallName::CopyObject,
-        CallName::DestroyObject,
-        CallName::GetAttributeValue,
-        CallName::SetAttributeValue,
-        CallName::FindObjectsInit,
-        CallName::FindObjects,
-        CallName::FindObjectsFinal,
-    ];
+    /// All calls of a script.
+    pub fn all() -> [CallName; 22]
+        ensures { map (λ name. (name.0, name.1.now)) result ≡ names }
+    {
+        [
+            CallName(Function::InitToken, "InitToken"),
+            CallName(Function::InitPin, "InitPIN"),
+            CallName(Function::SetPin, "SetPIN"),
+            CallName(Function::GetTokenInfo, "GetTokenInfo"),
+            CallName(Function::OpenSession, "OpenSession"),
+            CallName(Function::CloseSession, "CloseSession"),
+            CallName(Function::CloseAllSessions, "CloseAllSessions"),
+            CallName(Function::GetSessionInfo, "GetSessionInfo"),
+            CallName(Function::Login, "Login"),
+            CallName(Function::Logout, "Logout"),
+            CallName(Function::CreateObject, "CreateObject"),
+            CallName(Function::CopyObject, "CopyObject"),
+            CallName(Function::DestroyObject, "DestroyObject"),
+            CallName(Function::GetAttributeValue, "GetAttributeValue"),
+            CallName(Function::SetAttributeValue, "SetAttributeValue"),
+            CallName(Function::FindObjectsInit, "FindObjectsInit"),
+            CallName(Function::FindObjects, "FindObjects"),
+            CallName(Function::FindObjectsFinal, "FindObjectsFinal"),
+            CallName(Function::DigestInit, "DigestInit"),
+            CallName(Function::Digest, "Digest"),
+            CallName(Function::DigestUpdate, "DigestUpdate"),
+            CallName(Function::DigestFinal, "DigestFinal"),
+        ]
+    }
 
     /// The name as a script has it.
     pub fn text(self) -> &'static str
-        ensures { result.now ≡ name_text self }
+        ensures { result.now ≡ self.1.now }
     {
-        match self {
-            CallName::InitToken => "InitToken",
-            CallName::InitPin => "InitPIN",
-            CallName::SetPin => "SetPIN",
-            CallName::GetTokenInfo => "GetTokenInfo",
-            CallName::OpenSession => "OpenSession",
-            CallName::CloseSession => "CloseSession",
-            CallName::CloseAllSessions => "CloseAllSessions",
-            CallName::GetSessionInfo => "GetSessionInfo",
-            CallName::Login => "Login",
-            CallName::Logout => "Logout",
-            CallName::CreateObject => "CreateObject",
-            CallName::CopyObject => "CopyObject",
-            CallName::DestroyObject => "DestroyObject",
-            CallName::GetAttributeValue => "GetAttributeValue",
-            CallName::SetAttributeValue => "SetAttributeValue",
-            CallName::FindObjectsInit => "FindObjectsInit",
-            CallName::FindObjects => "FindObjects",
-            CallName::FindObjectsFinal => "FindObjectsFinal",
-        }
-    }
-
-    /// How many arguments the call takes in a script.
-    pub(crate) fn arity(self) -> Arity {
-        match self {
-            CallName::GetTokenInfo | CallName::CloseAllSessions => Arity::None,
-            CallName::InitToken
-            | CallName::OpenSession
-            | CallName::CloseSession
-            | CallName::GetSessionInfo
-            | CallName::Logout
-            | CallName::FindObjectsFinal => Arity::One,
-            CallName::InitPin
-            | CallName::CreateObject
-            | CallName::DestroyObject
-            | CallName::FindObjectsInit
-            | CallName::FindObjects => Arity::Two,
-            CallName::SetPin
-            | CallName::Login
-            | CallName::CopyObject
-            | CallName::GetAttributeValue
-            | CallName::SetAttributeValue => Arity::Three,
-        }
+        self.1
     }
 
     /// The call of this name.
     pub fn of(text: &[u8]) -> Option<CallName>
-        ensures { result ≡ name_in text.now }
+        ensures { option_map (λ name. (name.0, name.1.now)) result ≡ row_named text.now }
     {
-        name_among(&CallName::ALL, text)
+        name_among(&CallName::all(), text)
     }
 }
 
@@ -134,7 +109,7 @@ impl fmt::Display for CallName {
 }
 
 fn name_among(names: &[CallName], text: &[u8]) -> Option<CallName>
-    ensures { result ≡ find (λ name. same_bytes (name_text name) text.now) names.now }
+    ensures { result ≡ find (λ name. same_bytes name.1.now text.now) names.now }
 {
     names
         .iter()

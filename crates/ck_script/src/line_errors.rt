@@ -48,6 +48,8 @@ pub enum BadLine {
     Number(NumberError),
     #[error("bytes are written in two hexadecimal digits each, and no bytes as -")]
     Bytes,
+    #[error("a mechanism is written as type, or with its parameter as type:bytes")]
+    Mechanism,
     #[error("a template is written as type=bytes,.. and an empty one as -")]
     Item,
     #[error("queries are written as type:room,.. and none as -")]

@@ -76,31 +76,41 @@ fn lines_have_their_meanings(rt: HostRuntime) -> Result<(), Fail> {
             ("2 GetTokenInfo", "Called { caller: 2, call: GetTokenInfo }"),
             (
                 "1 CreateObject 2 -",
-                "Called { caller: 1, call: CreateObject { session: 2, template: Template { items: Sequence { items: [] } } } }",
+                "Called { caller: 1, call: CreateObject { session: 2, template: Template { items: \
+                 Sequence { items: [] } } } }",
             ),
             (
                 "1 CreateObject 2 3=-",
-                "Called { caller: 1, call: CreateObject { session: 2, template: Template { items: Sequence { items: [Item { kind: 3, value: Sequence { items: [] } }] } } } }",
+                "Called { caller: 1, call: CreateObject { session: 2, template: Template { items: \
+                 Sequence { items: [Item { kind: 3, value: Sequence { items: [] } }] } } } }",
             ),
             (
                 "1 CreateObject 2 10a=6bC0,3=00",
-                "Called { caller: 1, call: CreateObject { session: 2, template: Template { items: Sequence { items: [Item { kind: 266, value: Sequence { items: [107, 192] } }, Item { kind: 3, value: Sequence { items: [0] } }] } } } }",
+                "Called { caller: 1, call: CreateObject { session: 2, template: Template { items: \
+                 Sequence { items: [Item { kind: 266, value: Sequence { items: [107, 192] } }, \
+                 Item { kind: 3, value: Sequence { items: [0] } }] } } } }",
             ),
             (
                 "1 GetAttributeValue 2 3 -",
-                "Called { caller: 1, call: GetAttributeValue { session: 2, object: 3, queries: Sequence { items: [] } } }",
+                "Called { caller: 1, call: GetAttributeValue { session: 2, object: 3, queries: \
+                 Sequence { items: [] } } }",
             ),
             (
                 "1 GetAttributeValue 2 3 11:?,0:10",
-                "Called { caller: 1, call: GetAttributeValue { session: 2, object: 3, queries: Sequence { items: [AttributeQuery { kind: 17, room: None }, AttributeQuery { kind: 0, room: Some(10) }] } } }",
+                "Called { caller: 1, call: GetAttributeValue { session: 2, object: 3, queries: \
+                 Sequence { items: [AttributeQuery { kind: 17, room: None }, AttributeQuery { \
+                 kind: 0, room: Some(10) }] } } }",
             ),
             (
                 "1 CopyObject 2 4294967297 3=00",
-                "Called { caller: 1, call: CopyObject { session: 2, object: 4294967297, template: Template { items: Sequence { items: [Item { kind: 3, value: Sequence { items: [0] } }] } } } }",
+                "Called { caller: 1, call: CopyObject { session: 2, object: 4294967297, template: \
+                 Template { items: Sequence { items: [Item { kind: 3, value: Sequence { items: [0] \
+                 } }] } } } }",
             ),
             (
                 "1 SetAttributeValue 2 3 -",
-                "Called { caller: 1, call: SetAttributeValue { session: 2, object: 3, template: Template { items: Sequence { items: [] } } } }",
+                "Called { caller: 1, call: SetAttributeValue { session: 2, object: 3, template: \
+                 Template { items: Sequence { items: [] } } } }",
             ),
             (
                 "1 DestroyObject 2 3",
@@ -108,11 +118,14 @@ fn lines_have_their_meanings(rt: HostRuntime) -> Result<(), Fail> {
             ),
             (
                 "1 FindObjectsInit 2 -",
-                "Called { caller: 1, call: FindObjectsInit { session: 2, template: Template { items: Sequence { items: [] } } } }",
+                "Called { caller: 1, call: FindObjectsInit { session: 2, template: Template { \
+                 items: Sequence { items: [] } } } }",
             ),
             (
                 "1 FindObjectsInit 2 10a=6bC0,3=-",
-                "Called { caller: 1, call: FindObjectsInit { session: 2, template: Template { items: Sequence { items: [Item { kind: 266, value: Sequence { items: [107, 192] } }, Item { kind: 3, value: Sequence { items: [] } }] } } } }",
+                "Called { caller: 1, call: FindObjectsInit { session: 2, template: Template { \
+                 items: Sequence { items: [Item { kind: 266, value: Sequence { items: [107, 192] } \
+                 }, Item { kind: 3, value: Sequence { items: [] } }] } } } }",
             ),
             (
                 "1 FindObjects 2 10",
@@ -129,6 +142,49 @@ fn lines_have_their_meanings(rt: HostRuntime) -> Result<(), Fail> {
             (
                 "8 FindObjectsFinal 2",
                 "Called { caller: 8, call: FindObjectsFinal { session: 2 } }",
+            ),
+            (
+                "1 DigestInit 2 250",
+                "Called { caller: 1, call: DigestInit { session: 2, mechanism: Mechanism { kind: \
+                 592, parameter: Sequence { items: [] } } } }",
+            ),
+            (
+                "1 DigestInit 2 250:-",
+                "Called { caller: 1, call: DigestInit { session: 2, mechanism: Mechanism { kind: \
+                 592, parameter: Sequence { items: [] } } } }",
+            ),
+            (
+                "1 DigestInit 2 0:00Ff",
+                "Called { caller: 1, call: DigestInit { session: 2, mechanism: Mechanism { kind: \
+                 0, parameter: Sequence { items: [0, 255] } } } }",
+            ),
+            (
+                "1 Digest 2 6bC0 32",
+                "Called { caller: 1, call: Digest { session: 2, bytes: Sequence { items: [107, \
+                 192] }, room: Some(32) } }",
+            ),
+            (
+                "1 Digest 2 - ?",
+                "Called { caller: 1, call: Digest { session: 2, bytes: Sequence { items: [] }, \
+                 room: None } }",
+            ),
+            (
+                "1 DigestUpdate 2 61",
+                "Called { caller: 1, call: DigestUpdate { session: 2, bytes: Sequence { items: \
+                 [97] } } }",
+            ),
+            (
+                "1 DigestUpdate 2 -",
+                "Called { caller: 1, call: DigestUpdate { session: 2, bytes: Sequence { items: [] \
+                 } } }",
+            ),
+            (
+                "8 DigestFinal 2 0",
+                "Called { caller: 8, call: DigestFinal { session: 2, room: Some(0) } }",
+            ),
+            (
+                "1 DigestFinal 2 ?",
+                "Called { caller: 1, call: DigestFinal { session: 2, room: None } }",
             ),
         ],
     )
@@ -297,6 +353,57 @@ fn malformed_lines_are_bad(rt: HostRuntime) -> Result<(), Fail> {
             "1 FindObjectsFinal 01",
             "1 FindObjectsFinal 1 1",
             "1 FindObjectsFinally 1",
+            // digests
+            "1 DigestInit",
+            "1 DigestInit 1",
+            "1 DigestInit 1 ",
+            "1 DigestInit 250",
+            "1 DigestInit 1 -",
+            "1 DigestInit 1 ?",
+            "1 DigestInit 1 0250",
+            "1 DigestInit 1 0x250",
+            "1 DigestInit 1 25A",
+            "1 DigestInit 1 10000000000000000",
+            "1 DigestInit 1 250:",
+            "1 DigestInit 1 250:0",
+            "1 DigestInit 1 250:0g",
+            "1 DigestInit 1 250:?",
+            "1 DigestInit 1 250:--",
+            "1 DigestInit 1 250:00:00",
+            "1 DigestInit 1 250:-:",
+            "1 DigestInit 1 250=00",
+            "1 DigestInit 1 250,251",
+            "1 DigestInit 1 :",
+            "1 DigestInit 1 :00",
+            "1 DigestInit 01 250",
+            "1 DigestInit 1 250 -",
+            "1 Digestinit 1 250",
+            "1 Digest",
+            "1 Digest 1 61",
+            "1 Digest 1 ?",
+            "1 Digest 1 616 ?",
+            "1 Digest 1 ? ?",
+            "1 Digest 1 61 -",
+            "1 Digest 1 61 x",
+            "1 Digest 1 61 032",
+            "1 Digest 1 61 18446744073709551616",
+            "1 Digest a 61 32",
+            "1 Digest 1 61 32 32",
+            "1 Digests 1 61 32",
+            "1 DigestUpdate",
+            "1 DigestUpdate 1",
+            "1 DigestUpdate 1 ",
+            "1 DigestUpdate 1 6",
+            "1 DigestUpdate 1 61,62",
+            "1 DigestUpdate 1 61 32",
+            "1 DigestFinal",
+            "1 DigestFinal 1",
+            "1 DigestFinal 1 x",
+            "1 DigestFinal 1 -",
+            "1 DigestFinal 1 ??",
+            "1 DigestFinal 1 01",
+            "1 DigestFinal 1 61 32",
+            "1 DigestFinal ? 32",
         ],
     )
 }
@@ -408,6 +515,7 @@ fn bad_lines_have_their_reasons(rt: HostRuntime) -> Result<(), Fail> {
     let carriage_return = "a carriage return stands at the end of the line";
     let item = "a template is written as type=bytes,.. and an empty one as -";
     let query = "queries are written as type:room,.. and none as -";
+    let mechanism = "a mechanism is written as type, or with its parameter as type:bytes";
     let rows: &[(&[u8], &str)] = &[
         (b"1 Login 1 1", "Login takes 3 arguments"),
         (b"1 Login 1 1 31323334 5", "Login takes 3 arguments"),
@@ -443,7 +551,7 @@ fn bad_lines_have_their_reasons(rt: HostRuntime) -> Result<(), Fail> {
             "no call has this name, the nearest is GetAttributeValue",
         ),
         (b"1 Nope", "no call has this name"),
-        (b"1 Digest 1 61 32", "no call has this name"),
+        (b"1 Sign 1 61 32", "no call has this name"),
         (
             b"1 GetAttributeValueGetAttributeValue",
             "no call has this name",
@@ -483,6 +591,31 @@ fn bad_lines_have_their_reasons(rt: HostRuntime) -> Result<(), Fail> {
         (b"1 CreateObject 1 3=6", bytes),
         (b"1 GetAttributeValue 1 1 11", query),
         (b"1 GetAttributeValue 1 1 11:-", decimal),
+        (b"1 DigestInit 1 0250", leading_zero),
+        (b"1 DigestInit 1 0x250", hexadecimal),
+        (b"1 DigestInit 1 -", hexadecimal),
+        (b"1 DigestInit 1 :00", hexadecimal),
+        (b"1 DigestInit 1 10000000000000000", too_large),
+        (b"1 DigestInit 1 250:", bytes),
+        (b"1 DigestInit 1 250:0", bytes),
+        (b"1 DigestInit 1 250:00:00", mechanism),
+        (b"1 DigestInit 250", "DigestInit takes 2 arguments"),
+        (b"1 Digest 1 616 ?", bytes),
+        (b"1 Digest 1 61 x", decimal),
+        (b"1 Digest 1 61", "Digest takes 3 arguments"),
+        (b"1 DigestUpdate 1 6", bytes),
+        (b"1 DigestUpdate 61", "DigestUpdate takes 2 arguments"),
+        (b"1 DigestFinal 1 x", decimal),
+        (b"1 DigestFinal 1 032", leading_zero),
+        (b"1 DigestFinal 1", "DigestFinal takes 2 arguments"),
+        (
+            b"1 c_digestinit 1 250",
+            "no call has this name, the nearest is DigestInit",
+        ),
+        (
+            b"1 Digests 1 61 32",
+            "no call has this name, the nearest is Digest",
+        ),
     ];
     assert_reasons(&rt, rt.alloc(), rows)
 }

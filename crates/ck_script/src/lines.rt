@@ -1,4 +1,5 @@
-ghost use Rattle.std.specs.Prelude.{◌≡◌, ◌==◌, ◌∷◌, ◌<◌, ◌⊎◌, ◌↔◌, [], length, position, Some, None, Err, MatchOption, IfSome, IfOk, IfErr, IsErrOf};
+ghost use Rattle.std.specs.Prelude.{◌≡◌, ◌==◌, ◌∷◌, ◌<◌, ◌⊎◌, [], length, position};
+ghost use Rattle.std.specs.Prelude.{Some, None, Err, MatchOption, IfSome, IfOk, IfErr};
 ghost use Rattle.ck_script.specs.Lines.{lines_in, caller_in, words_meaning, meaning};
 
 use crate::arguments::number_in;

@@ -1,9 +1,11 @@
 ghost use Rattle.std.specs.Prelude.{◌≡◌, ◌++◌, ◌≤◌, ◌<◌, false, codes, OnOk};
 ghost use Rattle.std.specs.Fmt.{digit_glyph, digits};
 ghost use Rattle.hex.specs.Hex.{encode_lower};
-ghost use Rattle.ck_script.specs.Replies.{bytes_text, answer_text, answers_text, handles_text, body_text, reply_text};
+ghost use Rattle.ck_script.specs.Replies.{bytes_text, answer_text, answers_text, handles_text};
+ghost use Rattle.ck_script.specs.Replies.{body_text, reply_text};
 
-use crate::lines::LINE_END;
+use crate::arguments::{COLON, COMMA, DASH, EQUALS_SIGN};
+use crate::lines::{LINE_END, SPACE};
 use ck_journal::{Answer, Body, Reply};
 use ck_types::NoMemory;
 
@@ -36,7 +38,7 @@ fn push_next(out: &mut Vec<u8>, number: u64, base: u64) -> Result<(), NoMemory>
     requires { (2 ≤ base) × (base ≤ 16) }
     ensures { OnOk result (out.new.items ≡ out.old.items ++ codes " " ++ digits base false number) }
 {
-    out.push(b' ')?;
+    out.push(SPACE)?;
     push_number(out, number, base)
 }
 
@@ -45,7 +47,7 @@ fn push_bytes(out: &mut Vec<u8>, bytes: &[u8]) -> Result<(), NoMemory>
     ensures { OnOk result (out.new.items ≡ out.old.items ++ bytes_text bytes.now) }
 {
     if bytes.is_empty() {
-        out.push(b'-')?;
+        out.push(DASH)?;
         return Ok(());
     }
     push_digits(out, bytes)
@@ -72,11 +74,11 @@ fn push_answer(out: &mut Vec<u8>, answer: &Answer) -> Result<(), NoMemory>
 {
     match answer {
         Answer::Value(bytes) => {
-            out.push(b'=')?;
+            out.push(EQUALS_SIGN)?;
             push_bytes(out, bytes.as_slice())
         }
         Answer::Length(length) => {
-            out.push(b':')?;
+            out.push(COLON)?;
             push_number(out, *length, 10)
         }
         Answer::Unavailable => {
@@ -91,12 +93,12 @@ fn push_answers(out: &mut Vec<u8>, answers: &[Answer]) -> Result<(), NoMemory>
     ensures { OnOk result (out.new.items ≡ out.old.items ++ answers_text answers.now) }
 {
     let Some((first, rest)) = answers.split_first() else {
-        out.push(b'-')?;
+        out.push(DASH)?;
         return Ok(());
     };
     push_answer(out, first)?;
     for answer in rest {
-        out.push(b',')?;
+        out.push(COMMA)?;
         push_answer(out, answer)?;
     }
     Ok(())
@@ -107,12 +109,12 @@ fn push_handles(out: &mut Vec<u8>, handles: &[u64]) -> Result<(), NoMemory>
     ensures { OnOk result (out.new.items ≡ out.old.items ++ handles_text handles.now) }
 {
     let Some((first, rest)) = handles.split_first() else {
-        out.push(b'-')?;
+        out.push(DASH)?;
         return Ok(());
     };
     push_number(out, *first, 10)?;
     for handle in rest {
-        out.push(b',')?;
+        out.push(COMMA)?;
         push_number(out, *handle, 10)?;
     }
     Ok(())
@@ -141,12 +143,21 @@ fn push_body(out: &mut Vec<u8>, body: &Body) -> Result<(), NoMemory>
             push_next(out, *rw_sessions, 10)
         }
         Body::Attributes(answers) => {
-            out.push(b' ')?;
+            out.push(SPACE)?;
             push_answers(out, answers.as_slice())
         }
         Body::Handles(handles) => {
-            out.push(b' ')?;
+            out.push(SPACE)?;
             push_handles(out, handles.as_slice())
+        }
+        Body::Length(length) => {
+            out.push(SPACE)?;
+            out.push(COLON)?;
+            push_number(out, *length, 10)
+        }
+        Body::Bytes(bytes) => {
+            out.push(SPACE)?;
+            push_bytes(out, bytes.as_slice())
         }
     }
 }

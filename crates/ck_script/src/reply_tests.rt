@@ -48,6 +48,20 @@ fn handles(numbers: Vec<u64>) -> Reply {
     }
 }
 
+fn length(rv: Rv, number: u64) -> Reply {
+    Reply {
+        rv,
+        body: Body::Length(number),
+    }
+}
+
+fn bytes(bytes: Bytes) -> Reply {
+    Reply {
+        rv: Rv::Ok,
+        body: Body::Bytes(bytes),
+    }
+}
+
 fn code(rv: Rv) -> Reply {
     Reply {
         rv,
@@ -59,7 +73,7 @@ fn code(rv: Rv) -> Reply {
 fn replies_have_their_text(rt: HostRuntime) -> Result<(), Fail> {
     let alloc = rt.alloc();
     let no_bytes = value(alloc, &[])?;
-    let bytes = value(alloc, &[0x00, 0x0f, 0xa0, 0xff])?;
+    let some_bytes = value(alloc, &[0x00, 0x0f, 0xa0, 0xff])?;
     let letter = value(alloc, b"a")?;
     let replies = [
         (code(Rv::Ok), "0\n"),
@@ -93,7 +107,10 @@ fn replies_have_their_text(rt: HostRuntime) -> Result<(), Fail> {
         ),
         (attributes(Rv::Ok, vec![in alloc;]?), "0 -\n"),
         (attributes(Rv::Ok, vec![in alloc; no_bytes]?), "0 =-\n"),
-        (attributes(Rv::Ok, vec![in alloc; bytes]?), "0 =000fa0ff\n"),
+        (
+            attributes(Rv::Ok, vec![in alloc; some_bytes]?),
+            "0 =000fa0ff\n",
+        ),
         (
             attributes(
                 Rv::Ok,
@@ -114,6 +131,18 @@ fn replies_have_their_text(rt: HostRuntime) -> Result<(), Fail> {
         (
             handles(vec![in alloc; 1, 10, 4_294_967_299, u64::MAX]?),
             "0 1,10,4294967299,18446744073709551615\n",
+        ),
+        (length(Rv::Ok, 0), "0 :0\n"),
+        (length(Rv::Ok, 64), "0 :64\n"),
+        (
+            length(Rv::Error(RvError::BufferTooSmall), u64::MAX),
+            "150 :18446744073709551615\n",
+        ),
+        (bytes(Bytes::from_slice(alloc, &[])?), "0 -\n"),
+        (bytes(Bytes::from_slice(alloc, &[0])?), "0 00\n"),
+        (
+            bytes(Bytes::from_slice(alloc, &[0x0a, 0xf0, 0xff])?),
+            "0 0af0ff\n",
         ),
     ];
     let mut all = Vec::new(alloc);

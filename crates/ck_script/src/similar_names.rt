@@ -26,7 +26,7 @@ pub(crate) fn similar_name(alloc: Global, text: &[u8]) -> Result<Option<CallName
     let letters = letters.strip_prefix(b"c_").unwrap_or(letters);
     let mut nearest = None;
     let mut fewest = TOO_MANY_EDITS;
-    for name in CallName::ALL {
+    for name in CallName::all() {
         let other = lower_case(alloc, name.text().as_bytes())?;
         let edits = generic_levenshtein(alloc, letters, other.as_slice())?;
         if edits < fewest {

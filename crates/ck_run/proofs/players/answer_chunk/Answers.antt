@@ -13,8 +13,11 @@ returns-in_err-complete_line-clause-err g c =
     (λ limits written lines h.
     let so_far = c.lines.invariant limits written lines h in
     stopped-fewer limits written _ false (length so_far.before) (length lines) _ _ so_far.on_time
-    (stopped-same limits written _ _ false _ _ _ _ (first_later _ so_far.before (lines_in c.lines.rest.now) (lines_in c.in-Some.more.now) _ c.in-Some.piece.now so_far.parts c.in-Some.ensures.lines) p.2
-    (c.in_err-complete_line.ensures.err limits written so_far.before (lines_in c.in-Some.more.now) false (is_over-lines_in c.in-Some.more.now) so_far.answered)))
+    (stopped-same limits written _ _ false _ _ _ _
+    (first_later _ so_far.before (lines_in c.lines.rest.now)
+    (lines_in c.in-Some.more.now) _ c.in-Some.piece.now so_far.parts c.in-Some.ensures.lines) p.2
+    (c.in_err-complete_line.ensures.err limits written so_far.before
+    (lines_in c.in-Some.more.now) false (is_over-lines_in c.in-Some.more.now) so_far.answered)))
 
 pub lines-preserved : goal.lines-preserved
 lines-preserved g c limits written lines h =
@@ -22,9 +25,15 @@ lines-preserved g c limits written lines h =
     record {
       before = _;
       parts = next_later _ so_far.before _ _ c.in-Some.more.now
-          (first_later _ so_far.before (lines_in c.lines.rest.now) (lines_in c.in-Some.more.now) _ c.in-Some.piece.now so_far.parts c.in-Some.ensures.lines)
+          (first_later _ so_far.before (lines_in c.lines.rest.now)
+          (lines_in c.in-Some.more.now) _ c.in-Some.piece.now so_far.parts c.in-Some.ensures.lines)
           c.in_ok-complete_line.ensures.emptied;
-      on_time = omega (arith, so_far.on_time, length_push so_far.before (c.lines.player.open_line.items ++ c.in-Some.piece.now));
+      on_time = omega (
+        arith,
+        so_far.on_time,
+        length_push so_far.before
+            (c.lines.player.open_line.items ++ c.in-Some.piece.now),
+      );
       answered = c.in_ok-complete_line.ensures.ok limits written so_far.before so_far.answered;
     }
 
@@ -36,5 +45,8 @@ returns-clause-err g c =
     let so_far = c.lines.invariant limits written lines h in
     let last : lines_in c.lines.rest.now ≡ c.lines.rest.now ∷ [] = search rules in
     stopped-fewer limits written _ false (length so_far.before) (length lines) _ _ so_far.on_time
-    (stopped-same limits written _ _ false _ _ _ _ (first_later _ so_far.before (lines_in c.lines.rest.now) [] _ c.lines.rest.now so_far.parts last) refl
-    (stopped-extend_open_line limits written so_far.before [] false _ c.lines.player.token c.lines.player.number _ _ refused so_far.answered)))
+    (stopped-same limits written _ _ false _ _ _ _
+    (first_later _ so_far.before (lines_in c.lines.rest.now) [] _ c.lines.rest.now so_far.parts
+    last) refl
+    (stopped-extend_open_line limits written so_far.before [] false _ c.lines.player.token
+    c.lines.player.number _ _ refused so_far.answered)))

@@ -7,8 +7,11 @@ use Rattle.ck_run.proofs.players.answer_chunk.Given as goal
 
 abbrev pub invariant-lines : goal.invariant-lines
 invariant-lines g l =
-    (limits : Ranges) (written : Writing) (lines : List (List ℕ)) → HasAnswered limits written lines l.fn.player.token l.fn.player.number (g.W.Sink.is_written l.fn.writer)
-    → IsAnsweredSoFar limits written (lines ++ onto l.fn.player.open_line.items (lines_in l.fn.chunk)) (lines_in l.rest) (length lines) l.player (g.W.Sink.is_written l.writer)
+    (limits : Ranges) (written : Writing) (lines : List (List ℕ))
+    → HasAnswered limits written lines l.fn.player.token l.fn.player.number
+    (g.W.Sink.is_written l.fn.writer)
+    → IsAnsweredSoFar limits written (lines ++ onto l.fn.player.open_line.items
+    (lines_in l.fn.chunk)) (lines_in l.rest) (length lines) l.player (g.W.Sink.is_written l.writer)
 
 abbrev pub decreases-lines : goal.decreases-lines
 decreases-lines g l = length l.rest

@@ -8,5 +8,10 @@ pub returns : goal.returns
 returns c =
     let rest = c.in-Some.rest.now in
     let over = drop_all c.loop-handle.handle-index rest c.loop-handle-test.false in
-    rw (c.in-Some.ensures.cases.0, joined-first decimal c.in-Some.first.now rest, ← append_assoc, ← c.in_ok-push_number.ensures)
+    rw (
+      c.in-Some.ensures.cases.0,
+      joined-first decimal c.in-Some.first.now rest,
+      ← append_assoc,
+      ← c.in_ok-push_number.ensures,
+    )
     (sym (append-nil c.loop-handle.out.items) ∙ rw over at c.loop-handle.invariant)
