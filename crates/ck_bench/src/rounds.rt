@@ -66,10 +66,11 @@ impl From<NoMemory> for Failed {
 }
 
 /// Makes a call that must be answered OK, and gives its handle, 0 where it has none.
+#[inline(always)]
 fn call(token: &mut Token, alloc: Global, call: Call) -> Result<u64, Failed> {
     let reply = token.call(alloc, 1, call)?;
-    match (reply.rv, reply.body) {
-        (Rv::Ok, Body::Handle(handle)) => Ok(handle),
+    match (&reply.rv, &reply.body) {
+        (Rv::Ok, Body::Handle(handle)) => Ok(*handle),
         (Rv::Ok, _) => Ok(0),
         (Rv::Error(_), _) => Err(Failed),
     }
@@ -114,30 +115,54 @@ pub(crate) fn prepared(alloc: Global) -> Result<Token, Failed> {
     Ok(token)
 }
 
-/// One round of the kind.
+#[inline(never)]
+fn session_info(token: &mut Token, alloc: Global) -> Result<(), Failed> {
+    call(token, alloc, Call::GetSessionInfo { session: 1 })?;
+    Ok(())
+}
+
+#[inline(never)]
+fn token_info(token: &mut Token, alloc: Global) -> Result<(), Failed> {
+    call(token, alloc, Call::GetTokenInfo)?;
+    Ok(())
+}
+
+#[inline(never)]
+fn open_and_close(token: &mut Token, alloc: Global) -> Result<(), Failed> {
+    let session = call(token, alloc, Call::OpenSession { flags: 6 })?;
+    call(token, alloc, Call::CloseSession { session })?;
+    Ok(())
+}
+
+#[inline(never)]
+fn refusal(token: &mut Token, alloc: Global) -> Result<(), Failed> {
+    token.call(alloc, 1, Call::GetSessionInfo { session: 0 })?;
+    Ok(())
+}
+
+#[inline(never)]
+fn get_label(token: &mut Token, alloc: Global, object: u64) -> Result<(), Failed> {
+    call(token, alloc, read_label(alloc, object)?)?;
+    Ok(())
+}
+
+#[inline(never)]
+fn create_and_destroy(token: &mut Token, alloc: Global) -> Result<(), Failed> {
+    let object = call(token, alloc, labelled(alloc)?)?;
+    get_label(token, alloc, object)?;
+    call(token, alloc, Call::DestroyObject { session: 1, object })?;
+    Ok(())
+}
+
+/// One round of the kind. Each kind has a function of its own, so that a round takes no time for what another kind
+/// would need.
 pub(crate) fn round(token: &mut Token, alloc: Global, kind: Kind) -> Result<(), Failed> {
     match kind {
-        Kind::SessionInfo => {
-            call(token, alloc, Call::GetSessionInfo { session: 1 })?;
-        }
-        Kind::TokenInfo => {
-            call(token, alloc, Call::GetTokenInfo)?;
-        }
-        Kind::OpenAndClose => {
-            let session = call(token, alloc, Call::OpenSession { flags: 6 })?;
-            call(token, alloc, Call::CloseSession { session })?;
-        }
-        Kind::Refusal => {
-            token.call(alloc, 1, Call::GetSessionInfo { session: 0 })?;
-        }
-        Kind::ReadLabel => {
-            call(token, alloc, read_label(alloc, 1)?)?;
-        }
-        Kind::CreateReadDestroy => {
-            let object = call(token, alloc, labelled(alloc)?)?;
-            call(token, alloc, read_label(alloc, object)?)?;
-            call(token, alloc, Call::DestroyObject { session: 1, object })?;
-        }
+        Kind::SessionInfo => session_info(token, alloc),
+        Kind::TokenInfo => token_info(token, alloc),
+        Kind::OpenAndClose => open_and_close(token, alloc),
+        Kind::Refusal => refusal(token, alloc),
+        Kind::ReadLabel => get_label(token, alloc, 1),
+        Kind::CreateReadDestroy => create_and_destroy(token, alloc),
     }
-    Ok(())
 }

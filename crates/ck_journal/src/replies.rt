@@ -82,7 +82,8 @@ impl Body {
     ghost use Rattle.std.specs.Prelude.{◌≡◌, false, IfOk, IsOk};
     ghost use Rattle.ck_journal.specs.Replies.{has_list};
 
-    fn duplicate(&self, alloc: Global) -> Result<Body, NoMemory>
+    /// A copy of the body. One that has no list takes no memory.
+    pub fn duplicate(&self, alloc: Global) -> Result<Body, NoMemory>
         ensures copy { IfOk result (λ copy. copy ≡ self.now) }
         ensures succeeds { has_list self.now ≡ false → IsOk result }
     {

@@ -29,7 +29,7 @@ use Rattle.ck_journal.specs.Pins.{about}
 use Rattle.ck_journal.specs.Sessions.{is_open}
 use Rattle.ck_token.specs.Agreement.{adds}
 use Rattle.ck_token.specs.Changes.{change_of, end_if_too_long, refusal_change, refused_change, effect, effect_by}
-use Rattle.ck_token.specs.Decisions.{IsDecision, takes_memory, may_run_out}
+use Rattle.ck_token.specs.Decisions.{IsDecision, takes_memory, may_run_out, reply_of}
 use Rattle.ck_token.specs.declared.changes.Change.{Change}
 use Rattle.ck_token.specs.declared.changes.Change.TheVariants as change
 use Rattle.ck_token.specs.declared.decisions.Decision.{Decision}
@@ -180,17 +180,11 @@ object-checks h session object checks attributes error is_so named is =
     last None = refl
     last (Some code) = refl
 
--- ---- replies that give bytes or their length
-
-pub gives-length : (session : ℕ) (reply expected : Reply) (made : Change) (n : ℕ)
-    → made ≡ change.FinishOperation kind.Digest session false → reply ≡ expected → reply.body ≡ body.Length n
-    → (reply ≡ expected) × (made ≡ change.FinishOperation kind.Digest session (not (leaves_active rv.Ok reply.body)))
-gives-length session reply expected made n is same length =
-    (same, is ∙ ap (λ b. change.FinishOperation kind.Digest session (not (leaves_active rv.Ok b))) (sym length))
+-- ---- a reply that gives bytes
 
 pub gives-bytes : (session : ℕ) (d : Decision) (tag bytes : List ℕ) (expected : Reply)
-    → d ≡ record { reply = ok (body.Bytes tag); change = change.FinishOperation kind.Digest session true }
+    → d ≡ record { rv = rv.Ok; body = body.Bytes tag; change = change.FinishOperation kind.Digest session true }
     → expected ≡ ok (body.Bytes bytes) → tag ≡ bytes
-    → (d.reply ≡ expected) × (d.change ≡ change.FinishOperation kind.Digest session (not (leaves_active rv.Ok d.reply.body)))
+    → (reply_of d ≡ expected) × (d.change ≡ change.FinishOperation kind.Digest session (not (leaves_active rv.Ok d.body)))
 gives-bytes session d tag bytes expected is given same =
     rw is (ap (λ bytes. ok (body.Bytes bytes)) same ∙ sym given, refl)

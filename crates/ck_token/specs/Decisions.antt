@@ -5,6 +5,7 @@ use Rattle.ck_types.specs.declared.errors.RvError.{RvError}
 use Rattle.ck_types.specs.declared.users.UserType.{UserType}
 use Rattle.ck_journal.specs.declared.calls.Call.{Call}
 use Rattle.ck_journal.specs.declared.calls.Call.TheVariants as call
+use Rattle.ck_journal.specs.declared.replies.Reply.{Reply}
 use Rattle.ck_journal.specs.Answers.{call_error, allowed_reply}
 use Rattle.ck_journal.specs.Histories.{History}
 use Rattle.ck_journal.specs.Pins.{about}
@@ -40,13 +41,17 @@ IsCheckAbout who error (Err (refused.Error code change)) =
     (error ≡ Some code) × (change ≡ refusal_change code who)
 IsCheckAbout who error (Err refused.Memory) = ⊥
 
+-- the reply that is decided
+abbrev pub reply_of : Decision → Reply
+reply_of decision = record { rv = decision.rv; body = decision.body }
+
 -- the call passes its checks, and this is its reply and its change; or it is refused with the code of the
 -- first check that fails; or it passes its checks and there is no memory for it
 abbrev pub IsDecision : Ranges → History → Call → Result Decision Refused → Type 0
 IsDecision limits h c (Ok decision) =
     (call_error limits h c ≡ None)
-    × (decision.reply ≡ allowed_reply limits h c)
-    × (decision.change ≡ change_of h c decision.reply.body)
+    × (reply_of decision ≡ allowed_reply limits h c)
+    × (decision.change ≡ change_of h c decision.body)
 IsDecision limits h c (Err (refused.Error code change)) =
     (call_error limits h c ≡ Some code) × (change ≡ refused_change c code (about h (Some c)))
 IsDecision limits h c (Err refused.Memory) = may_run_out limits h c ≡ true

@@ -1,3 +1,4 @@
+use crate::boxed::Boxed;
 use ck_journal::OperationKind;
 use ck_types::{Hash, Pin, Record, Sequence, UserType};
 
@@ -33,12 +34,12 @@ pub(crate) enum Change {
     /// A creation, or a copy, in this session.
     CreateObject {
         session: u64,
-        attributes: Record,
+        attributes: Boxed<Record>,
     },
     /// New attributes of the object of this number.
     SetAttributes {
         number: u64,
-        attributes: Record,
+        attributes: Boxed<Record>,
     },
     DestroyObject {
         number: u64,

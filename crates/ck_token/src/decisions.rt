@@ -1,21 +1,23 @@
 ghost use Rattle.std.specs.Prelude.{◌≡◌};
-ghost use Rattle.ck_journal.specs.Answers.{ok, refusal};
 
 use crate::changes::Change;
-use ck_journal::{Body, Reply};
+use ck_journal::Body;
 use ck_types::{NoMemory, Rv, RvError};
 
-/// The reply to a call that passes its checks, and what the call changes.
+/// The reply to a call that passes its checks, and what the call changes. The reply is here in its two parts: a
+/// `Reply` is made once, at the end, since its padding moves with it.
 #[derive(Drop)]
 pub(crate) struct Decision {
-    pub(crate) reply: Reply,
+    pub(crate) rv: Rv,
+    pub(crate) body: Body,
     pub(crate) change: Change,
 }
 
 /// Why a call isn't carried out.
 #[derive(Drop)]
 pub(crate) enum Refused {
-    /// A check fails. What the refusal changes is nothing, but for a wrong PIN.
+    /// A check fails. What the refusal changes is nothing, but for a wrong PIN and for the
+    /// end of an operation.
     Error { error: RvError, change: Change },
     Memory,
 }
@@ -46,48 +48,32 @@ impl From<NoMemory> for Refused {
     }
 }
 
-/// The reply to a call that is answered OK.
-#[inline(always)]
-pub(crate) fn ok(body: Body) -> Reply
-    ensures { result ≡ ok body }
-{
-    Reply { rv: Rv::Ok, body }
-}
-
-#[inline(always)]
-pub(crate) fn refusal(error: RvError) -> Reply
-    ensures { result ≡ refusal error }
-{
-    Reply {
-        rv: Rv::Error(error),
-        body: Body::Empty,
-    }
-}
-
 impl Decision {
     ghost use Rattle.std.specs.Prelude.{◌≡◌};
-    ghost use Rattle.ck_journal.specs.Answers.{ok};
+    ghost use Rattle.ck_types.specs.declared.return_codes.Rv.TheVariants as rv;
     ghost use Rattle.ck_journal.specs.declared.replies.Body.TheVariants as body;
     ghost use Rattle.ck_token.specs.declared.changes.Change.TheVariants as change;
 
     /// A call that changes something and gives nothing beside the code.
     #[inline(always)]
     pub(crate) fn of_change(change: Change) -> Decision
-        ensures { result ≡ record { reply = ok body.Empty; change = change } }
+        ensures { result ≡ record { rv = rv.Ok; body = body.Empty; change = change } }
     {
         Decision {
-            reply: ok(Body::Empty),
+            rv: Rv::Ok,
+            body: Body::Empty,
             change,
         }
     }
 
     /// A call that only reads.
     #[inline(always)]
-    pub(crate) fn of_reply(reply: Reply) -> Decision
-        ensures { result ≡ record { reply = reply; change = change.Nothing } }
+    pub(crate) fn of_body(body: Body) -> Decision
+        ensures { result ≡ record { rv = rv.Ok; body = body; change = change.Nothing } }
     {
         Decision {
-            reply,
+            rv: Rv::Ok,
+            body,
             change: Change::Nothing,
         }
     }

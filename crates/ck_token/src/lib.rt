@@ -2,6 +2,7 @@
 //! itself.
 #![tactic(auto)]
 
+mod boxed;
 mod changes;
 mod decisions;
 mod parts;

@@ -74,8 +74,10 @@ impl Parts {
             Change::CreateObject {
                 session,
                 attributes,
-            } => self.objects.create(session, attributes),
-            Change::SetAttributes { number, attributes } => self.objects.set(number, attributes),
+            } => self.objects.create(session, attributes.into_inner()),
+            Change::SetAttributes { number, attributes } => self
+                .objects
+                .set(number, attributes.into_inner()),
             Change::DestroyObject { number } => self.objects.destroy(number),
             Change::StartSearch { session, found } => self
                 .sessions

@@ -2,8 +2,8 @@
 //! are compared with the journal here; their values are those of the cases that a program of the
 //! gate plays.
 use crate::{Stopped, Token, run};
-use ck_journal::{AttributeQuery, Call, Journal};
-use ck_types::{Bytes, Item, Limits, NoMemory, Pin, Rv, RvError, Sequence, Template};
+use ck_journal::{AttributeQuery, Body, Call, Journal};
+use ck_types::{Bytes, Item, Limits, Mechanism, NoMemory, Pin, Rv, RvError, Sequence, Template};
 use std::alloc::Global;
 use std::process::Abort;
 use std::test::Fail;
@@ -16,6 +16,7 @@ enum Kind {
     Pins,
     Objects,
     Searches,
+    Digests,
 }
 
 /// The calls of a kind, after so many others.
@@ -35,6 +36,7 @@ impl List {
             Kind::Pins => Ok(pin_step(number)),
             Kind::Objects => object_step(alloc, number),
             Kind::Searches => search_step(alloc, number),
+            Kind::Digests => digest_step(alloc, number),
         }
     }
 
@@ -209,6 +211,57 @@ fn search_step(alloc: Global, number: usize) -> Result<Option<Step>, NoMemory> {
     Ok(Some((3, call, rv)))
 }
 
+fn start_sha256(alloc: Global) -> Call {
+    let mechanism = Mechanism {
+        kind: 0x250,
+        parameter: Bytes::new(alloc),
+    };
+    Call::DigestInit {
+        session: 1,
+        mechanism,
+    }
+}
+
+fn digest(alloc: Global, room: Option<u64>) -> Result<Call, NoMemory> {
+    Ok(Call::Digest {
+        session: 1,
+        bytes: Bytes::from_slice(alloc, b"abc")?,
+        room,
+    })
+}
+
+fn update(bytes: Bytes) -> Call {
+    Call::DigestUpdate { session: 1, bytes }
+}
+
+fn finish(room: u64) -> Call {
+    Call::DigestFinal {
+        session: 1,
+        room: Some(room),
+    }
+}
+
+fn digest_step(alloc: Global, number: usize) -> Result<Option<Step>, NoMemory> {
+    let (call, rv) = match number {
+        0 => (Call::InitToken { pin: so_pin() }, Rv::Ok),
+        1 => (Call::OpenSession { flags: 6 }, Rv::Ok),
+        2 => (start_sha256(alloc), Rv::Ok),
+        3 => (update(Bytes::from_slice(alloc, b"a")?), Rv::Ok),
+        4 => (finish(31), Rv::Error(RvError::BufferTooSmall)),
+        5 => (finish(32), Rv::Ok),
+        6 => (
+            digest(alloc, None)?,
+            Rv::Error(RvError::OperationNotInitialized),
+        ),
+        7 => (start_sha256(alloc), Rv::Ok),
+        8 => (digest(alloc, None)?, Rv::Ok),
+        9 => (digest(alloc, Some(64))?, Rv::Ok),
+        10 => (finish(32), Rv::Error(RvError::OperationNotInitialized)),
+        _ => return Ok(None),
+    };
+    Ok(Some((4, call, rv)))
+}
+
 fn debug_text(alloc: Global, call: &Call) -> Result<String, Fail> {
     match format!(in alloc; "{call:?}") {
         Ok(text) => Ok(text),
@@ -317,7 +370,7 @@ fn check_list(rt: &impl Abort, alloc: Global, list: List) -> Result<u64, Fail> {
 fn calls_are_answered_and_entered(rt: HostRuntime) -> Result<(), Fail> {
     let mut refused = 0u64;
     for before in 0..8 {
-        for kind in [Kind::Pins, Kind::Objects, Kind::Searches] {
+        for kind in [Kind::Pins, Kind::Objects, Kind::Searches, Kind::Digests] {
             let list = List { before, kind };
             refused = refused.saturating_add(check_list(&rt, rt.alloc(), list)?);
         }
@@ -346,5 +399,48 @@ fn room_for_entries(rt: HostRuntime) -> Result<(), Fail> {
     assert_eq!(rt; token.journal().len(), 0);
     token.call(rt.alloc(), 1, Call::CloseAllSessions)?;
     assert!(rt; token.spare() >= 2);
+    Ok(())
+}
+
+/// So many bytes `a`.
+fn filled(alloc: Global, count: usize) -> Result<Bytes, NoMemory> {
+    let bytes = vec![in alloc; b'a'; count]?;
+    Ok(Bytes::from_vec(bytes))
+}
+
+/// The SHA-256 digest of a million bytes `a` (FIPS 180-2, appendix B.3).
+const MILLION: [u8; 32] = [
+    0xcd, 0xc7, 0x6e, 0x5c, 0x99, 0x14, 0xfb, 0x92, 0x81, 0xa1, 0xc7, 0xe2, 0x84, 0xd7, 0x3e, 0x67,
+    0xf1, 0x80, 0x9a, 0x48, 0xa4, 0x97, 0x20, 0x0e, 0x04, 0x6d, 0x39, 0xcc, 0xc7, 0x11, 0x2c, 0xd0,
+];
+
+/// A token with a session and a digest in it.
+fn digesting(alloc: Global) -> Result<Token, NoMemory> {
+    let mut token = Token::new(alloc, Limits::largest());
+    token.call(alloc, 1, Call::InitToken { pin: so_pin() })?;
+    token.call(alloc, 1, Call::OpenSession { flags: 6 })?;
+    token.call(alloc, 1, start_sha256(alloc))?;
+    Ok(token)
+}
+
+/// A long message, a piece that is as long as one may be, and one that is longer.
+#[test]
+fn long_pieces(rt: HostRuntime) -> Result<(), Fail> {
+    let alloc = rt.alloc();
+    let mut token = digesting(alloc)?;
+    let reply = token.call(alloc, 1, update(filled(alloc, 1_000_000)?))?;
+    assert_eq!(rt; reply.rv, Rv::Ok);
+    let reply = token.call(alloc, 1, finish(32))?;
+    match reply.body {
+        Body::Bytes(bytes) => assert_eq!(rt; bytes.as_slice(), MILLION.as_slice()),
+        _ => return Err(Fail::new("no digest")),
+    }
+    token.call(alloc, 1, start_sha256(alloc))?;
+    let reply = token.call(alloc, 1, update(filled(alloc, 0x10_0000)?))?;
+    assert_eq!(rt; reply.rv, Rv::Ok);
+    let reply = token.call(alloc, 1, update(filled(alloc, 0x10_0001)?))?;
+    assert_eq!(rt; reply.rv, Rv::Error(RvError::DataLenRange));
+    let reply = token.call(alloc, 1, finish(32))?;
+    assert_eq!(rt; reply.rv, Rv::Error(RvError::OperationNotInitialized));
     Ok(())
 }

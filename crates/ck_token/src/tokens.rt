@@ -1,11 +1,16 @@
+ghost use Rattle.std.specs.Prelude.{◌≡◌, ◌<◌, ◌≤◌, false, IfOk, IsOk, OnOk};
+ghost use Rattle.ck_journal.specs.Histories.{History};
+ghost use Rattle.ck_journal.specs.Replies.{has_list};
+ghost use Rattle.ck_token.specs.Agreement.{PartsAgree, adds, HasRoom};
+
 use crate::changes::Change;
-use crate::decisions::{Decision, Refused, refusal};
+use crate::decisions::{Decision, Refused};
 use crate::parts::Parts;
-use ck_journal::{Call, Entry, Journal, Reply};
+use ck_journal::{Body, Call, Entry, Journal, Reply};
 use ck_operations::Operations;
 use ck_sessions::Sessions;
 use ck_store::Store;
-use ck_types::{Limits, NoMemory};
+use ck_types::{Limits, NoMemory, Rv};
 use std::alloc::Global;
 use std::marker::Model;
 
@@ -16,8 +21,9 @@ mod readings;
 mod search_calls;
 mod session_calls;
 
-/// A token with its sessions, objects and operations, wholly in memory. Contracts see its limits, the history
-/// of its journal and for how many more entries the journal has room; that its parts are what the history says, and that the history is legal, is true of every token.
+/// A token with its sessions, objects and operations, wholly in memory. Contracts see its limits, the
+/// history of its journal and for how many more entries the journal has room; that its parts are what
+/// the history says, and that the history is legal, is true of every token.
 #[derive(Debug, Drop)]
 pub struct Token {
     limits: Limits,
@@ -44,13 +50,59 @@ impl Model for Token {
     ghost invariant = { λ t. TokenAgrees t.limits t.journal.history t.parts };
 }
 
+/// Drops what a call leaves that finds no memory. A compiled function clears its slots where it begins, and a function
+/// that is inlined where it is called: so other calls take no time for this one's.
+#[inline(always)]
+fn out_of_memory<T: Drop>(left: T) -> NoMemory {
+    drop_apart(left);
+    NoMemory
+}
+
+#[cold]
+#[inline(never)]
+fn drop_apart<T: Drop>(left: T) {
+    drop(left);
+}
+
+#[inline(always)]
+fn reply_with(rv: Rv, body: Body) -> Reply
+    ensures { result ≡ record { rv = rv; body = body } }
+{
+    Reply { rv, body }
+}
+
+/// All that may fail of entering a call: the journal's copy of the reply's body, and room for the entry and for what the
+/// change adds.
+#[inline(always)]
+fn prepare(
+    parts: &mut Parts,
+    journal: &mut Journal,
+    alloc: Global,
+    body: &Body,
+    change: &Change,
+) -> Result<Body, NoMemory>
+    ensures copy { IfOk result (λ copy. copy ≡ body.now) }
+    ensures agree { (h : History) → PartsAgree h parts.old → PartsAgree h parts.new }
+    ensures room { OnOk result (HasRoom parts.new change.now) }
+    ensures history { journal.new.history ≡ journal.old.history }
+    ensures place { OnOk result (1 ≤ journal.new.spare) }
+    ensures spare { journal.old.spare ≤ journal.new.spare }
+    ensures succeeds { 0 < journal.old.spare → has_list body.now ≡ false
+        → adds change.now ≡ false → IsOk result }
+{
+    let entered = body.duplicate(alloc)?;
+    parts.reserve(change)?;
+    journal.reserve(1)?;
+    Ok(entered)
+}
+
 impl Token {
     ghost use Rattle.std.specs.Prelude.{◌≡◌, ◌<◌, ◌≤◌, ◌+◌, true, false, IfOk, IfErr, IsOk, OnOk, OnErr};
     ghost use Rattle.ck_journal.specs.Answers.{IsLegal, answer};
     ghost use Rattle.ck_journal.specs.Bases.{empty_base};
     ghost use Rattle.ck_journal.specs.Histories.{start};
     ghost use Rattle.ck_token.specs.Changes.{effect};
-    ghost use Rattle.ck_token.specs.Decisions.{IsDecision, may_run_out};
+    ghost use Rattle.ck_token.specs.Decisions.{IsDecision, may_run_out, reply_of};
     ghost use Rattle.ck_token.specs.TokenStates.{IsAnswered, IsUnchanged};
 
     /// A token that has answered no call, which takes no memory.
@@ -107,32 +159,35 @@ impl Token {
         ensures room { OnOk result (self.old.spare ≤ self.new.spare + 1) }
         ensures spare { OnErr result (self.old.spare ≤ self.new.spare) }
     {
-        let Decision { reply, change } = self.decide(alloc, &call)?;
-        let entered = reply.duplicate(alloc)?;
-        self.parts.reserve(&change)?;
-        self.journal.reserve(1)?;
+        let Ok(Decision { rv, body, change }) = self.decide(alloc, &call) else {
+            return Err(out_of_memory(call));
+        };
+        let Ok(entered) = prepare(&mut self.parts, &mut self.journal, alloc, &body, &change) else {
+            return Err(out_of_memory((call, body, change)));
+        };
         self.parts.apply(change, &call);
         self.journal.push_reserved(Entry {
             caller,
             call,
-            reply: entered,
+            reply: reply_with(rv, entered),
         });
-        Ok(reply)
+        Ok(reply_with(rv, body))
     }
 
     /// The reply to a call, and what the call changes.
     #[inline(always)]
     fn decide(&self, alloc: Global, call: &Call) -> Result<Decision, NoMemory>
         ensures reply { IfOk result (λ decision.
-            decision.reply ≡ answer self.now.limits self.now.history call.now) }
+            reply_of decision ≡ answer self.now.limits self.now.history call.now) }
         ensures change { IfOk result (λ decision.
-            decision.change ≡ effect self.now.history call.now decision.reply) }
+            decision.change ≡ effect self.now.history call.now (reply_of decision)) }
         ensures succeeds { OnErr result (may_run_out self.now.limits self.now.history call.now ≡ true) }
     {
         match self.decision(alloc, call) {
             Ok(decision) => Ok(decision),
             Err(Refused::Error { error, change }) => Ok(Decision {
-                reply: refusal(error),
+                rv: Rv::Error(error),
+                body: Body::Empty,
                 change,
             }),
             Err(Refused::Memory) => Err(NoMemory),

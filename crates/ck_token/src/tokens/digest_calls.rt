@@ -1,4 +1,5 @@
-ghost use Rattle.std.specs.Prelude.{◌≡◌, ℕ, true, List, length, IfOk, IfSome, MatchOption};
+ghost use Rattle.std.specs.Prelude.{◌≡◌, ℕ, true, List, length, IfOk, MatchOption};
+ghost use Rattle.ck_types.specs.declared.return_codes.Rv.TheVariants as rv;
 ghost use Rattle.ck_journal.specs.Answers.{ok, bytes_reply};
 ghost use Rattle.ck_journal.specs.declared.operations.OperationKind.TheVariants as kind;
 ghost use Rattle.ck_journal.specs.declared.replies.Body.TheVariants as body;
@@ -7,25 +8,23 @@ ghost use Rattle.ck_token.specs.declared.decisions.Refused.TheVariants as refuse
 
 use super::Token;
 use crate::changes::Change;
-use crate::decisions::{Decision, Refused, ok};
-use ck_journal::{Body, OperationKind, Reply, is_long_piece};
+use crate::decisions::{Decision, Refused};
+use ck_journal::{Body, OperationKind, is_long_piece};
 use ck_mac::{Tag, digest};
 use ck_operations::Operation;
 use ck_types::{Bytes, Mechanism, NoMemory, Rv, RvError, digest_of, error_if};
 use std::alloc::Global;
 
-/// The reply that gives a length alone: where it is asked for, and where the room is too small.
-fn length_reply(len: u64, room: Option<u64>) -> Option<Reply>
-    ensures reply { (bytes : List ℕ) → length bytes ≡ len → MatchOption result
-        (bytes_reply room bytes ≡ ok (body.Bytes bytes)) (λ reply. reply ≡ bytes_reply room bytes) }
-    ensures length { IfSome result (λ reply. reply.body ≡ body.Length len) }
+/// The code of a reply that gives a length alone: where it is asked for, and where the room is too
+/// small.
+fn length_code(len: u64, room: Option<u64>) -> Option<Rv>
+    ensures { (bytes : List ℕ) → length bytes ≡ len → MatchOption result
+        (bytes_reply room bytes ≡ ok (body.Bytes bytes))
+        (λ code. bytes_reply room bytes ≡ record { rv = code; body = body.Length len }) }
 {
     match room {
-        None => Some(ok(Body::Length(len))),
-        Some(room) if room < len => Some(Reply {
-            rv: Rv::Error(RvError::BufferTooSmall),
-            body: Body::Length(len),
-        }),
+        None => Some(Rv::Ok),
+        Some(room) if room < len => Some(Rv::Error(RvError::BufferTooSmall)),
         Some(_) => None,
     }
 }
@@ -43,13 +42,15 @@ fn finish(session: u64, ends: bool) -> Change
 /// Gives a digest, which ends the session's operation.
 fn give(alloc: Global, session: u64, tag: &Tag) -> Result<Decision, NoMemory>
     ensures { IfOk result (λ decision. decision ≡ record {
-      reply = ok (body.Bytes tag.now);
+      rv = rv.Ok;
+      body = body.Bytes tag.now;
       change = change.FinishOperation kind.Digest session true;
     }) }
 {
     let bytes = Bytes::from_slice(alloc, tag.bytes())?;
     Ok(Decision {
-        reply: ok(Body::Bytes(bytes)),
+        rv: Rv::Ok,
+        body: Body::Bytes(bytes),
         change: finish(session, true),
     })
 }
@@ -143,9 +144,11 @@ impl Token {
             Err(error) => return Err(refused(session, error)),
             Ok(operation) => operation.hash(),
         };
-        if let Some(reply) = length_reply(hash.len(), room) {
+        let len = hash.len();
+        if let Some(rv) = length_code(len, room) {
             return Ok(Decision {
-                reply,
+                rv,
+                body: Body::Length(len),
                 change: finish(session, false),
             });
         }
@@ -178,9 +181,11 @@ impl Token {
             Err(error) => return Err(refused(session, error)),
             Ok(operation) => operation,
         };
-        if let Some(reply) = length_reply(operation.hash().len(), room) {
+        let len = operation.hash().len();
+        if let Some(rv) = length_code(len, room) {
             return Ok(Decision {
-                reply,
+                rv,
+                body: Body::Length(len),
                 change: finish(session, false),
             });
         }

@@ -3,12 +3,13 @@ ghost use Rattle.ck_types.specs.Checks.{check_of};
 ghost use Rattle.ck_journal.specs.Answers.{prohibited_error};
 
 use super::Token;
+use crate::boxed::Boxed;
 use crate::changes::Change;
-use crate::decisions::{Decision, Refused, ok};
+use crate::decisions::{Decision, Refused};
 use crate::queries::queries_reply;
 use ck_journal::{AttributeQuery, Body};
 use ck_sessions::Session;
-use ck_types::{Attribute, Placement, Record, RvError, Template, error_if};
+use ck_types::{Attribute, Placement, Record, Rv, RvError, Template, error_if};
 use std::alloc::Global;
 
 /// CKR_ACTION_PROHIBITED where the flag (CKA_COPYABLE, CKA_MODIFIABLE or CKA_DESTROYABLE) is false.
@@ -28,7 +29,7 @@ impl Token {
     ghost use Rattle.ck_journal.specs.declared.replies.Body.TheVariants as body;
     ghost use Rattle.ck_journal.specs.declared.calls.Call.TheVariants as call;
     ghost use Rattle.ck_sessions.specs.Agreement.{session_row};
-    ghost use Rattle.ck_token.specs.Decisions.{IsDecision};
+    ghost use Rattle.ck_token.specs.Decisions.{IsDecision, reply_of};
     ghost use Rattle.ck_token.specs.declared.changes.Change.TheVariants as change;
 
     // ---- checks
@@ -85,21 +86,23 @@ impl Token {
         template.check_creation()?;
         self.check_placement(row, template.creation_placement())?;
         let number = self.next_number()?;
-        let attributes = Record::create_with(alloc, template)?;
+        let made = Record::create_with(alloc, template)?;
+        let attributes = Boxed::new(alloc, made)?;
         Ok(self.creation(session, number, attributes))
     }
 
     /// The decision to add an object.
     #[inline(always)]
-    fn creation(&self, session: u64, number: u64, attributes: Record) -> Decision
+    fn creation(&self, session: u64, number: u64, attributes: Boxed<Record>) -> Decision
         requires number { number ≡ creations self.now.history + 1 }
         requires bound { number < 2 ^ 32 }
-        ensures reply { result.reply ≡ ok (body.Handle (new_handle self.now.history attributes)) }
+        ensures reply { reply_of result ≡ ok (body.Handle (new_handle self.now.history attributes)) }
         ensures change { result.change ≡ change.CreateObject session attributes }
     {
-        let handle = self.view().handle(&attributes, number);
+        let handle = self.view().handle(attributes.get(), number);
         Decision {
-            reply: ok(Body::Handle(handle)),
+            rv: Rv::Ok,
+            body: Body::Handle(handle),
             change: Change::CreateObject {
                 session,
                 attributes,
@@ -123,7 +126,8 @@ impl Token {
         source.check_copy(template)?;
         self.check_placement(row, source.copy_placement(template))?;
         let number = self.next_number()?;
-        let attributes = source.copy_with(alloc, template)?;
+        let made = source.copy_with(alloc, template)?;
+        let attributes = Boxed::new(alloc, made)?;
         Ok(self.creation(session, number, attributes))
     }
 
@@ -140,7 +144,11 @@ impl Token {
         self.session(session)?;
         let (_, attributes) = self.object(object)?;
         let reply = queries_reply(alloc, attributes, queries)?;
-        Ok(Decision::of_reply(reply))
+        Ok(Decision {
+            rv: reply.rv,
+            body: reply.body,
+            change: Change::Nothing,
+        })
     }
 
     pub(super) fn set_attribute_value(
@@ -158,7 +166,8 @@ impl Token {
         self.check_writable(row, present.placement())?;
         check_flag(present, Attribute::Modifiable)?;
         present.check_change(template)?;
-        let attributes = present.change_with(alloc, template)?;
+        let made = present.change_with(alloc, template)?;
+        let attributes = Boxed::new(alloc, made)?;
         Ok(Decision::of_change(Change::SetAttributes { number, attributes }))
     }
 

@@ -1,8 +1,8 @@
 use super::Token;
 use crate::changes::Change;
-use crate::decisions::{Decision, Refused, ok};
+use crate::decisions::{Decision, Refused};
 use ck_journal::{Body, number_of_handle};
-use ck_types::{NoMemory, RvError, Sequence, Template, error_if};
+use ck_types::{NoMemory, Rv, RvError, Sequence, Template, error_if};
 use std::alloc::Global;
 
 /// Searching for objects.
@@ -48,7 +48,8 @@ impl Token {
             None => row.last_found(),
         };
         Ok(Decision {
-            reply: ok(Body::Handles(Sequence::from_vec(handles))),
+            rv: Rv::Ok,
+            body: Body::Handles(Sequence::from_vec(handles)),
             change: Change::AdvanceSearch { session, number },
         })
     }

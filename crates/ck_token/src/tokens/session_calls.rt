@@ -1,8 +1,8 @@
 use super::Token;
 use crate::changes::Change;
-use crate::decisions::{Decision, Refused, ok};
+use crate::decisions::{Decision, Refused};
 use ck_journal::{Body, RW_SESSION, SERIAL_SESSION, is_read_write};
-use ck_types::{RvError, TokenFlags, UserType, error_if};
+use ck_types::{Rv, RvError, TokenFlags, UserType, error_if};
 
 /// All flags that a session may be opened with.
 const SESSION_FLAGS: u64 = RW_SESSION | SERIAL_SESSION;
@@ -12,7 +12,7 @@ impl Token {
     ghost use Rattle.std.specs.Prelude.{◌≡◌};
     ghost use Rattle.ck_journal.specs.Answers.{allowed_reply};
     ghost use Rattle.ck_journal.specs.declared.calls.Call.TheVariants as call;
-    ghost use Rattle.ck_token.specs.Decisions.{IsDecision};
+    ghost use Rattle.ck_token.specs.Decisions.{IsDecision, reply_of};
     ghost use Rattle.ck_token.specs.declared.changes.Change.TheVariants as change;
 
     pub(super) fn open_session(&self, flags: u64) -> Result<Decision, Refused>
@@ -35,7 +35,8 @@ impl Token {
         let openings = self.openings();
         error_if(self.limits.openings() <= openings, RvError::DeviceMemory)?;
         Ok(Decision {
-            reply: ok(Body::Handle(openings + 1)),
+            rv: Rv::Ok,
+            body: Body::Handle(openings + 1),
             change: Change::OpenSession { flags },
         })
     }
@@ -51,19 +52,19 @@ impl Token {
         ensures { IsDecision self.now.limits self.now.history (call.GetSessionInfo session) result }
     {
         let row = self.session(session)?;
-        Ok(Decision::of_reply(ok(Body::Session {
+        Ok(Decision::of_body(Body::Session {
             state: self.state(row),
             flags: row.flags(),
-        })))
+        }))
     }
 
     pub(super) fn get_token_info(&self) -> Decision
-        ensures reply { result.reply ≡ allowed_reply self.now.limits self.now.history call.GetTokenInfo }
+        ensures reply { reply_of result ≡ allowed_reply self.now.limits self.now.history call.GetTokenInfo }
         ensures change { result.change ≡ change.Nothing }
     {
         let user = self.credential(UserType::User);
         let so = self.credential(UserType::So);
-        Decision::of_reply(ok(Body::Token {
+        Decision::of_body(Body::Token {
             flags: TokenFlags::of(
                 self.is_initialized(),
                 user.pin.is_some(),
@@ -73,6 +74,6 @@ impl Token {
             limit: self.limits.sessions(),
             sessions: self.session_count(),
             rw_sessions: self.read_write_count(),
-        }))
+        })
     }
 }

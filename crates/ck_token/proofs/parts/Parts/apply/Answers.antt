@@ -142,7 +142,7 @@ returns-in-CreateObject c = record {
       let of = of-CreateObject h e.reply.body e.call c.in-CreateObject.session c.in-CreateObject.attributes made.1 in
       record {
         sessions = sessions-created h e e.call made.0 of.0 _ agree.sessions;
-        objects = c.create.ensures.agree h e e.call made.0 of.0 of.1 of.2 agree.objects;
+        objects = c.create.ensures.agree h e e.call made.0 of.0 of.1 (c.into_inner.ensures ∙ of.2) agree.objects;
         operations = operations-created e e.call made.0 of.0 h _ agree.operations;
       };
 }
@@ -154,9 +154,10 @@ returns-in-SetAttributes c = record {
       let of = of-SetAttributes h e.reply.body e.call c.in-SetAttributes.number c.in-SetAttributes.attributes made.1 in
       let d = made.0 ∙ ap Some of.3 in
       let p = change-passed limits h of.0 of.1 of.2 (passed-done limits e h legal _ d) in
+      let new = c.into_inner-in-SetAttributes.ensures ∙ of.5 in
       record {
         sessions = sessions-kept h e _ d _ refl refl agree.sessions;
-        objects = c.set.ensures.agree h e of.0 of.1 of.2 d (p.0 ∙ ap Some (sym of.4)) of.5 (ap (λ (a : List Item). is_set a attribute.Token) of.5 ∙ p.1) agree.objects;
+        objects = c.set.ensures.agree h e of.0 of.1 of.2 d (p.0 ∙ ap Some (sym of.4)) new (ap (λ (a : List Item). is_set a attribute.Token) new ∙ p.1) agree.objects;
         operations = operations-kept e _ d h _ refl refl agree.operations;
       };
 }

@@ -57,6 +57,21 @@ returns-in_err-number c =
     (fourth-fails _ _ _ _ _ code allowed copied
     (ap (λ (p : Placement). placement_error h c.args.session p) (sym c.copy_placement.ensures) ∙ placed) c.in_err-number.ensures.used_up)) refl
 
+pub returns-in_err-made : goal.returns-in_err-made
+returns-in_err-made c =
+    let h = c.args.self.now.history in
+    let source = c.in_ok-source.source.now in
+    let allowed = check_of-ok (prohibited_error attribute.Copyable source) _ (sym c.check_flag.ensures ∙ c.in_ok-check_flag.was) in
+    let copied = check_of-ok (copied_error (class_of source) (protections_of source) c.args.template.now.items) _
+    (sym c.check_copy.ensures ∙ c.in_ok-check_copy.was) in
+    let placed = check_of-ok (placement_error h c.args.session c.copy_placement.result) _
+    (sym (c.check_placement.ensures c.args.session c.in_ok-row.ensures.row) ∙ c.in_ok-check_placement.was) in
+    memory-decision c.args.self.now.limits h (call.CopyObject c.args.session c.args.object c.args.template.now) _
+    c.from_residual-in_err-made.ensures.1
+    (object-checks h c.args.session c.args.object _ source _ c.in_ok-row.ensures.open c.in_ok-source.ensures.attributes
+    (four-pass _ _ _ _ allowed copied
+    (ap (λ (p : Placement). placement_error h c.args.session p) (sym c.copy_placement.ensures) ∙ placed) c.in_ok-number.ensures.free)) refl
+
 pub returns-in_err-attributes : goal.returns-in_err-attributes
 returns-in_err-attributes c =
     let h = c.args.self.now.history in
@@ -82,6 +97,7 @@ returns c =
     let placed = check_of-ok (placement_error h c.args.session c.copy_placement.result) _
     (sym (c.check_placement.ensures c.args.session c.in_ok-row.ensures.row) ∙ c.in_ok-check_placement.was) in
     let made = c.in_ok-attributes.ensures
+    ∙ c.in_ok-made.ensures
     ∙ ap (λ found. with_given c.args.template.now.items (unwrap_or found [])) (sym c.in_ok-source.ensures.attributes) in (
       object-checks h c.args.session c.args.object _ source _ c.in_ok-row.ensures.open c.in_ok-source.ensures.attributes
           (four-pass _ _ _ _ allowed copied

@@ -4,9 +4,8 @@ use Rattle.ck_types.specs.Checks.{error_if}
 use Rattle.ck_types.specs.declared.errors.RvError.TheVariants as rv_error
 use Rattle.ck_journal.specs.Answers.{ok}
 use Rattle.ck_journal.specs.Objects.{handle_of, is_visible}
-use Rattle.ck_journal.specs.Searches.{is_searching, remaining_objects, last_number, last_or, number_of_handle, handles_in}
+use Rattle.ck_journal.specs.Searches.{is_searching, remaining_objects, last_number, last_or, number_of_handle}
 use Rattle.ck_journal.specs.declared.replies.Body.TheVariants as body
-use Rattle.ck_journal.specs.declared.replies.Reply.{Reply}
 use Rattle.ck_token.specs.declared.changes.Change.TheVariants as change
 use Rattle.ck_token.proofs.DecisionLemmas.{two-pass, session-passes}
 use Rattle.ck_token.proofs.SearchLemmas.{left-found, last_or-some, last_or-none}
@@ -31,8 +30,7 @@ returns c =
           ∙ sym (last_or-none items (last_number h s) (rw c.deref.ensures.value at w.in-None.ensures.value))
     ] in (
       two-pass _ _ (session-passes h s c.in_ok-row.ensures.open) (ap (λ t. error_if (not t) rv_error.OperationNotInitialized) rest.0),
-      c.ok.ensures ∙ ap (λ (handles : List ℕ). ok (body.Handles handles)) (c.from_vec.ensures ∙ given),
+      ap (λ (handles : List ℕ). ok (body.Handles handles)) (c.from_vec.ensures ∙ given),
       ap (change.AdvanceSearch s) (number
-          ∙ ap (λ (handles : List ℕ). last_or (last_number h s) (map number_of_handle handles)) (sym c.from_vec.ensures)
-          ∙ ap (λ (r : Reply). last_or (last_number h s) (map number_of_handle (handles_in r.body))) (sym c.ok.ensures)),
+          ∙ ap (λ (handles : List ℕ). last_or (last_number h s) (map number_of_handle handles)) (sym c.from_vec.ensures)),
     )
