@@ -3,8 +3,10 @@
 //! the best of many short runs.
 #![tactic(auto)]
 
+mod long_digests;
 mod rounds;
 
+use long_digests::best_times;
 use rounds::{KINDS, Kind, calls_in, prepared, round};
 use std::env::Env;
 use std::process::ExitCode;
@@ -15,6 +17,9 @@ use std::{env, io};
 const ROUNDS: u64 = 1_000;
 
 const RUNS: u64 = 400;
+
+/// How often a long digest is made.
+const LONG_RUNS: u64 = 60;
 
 /// The processor time of one run of rounds on a token of its own, or `None` where one was refused.
 fn run_time<R: CpuClock + AllocGlobal>(
@@ -50,6 +55,18 @@ fn measure<R: CpuClock + Print + AllocGlobal>(rt: &R, kind: Kind) -> io::Result<
     Ok(true)
 }
 
+/// Makes a long digest by a call and by the library, and writes what each takes where that is asked for.
+fn measure_long<R: CpuClock + Print + AllocGlobal>(rt: &R, measures: bool) -> io::Result<bool> {
+    let tries = if measures { LONG_RUNS } else { 1 };
+    let Some((call, library)) = best_times(rt, tries)? else {
+        return Ok(false);
+    };
+    if measures {
+        println!(rt; "digest of a MiB: {call} ns by a call, {library} ns by the library")?;
+    }
+    Ok(true)
+}
+
 /// Makes each kind of round, and measures it where that is asked for.
 fn run<R: Env + CpuClock + Print + AllocGlobal>(rt: &R) -> io::Result<bool> {
     let measures = env::args(rt)?
@@ -65,7 +82,7 @@ fn run<R: Env + CpuClock + Print + AllocGlobal>(rt: &R) -> io::Result<bool> {
             return Ok(false);
         }
     }
-    Ok(true)
+    measure_long(rt, measures)
 }
 
 fn main(rt: HostRuntime) -> ExitCode {

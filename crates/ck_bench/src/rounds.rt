@@ -3,7 +3,7 @@ ghost use Rattle.std.specs.Prelude.{◌≤◌};
 
 use ck_journal::{AttributeQuery, Body, Call};
 use ck_token::Token;
-use ck_types::{Bytes, Item, Limits, NoMemory, Pin, Rv, Sequence, Template};
+use ck_types::{Bytes, Item, Limits, Mechanism, NoMemory, Pin, Rv, Sequence, Template};
 use std::alloc::Global;
 
 /// CKA_LABEL.
@@ -19,15 +19,18 @@ pub(crate) enum Kind {
     ReadLabel,
     /// An object with a label, its label read, and its end.
     CreateReadDestroy,
+    /// A digest of 64 bytes by one call, with its start.
+    ShortDigest,
 }
 
-pub(crate) const KINDS: [Kind; 6] = [
+pub(crate) const KINDS: [Kind; 7] = [
     Kind::SessionInfo,
     Kind::TokenInfo,
     Kind::OpenAndClose,
     Kind::Refusal,
     Kind::ReadLabel,
     Kind::CreateReadDestroy,
+    Kind::ShortDigest,
 ];
 
 impl Kind {
@@ -39,12 +42,13 @@ impl Kind {
             Kind::Refusal => "a refusal",
             Kind::ReadLabel => "get label",
             Kind::CreateReadDestroy => "create, get label and destroy (the three together)",
+            Kind::ShortDigest => "digest of 64 bytes (with its start)",
         }
     }
 }
 
-/// How many calls a figure is for: an opening with its closing counts as two, and an object's three calls as
-/// one.
+/// How many calls a figure is for: an opening with its closing counts as two, an object's three calls
+/// and a digest's two as one.
 pub(crate) fn calls_in(kind: Kind) -> u64
     ensures bounds { 1 ≤ result }
     ensures most { result ≤ 2 }
@@ -154,6 +158,35 @@ fn create_and_destroy(token: &mut Token, alloc: Global) -> Result<(), Failed> {
     Ok(())
 }
 
+/// Starts a SHA-256 digest.
+pub(crate) fn start_digest(alloc: Global) -> Call {
+    let mechanism = Mechanism {
+        kind: 0x250,
+        parameter: Bytes::new(alloc),
+    };
+    Call::DigestInit {
+        session: 1,
+        mechanism,
+    }
+}
+
+/// A digest of these bytes by one call.
+pub(crate) fn digest(bytes: Bytes) -> Call {
+    Call::Digest {
+        session: 1,
+        bytes,
+        room: Some(32),
+    }
+}
+
+#[inline(never)]
+fn short_digest(token: &mut Token, alloc: Global) -> Result<(), Failed> {
+    call(token, alloc, start_digest(alloc))?;
+    let bytes = Bytes::from_slice(alloc, [7; 64].as_slice())?;
+    call(token, alloc, digest(bytes))?;
+    Ok(())
+}
+
 /// One round of the kind. Each kind has a function of its own, so that a round takes no time for what another kind
 /// would need.
 pub(crate) fn round(token: &mut Token, alloc: Global, kind: Kind) -> Result<(), Failed> {
@@ -164,5 +197,6 @@ pub(crate) fn round(token: &mut Token, alloc: Global, kind: Kind) -> Result<(), 
         Kind::Refusal => refusal(token, alloc),
         Kind::ReadLabel => get_label(token, alloc, 1),
         Kind::CreateReadDestroy => create_and_destroy(token, alloc),
+        Kind::ShortDigest => short_digest(token, alloc),
     }
 }
