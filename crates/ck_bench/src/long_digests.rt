@@ -58,8 +58,8 @@ fn by_library<R: CpuClock + AllocGlobal>(rt: &R) -> io::Result<Option<(Bytes, Du
     }
 }
 
-/// The nanoseconds of a digest by a call and by the library, each the best of so many tries, or `None`
-/// where one failed or the digests differ.
+/// The nanoseconds of a digest by a call and by the library, each the best of so many tries, or
+/// `None` where one failed or the digests differ.
 pub(crate) fn best_times<R: CpuClock + AllocGlobal>(
     rt: &R,
     tries: u64,

@@ -1,6 +1,6 @@
-//! Measures what single calls of a token take, without a script. With no argument it makes each kind of call
-//! a few times and writes nothing; with the argument `measure` it writes nanoseconds a call: processor time,
-//! the best of many short runs.
+//! Measures what single calls of a token take, without a script. With no argument it makes each
+//! kind of call a few times and writes nothing; with the argument `measure` it writes nanoseconds a
+//! call: processor time, the best of many short runs.
 #![tactic(auto)]
 
 mod long_digests;
@@ -55,7 +55,8 @@ fn measure<R: CpuClock + Print + AllocGlobal>(rt: &R, kind: Kind) -> io::Result<
     Ok(true)
 }
 
-/// Makes a long digest by a call and by the library, and writes what each takes where that is asked for.
+/// Makes a long digest by a call and by the library, and writes what each takes where that is asked
+/// for.
 fn measure_long<R: CpuClock + Print + AllocGlobal>(rt: &R, measures: bool) -> io::Result<bool> {
     let tries = if measures { LONG_RUNS } else { 1 };
     let Some((call, library)) = best_times(rt, tries)? else {

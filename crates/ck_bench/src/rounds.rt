@@ -47,8 +47,8 @@ impl Kind {
     }
 }
 
-/// How many calls a figure is for: an opening with its closing counts as two, an object's three calls
-/// and a digest's two as one.
+/// How many calls a figure is for: an opening with its closing counts as two, an object's three
+/// calls and a digest's two as one.
 pub(crate) fn calls_in(kind: Kind) -> u64
     ensures bounds { 1 ≤ result }
     ensures most { result ≤ 2 }
@@ -187,8 +187,8 @@ fn short_digest(token: &mut Token, alloc: Global) -> Result<(), Failed> {
     Ok(())
 }
 
-/// One round of the kind. Each kind has a function of its own, so that a round takes no time for what another kind
-/// would need.
+/// One round of the kind. Each kind has a function of its own, so that a round takes no time for
+/// what another kind would need.
 pub(crate) fn round(token: &mut Token, alloc: Global, kind: Kind) -> Result<(), Failed> {
     match kind {
         Kind::SessionInfo => session_info(token, alloc),

@@ -1,5 +1,5 @@
--- What each call answers, read off the history just before it: a list of checks, of which the first that
--- fails gives the code, and the reply where none does. Who calls makes no difference.
+-- What each call answers, read off the history just before it: a list of checks, of which the first
+-- that fails gives the code, and the reply where none does. Who calls makes no difference.
 use Rattle.std.specs.Prelude.{◌≡◌, ℕ, suc, List, [], ◌∷◌, Option, Some, None, ◌==◌, ◌&&◌, not, is_none, is_some, nat_le, nat_lt, length, map, take, bit_and, if◌then◌else◌, Bool, true, false}
 use Rattle.std.specs.List.{list_any}
 use Rattle.std.specs.Option.{option_map_or}
@@ -78,7 +78,8 @@ pin_error u h pin = first_of (
 abbrev pub init_token_error : History → Pin → Option RvError
 init_token_error h pin = first_of (
     error_if (not (length (open_sessions h) == 0)) rv_error.SessionExists
-    ∷ (if is_initialized h then pin_error user.So h pin else error_if (not (fits_a_pin pin)) rv_error.PinLenRange)
+    ∷ (if is_initialized h then pin_error user.So h pin
+    else error_if (not (fits_a_pin pin)) rv_error.PinLenRange)
     ∷ [])
 
 abbrev pub init_pin_error : History → ℕ → Pin → Option RvError
@@ -115,17 +116,20 @@ open_session_error limits h flags = first_of (
 abbrev pub logged_in_error : UserType → Option UserType → Option RvError
 logged_in_error u None = None
 logged_in_error u (Some other) =
-    Some (if same_user u other then rv_error.UserAlreadyLoggedIn else rv_error.UserAnotherAlreadyLoggedIn)
+    Some (if same_user u other then rv_error.UserAlreadyLoggedIn
+    else rv_error.UserAnotherAlreadyLoggedIn)
 
 -- the security officer logs in beside read/write sessions alone
 abbrev pub read_only_error : UserType → History → Option RvError
 read_only_error user.So h =
-    error_if (list_any (λ s. not (is_read_write h s)) (open_sessions h)) rv_error.SessionReadOnlyExists
+    error_if (list_any (λ s. not (is_read_write h s)) (open_sessions h))
+    rv_error.SessionReadOnlyExists
 read_only_error user.User h = None
 
 abbrev pub logins_error : Ranges → UserType → History → Option RvError
 logins_error limits user.So h = None
-logins_error limits user.User h = error_if (nat_le limits.logins (user_logins h)) rv_error.DeviceMemory
+logins_error limits user.User h =
+    error_if (nat_le limits.logins (user_logins h)) rv_error.DeviceMemory
 
 abbrev pub user_login_error : Ranges → History → UserType → Pin → Option RvError
 user_login_error limits h u pin = first_of (
@@ -157,8 +161,8 @@ abbrev pub read_only_session_error : History → ℕ → Placement → Option Rv
 read_only_session_error h session placement =
     error_if (placement.token && not (is_read_write h session)) rv_error.SessionReadOnly
 
--- where a new object may not stand: a token object in a read-only session, a private one where the normal
--- user isn't logged in
+-- where a new object may not stand: a token object in a read-only session, a private one where the
+-- normal user isn't logged in
 abbrev pub placement_error : History → ℕ → Placement → Option RvError
 placement_error h session placement = first_of (
     read_only_session_error h session placement
@@ -176,7 +180,8 @@ create_object_error limits h session template = first_of (
     ∷ creations_error limits h
     ∷ [])
 
--- the error of these checks of the attributes of the object that the handle names, where it names one
+-- the error of these checks of the attributes of the object that the handle names, where it names
+-- one
 abbrev pub object_error : History → ℕ → (List Item → Option RvError) → Option RvError
 object_error h handle checks =
     option_map_or checks (attributes_named h handle) (Some rv_error.ObjectHandleInvalid)
@@ -281,10 +286,12 @@ call_error limits h (call.Login session user pin) = login_error limits h session
 call_error limits h (call.Logout session) = logout_error h session
 call_error limits h (call.GetSessionInfo session) = session_error h session
 call_error limits h call.GetTokenInfo = None
-call_error limits h (call.CreateObject session template) = create_object_error limits h session template.items
+call_error limits h (call.CreateObject session template) =
+    create_object_error limits h session template.items
 call_error limits h (call.CopyObject session object template) =
     copy_object_error limits h session object template.items
-call_error limits h (call.GetAttributeValue session object queries) = get_attribute_value_error h session object
+call_error limits h (call.GetAttributeValue session object queries) =
+    get_attribute_value_error h session object
 call_error limits h (call.SetAttributeValue session object template) =
     set_attribute_value_error h session object template.items
 call_error limits h (call.DestroyObject session object) = destroy_object_error h session object
@@ -303,12 +310,15 @@ new_handle h attributes = handle_with (view_of h) attributes (suc (creations h))
 -- the flags that C_GetTokenInfo gives
 abbrev pub flags_of_token : History → TokenFlags
 flags_of_token h =
-    record { 0 = token_flags (is_initialized h) (is_some (user_pin h)) (tries user.User h) (tries user.So h) }
+    record {
+      0 = token_flags (is_initialized h) (is_some (user_pin h)) (tries user.User h) (tries user.So h);
+    }
 
 abbrev pub too_small : ℕ → Reply
 too_small n = record { rv = rv.Error rv_error.BufferTooSmall; body = body.Length n }
 
--- the reply that gives these bytes where there is room for them, and else their length; no room asks for it
+-- the reply that gives these bytes where there is room for them, and else their length; no room
+-- asks for it
 abbrev pub bytes_reply : Option ℕ → List ℕ → Reply
 bytes_reply None bytes = ok (body.Length (length bytes))
 bytes_reply (Some room) bytes =
@@ -317,9 +327,11 @@ bytes_reply (Some room) bytes =
 -- the reply to a call that passes its checks
 abbrev pub allowed_reply : Ranges → History → Call → Reply
 allowed_reply limits h (call.OpenSession flags) = ok (body.Handle (suc (openings h)))
-allowed_reply limits h (call.GetSessionInfo session) = ok (body.Session (state_of h session) (flags_of h session))
+allowed_reply limits h (call.GetSessionInfo session) =
+    ok (body.Session (state_of h session) (flags_of h session))
 allowed_reply limits h call.GetTokenInfo =
-    ok (body.Token (flags_of_token h) limits.sessions (length (open_sessions h)) (length (rw_sessions h)))
+    ok (body.Token (flags_of_token h) limits.sessions (length (open_sessions h))
+    (length (rw_sessions h)))
 allowed_reply limits h (call.CreateObject session template) =
     ok (body.Handle (new_handle h (created_items template.items)))
 allowed_reply limits h (call.CopyObject session object template) =

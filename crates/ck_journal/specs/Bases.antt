@@ -38,9 +38,9 @@ base_tries user.User b = b.user_tries
 abbrev pub IsCreated : ℕ → KeptObject → Type 0
 IsCreated creations kept = (1 ≤ kept.number) × (kept.number ≤ creations)
 
--- a base that the calls of a token can leave: the security officer has a PIN exactly where the token is
--- initialized, no user has made more than three wrong tries, the counts are in range, and the objects are
--- token objects whose numbers rise from 1 to the count of creations
+-- a base that the calls of a token can leave: the security officer has a PIN exactly where the
+-- token is initialized, no user has made more than three wrong tries, the counts are in range, and
+-- the objects are token objects whose numbers rise from 1 to the count of creations
 pub record IsSound (b : Base) : Type 0 where
   pub so_pin : is_some b.so ≡ b.initialized
   pub so_tries : b.so_tries ≤ 3
@@ -48,6 +48,8 @@ pub record IsSound (b : Base) : Type 0 where
   pub openings : b.openings < 2 ^ 32
   pub creations : b.creations < 2 ^ 32
   pub logins : b.logins < 2 ^ 31
-  pub rising : AllPairs (λ (kept : KeptObject) (later : KeptObject). kept.number < later.number) b.objects
+  pub rising :
+      AllPairs (λ (kept : KeptObject) (later : KeptObject). kept.number < later.number) b.objects
   pub numbers : All (IsCreated b.creations) b.objects
-  pub token_objects : All (λ (kept : KeptObject). is_set kept.attributes attribute.Token ≡ true) b.objects
+  pub token_objects :
+      All (λ (kept : KeptObject). is_set kept.attributes attribute.Token ≡ true) b.objects

@@ -1,5 +1,6 @@
--- A history is a base and the answered calls since: `start b` is the base b alone, and `e ◁ h` is the history
--- h and then the entry e. A front of a history is what is left where its last entries are taken away.
+-- A history is a base and the answered calls since: `start b` is the base b alone, and `e ◁ h` is
+-- the history h and then the entry e. A front of a history is what is left where its last entries
+-- are taken away.
 use Rattle.std.specs.Prelude.{ℕ, suc, Bool, true, false, List, [], ◌∷◌, Option, Some, None, ◌==◌, ◌||◌, if◌then◌else◌}
 use Rattle.ck_types.specs.declared.return_codes.Rv.{Rv}
 use Rattle.ck_types.specs.declared.return_codes.Rv.TheVariants as rv
@@ -62,8 +63,8 @@ wrong_try e = if is_wrong_pin e.reply.rv then Some e.call else None
 
 -- ---- what an entry may change
 
--- sessions, the login or PINs, but for wrong tries, which are read off `wrong_try`; objects; searches; operations
--- that take a message in pieces
+-- sessions, the login or PINs, but for wrong tries, which are read off `wrong_try`; objects;
+-- searches; operations that take a message in pieces
 pub record Effects : Type 0 where
   pub sessions : Bool
   pub objects : Bool
@@ -124,7 +125,9 @@ may_end_refused (call.DigestUpdate session bytes) = true
 may_end_refused (call.DigestFinal session room) = true
 may_end_refused other = false
 
--- what an entry may change; a refusal that ends no operation may still count as a wrong try of a PIN, and
--- changes nothing else
+-- what an entry may change; a refusal that ends no operation may still count as a wrong try of a
+-- PIN, and changes nothing else
 abbrev pub effects : Entry → Effects
-effects e = record (effects_of (done e)) { operations = (effects_of (done e)).operations || may_end_refused e.call }
+effects e = record (effects_of (done e)) {
+  operations = (effects_of (done e)).operations || may_end_refused e.call;
+}

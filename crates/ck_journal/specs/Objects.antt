@@ -1,4 +1,5 @@
--- Objects, their attributes and handles, and when they end (PKCS #11 Base 3.0, Object management functions)
+-- Objects, their attributes and handles, and when they end (PKCS #11 Base 3.0, Object management
+-- functions)
 use Rattle.std.specs.Prelude.{ℕ, suc, ◌+◌, ◌*◌, ◌^◌, Bool, true, false, List, [], Option, Some, None, ◌==◌, ◌&&◌, ◌||◌, not, find, option_and_then, unwrap_or, if◌then◌else◌}
 use Rattle.std.specs.Option.{option_map_or}
 use Rattle.ck_types.specs.Records.{created_items, with_given, is_set}
@@ -33,7 +34,8 @@ creation_session other = 0
 -- the session that created the object; 0, which is no session's handle, where none did
 abbrev pub session_of : History → ℕ → ℕ
 session_of (start b) n = 0
-session_of (e ◁ h) n = if creates (done e) && n == suc (creations h) then creation_session (done e) else session_of h n
+session_of (e ◁ h) n =
+    if creates (done e) && n == suc (creations h) then creation_session (done e) else session_of h n
 
 -- ---- handles
 
@@ -48,15 +50,17 @@ view_of h = record { user = is_user_in h; logins = user_logins h }
 abbrev pub is_visible_with : View → List Item → Bool
 is_visible_with view attributes = not (is_set attributes attribute.Private) || view.user
 
--- the handle of a public object is its number, that of a private one is above by 2^32 for each login of the
--- user so far
+-- the handle of a public object is its number, that of a private one is above by 2^32 for each
+-- login of the user so far
 abbrev pub handle_with : View → List Item → ℕ → ℕ
-handle_with view attributes n = if is_set attributes attribute.Private then n + 2 ^ 32 * view.logins else n
+handle_with view attributes n =
+    if is_set attributes attribute.Private then n + 2 ^ 32 * view.logins else n
 
--- the handle names the object with these attributes and this number: the object is visible, and this is its
--- handle
+-- the handle names the object with these attributes and this number: the object is visible, and
+-- this is its handle
 abbrev pub names_with : View → List Item → ℕ → ℕ → Bool
-names_with view attributes handle n = is_visible_with view attributes && handle_with view attributes n == handle
+names_with view attributes handle n =
+    is_visible_with view attributes && handle_with view attributes n == handle
 
 -- there are attributes, and they pass the test
 abbrev pub is_some_with : (List Item → Bool) → Option (List Item) → Bool
@@ -65,11 +69,13 @@ is_some_with test attributes = option_map_or test attributes false
 -- among objects by their numbers up to a count: the number of the one that the handle names
 abbrev pub number_among : View → (ℕ → Option (List Item)) → ℕ → ℕ → Option ℕ
 number_among view object count handle =
-    find (λ n. is_some_with (λ attributes. names_with view attributes handle n) (object n)) (numbers count)
+    find (λ n. is_some_with (λ attributes. names_with view attributes handle n) (object n))
+    (numbers count)
 
 -- and its attributes
 abbrev pub attributes_among : View → (ℕ → Option (List Item)) → ℕ → ℕ → Option (List Item)
-attributes_among view object count handle = option_and_then object (number_among view object count handle)
+attributes_among view object count handle =
+    option_and_then object (number_among view object count handle)
 
 -- ---- what a call does to an object
 
@@ -83,21 +89,24 @@ creation_attributes other named = []
 abbrev pub is_session_object : List Item → Bool
 is_session_object attributes = not (is_set attributes attribute.Token)
 
--- the attributes that a call leaves to the object of number n, which this session created, or None where it
--- ends the object: a destruction that names it, an initialization of the token, for a session object the
--- closing of its session or of all sessions, and for a private session object a logout
+-- the attributes that a call leaves to the object of number n, which this session created, or None
+-- where it ends the object: a destruction that names it, an initialization of the token, for a
+-- session object the closing of its session or of all sessions, and for a private session object a
+-- logout
 abbrev pub object_after : Option Call → View → ℕ → ℕ → List Item → Option (List Item)
 object_after (Some (call.DestroyObject session object)) view n creator attributes =
     if names_with view attributes object n then None else Some attributes
 object_after (Some (call.SetAttributeValue session object template)) view n creator attributes =
-    Some (if names_with view attributes object n then with_given template.items attributes else attributes)
+    Some (if names_with view attributes object n then with_given template.items attributes
+    else attributes)
 object_after (Some (call.InitToken pin)) view n creator attributes = None
 object_after (Some (call.CloseSession session)) view n creator attributes =
     if is_session_object attributes && session == creator then None else Some attributes
 object_after (Some call.CloseAllSessions) view n creator attributes =
     if is_session_object attributes then None else Some attributes
 object_after (Some (call.Logout session)) view n creator attributes =
-    if is_session_object attributes && is_set attributes attribute.Private then None else Some attributes
+    if is_session_object attributes && is_set attributes attribute.Private then None
+    else Some attributes
 object_after other view n creator attributes = Some attributes
 
 -- the attributes of the object of this number, where it has been created and hasn't ended since
@@ -105,7 +114,8 @@ abbrev pub object_at : History → ℕ → Option (List Item)
 object_at (start b) n = kept_attributes b n
 object_at (e ◁ h) n =
     if creates (done e) && n == suc (creations h)
-    then Some (creation_attributes (done e) (attributes_among (view_of h) (object_at h) (creations h)))
+    then Some (creation_attributes (done e)
+    (attributes_among (view_of h) (object_at h) (creations h)))
     else option_and_then (object_after (done e) (view_of h) n (session_of h n)) (object_at h n)
 
 -- ---- readings of a history

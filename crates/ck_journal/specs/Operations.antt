@@ -1,4 +1,5 @@
--- Operations of sessions that take a message in pieces (PKCS #11 Base 3.0, Message digesting functions)
+-- Operations of sessions that take a message in pieces (PKCS #11 Base 3.0, Message digesting
+-- functions)
 use Rattle.std.specs.Prelude.{ℕ, ◌^◌, Bool, true, false, List, [], ◌∷◌, ◌++◌, Option, Some, None, ◌==◌, ◌&&◌, ◌||◌, not, nat_lt, length, option_and_then, unwrap_or, if◌then◌else◌}
 use Rattle.std.specs.List.{concat}
 use Rattle.ck_types.specs.Mechanisms.{digest_hash, hmac_hash}
@@ -26,8 +27,8 @@ abbrev pub starts : Option Call → OperationKind → ℕ → Bool
 starts (Some (call.DigestInit session mechanism)) kind.Digest s = session == s
 starts other k s = false
 
--- a call that would end its operation leaves it active by this code and body: where the room is too small, and
--- where a length was asked for
+-- a call that would end its operation leaves it active by this code and body: where the room is too
+-- small, and where a length was asked for
 abbrev pub leaves_active : Rv → Body → Bool
 leaves_active (rv.Error rv_error.BufferTooSmall) given = true
 leaves_active rv.Ok (body.Length n) = true
@@ -37,14 +38,15 @@ abbrev pub is_data_len_range : Rv → Bool
 is_data_len_range (rv.Error rv_error.DataLenRange) = true
 is_data_len_range other = false
 
--- the call ends the session's operation of the kind by this reply: C_Digest and C_DigestFinal by every other than
--- those above, C_DigestUpdate where its piece is too long
+-- the call ends the session's operation of the kind by this reply: C_Digest and C_DigestFinal by
+-- every other than those above, C_DigestUpdate where its piece is too long
 abbrev pub finishes : Call → OperationKind → Reply → ℕ → Bool
 finishes (call.Digest session bytes room) kind.Digest reply s =
     session == s && not (leaves_active reply.rv reply.body)
 finishes (call.DigestFinal session room) kind.Digest reply s =
     session == s && not (leaves_active reply.rv reply.body)
-finishes (call.DigestUpdate session bytes) kind.Digest reply s = session == s && is_data_len_range reply.rv
+finishes (call.DigestUpdate session bytes) kind.Digest reply s =
+    session == s && is_data_len_range reply.rv
 finishes other k reply s = false
 
 -- the entry ends the session's operation of the kind
@@ -68,23 +70,26 @@ init_mechanism other = None
 -- the mechanism of the session's last operation of the kind
 abbrev pub mechanism_in : OperationKind → History → ℕ → Option Mechanism
 mechanism_in k (start b) s = None
-mechanism_in k (e ◁ h) s = if starts (done e) k s then init_mechanism (done e) else mechanism_in k h s
+mechanism_in k (e ◁ h) s =
+    if starts (done e) k s then init_mechanism (done e) else mechanism_in k h s
 
 -- the hash function of a mechanism for operations of the kind
 abbrev pub hash_for : OperationKind → Mechanism → Option Hash
 hash_for kind.Digest mechanism = digest_hash mechanism.kind
 hash_for other mechanism = hmac_hash mechanism.kind
 
--- the hash function of the session's last operation of the kind; SHA-256 where there was none, or its
--- mechanism has no such function
+-- the hash function of the session's last operation of the kind; SHA-256 where there was none, or
+-- its mechanism has no such function
 abbrev pub hash_in : OperationKind → History → ℕ → Hash
 hash_in k h s = unwrap_or (option_and_then (hash_for k) (mechanism_in k h s)) hash.Sha256
 
 -- ---- its message
 
--- the piece that a call adds to the message of the session's operation of the kind, in a list of its own
+-- the piece that a call adds to the message of the session's operation of the kind, in a list of
+-- its own
 abbrev pub piece_of : Option Call → OperationKind → ℕ → List (List ℕ)
-piece_of (Some (call.DigestUpdate session bytes)) kind.Digest s = if session == s then bytes ∷ [] else []
+piece_of (Some (call.DigestUpdate session bytes)) kind.Digest s =
+    if session == s then bytes ∷ [] else []
 piece_of other k s = []
 
 -- the bytes that an update adds, whatever its session; none for every other call

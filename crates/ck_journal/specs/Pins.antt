@@ -1,4 +1,5 @@
--- PINs, wrong tries and the token's initialization (PKCS #11 Base 3.0, Slot and token management functions)
+-- PINs, wrong tries and the token's initialization (PKCS #11 Base 3.0, Slot and token management
+-- functions)
 use Rattle.std.specs.Prelude.{ℕ, suc, Bool, true, false, Option, Some, None, ◌==◌, ◌||◌, ◌&&◌, if◌then◌else◌}
 use Rattle.ck_types.specs.Attributes.{same_bytes}
 use Rattle.ck_types.specs.Users.{user_of, same_user}
@@ -24,8 +25,8 @@ is_pin (Some pin) given = same_pin pin given
 
 -- ---- whom a call is about
 
--- whose PIN C_SetPIN changes in a session of this state: the security officer's in read/write SO, else the
--- normal user's
+-- whose PIN C_SetPIN changes in a session of this state: the security officer's in read/write SO,
+-- else the normal user's
 abbrev pub pin_owner : SessionState → UserType
 pin_owner state.RwSo = user.So
 pin_owner other = user.User
@@ -56,8 +57,8 @@ abbrev pub is_initialized : History → Bool
 is_initialized (start b) = b.initialized
 is_initialized (e ◁ h) = initializes (done e) || is_initialized h
 
--- the security officer's PIN after a call, by the owner of the session's PIN: the first initialization sets
--- it, a later one keeps it
+-- the security officer's PIN after a call, by the owner of the session's PIN: the first
+-- initialization sets it, a later one keeps it
 abbrev pub so_pin_after : Option Call → UserType → Option Pin → Option Pin
 so_pin_after (Some (call.InitToken pin)) owner None = Some pin
 so_pin_after (Some (call.SetPin session old new)) user.So before = Some new
@@ -89,8 +90,8 @@ present_pin user.User h = user_pin h
 
 -- ---- wrong tries
 
--- the user's tries go back to 0: a call that is about the user's PIN was answered OK, or the token was
--- initialized
+-- the user's tries go back to 0: a call that is about the user's PIN was answered OK, or the token
+-- was initialized
 abbrev pub resets : UserType → History → Option Call → Bool
 resets u h c = is_about u h c || initializes c
 

@@ -12,12 +12,13 @@ use Rattle.ck_journal.specs.declared.calls.AttributeQuery.{AttributeQuery}
 use Rattle.ck_journal.specs.declared.replies.Body.TheVariants as body
 use Rattle.ck_journal.specs.declared.replies.Reply.{Reply}
 
--- a value, if the object has one, asked for with this room; room None, like a NULL pValue, asks for its
--- length
+-- a value, if the object has one, asked for with this room; room None, like a NULL pValue, asks for
+-- its length
 abbrev pub value_answer : Option (List ℕ) → Option ℕ → Answer
 value_answer None room = answer.Unavailable
 value_answer (Some value) None = answer.Length (length value)
-value_answer (Some value) (Some room) = if nat_lt room (length value) then answer.Unavailable else answer.Value value
+value_answer (Some value) (Some room) =
+    if nat_lt room (length value) then answer.Unavailable else answer.Value value
 
 abbrev pub query_answer : List Item → AttributeQuery → Answer
 query_answer attributes query = value_answer (value_at attributes query.kind) query.room
@@ -41,7 +42,11 @@ queries_code attributes queries =
     else if list_any (lacks_room attributes) queries then rv.Error rv_error.BufferTooSmall
     else rv.Ok
 
--- the reply to these queries of an object with these attributes: one answer for each, whatever the code
+-- the reply to these queries of an object with these attributes: one answer for each, whatever the
+-- code
 abbrev pub queries_reply : List Item → List AttributeQuery → Reply
 queries_reply attributes queries =
-    record { rv = queries_code attributes queries; body = body.Attributes (map (query_answer attributes) queries) }
+    record {
+      rv = queries_code attributes queries;
+      body = body.Attributes (map (query_answer attributes) queries);
+    }

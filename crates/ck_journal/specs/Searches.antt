@@ -36,12 +36,14 @@ is_searching (e ◁ h) s =
 
 -- the attributes are those of a visible object that matches the template
 abbrev pub is_match_with : View → List Item → List Item → Bool
-is_match_with view template attributes = is_visible_with view attributes && matches attributes template
+is_match_with view template attributes =
+    is_visible_with view attributes && matches attributes template
 
 -- the objects that are visible and match the template, in the order of their creations
 abbrev pub matching_objects : History → List Item → List ℕ
 matching_objects h template =
-    filter (λ n. is_some_with (is_match_with (view_of h) template) (object_at h n)) (numbers (creations h))
+    filter (λ n. is_some_with (is_match_with (view_of h) template) (object_at h n))
+    (numbers (creations h))
 
 abbrev pub search_template : Option Call → List Item
 search_template (Some (call.FindObjectsInit session template)) = template.items
@@ -78,7 +80,8 @@ abbrev pub last_or : ℕ → List ℕ → ℕ
 last_or before [] = before
 last_or before (n ∷ ns) = last_or n ns
 
--- the number of the object that the session's last search returned last; 0, which is no object's, where none
+-- the number of the object that the session's last search returned last; 0, which is no object's,
+-- where none
 abbrev pub last_number : History → ℕ → ℕ
 last_number (start b) s = 0
 last_number (e ◁ h) s =

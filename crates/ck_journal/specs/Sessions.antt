@@ -36,8 +36,8 @@ is_open (e ◁ h) s =
     else if closes (done e) s then false
     else is_open h s
 
--- what ends all operations of the session, its search among them: its closing, the closing of all sessions, and
--- any logout
+-- what ends all operations of the session, its search among them: its closing, the closing of all
+-- sessions, and any logout
 abbrev pub ends_operations : Option Call → ℕ → Bool
 ends_operations (Some (call.CloseSession session)) s = session == s
 ends_operations (Some call.CloseAllSessions) s = true
@@ -51,7 +51,8 @@ opening_flags other = 0
 -- the flags that the session was opened with
 abbrev pub flags_of : History → ℕ → ℕ
 flags_of (start b) s = 0
-flags_of (e ◁ h) s = if opens (done e) && s == suc (openings h) then opening_flags (done e) else flags_of h s
+flags_of (e ◁ h) s =
+    if opens (done e) && s == suc (openings h) then opening_flags (done e) else flags_of h s
 
 -- the open sessions, in the order of their openings
 abbrev pub open_sessions : History → List ℕ
@@ -75,8 +76,8 @@ login_after (Some (call.Login session user pin)) before = user_of user
 login_after (Some (call.Logout session)) before = None
 login_after other before = before
 
--- who is logged in: nobody where no session is open, else the user of the last login with no logout and no
--- front without an open session after it
+-- who is logged in: nobody where no session is open, else the user of the last login with no logout
+-- and no front without an open session after it
 abbrev pub login : History → Option UserType
 login (start b) = None
 login (e ◁ h) = if length (open_sessions (e ◁ h)) == 0 then None else login_after (done e) (login h)

@@ -8,7 +8,8 @@ pub struct KeptObject {
     pub attributes: Record,
 }
 
-/// What a journal starts from: what is left of the calls before its first entry where no session is open.
+/// What a journal starts from: what is left of the calls before its first entry where no session is
+/// open.
 #[derive(Debug, Drop)]
 pub struct Base {
     pub initialized: bool,

@@ -1,9 +1,9 @@
 use crate::replies::Reply;
 use ck_types::{Bytes, Mechanism, Pin, Sequence, Template};
 
-/// What C_GetAttributeValue is asked of one attribute: its type, and the room for its value in bytes. Room
-/// `None`, like a NULL pValue, asks for the value's length alone (PKCS #11 Base 3.0, Object management
-/// functions).
+/// What C_GetAttributeValue is asked of one attribute: its type, and the room for its value in
+/// bytes. Room `None`, like a NULL pValue, asks for the value's length alone (PKCS #11 Base 3.0,
+/// Object management functions).
 #[derive(Clone, Copy, Debug, PartialEq, Eq)]
 pub struct AttributeQuery {
     pub kind: u64,
@@ -116,8 +116,8 @@ impl Call {
     }
 }
 
-/// An answered call: who made it, what was called and what was answered. Callers have numbers of the
-/// application's choice.
+/// An answered call: who made it, what was called and what was answered. Callers have numbers of
+/// the application's choice.
 #[derive(Debug, Drop)]
 pub struct Entry {
     pub caller: u32,

@@ -1,5 +1,5 @@
-//! The calls of a PKCS #11 token, their replies, the journal of both, and the definitions of what each call
-//! answers, read off the journal.
+//! The calls of a PKCS #11 token, their replies, the journal of both, and the definitions of what
+//! each call answers, read off the journal.
 #![tactic(auto)]
 
 mod bases;

@@ -9,7 +9,8 @@ pub enum Answer {
     Value(Bytes),
     /// The value's length in bytes.
     Length(u64),
-    /// The object doesn't have the attribute, or the room is too small (CK_UNAVAILABLE_INFORMATION).
+    /// The object doesn't have the attribute, or the room is too small
+    /// (CK_UNAVAILABLE_INFORMATION).
     Unavailable,
 }
 
@@ -24,8 +25,8 @@ pub enum Body {
         state: SessionState,
         flags: u64,
     },
-    /// The token's flags, the most sessions that may be open at once, and how many sessions and how many
-    /// read/write sessions are open.
+    /// The token's flags, the most sessions that may be open at once, and how many sessions and how
+    /// many read/write sessions are open.
     Token {
         flags: TokenFlags,
         limit: u64,

@@ -7,15 +7,16 @@ use ck_types::{Attribute, Record};
 /// How far the handles of private objects move with each login of the user.
 const LOGIN_STEP: u64 = 0x1_0000_0000;
 
-/// The number of the object that a handle is of, as `View::handle` gives it to objects of numbers below 2^32.
+/// The number of the object that a handle is of, as `View::handle` gives it to objects of numbers
+/// below 2^32.
 pub fn number_of_handle(handle: u64) -> u64
     ensures { result ≡ number_of_handle handle }
 {
     handle % LOGIN_STEP
 }
 
-/// What the handles of objects depend on beside the objects: whether the normal user is logged in, and how
-/// many times the user has logged in so far.
+/// What the handles of objects depend on beside the objects: whether the normal user is logged in,
+/// and how many times the user has logged in so far.
 #[derive(Clone, Copy, Debug, PartialEq, Eq)]
 pub struct View {
     pub user: bool,
@@ -23,8 +24,8 @@ pub struct View {
 }
 
 impl View {
-    /// The handle of an object with these attributes and this number: its number, and for a private object
-    /// 2^32 more for each login of the user.
+    /// The handle of an object with these attributes and this number: its number, and for a private
+    /// object 2^32 more for each login of the user.
     pub fn handle(self, attributes: &Record, number: u64) -> u64
         requires number { number < 2 ^ 32 }
         requires logins { self.logins < 2 ^ 31 }

@@ -21,7 +21,8 @@ use Rattle.ck_operations.proofs.RowLemmas.{find-kept, find-removed, operation-is
 
 concat-append : (xs : List (List ℕ)) (y : List ℕ) → concat (xs ++ y ∷ []) ≡ concat xs ++ y
 concat-append [] y = append-nil y
-concat-append (x ∷ xs) y = ap (λ rest. x ++ rest) (concat-append xs y) ∙ sym (append_assoc x (concat xs) y)
+concat-append (x ∷ xs) y =
+    ap (λ rest. x ++ rest) (concat-append xs y) ∙ sym (append_assoc x (concat xs) y)
 
 eqb-back : (k s : ℕ) (t : Bool) → s == k ≡ t → k == s ≡ t
 eqb-back k s true e = eq-eqb k s (sym (eqb-true s k e))

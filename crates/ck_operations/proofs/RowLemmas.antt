@@ -32,7 +32,8 @@ module _ {X : Type 0} (test keeps : X → Bool) where
   removed-step : (x : X) (xs : List X) → (test x ≡ true → keeps x ≡ false)
       → find test (filter keeps xs) ≡ None → (k t : Bool) → keeps x ≡ k → test x ≡ t
       → find test (cond k (x ∷ filter keeps xs) (filter keeps xs)) ≡ None
-  removed-step x xs none later true true kept passes = absurd (false≢true (sym (none passes) ∙ kept))
+  removed-step x xs none later true true kept passes =
+      absurd (false≢true (sym (none passes) ∙ kept))
   removed-step x xs none later true false kept passes =
       ap (λ t. cond t (Some x) (find test (filter keeps xs))) passes ∙ later
   removed-step x xs none later false t kept passes = later
@@ -41,7 +42,8 @@ module _ {X : Type 0} (test keeps : X → Bool) where
   pub find-removed : ((x : X) → test x ≡ true → keeps x ≡ false) → (xs : List X)
       → find test (filter keeps xs) ≡ None
   find-removed none [] = refl
-  find-removed none (x ∷ xs) = removed-step x xs (none x) (find-removed none xs) (keeps x) (test x) refl refl
+  find-removed none (x ∷ xs) =
+      removed-step x xs (none x) (find-removed none xs) (keeps x) (test x) refl refl
 
 module _ {X : Type 0} (test : X → Bool) (y : X) where
   abbrev replaced : List X → List X

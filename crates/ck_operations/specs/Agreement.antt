@@ -22,7 +22,11 @@ pub record ActiveOperation : Type 0 where
 abbrev pub operation_at : OperationKind → History → ℕ → Option ActiveOperation
 operation_at k h s =
     if is_active k h s
-    then Some (record { hash = hash_in k h s; message = message_in k h s; updated = is_updated k h s })
+    then Some (record {
+      hash = hash_in k h s;
+      message = message_in k h s;
+      updated = is_updated k h s;
+    })
     else None
 
 pub record OperationAgrees (o : Operation) (a : ActiveOperation) : Type 0 where
@@ -34,7 +38,8 @@ OptionAgrees (Some o) (Some a) = OperationAgrees o a
 OptionAgrees None None = Unit {0}
 OptionAgrees o a = ⊥
 
--- a session has an operation of a kind exactly where the history has one active, and then it has taken in the
--- pieces that the history says
+-- a session has an operation of a kind exactly where the history has one active, and then it has
+-- taken in the pieces that the history says
 pub record OperationsAgree (h : History) (o : OperationsState) : Type 0 where
-  pub each : (k : OperationKind) (s : ℕ) → OptionAgrees (find (is_operation k s) o.rows) (operation_at k h s)
+  pub each : (k : OperationKind) (s : ℕ)
+      → OptionAgrees (find (is_operation k s) o.rows) (operation_at k h s)

@@ -16,9 +16,11 @@ pub data Move : Type 0 where
 
 -- the entry does this to the session's operation of the kind
 abbrev pub Does : Move → Entry → OperationKind → ℕ → Type 0
-Does Stay e k s = (starts (done e) k s ≡ false) × (ends k e s ≡ false) × (piece_of (done e) k s ≡ [])
+Does Stay e k s =
+    (starts (done e) k s ≡ false) × (ends k e s ≡ false) × (piece_of (done e) k s ≡ [])
 Does (Start hash) e k s =
-    (starts (done e) k s ≡ true) × (option_and_then (hash_for k) (init_mechanism (done e)) ≡ Some hash)
+    (starts (done e) k s ≡ true)
+    × (option_and_then (hash_for k) (init_mechanism (done e)) ≡ Some hash)
 Does (Add bytes) e k s =
     (starts (done e) k s ≡ false) × (ends k e s ≡ false) × (piece_of (done e) k s ≡ bytes ∷ [])
 Does End e k s = (starts (done e) k s ≡ false) × (ends k e s ≡ true)
@@ -26,11 +28,13 @@ Does End e k s = (starts (done e) k s ≡ false) × (ends k e s ≡ true)
 -- the entry does this to one operation, and nothing to any other
 abbrev pub OnlyIn : OperationKind → ℕ → Move → Entry → Type 0
 OnlyIn kind session move e =
-    (k : OperationKind) (s : ℕ) → Does (if same_kind kind k && session == s then move else Stay) e k s
+    (k : OperationKind) (s : ℕ)
+    → Does (if same_kind kind k && session == s then move else Stay) e k s
 
 -- to all operations of one session, and nothing to any other
 abbrev pub OnlyInSession : ℕ → Move → Entry → Type 0
-OnlyInSession session move e = (k : OperationKind) (s : ℕ) → Does (if session == s then move else Stay) e k s
+OnlyInSession session move e =
+    (k : OperationKind) (s : ℕ) → Does (if session == s then move else Stay) e k s
 
 -- to all operations
 abbrev pub InAll : Move → Entry → Type 0

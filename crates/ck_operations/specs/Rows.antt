@@ -38,7 +38,8 @@ pub record IsFresh (k : OperationKind) (s : ℕ) (hash : Hash) (o : Operation) :
 pub record IsUpdateOf (bytes : List ℕ) (old new : Operation) : Type 0 where
   pub kind : new.kind ≡ old.kind
   pub session : new.session ≡ old.session
-  pub message : (hash : Hash) (message : List ℕ) → HoldsMessage hash old message → HoldsMessage hash new (message ++ bytes)
+  pub message : (hash : Hash) (message : List ℕ) → HoldsMessage hash old message
+      → HoldsMessage hash new (message ++ bytes)
   pub updated : new.updated ≡ true
 
 -- where there is one
@@ -48,7 +49,9 @@ IsUpdateOfOption bytes None None = Unit {0}
 IsUpdateOfOption bytes old new = ⊥
 
 -- the first operation of this kind in this session after an update, and the others as they were
-pub record IsUpdateOfRows (k : OperationKind) (session : ℕ) (bytes : List ℕ) (old new : List Operation) : Type 0 where
-  pub added : IsUpdateOfOption bytes (find (is_operation k session) old) (find (is_operation k session) new)
+pub record IsUpdateOfRows (k : OperationKind) (session : ℕ) (bytes : List ℕ)
+    (old new : List Operation) : Type 0 where
+  pub added : IsUpdateOfOption bytes (find (is_operation k session) old)
+      (find (is_operation k session) new)
   pub others : (l : OperationKind) (s : ℕ) → (same_kind k l && session == s) ≡ false
       → find (is_operation l s) new ≡ find (is_operation l s) old

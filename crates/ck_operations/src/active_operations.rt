@@ -46,7 +46,8 @@ impl Operation {
 
     /// The hash function of its mechanism.
     pub fn hash(&self) -> Hash
-        ensures { (hash : Hash) (message : List ℕ) → HoldsMessage hash self.now message → result ≡ hash }
+        ensures { (hash : Hash) (message : List ℕ) → HoldsMessage hash self.now message
+            → result ≡ hash }
     {
         self.running.hash()
     }

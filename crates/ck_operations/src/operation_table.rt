@@ -63,8 +63,8 @@ impl Operations {
 
     // ---- changes, each by what the entry of an answered call does to operations
 
-    /// Starts an operation where the session has none of the kind and there is room for it, and takes
-    /// no memory.
+    /// Starts an operation where the session has none of the kind and there is room for it, and
+    /// takes no memory.
     pub fn start(&mut self, kind: OperationKind, session: u64, hash: Hash)
         requires { 0 < self.old.spare }
         ensures agree { (h : History) (e : Entry) → OnlyIn kind session (Start hash) e

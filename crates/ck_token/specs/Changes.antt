@@ -1,4 +1,5 @@
--- What an answered call changes of sessions, objects and operations, read off the history just before it
+-- What an answered call changes of sessions, objects and operations, read off the history just
+-- before it
 use Rattle.std.specs.Prelude.{ℕ, true, not, Option, Some, map, unwrap_or}
 use Rattle.ck_types.specs.Mechanisms.{digest_hash}
 use Rattle.ck_types.specs.Records.{created_items, with_given}
@@ -34,18 +35,23 @@ change_of h (call.SetPin session old new) body = change.SetPin (pin_owner (state
 change_of h (call.OpenSession flags) body = change.OpenSession flags
 change_of h (call.CloseSession session) body = change.CloseSession session
 change_of h call.CloseAllSessions body = change.CloseAllSessions
-change_of h (call.Login session number pin) body = change.LogIn (unwrap_or (user_of number) user.User)
+change_of h (call.Login session number pin) body =
+    change.LogIn (unwrap_or (user_of number) user.User)
 change_of h (call.Logout session) body = change.LogOut
-change_of h (call.CreateObject session template) body = change.CreateObject session (created_items template.items)
+change_of h (call.CreateObject session template) body =
+    change.CreateObject session (created_items template.items)
 change_of h (call.CopyObject session object template) body =
     change.CreateObject session (with_given template.items (named_attributes h object))
 change_of h (call.SetAttributeValue session object template) body =
-    change.SetAttributes (unwrap_or (object_named h object) 0) (with_given template.items (named_attributes h object))
-change_of h (call.DestroyObject session object) body = change.DestroyObject (unwrap_or (object_named h object) 0)
+    change.SetAttributes (unwrap_or (object_named h object) 0)
+    (with_given template.items (named_attributes h object))
+change_of h (call.DestroyObject session object) body =
+    change.DestroyObject (unwrap_or (object_named h object) 0)
 change_of h (call.FindObjectsInit session template) body =
     change.StartSearch session (matching_objects h template.items)
 change_of h (call.FindObjects session max) body =
-    change.AdvanceSearch session (last_or (last_number h session) (map number_of_handle (handles_in body)))
+    change.AdvanceSearch session
+    (last_or (last_number h session) (map number_of_handle (handles_in body)))
 change_of h (call.FindObjectsFinal session) body = change.EndSearch session
 change_of h (call.DigestInit session mechanism) body =
     change.StartOperation kind.Digest session (unwrap_or (digest_hash mechanism.kind) hash.Sha256)

@@ -14,8 +14,8 @@ use Rattle.ck_token.specs.declared.decisions.Decision.{Decision}
 use Rattle.ck_token.specs.declared.decisions.Refused.{Refused}
 use Rattle.ck_token.specs.declared.decisions.Refused.TheVariants as refused
 
--- the calls that may take memory beside that of their entry: for a session, an object, a search, an operation
--- or a list in the reply, which a call that asks for a length doesn't have
+-- the calls that may take memory beside that of their entry: for a session, an object, a search, an
+-- operation or a list in the reply, which a call that asks for a length doesn't have
 abbrev pub takes_memory : Call → Bool
 takes_memory (call.OpenSession flags) = true
 takes_memory (call.CreateObject session template) = true
@@ -33,9 +33,10 @@ takes_memory other = false
 abbrev pub may_run_out : Ranges → History → Call → Bool
 may_run_out limits h c = is_none (call_error limits h c) && takes_memory c
 
--- a check of a call that is about this user: it finds no error, or this one, and then what the refusal
--- changes
-abbrev pub IsCheckAbout : {T : Type 0} → Option UserType → Option RvError → Result T Refused → Type 0
+-- a check of a call that is about this user: it finds no error, or this one, and then what the
+-- refusal changes
+abbrev pub IsCheckAbout :
+    {T : Type 0} → Option UserType → Option RvError → Result T Refused → Type 0
 IsCheckAbout who error (Ok found) = error ≡ None
 IsCheckAbout who error (Err (refused.Error code change)) =
     (error ≡ Some code) × (change ≡ wrong_try_change code who)
@@ -45,8 +46,8 @@ IsCheckAbout who error (Err refused.Memory) = ⊥
 abbrev pub reply_of : Decision → Reply
 reply_of decision = record { rv = decision.rv; body = decision.body }
 
--- the call passes its checks, and this is its reply and its change; or it is refused with the code of the
--- first check that fails; or it passes its checks and there is no memory for it
+-- the call passes its checks, and this is its reply and its change; or it is refused with the code
+-- of the first check that fails; or it passes its checks and there is no memory for it
 abbrev pub IsDecision : Ranges → History → Call → Result Decision Refused → Type 0
 IsDecision limits h c (Ok decision) =
     (call_error limits h c ≡ None)

@@ -5,7 +5,8 @@ use Rattle.ck_token.specs.TokenStates.{TokenState, HasAnswered}
 use Rattle.ck_token.specs.declared.runs.Stopped.{Stopped}
 
 -- all calls were answered, or the first of them, fewer than all
-abbrev pub IsRun : {T : Type 0} → TokenState → TokenState → List (ℕ × Call) → Result T Stopped → Type 0
+abbrev pub IsRun :
+    {T : Type 0} → TokenState → TokenState → List (ℕ × Call) → Result T Stopped → Type 0
 IsRun old new calls (Ok finished) = HasAnswered old new calls
 IsRun old new calls (Err stopped) =
     (stopped.answered < length calls) × HasAnswered old new (take stopped.answered calls)

@@ -15,10 +15,12 @@ pub record TokenState : Type 0 where
 
 -- the entry of a call that a token with these limits and this history answers
 abbrev pub entry_of : Ranges → History → ℕ → Call → Entry
-entry_of limits h caller call = record { caller = caller; call = call; reply = answer limits h call }
+entry_of limits h caller call =
+    record { caller = caller; call = call; reply = answer limits h call }
 
 -- the call was answered as the history before it says, and exactly its entry was added
-pub record IsAnswered (old new : TokenState) (caller : ℕ) (call : Call) (reply : Reply) : Type 0 where
+pub record IsAnswered (old new : TokenState) (caller : ℕ) (call : Call) (reply : Reply)
+    : Type 0 where
   pub answered : reply ≡ answer old.limits old.history call
   pub limits : new.limits ≡ old.limits
   pub entered : new.history ≡ entry_of old.limits old.history caller call ◁ old.history

@@ -1,5 +1,5 @@
-//! One token: each call is answered as the journal of the calls before it says, and stands in the journal
-//! itself.
+//! One token: each call is answered as the journal of the calls before it says, and stands in the
+//! journal itself.
 #![tactic(auto)]
 
 mod boxed;

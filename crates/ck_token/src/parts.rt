@@ -5,8 +5,8 @@ use ck_sessions::Sessions;
 use ck_store::Store;
 use ck_types::NoMemory;
 
-/// The sessions, the objects and the operations of a token. While a call is carried out they are ahead of
-/// the journal, so what ties them to a history stands in the contracts.
+/// The sessions, the objects and the operations of a token. While a call is carried out they are
+/// ahead of the journal, so what ties them to a history stands in the contracts.
 #[derive(Debug, Drop)]
 pub(crate) struct Parts {
     pub(crate) sessions: Sessions,

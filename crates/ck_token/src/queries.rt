@@ -78,7 +78,8 @@ fn query_answers(
     attributes: &Record,
     queries: &[AttributeQuery],
 ) -> Result<Vec<Answer>, NoMemory>
-    ensures { IfOk result (λ answers. answers.items ≡ map (query_answer attributes.now) queries.now) }
+    ensures { IfOk result (λ answers.
+        answers.items ≡ map (query_answer attributes.now) queries.now) }
 {
     let mut answers = Vec::with_capacity(alloc, queries.len())?;
     for query in queries {

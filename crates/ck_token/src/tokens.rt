@@ -21,9 +21,9 @@ mod readings;
 mod search_calls;
 mod session_calls;
 
-/// A token with its sessions, objects and operations, wholly in memory. Contracts see its limits, the
-/// history of its journal and for how many more entries the journal has room; that its parts are what
-/// the history says, and that the history is legal, is true of every token.
+/// A token with its sessions, objects and operations, wholly in memory. Contracts see its limits,
+/// the history of its journal and for how many more entries the journal has room; that its parts
+/// are what the history says, and that the history is legal, is true of every token.
 #[derive(Debug, Drop)]
 pub struct Token {
     limits: Limits,
@@ -50,8 +50,9 @@ impl Model for Token {
     ghost invariant = { λ t. TokenAgrees t.limits t.journal.history t.parts };
 }
 
-/// Drops what a call leaves that finds no memory. A compiled function clears its slots where it begins, and a function
-/// that is inlined where it is called: so other calls take no time for this one's.
+/// Drops what a call leaves that finds no memory. A compiled function clears its slots where it
+/// begins, and a function that is inlined where it is called: so other calls take no time for this
+/// one's.
 #[inline(always)]
 fn out_of_memory<T: Drop>(left: T) -> NoMemory {
     drop_apart(left);
@@ -71,8 +72,8 @@ fn reply_with(rv: Rv, body: Body) -> Reply
     Reply { rv, body }
 }
 
-/// All that may fail of entering a call: the journal's copy of the reply's body, and room for the entry and for what the
-/// change adds.
+/// All that may fail of entering a call: the journal's copy of the reply's body, and room for the
+/// entry and for what the change adds.
 #[inline(always)]
 fn prepare(
     parts: &mut Parts,
@@ -146,10 +147,10 @@ impl Token {
         self.journal.spare()
     }
 
-    /// Answers a call and enters it in the journal. Where there is no memory for it, nothing has changed and
-    /// the call isn't in the journal. Where the journal has room, only a call that passes its checks can run
-    /// out of memory, and only one that opens a session, creates or changes an object, searches, reads
-    /// attributes, starts a digest or gives one.
+    /// Answers a call and enters it in the journal. Where there is no memory for it, nothing has
+    /// changed and the call isn't in the journal. Where the journal has room, only a call that
+    /// passes its checks can run out of memory, and only one that opens a session, creates or
+    /// changes an object, searches, reads attributes, starts a digest or gives one.
     pub fn call(&mut self, alloc: Global, caller: u32, call: Call) -> Result<Reply, NoMemory>
         ensures answered { IfOk result (λ reply. IsAnswered self.old self.new caller call reply) }
         ensures unchanged { OnErr result (IsUnchanged self.old self.new) }
@@ -181,7 +182,8 @@ impl Token {
             reply_of decision ≡ answer self.now.limits self.now.history call.now) }
         ensures change { IfOk result (λ decision.
             decision.change ≡ effect self.now.history call.now (reply_of decision)) }
-        ensures succeeds { OnErr result (may_run_out self.now.limits self.now.history call.now ≡ true) }
+        ensures succeeds { OnErr result
+            (may_run_out self.now.limits self.now.history call.now ≡ true) }
     {
         match self.decision(alloc, call) {
             Ok(decision) => Ok(decision),

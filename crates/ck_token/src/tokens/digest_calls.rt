@@ -175,7 +175,8 @@ impl Token {
         session: u64,
         room: Option<u64>,
     ) -> Result<Decision, Refused>
-        ensures { IsDecision self.now.limits self.now.history (call.DigestFinal session room) result }
+        ensures { IsDecision self.now.limits self.now.history
+            (call.DigestFinal session room) result }
     {
         let operation = match self.active_digest(session) {
             Err(error) => return Err(refused(session, error)),

@@ -57,13 +57,15 @@ impl Token {
         )
     }
 
-    /// The number of the next object, else CKR_DEVICE_MEMORY where as many have been created as the token
-    /// allows.
+    /// The number of the next object, else CKR_DEVICE_MEMORY where as many have been created as the
+    /// token allows.
     fn next_number(&self) -> Result<u64, RvError>
         ensures number { IfOk result (λ number. number ≡ creations self.now.history + 1) }
         ensures bound { IfOk result (λ number. number < 2 ^ 32) }
-        ensures free { IfOk result (λ number. creations_error self.now.limits self.now.history ≡ None) }
-        ensures used_up { IfErr result (λ code. creations_error self.now.limits self.now.history ≡ Some code) }
+        ensures free { IfOk result (λ number.
+            creations_error self.now.limits self.now.history ≡ None) }
+        ensures used_up { IfErr result (λ code.
+            creations_error self.now.limits self.now.history ≡ Some code) }
     {
         let creations = self.creations();
         if self.limits.creations() <= creations {
@@ -80,7 +82,8 @@ impl Token {
         session: u64,
         template: &Template,
     ) -> Result<Decision, Refused>
-        ensures { IsDecision self.now.limits self.now.history (call.CreateObject session template.now) result }
+        ensures { IsDecision self.now.limits self.now.history
+            (call.CreateObject session template.now) result }
     {
         let row = self.session(session)?;
         template.check_creation()?;
@@ -96,7 +99,8 @@ impl Token {
     fn creation(&self, session: u64, number: u64, attributes: Boxed<Record>) -> Decision
         requires number { number ≡ creations self.now.history + 1 }
         requires bound { number < 2 ^ 32 }
-        ensures reply { reply_of result ≡ ok (body.Handle (new_handle self.now.history attributes)) }
+        ensures reply { reply_of result
+            ≡ ok (body.Handle (new_handle self.now.history attributes)) }
         ensures change { result.change ≡ change.CreateObject session attributes }
     {
         let handle = self.view().handle(attributes.get(), number);
@@ -172,7 +176,8 @@ impl Token {
     }
 
     pub(super) fn destroy_object(&self, session: u64, object: u64) -> Result<Decision, Refused>
-        ensures { IsDecision self.now.limits self.now.history (call.DestroyObject session object) result }
+        ensures { IsDecision self.now.limits self.now.history
+            (call.DestroyObject session object) result }
     {
         let row = self.session(session)?;
         let (number, attributes) = self.object(object)?;

@@ -43,7 +43,8 @@ fn check_lock(credential: Credential) -> Result<(), RvError>
 
 /// CKR_PIN_INCORRECT, and a wrong try of the user's, where the PIN is another one.
 fn check_pin(user: UserType, credential: Credential, pin: Pin) -> Result<(), Refused>
-    ensures { IsCheckAbout (Some user) (error_if (not (is_pin credential.pin pin)) rv_error.PinIncorrect) result }
+    ensures { IsCheckAbout (Some user)
+        (error_if (not (is_pin credential.pin pin)) rv_error.PinIncorrect) result }
 {
     if is_pin(credential.pin, pin) {
         Ok(())
@@ -55,8 +56,8 @@ fn check_pin(user: UserType, credential: Credential, pin: Pin) -> Result<(), Ref
     }
 }
 
-/// CKR_USER_ALREADY_LOGGED_IN where the user is logged in, CKR_USER_ANOTHER_ALREADY_LOGGED_IN where another
-/// one is.
+/// CKR_USER_ALREADY_LOGGED_IN where the user is logged in, CKR_USER_ANOTHER_ALREADY_LOGGED_IN where
+/// another one is.
 fn check_nobody_in(user: UserType, login: Option<UserType>) -> Result<(), RvError>
     ensures { result ≡ check_of (logged_in_error user login) }
 {
@@ -127,7 +128,8 @@ impl Token {
     }
 
     fn check_login(&self, user: UserType, pin: Pin) -> Result<(), Refused>
-        ensures { IsCheckAbout (Some user) (user_login_error self.now.limits self.now.history user pin) result }
+        ensures { IsCheckAbout (Some user)
+            (user_login_error self.now.limits self.now.history user pin) result }
     {
         check_nobody_in(user, self.logged_in())?;
         self.check_read_write(user)?;

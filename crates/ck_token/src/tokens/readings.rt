@@ -60,7 +60,8 @@ impl Token {
     }
 
     pub(super) fn has_read_only(&self) -> bool
-        ensures { result ≡ list_any (λ s. not (is_read_write self.now.history s)) (open_sessions self.now.history) }
+        ensures { result ≡ list_any (λ s. not (is_read_write self.now.history s))
+            (open_sessions self.now.history) }
     {
         self.parts.sessions.has_read_only()
     }
@@ -87,7 +88,8 @@ impl Token {
 
     /// The state of an open session.
     pub(super) fn state(&self, row: &Session) -> SessionState
-        ensures { (s : ℕ) → row.now ≡ session_row self.now.history s → result ≡ state_of self.now.history s }
+        ensures { (s : ℕ) → row.now ≡ session_row self.now.history s
+            → result ≡ state_of self.now.history s }
     {
         session_state(self.logged_in(), row.is_read_write())
     }
@@ -140,8 +142,9 @@ impl Token {
     /// The session's active operation of the kind, else CKR_OPERATION_NOT_INITIALIZED.
     pub(super) fn operation(&self, kind: OperationKind, session: u64) -> Result<&Operation, RvError>
         ensures active { IfOk result (λ operation. is_active kind self.now.history session ≡ true) }
-        ensures message { IfOk result (λ operation. HoldsMessage (hash_in kind self.now.history session)
-            operation.now (message_in kind self.now.history session)) }
+        ensures message { IfOk result (λ operation.
+            HoldsMessage (hash_in kind self.now.history session) operation.now
+            (message_in kind self.now.history session)) }
         ensures updated { IfOk result (λ operation.
             has_update operation.now ≡ is_updated kind self.now.history session) }
         ensures none { IfErr result (λ code. code ≡ rv_error.OperationNotInitialized) }
@@ -153,10 +156,13 @@ impl Token {
         }
     }
 
-    /// The number and the attributes of the object that the handle names, else CKR_OBJECT_HANDLE_INVALID.
+    /// The number and the attributes of the object that the handle names, else
+    /// CKR_OBJECT_HANDLE_INVALID.
     pub(super) fn object(&self, handle: u64) -> Result<(u64, &Record), RvError>
-        ensures number { IfOk result (λ found. object_named self.now.history handle ≡ Some found.0) }
-        ensures attributes { IfOk result (λ found. attributes_named self.now.history handle ≡ Some found.1.now) }
+        ensures number { IfOk result (λ found.
+            object_named self.now.history handle ≡ Some found.0) }
+        ensures attributes { IfOk result (λ found.
+            attributes_named self.now.history handle ≡ Some found.1.now) }
         ensures none { IfErr result (λ code. code ≡ rv_error.ObjectHandleInvalid) }
         ensures unnamed { IfErr result (λ code. attributes_named self.now.history handle ≡ None) }
     {

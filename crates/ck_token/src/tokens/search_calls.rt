@@ -36,7 +36,8 @@ impl Token {
         session: u64,
         max: u64,
     ) -> Result<Decision, Refused>
-        ensures { IsDecision self.now.limits self.now.history (call.FindObjects session max) result }
+        ensures { IsDecision self.now.limits self.now.history
+            (call.FindObjects session max) result }
     {
         let row = self.session(session)?;
         let Some(numbers) = row.remaining_objects() else {
@@ -81,7 +82,8 @@ impl Token {
     }
 
     pub(super) fn find_objects_final(&self, session: u64) -> Result<Decision, Refused>
-        ensures { IsDecision self.now.limits self.now.history (call.FindObjectsFinal session) result }
+        ensures { IsDecision self.now.limits self.now.history
+            (call.FindObjectsFinal session) result }
     {
         let row = self.session(session)?;
         error_if(!row.is_searching(), RvError::OperationNotInitialized)?;

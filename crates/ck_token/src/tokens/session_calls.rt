@@ -59,7 +59,8 @@ impl Token {
     }
 
     pub(super) fn get_token_info(&self) -> Decision
-        ensures reply { reply_of result ≡ allowed_reply self.now.limits self.now.history call.GetTokenInfo }
+        ensures reply { reply_of result
+            ≡ allowed_reply self.now.limits self.now.history call.GetTokenInfo }
         ensures change { result.change ≡ change.Nothing }
     {
         let user = self.credential(UserType::User);
