@@ -122,17 +122,3 @@ impl Body {
         }
     }
 }
-
-impl Reply {
-    ghost use Rattle.std.specs.Prelude.{◌≡◌, false, IfOk, IsOk};
-    ghost use Rattle.ck_journal.specs.Replies.{has_list};
-
-    /// A copy of the reply. One whose body has no list takes no memory.
-    pub fn duplicate(&self, alloc: Global) -> Result<Reply, NoMemory>
-        ensures copy { IfOk result (λ copy. copy ≡ self.now) }
-        ensures succeeds { has_list self.now.body ≡ false → IsOk result }
-    {
-        let body = self.body.duplicate(alloc)?;
-        Ok(Reply { rv: self.rv, body })
-    }
-}

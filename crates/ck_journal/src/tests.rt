@@ -1,4 +1,4 @@
-use crate::{Answer, Body, Call, Entry, Journal, Reply};
+use crate::{Answer, Body, Call, Entry, Journal, Reply, is_long_piece};
 use ck_types::{Bytes, Rv, RvError, Sequence, SessionState, TokenFlags};
 use std::test::Fail;
 
@@ -74,7 +74,7 @@ fn base_of_a_new_token(rt: HostRuntime) -> Result<(), Fail> {
 }
 
 #[test]
-fn copies_of_replies(rt: HostRuntime) -> Result<(), Fail> {
+fn copies_of_bodies(rt: HostRuntime) -> Result<(), Fail> {
     let alloc = rt.alloc();
     let value = Bytes::from_slice(alloc, [1, 2].as_slice())?;
     let answers = vec![in alloc;
@@ -98,17 +98,25 @@ fn copies_of_replies(rt: HostRuntime) -> Result<(), Fail> {
         },
         Body::Attributes(Sequence::from_vec(answers)),
         Body::Handles(Sequence::from_vec(handles)),
+        Body::Length(32),
+        Body::Bytes(Bytes::from_slice(alloc, [0xff; 28].as_slice())?),
     ]?;
     for body in bodies {
-        let reply = Reply {
-            rv: Rv::Error(RvError::BufferTooSmall),
-            body,
-        };
-        let copy = reply.duplicate(alloc)?;
+        let copy = body.duplicate(alloc)?;
         assert_eq!(rt;
             format!(in alloc; "{copy:?}")?,
-            format!(in alloc; "{reply:?}")?
+            format!(in alloc; "{body:?}")?
         );
     }
+    Ok(())
+}
+
+#[test]
+fn pieces_of_messages(rt: HostRuntime) -> Result<(), Fail> {
+    let bytes = Bytes::from_slice(rt.alloc(), b"abc")?;
+    let update = Call::DigestUpdate { session: 1, bytes };
+    assert_eq!(rt; update.added_bytes(), b"abc".as_slice());
+    assert!(rt; Call::GetTokenInfo.added_bytes().is_empty());
+    assert!(rt; !is_long_piece(update.added_bytes()));
     Ok(())
 }
