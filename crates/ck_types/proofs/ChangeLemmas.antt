@@ -7,7 +7,7 @@ use Rattle.ck_types.specs.Attributes.{type_of, form_of, permission}
 use Rattle.ck_types.specs.Checks.{error_if, first_error}
 use Rattle.ck_types.specs.Templates.{value_at, value_or, flag_of, form_error, permission_error}
 use Rattle.ck_types.specs.Templates.{template_error, has_conflict}
-use Rattle.ck_types.specs.Records.{with_given, is_set, changed_error}
+use Rattle.ck_types.specs.Records.{with_given, is_set, changed_error, state_item, with_state}
 use Rattle.ck_types.specs.declared.attributes.Attribute.{Attribute}
 use Rattle.ck_types.specs.declared.attributes.Attribute.TheVariants as attribute
 use Rattle.ck_types.specs.declared.attributes.Class.{Class}
@@ -15,6 +15,7 @@ use Rattle.ck_types.specs.declared.attributes.Class.TheVariants as class
 use Rattle.ck_types.specs.declared.attributes.Purpose.TheVariants as purpose
 use Rattle.ck_types.specs.declared.errors.RvError.TheVariants as rv_error
 use Rattle.ck_types.specs.declared.items.Item.{Item}
+use Rattle.ck_types.specs.declared.key_states.KeyState.{KeyState}
 use Rattle.ck_types.specs.declared.object_flags.Protections.{Protections}
 use Rattle.ck_types.proofs.CheckLemmas.{or_else-none}
 use Rattle.ck_types.proofs.GivenLemmas.{no-value}
@@ -85,3 +86,22 @@ pub private-kept : (c : Class) (protections : Protections) (template items : Lis
     → is_set (with_given template items) attribute.Private ≡ is_set items attribute.Private
 private-kept c protections template items fine =
     flag-kept c protections template items attribute.Private (private-fixed c) fine
+
+-- ---- a key in another state
+
+flag-in_state : (s : KeyState) (flag : Attribute) (items : List Item)
+    → value_at (state_item s ∷ []) (type_of flag) ≡ None
+    → is_set (with_state s items) flag ≡ is_set items flag
+flag-in_state s flag items none =
+    ap (λ o. unwrap_or (option_and_then (flag_of (form_of flag)) o) false)
+    (value_at-with_given (state_item s ∷ []) (type_of flag) none items)
+
+-- keeps CKA_TOKEN
+pub token-in_state : (s : KeyState) (items : List Item)
+    → is_set (with_state s items) attribute.Token ≡ is_set items attribute.Token
+token-in_state s items = flag-in_state s attribute.Token items refl
+
+-- and CKA_PRIVATE
+pub private-in_state : (s : KeyState) (items : List Item)
+    → is_set (with_state s items) attribute.Private ≡ is_set items attribute.Private
+private-in_state s items = flag-in_state s attribute.Private items refl

@@ -1,14 +1,15 @@
 -- What items with no fault in form give
 use Rattle.std.proofs.Common.{◌≡◌, ℕ, Bool, true, false, cond, List, [], ◌∷◌, Option, Some, None}
-use Rattle.std.proofs.Common.{not, ◌||◌, refl, inl, inr, sym, subst}
-use Rattle.std.specs.Prelude.{◌==◌, find, option_and_then, option_map, unwrap_or}
+use Rattle.std.proofs.Common.{not, ◌||◌, refl, inl, inr, sym, subst, ap, ◌∙◌}
+use Rattle.std.specs.Prelude.{◌==◌, find, option_and_then, option_map, unwrap_or, is_none, length}
+use Rattle.std.specs.Int.{w64, from_le_bytes}
 use Rattle.std.specs.Cmp.Lexicographic.{bytes_decides}
 use Rattle.std.proofs.lemmas.Bool.{eqb-true, or_cases, true≢false}
 use Rattle.ck_types.specs.Attributes.{type_of, form_of, is_of_form, permission, attribute_of}
 use Rattle.ck_types.specs.Attributes.{same_bytes, flag_bytes, number_bytes}
 use Rattle.ck_types.specs.Checks.{error_if, first_error}
 use Rattle.ck_types.specs.Templates.{value_at, value_or, form_error, value_error}
-use Rattle.ck_types.specs.Templates.{creation_form_error, permission_error, error_of_permission}
+use Rattle.ck_types.specs.Templates.{permission_error, error_of_permission, class_of}
 use Rattle.ck_types.specs.Templates.{template_error, has_conflict, created_error}
 use Rattle.ck_types.specs.Records.{copied_error, changed_error}
 use Rattle.ck_types.specs.declared.attributes.Attribute.{Attribute}
@@ -54,7 +55,7 @@ attribute_of-type_of attribute.Copyable = refl
 attribute_of-type_of attribute.Destroyable = refl
 attribute_of-type_of attribute.KeyState = refl
 
-form_holds : (fits : Bool) → not fits ≡ false → fits ≡ true
+pub form_holds : (fits : Bool) → not fits ≡ false → fits ≡ true
 form_holds true e = refl
 form_holds false e = cc
 
@@ -129,49 +130,140 @@ flag_bytes-given_or items a kind value other test flag fine e k t =
     subst (λ n. value_at items n ≡ Some value) k (sym e) in
     rw (t, here) (flag_bytes-given items a value flag fine here)
 
--- ---- a template that passes the checks of a creation
-
--- its items have no fault in form
-pub form-creation : (items : List Item) → first_error creation_form_error items ≡ None
-    → first_error form_error items ≡ None
-form-creation [] fine = refl
-form-creation (item ∷ items) fine =
-    let parts =
-    or_else-none (creation_form_error item) (first_error creation_form_error items) fine in
-    rw ((or_else-none (form_error item) _ parts.0).0, form-creation items parts.1) refl
-
-pub form-created : (items : List Item) → created_error items ≡ None
-    → first_error form_error items ≡ None
-form-created items fine =
-    form-creation items (or_else-none (first_error creation_form_error items) _ fine).0
-
--- a class that it gives is that of data objects
-class-value : (value : List ℕ)
-    → creation_form_error (record { kind = type_of attribute.Class; value = value }) ≡ None
-    → value ≡ number_bytes 0
-class-value value e =
-    let parts = or_else-none (value_error (Some attribute.Class) value) _ e in
-    class-test (same_bytes value (number_bytes 0)) (same_bytes value (number_bytes 4))
-    (λ t. (bytes_decides value (number_bytes 0)).0 t)
-    (is_of_form-value attribute.Class value parts.0) (error_if-none _ _ parts.1)
-  where
-    class-test : (data_class key_class : Bool) → (data_class ≡ true → value ≡ number_bytes 0)
-        → (data_class || key_class) ≡ true → key_class ≡ false → value ≡ number_bytes 0
-    class-test true key_class h fits supported = h refl
-    class-test false key_class h fits supported = cc
-
 or-default : (o : Option (List ℕ)) (other : List ℕ)
     → ((value : List ℕ) → o ≡ Some value → value ≡ other) → unwrap_or o other ≡ other
 or-default None other h = refl
 or-default (Some value) other h = h value refl
 
-pub given_or-class : (items : List Item) → created_error items ≡ None
+-- a value of the form of a number, read as one
+number-of-form : (fits : Bool) (value : List ℕ) (number : Option ℕ) → fits ≡ true
+    → number ≡ cond fits (Some (from_le_bytes w64 value)) None
+    → number ≡ Some (from_le_bytes w64 value)
+number-of-form true value number f e = e
+number-of-form false value number f e = cc
+
+pub number-given : (items : List Item) (a : Attribute) (kind : ℕ) (value : List ℕ)
+    (number : Option ℕ) → form_of a ≡ form.Number → first_error form_error items ≡ None
+    → Some value ≡ value_at items kind → kind ≡ type_of a
+    → number ≡ cond (length value == 8) (Some (from_le_bytes w64 value)) None
+    → (number ≡ Some (from_le_bytes w64 value)) × (length value == 8 ≡ true)
+    × (value_at items (type_of a) ≡ Some value)
+number-given items a kind value number is_number fine e k read =
+    let here : value_at items (type_of a) ≡ Some value =
+    subst (λ n. value_at items n ≡ Some value) k (sym e) in
+    let fits : (length value == 8) ≡ true = subst (λ f. is_of_form f value ≡ true) is_number
+    (is_of_form-value a value (value_error-given a value items fine here)) in
+    (number-of-form (length value == 8) value number fits read, fits, here)
+
+-- a key state that is given and isn't 0 is 1
+pub active-given : (items : List Item) (kind : ℕ) (value other : List ℕ)
+    → first_error form_error items ≡ None
+    → Some value ≡ value_at items kind → kind ≡ type_of attribute.KeyState
+    → same_bytes value (number_bytes 0) ≡ false
+    → number_bytes 1 ≡ value_or items (type_of attribute.KeyState) other
+active-given items kind value other fine e k inactive =
+    let here : value_at items (type_of attribute.KeyState) ≡ Some value =
+    subst (λ n. value_at items n ≡ Some value) k (sym e) in
+    let fits : (same_bytes value (number_bytes 0) || same_bytes value (number_bytes 1)) ≡ true =
+    is_of_form-value attribute.KeyState value
+    (value_error-given attribute.KeyState value items fine here) in
+    elim (or_cases (same_bytes value (number_bytes 0)) (same_bytes value (number_bytes 1)) fits) [
+      | inl zero ↦ absurd (true≢false (sym zero ∙ inactive))
+      | inr one ↦ sym (ap (λ o. unwrap_or o other) here
+          ∙ (bytes_decides value (number_bytes 1)).0 one)
+    ]
+
+-- a key type that is given is 16
+pub key_type-given : (items : List Item) (other : List ℕ) → first_error form_error items ≡ None
+    → is_none (value_at items (type_of attribute.KeyType)) ≡ false
+    → value_or items (type_of attribute.KeyType) other ≡ number_bytes 16
+key_type-given items other fine given = cases (value_at items (type_of attribute.KeyType)) refl given
+  where
+    cases : (o : Option (List ℕ)) → value_at items (type_of attribute.KeyType) ≡ o
+        → is_none o ≡ false → unwrap_or o other ≡ number_bytes 16
+    cases None e g = cc
+    cases (Some value) e g = (bytes_decides value (number_bytes 16)).0
+        (is_of_form-value attribute.KeyType value
+        (value_error-given attribute.KeyType value items fine e))
+
+pub key_type-kept : (items : List Item) → first_error form_error items ≡ None
+    → value_or items (type_of attribute.KeyType) (number_bytes 16) ≡ number_bytes 16
+key_type-kept items fine =
+    or-default (value_at items (type_of attribute.KeyType)) (number_bytes 16)
+    (λ value e. (bytes_decides value (number_bytes 16)).0
+    (is_of_form-value attribute.KeyType value
+    (value_error-given attribute.KeyType value items fine e)))
+
+-- ---- a template that passes the checks of a creation
+
+-- its items have no fault in form
+pub form-created : (items : List Item) → created_error items ≡ None
+    → first_error form_error items ≡ None
+form-created items fine = (or_else-none (first_error form_error items) _ fine).0
+
+-- it gives a class
+pub class-created : (items : List Item) → created_error items ≡ None
+    → is_none (value_at items (type_of attribute.Class)) ≡ false
+class-created items fine =
+    let unlike = (or_else-none (first_error form_error items) _ fine).1 in
+    let rest =
+    (or_else-none (error_if (has_conflict items) rv_error.TemplateInconsistent) _ unlike).1 in
+    error_if-none _ _
+    (or_else-none
+    (error_if (is_none (value_at items (type_of attribute.Class))) rv_error.TemplateIncomplete) _
+    rest).0
+
+-- and no attribute that it may not give
+pub permitted-created : (items : List Item) → created_error items ≡ None
+    → first_error (permission_error (class_of items) purpose.Create) items ≡ None
+permitted-created items fine =
+    let unlike = (or_else-none (first_error form_error items) _ fine).1 in
+    let rest =
+    (or_else-none (error_if (has_conflict items) rv_error.TemplateInconsistent) _ unlike).1 in
+    let permitted =
+    (or_else-none
+    (error_if (is_none (value_at items (type_of attribute.Class))) rv_error.TemplateIncomplete) _
+    rest).1 in
+    (or_else-none (first_error (permission_error (class_of items) purpose.Create) items) _
+    permitted).0
+
+-- a class that isn't that of keys is that of data objects
+data-class : (value : List ℕ) → is_of_form form.Class value ≡ true
+    → cond (same_bytes value (number_bytes 4)) class.SecretKey class.Data ≡ class.Data
+    → value ≡ number_bytes 0
+data-class value fits e =
+    test (same_bytes value (number_bytes 0)) (same_bytes value (number_bytes 4))
+    (λ t. (bytes_decides value (number_bytes 0)).0 t) fits e
+  where
+    test : (data_class key_class : Bool) → (data_class ≡ true → value ≡ number_bytes 0)
+        → (data_class || key_class) ≡ true
+        → cond key_class class.SecretKey class.Data ≡ class.Data → value ≡ number_bytes 0
+    test true key_class h fits e = h refl
+    test false true h fits e = cc
+    test false false h fits e = cc
+
+pub data-created : (items : List Item) → class_of items ≡ class.Data → created_error items ≡ None
     → value_or items (type_of attribute.Class) (number_bytes 0) ≡ number_bytes 0
-given_or-class items fine =
+data-created items data_class fine =
     or-default (value_at items (type_of attribute.Class)) (number_bytes 0)
-    (λ value e. class-value value
-    (none-given creation_form_error (type_of attribute.Class) value items
-    (or_else-none (first_error creation_form_error items) _ fine).0 e))
+    (λ value e. data-class value
+    (is_of_form-value attribute.Class value
+    (value_error-given attribute.Class value items (form-created items fine) e))
+    (subst (λ o. cond (same_bytes (unwrap_or o []) (number_bytes 4)) class.SecretKey class.Data
+    ≡ class.Data) e data_class))
+
+-- a value that is given is given whatever else there would be
+pub other-default : (o : Option (List ℕ)) (other another value : List ℕ) → is_none o ≡ false
+    → unwrap_or o other ≡ value → unwrap_or o another ≡ value
+other-default None other another value given e = cc
+other-default (Some found) other another value given e = e
+
+pub data-class-given : (items : List Item) → class_of items ≡ class.Data
+    → created_error items ≡ None
+    → value_or items (type_of attribute.Class) [] ≡ number_bytes 0
+data-class-given items data_class fine =
+    other-default (value_at items (type_of attribute.Class)) (number_bytes 0) [] (number_bytes 0)
+    (class-created items fine) (data-created items data_class fine)
 
 -- ---- a template that passes the checks of a copy or a change
 
@@ -191,38 +283,66 @@ no-value c p a items read_only fine = cases (value_at items (type_of a)) refl
         (attribute_of-type_of a) passes) in
         cc
 
--- its items have no fault in form, and it doesn't give the class
-template-passes : (c : Class) (p : Purpose) (items : List Item)
-    → permission c p attribute.Class ≡ Some false
-    → template_error c p items ≡ None
-    → (first_error form_error items ≡ None) × (value_at items (type_of attribute.Class) ≡ None)
-template-passes c p items read_only fine =
+-- its items have no fault in form, and may be given
+template-passes : (c : Class) (p : Purpose) (items : List Item) → template_error c p items ≡ None
+    → (first_error form_error items ≡ None) × (first_error (permission_error c p) items ≡ None)
+template-passes c p items fine =
     let parts = or_else-none (first_error form_error items) _ fine in
     let rest =
-    (or_else-none (error_if (has_conflict items) rv_error.TemplateInconsistent) _ parts.1).1 in (
-      parts.0,
-      no-value c p attribute.Class items read_only
-          (or_else-none (first_error (permission_error c p) items) None rest).0,
-    )
-
-copy-class : (c : Class) → permission c purpose.Copy attribute.Class ≡ Some false
-copy-class class.Data = refl
-copy-class class.SecretKey = refl
-
-change-class : (c : Class) → permission c purpose.Set attribute.Class ≡ Some false
-change-class class.Data = refl
-change-class class.SecretKey = refl
+    (or_else-none (error_if (has_conflict items) rv_error.TemplateInconsistent) _ parts.1).1 in
+    (parts.0, (or_else-none (first_error (permission_error c p) items) None rest).0)
 
 pub copy-passes : (c : Class) (protections : Protections) (items : List Item)
     → copied_error c protections items ≡ None
-    → (first_error form_error items ≡ None) × (value_at items (type_of attribute.Class) ≡ None)
+    → (first_error form_error items ≡ None)
+    × (first_error (permission_error c purpose.Copy) items ≡ None)
 copy-passes c protections items fine =
-    template-passes c purpose.Copy items (copy-class c)
+    template-passes c purpose.Copy items
     (or_else-none (template_error c purpose.Copy items) _ fine).0
+
+-- what a change may be given a copy may be given too
+copy-of-change : (c : Class) (a : Attribute)
+    → error_of_permission (permission c purpose.Set a) ≡ None
+    → error_of_permission (permission c purpose.Copy a) ≡ None
+copy-of-change class.Data attribute.Label e = refl
+copy-of-change class.Data attribute.Application e = refl
+copy-of-change class.Data attribute.Value e = refl
+copy-of-change class.Data attribute.ObjectId e = refl
+copy-of-change class.Data other e = cc
+copy-of-change class.SecretKey attribute.Label e = refl
+copy-of-change class.SecretKey attribute.Id e = refl
+copy-of-change class.SecretKey attribute.Sensitive e = refl
+copy-of-change class.SecretKey attribute.Encrypt e = refl
+copy-of-change class.SecretKey attribute.Decrypt e = refl
+copy-of-change class.SecretKey attribute.Wrap e = refl
+copy-of-change class.SecretKey attribute.Unwrap e = refl
+copy-of-change class.SecretKey attribute.Sign e = refl
+copy-of-change class.SecretKey attribute.Verify e = refl
+copy-of-change class.SecretKey attribute.Derive e = refl
+copy-of-change class.SecretKey attribute.Extractable e = refl
+copy-of-change class.SecretKey other e = cc
+
+copies-of-changes : (c : Class) (items : List Item)
+    → first_error (permission_error c purpose.Set) items ≡ None
+    → first_error (permission_error c purpose.Copy) items ≡ None
+copies-of-changes c [] fine = refl
+copies-of-changes c (item ∷ items) fine =
+    let parts =
+    or_else-none (permission_error c purpose.Set item) (first_error (permission_error c purpose.Set) items)
+    fine in
+    rw (known (attribute_of item.kind) parts.0, copies-of-changes c items parts.1) refl
+  where
+    known : (o : Option Attribute)
+        → error_of_permission (option_and_then (permission c purpose.Set) o) ≡ None
+        → error_of_permission (option_and_then (permission c purpose.Copy) o) ≡ None
+    known None e = cc
+    known (Some a) e = copy-of-change c a e
 
 pub change-passes : (c : Class) (protections : Protections) (items : List Item)
     → changed_error c protections items ≡ None
-    → (first_error form_error items ≡ None) × (value_at items (type_of attribute.Class) ≡ None)
+    → (first_error form_error items ≡ None)
+    × (first_error (permission_error c purpose.Copy) items ≡ None)
 change-passes c protections items fine =
-    template-passes c purpose.Set items (change-class c)
-    (or_else-none (template_error c purpose.Set items) _ fine).0
+    let parts = template-passes c purpose.Set items
+    (or_else-none (template_error c purpose.Set items) _ fine).0 in
+    (parts.0, copies-of-changes c items parts.1)

@@ -3,3 +3,5 @@ pub mod CheckLemmas
 pub mod ConflictLemmas
 pub mod FlagLemmas
 pub mod GivenLemmas
+pub mod KeyLemmas
+pub mod MechanismLemmas

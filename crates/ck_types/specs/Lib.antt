@@ -2,6 +2,7 @@ pub mod Attributes
 pub mod Checks
 pub mod Fields
 pub mod Hashes
+pub mod KeyStates
 pub mod Mechanisms
 pub mod Pins
 pub mod Records

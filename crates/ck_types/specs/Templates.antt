@@ -1,11 +1,12 @@
 -- Templates and the checks that one must pass
 use Rattle.std.specs.Prelude.{ℕ, Bool, true, false, List, [], ◌∷◌, Option, Some, None}
 use Rattle.std.specs.Prelude.{◌==◌, ◌&&◌, not, find, option_map, option_and_then, unwrap_or}
-use Rattle.std.specs.Prelude.{is_none}
+use Rattle.std.specs.Prelude.{is_none, nat_le, length, if◌then◌else◌}
+use Rattle.std.specs.Int.{w64, from_le_bytes}
 use Rattle.std.specs.List.{list_any}
 use Rattle.ck_types.specs.Attributes.{flag_bytes, number_bytes, same_bytes, is_of_form}
 use Rattle.ck_types.specs.Attributes.{type_of, form_of, permission, attribute_of}
-use Rattle.ck_types.specs.Checks.{error_if, or_else, first_of, first_error}
+use Rattle.ck_types.specs.Checks.{error_if, first_of, first_error}
 use Rattle.ck_types.specs.declared.attributes.Attribute.{Attribute}
 use Rattle.ck_types.specs.declared.attributes.Attribute.TheVariants as attribute
 use Rattle.ck_types.specs.declared.attributes.Class.{Class}
@@ -49,17 +50,6 @@ value_error (Some a) value =
 abbrev pub form_error : Item → Option RvError
 form_error item = value_error (attribute_of item.kind) item.value
 
--- the item is the class of secret keys (CKO_SECRET_KEY)
-abbrev pub is_secret_key : Item → Bool
-is_secret_key item =
-    (item.kind == type_of attribute.Class) && same_bytes item.value (number_bytes 4)
-
--- an item of a creation is well formed, and isn't the class of secret keys, which can't be created
--- yet
-abbrev pub creation_form_error : Item → Option RvError
-creation_form_error item =
-    or_else (form_error item) (error_if (is_secret_key item) rv_error.AttributeValueInvalid)
-
 -- two items of one type have different values: an item's value isn't that of the first of its type
 abbrev pub has_conflict : List Item → Bool
 has_conflict items =
@@ -82,13 +72,61 @@ abbrev pub permission_error : Class → Purpose → Item → Option RvError
 permission_error class purpose item =
     error_of_permission (option_and_then (permission class purpose) (attribute_of item.kind))
 
+-- the class of an object with these attributes: a secret key where CLASS is CKO_SECRET_KEY (4),
+-- else a data object
+abbrev pub class_of : List Item → Class
+class_of items =
+    if same_bytes (value_or items (type_of attribute.Class) []) (number_bytes 4)
+    then class.SecretKey else class.Data
+
+-- a key has 1 to 4096 bytes
+abbrev pub is_key_length : ℕ → Bool
+is_key_length n = nat_le 1 n && nat_le n 4096
+
+-- the attributes that a created key can't do without; its value is of a key's length
+abbrev pub new_key_error : List Item → Option RvError
+new_key_error template = first_of (
+    error_if (is_none (value_at template (type_of attribute.KeyType))) rv_error.TemplateIncomplete
+    ∷ error_if (is_none (value_at template (type_of attribute.Value))) rv_error.TemplateIncomplete
+    ∷ error_if (not (is_key_length (length (value_or template (type_of attribute.Value) []))))
+    rv_error.AttributeValueInvalid
+    ∷ [])
+
+abbrev pub new_object_error : Class → List Item → Option RvError
+new_object_error class.Data template = None
+new_object_error class.SecretKey template = new_key_error template
+
 -- the error of a template that creates an object, by the first check that fails
 abbrev pub created_error : List Item → Option RvError
-created_error items = first_of (
-    first_error creation_form_error items
-    ∷ error_if (has_conflict items) rv_error.TemplateInconsistent
-    ∷ error_if (is_none (value_at items (type_of attribute.Class))) rv_error.TemplateIncomplete
-    ∷ first_error (permission_error class.Data purpose.Create) items
+created_error template = first_of (
+    first_error form_error template
+    ∷ error_if (has_conflict template) rv_error.TemplateInconsistent
+    ∷ error_if (is_none (value_at template (type_of attribute.Class))) rv_error.TemplateIncomplete
+    ∷ first_error (permission_error (class_of template) purpose.Create) template
+    ∷ new_object_error (class_of template) template
+    ∷ [])
+
+-- the template gives a class that isn't that of secret keys
+abbrev pub gives_other_class : List Item → Bool
+gives_other_class template =
+    not (same_bytes (value_or template (type_of attribute.Class) (number_bytes 4)) (number_bytes 4))
+
+-- the length that the template gives a key, in bytes
+abbrev pub given_length : List Item → ℕ
+given_length template = from_le_bytes w64 (value_or template (type_of attribute.ValueLen) [])
+
+-- the error of a template that a key is generated with from these random bytes, by the first check
+-- that fails
+abbrev pub generated_error : List Item → List ℕ → Option RvError
+generated_error template random = first_of (
+    first_error form_error template
+    ∷ error_if (has_conflict template) rv_error.TemplateInconsistent
+    ∷ error_if (gives_other_class template) rv_error.TemplateInconsistent
+    ∷ first_error (permission_error class.SecretKey purpose.Generate) template
+    ∷ error_if (is_none (value_at template (type_of attribute.ValueLen)))
+    rv_error.TemplateIncomplete
+    ∷ error_if (not (is_key_length (given_length template))) rv_error.KeySizeRange
+    ∷ error_if (not (length random == given_length template)) rv_error.ArgumentsBad
     ∷ [])
 
 -- the error of a template that changes an object of the class, or that a copy of one is made with,

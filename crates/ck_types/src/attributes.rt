@@ -10,6 +10,16 @@ pub enum Class {
     SecretKey,
 }
 
+impl Class {
+    ghost use Rattle.ck_types.specs.Records.{is_key_class};
+
+    pub(crate) fn is_key(self) -> bool
+        ensures { result ≡ is_key_class self }
+    {
+        self == Class::SecretKey
+    }
+}
+
 /// What a template is for.
 #[derive(Clone, Copy, Debug, PartialEq, Eq)]
 pub enum Purpose {

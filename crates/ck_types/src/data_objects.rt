@@ -13,7 +13,7 @@ pub(crate) struct Data {
     private: bool,
     label: Bytes,
     application: Bytes,
-    value: Bytes,
+    pub(crate) value: Bytes,
     object_id: Bytes,
     modifiable: bool,
     copyable: bool,
@@ -26,12 +26,24 @@ impl Data {
     ghost use Rattle.ck_types.specs.Checks.{first_error};
     ghost use Rattle.ck_types.specs.Templates.{value_at, value_or, form_error, flag_at};
     ghost use Rattle.ck_types.specs.declared.attributes.Attribute.TheVariants as attribute;
-    ghost use Rattle.ck_types.specs.Records.{data_items, with_given, data_defaults, placement_of};
+    ghost use Rattle.ck_types.specs.Records.{data_items, with_given, placement_of, blank_data};
+    ghost use Rattle.ck_types.specs.Records.{created_items};
+    ghost use Rattle.ck_types.specs.Templates.{created_error, class_of};
+    ghost use Rattle.ck_types.specs.declared.attributes.Class.TheVariants as class;
     ghost use Rattle.ck_types.specs.Fields.{field_bytes, flag_field};
 
-    /// A data object with the table's defaults.
-    pub(crate) fn blank(alloc: Global) -> Data
-        ensures { data_items result ≡ data_defaults }
+    /// The data object that a template creates.
+    pub(crate) fn created(alloc: Global, items: &[Item]) -> Result<Data, NoMemory>
+        requires class { class_of items.now ≡ class.Data }
+        requires passes { created_error items.now ≡ None }
+        ensures { IfOk result (λ made. data_items made ≡ created_items items.now) }
+    {
+        Data::blank(alloc).with(alloc, items)
+    }
+
+    /// A data object with the table's defaults, which takes no memory.
+    fn blank(alloc: Global) -> Data
+        ensures { result ≡ blank_data }
     {
         Data {
             token: false,

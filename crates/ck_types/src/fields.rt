@@ -2,9 +2,9 @@ use crate::memory::NoMemory;
 use crate::sequences::Bytes;
 use std::alloc::Global;
 
-/// A value of an attribute as an object has it.
-#[derive(Drop)]
-pub(crate) enum Field<'a> {
+/// A value of an attribute as an object has it (PKCS #11 Base 3.0, Common attributes).
+#[derive(Debug, Drop)]
+pub enum Field<'a> {
     Flag(bool),
     Number(u64),
     Bytes(&'a Bytes),
@@ -16,7 +16,7 @@ impl<'a> Field<'a> {
     ghost use Rattle.ck_types.specs.Fields.{field_bytes, flag_field};
 
     /// How many bytes the value has.
-    pub(crate) fn len(&self) -> u64
+    pub fn len(&self) -> u64
         ensures { result ≡ length (field_bytes self.now) }
     {
         match self {
@@ -26,6 +26,7 @@ impl<'a> Field<'a> {
         }
     }
 
+    /// Whether these are the value's bytes.
     pub(crate) fn has_bytes(&self, bytes: &[u8]) -> bool
         ensures { result ≡ same_bytes bytes.now (field_bytes self.now) }
     {
@@ -36,8 +37,8 @@ impl<'a> Field<'a> {
         }
     }
 
-    /// The value's bytes.
-    pub(crate) fn to_bytes(&self, alloc: Global) -> Result<Bytes, NoMemory>
+    /// A copy of the value's bytes.
+    pub fn to_bytes(&self, alloc: Global) -> Result<Bytes, NoMemory>
         ensures { IfOk result (λ bytes. bytes ≡ field_bytes self.now) }
     {
         match self {

@@ -1,4 +1,5 @@
-ghost use Rattle.std.specs.Prelude.{◌≡◌};
+ghost use Rattle.std.specs.Prelude.{◌≡◌, ◌==◌, Some, None, IfSome, length, if◌then◌else◌};
+ghost use Rattle.std.specs.Int.{w64, from_le_bytes};
 ghost use Rattle.ck_types.specs.Attributes.{same_bytes, number_bytes};
 
 /// What an attribute's value looks like.
@@ -36,8 +37,18 @@ impl Form {
     }
 }
 
+/// The number of 8 bytes, the least first (CK_ULONG), or `None` for fewer or more bytes.
+pub(crate) fn number_of(bytes: &[u8]) -> Option<u64>
+    ensures number { result
+        ≡ (if length bytes.now == 8 then Some (from_le_bytes w64 bytes.now) else None) }
+    ensures bytes { IfSome result (λ number. number_bytes number ≡ bytes.now) }
+{
+    let bytes: [u8; 8] = bytes.try_into().ok()?;
+    Some(u64::from_le_bytes(bytes))
+}
+
 /// Whether these are the 8 bytes of a number, the least first.
-fn is_number(value: &[u8], number: u64) -> bool
+pub(crate) fn is_number(value: &[u8], number: u64) -> bool
     ensures { result ≡ same_bytes value.now (number_bytes number) }
 {
     value == number.to_le_bytes().as_slice()

@@ -1,16 +1,23 @@
 ghost use Rattle.std.specs.Prelude.{◌≡◌, ◌==◌, ◌&&◌, None, IfOk, not, unwrap_or};
+ghost use Rattle.std.specs.Prelude.{option_map, Some, IfSome};
+ghost use Rattle.std.specs.Int.{w64, from_le_bytes};
 ghost use Rattle.std.specs.List.{list_any};
 ghost use Rattle.std.specs.Option.{option_copied};
 ghost use Rattle.ck_types.specs.Attributes.{type_of, form_of, same_bytes, flag_bytes};
+ghost use Rattle.ck_types.specs.Attributes.{number_bytes};
 ghost use Rattle.ck_types.specs.Checks.{check_of, first_error};
 ghost use Rattle.ck_types.specs.Templates.{value_at, value_or, flag_at, has_two_values};
-ghost use Rattle.ck_types.specs.Templates.{has_conflict};
-ghost use Rattle.ck_types.specs.Templates.{form_error, creation_form_error, permission_error};
+ghost use Rattle.ck_types.specs.Templates.{has_conflict, class_of};
+ghost use Rattle.ck_types.specs.Templates.{form_error, permission_error};
+ghost use Rattle.ck_types.specs.KeyStates.{state_number};
+ghost use Rattle.ck_types.specs.declared.attributes.Attribute.TheVariants as attribute;
 ghost use Rattle.ck_types.specs.declared.forms.Form.TheVariants as form;
 
 use crate::attributes::{Attribute, Class, Purpose};
 use crate::checks::error_if;
 use crate::errors::RvError;
+use crate::forms::{is_number, number_of};
+use crate::key_states::KeyState;
 use crate::memory::NoMemory;
 use crate::sequences::Bytes;
 use std::alloc::Global;
@@ -24,8 +31,6 @@ pub struct Item {
 }
 
 impl Item {
-    ghost use Rattle.ck_types.specs.Templates.{is_secret_key};
-
     /// CKR_ATTRIBUTE_TYPE_INVALID for a type that the token doesn't know,
     /// CKR_ATTRIBUTE_VALUE_INVALID for a value that isn't of the type's form.
     fn check_form(&self) -> Result<(), RvError>
@@ -38,24 +43,6 @@ impl Item {
                 error_if(!is_of_form, RvError::AttributeValueInvalid)
             }
         }
-    }
-
-    /// Whether the item is the class of secret keys (CKO_SECRET_KEY).
-    fn is_secret_key(&self) -> bool
-        ensures { result ≡ is_secret_key self.now }
-    {
-        self.kind == Attribute::Class.number()
-            && self.value.as_slice() == 4u64.to_le_bytes().as_slice()
-    }
-
-    /// The check of the form, and CKR_ATTRIBUTE_VALUE_INVALID for the class of secret keys, which
-    /// can't be created yet.
-    #[tactic(auto, using(crate::proofs::CheckLemmas::checks))]
-    fn check_creation_form(&self) -> Result<(), RvError>
-        ensures { result ≡ check_of (creation_form_error self.now) }
-    {
-        self.check_form()?;
-        error_if(self.is_secret_key(), RvError::AttributeValueInvalid)
     }
 
     /// CKR_ATTRIBUTE_TYPE_INVALID for an attribute that objects of the class don't have,
@@ -87,16 +74,6 @@ pub(crate) fn check_forms(items: &[Item]) -> Result<(), RvError>
 {
     for item in items {
         item.check_form()?;
-    }
-    Ok(())
-}
-
-#[tactic(auto, using(crate::proofs::CheckLemmas::item_checks))]
-pub(crate) fn check_creation_forms(items: &[Item]) -> Result<(), RvError>
-    ensures { result ≡ check_of (first_error creation_form_error items.now) }
-{
-    for item in items {
-        item.check_creation_form()?;
     }
     Ok(())
 }
@@ -153,6 +130,56 @@ pub(crate) fn bytes_or(
     match value_at(items, attribute.number()) {
         None => Bytes::from_slice(alloc, other.as_slice()),
         Some(value) => Bytes::from_slice(alloc, value.as_slice()),
+    }
+}
+
+/// The number that the items give the attribute. Well-formed items give a number 8 bytes.
+pub(crate) fn number_at(items: &[Item], attribute: Attribute) -> Option<u64>
+    requires form { form_of attribute ≡ form.Number }
+    requires well_formed { first_error form_error items.now ≡ None }
+    ensures number { result
+        ≡ option_map (from_le_bytes w64) (value_at items.now (type_of attribute)) }
+    ensures bytes { IfSome result (λ number.
+        value_at items.now (type_of attribute) ≡ Some (number_bytes number)) }
+{
+    match value_at(items, attribute.number()) {
+        None => None,
+        Some(value) => number_of(value.as_slice()),
+    }
+}
+
+/// The key state that the items give, else this one. Well-formed items give the number of a key
+/// that is or isn't active yet.
+pub(crate) fn state_or(items: &[Item], other: KeyState) -> KeyState
+    requires well_formed { first_error form_error items.now ≡ None }
+    ensures { number_bytes (state_number result)
+        ≡ value_or items.now (type_of attribute.KeyState) (number_bytes (state_number other)) }
+{
+    match value_at(items, Attribute::KeyState.number()) {
+        None => other,
+        Some(value) => {
+            if is_number(value.as_slice(), 0) {
+                KeyState::PreActivation
+            } else {
+                KeyState::Active
+            }
+        }
+    }
+}
+
+/// The class of an object with these attributes.
+pub(crate) fn class_of(items: &[Item]) -> Class
+    ensures { result ≡ class_of items.now }
+{
+    match value_at(items, Attribute::Class.number()) {
+        None => Class::Data,
+        Some(value) => {
+            if is_number(value.as_slice(), 4) {
+                Class::SecretKey
+            } else {
+                Class::Data
+            }
+        }
     }
 }
 

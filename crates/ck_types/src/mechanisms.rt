@@ -1,6 +1,8 @@
 ghost use Rattle.std.specs.Prelude.{◌≡◌};
-ghost use Rattle.ck_types.specs.Mechanisms.{digest_hash, hmac_hash};
+ghost use Rattle.ck_types.specs.Mechanisms.{digest_hash, hmac_hash, is_key_generator};
+ghost use Rattle.ck_types.specs.Mechanisms.{given_tag_length, algorithm_of, mechanism_types};
 
+use crate::forms::number_of;
 use crate::hashes::Hash;
 use crate::sequences::Bytes;
 
@@ -13,20 +15,89 @@ pub struct Mechanism {
     pub parameter: Bytes,
 }
 
-/// The types of all mechanisms that the token has, rising (C_GetMechanismList).
-pub const MECHANISMS: [u64; 13] = [
-    0x250, 0x251, 0x252, 0x255, 0x256, 0x257, 0x260, 0x261, 0x262, 0x270, 0x271, 0x272, 0x350,
+impl Mechanism {
+    ghost use Rattle.ck_types.specs.Mechanisms.{tag_length};
+
+    /// The length in bytes of the tag that the mechanism signs with, or `None` where it doesn't
+    /// sign or can't have the parameter. A whole HMAC has no parameter; one of a given length has
+    /// the length (CK_MAC_GENERAL_PARAMS), 8 bytes with the least first, from 1 to that of the
+    /// digest.
+    pub fn tag_length(&self) -> Option<u64>
+        ensures { result ≡ tag_length self.now }
+    {
+        let parameter = self.parameter.as_slice();
+        match algorithm_of(self.kind)? {
+            Algorithm::Hmac(hash) => {
+                if parameter.is_empty() {
+                    Some(hash.len())
+                } else {
+                    None
+                }
+            }
+            Algorithm::GeneralHmac(hash) => given_tag_length(hash, parameter),
+            Algorithm::Digest(_) | Algorithm::GenericSecretKey => None,
+        }
+    }
+}
+
+/// The length of a tag that the parameter gives, where the hash function has one so long.
+fn given_tag_length(hash: Hash, parameter: &[u8]) -> Option<u64>
+    ensures { result ≡ given_tag_length hash parameter.now }
+{
+    let length = number_of(parameter)?;
+    if 1 <= length && length <= hash.len() {
+        Some(length)
+    } else {
+        None
+    }
+}
+
+/// What a mechanism computes.
+#[derive(Clone, Copy, Debug, PartialEq, Eq)]
+enum Algorithm {
+    Digest(Hash),
+    Hmac(Hash),
+    /// The first bytes of an HMAC, as many as the parameter says.
+    GeneralHmac(Hash),
+    GenericSecretKey,
+}
+
+/// All mechanisms that the token has, in rising types.
+const MECHANISMS: [(u64, Algorithm); 13] = [
+    (0x250, Algorithm::Digest(Hash::Sha256)),
+    (0x251, Algorithm::Hmac(Hash::Sha256)),
+    (0x252, Algorithm::GeneralHmac(Hash::Sha256)),
+    (0x255, Algorithm::Digest(Hash::Sha224)),
+    (0x256, Algorithm::Hmac(Hash::Sha224)),
+    (0x257, Algorithm::GeneralHmac(Hash::Sha224)),
+    (0x260, Algorithm::Digest(Hash::Sha384)),
+    (0x261, Algorithm::Hmac(Hash::Sha384)),
+    (0x262, Algorithm::GeneralHmac(Hash::Sha384)),
+    (0x270, Algorithm::Digest(Hash::Sha512)),
+    (0x271, Algorithm::Hmac(Hash::Sha512)),
+    (0x272, Algorithm::GeneralHmac(Hash::Sha512)),
+    (0x350, Algorithm::GenericSecretKey),
 ];
+
+/// The types of all mechanisms that the token has, rising (C_GetMechanismList).
+pub fn mechanism_types() -> [u64; 13]
+    ensures { result ≡ mechanism_types }
+{
+    MECHANISMS.map(|(kind, _)| kind)
+}
+
+fn algorithm_of(kind: u64) -> Option<Algorithm>
+    ensures { result ≡ algorithm_of kind }
+{
+    MECHANISMS.iter().find(|row| row.0 == kind).map(|row| row.1)
+}
 
 /// The hash function of a mechanism that digests a message, or `None` for every other mechanism.
 pub fn digest_of(kind: u64) -> Option<Hash>
     ensures { result ≡ digest_hash kind }
 {
-    match kind {
-        0x250 => Some(Hash::Sha256),
-        0x255 => Some(Hash::Sha224),
-        0x260 => Some(Hash::Sha384),
-        0x270 => Some(Hash::Sha512),
+    match algorithm_of(kind)? {
+        Algorithm::Digest(hash) => Some(hash),
         _ => None,
     }
 }
@@ -36,13 +107,17 @@ pub fn digest_of(kind: u64) -> Option<Hash>
 pub fn mac_of(kind: u64) -> Option<Hash>
     ensures { result ≡ hmac_hash kind }
 {
-    match kind {
-        0x251 | 0x252 => Some(Hash::Sha256),
-        0x256 | 0x257 => Some(Hash::Sha224),
-        0x261 | 0x262 => Some(Hash::Sha384),
-        0x271 | 0x272 => Some(Hash::Sha512),
+    match algorithm_of(kind)? {
+        Algorithm::Hmac(hash) | Algorithm::GeneralHmac(hash) => Some(hash),
         _ => None,
     }
+}
+
+/// Whether the mechanism generates keys.
+pub fn is_key_generator(kind: u64) -> bool
+    ensures { result ≡ is_key_generator kind }
+{
+    matches!(algorithm_of(kind), Some(Algorithm::GenericSecretKey))
 }
 
 #[cfg(test)]

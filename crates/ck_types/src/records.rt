@@ -5,7 +5,9 @@ use crate::checks::error_if;
 use crate::data_objects::Data;
 use crate::errors::RvError;
 use crate::fields::Field;
-use crate::items::Item;
+use crate::items::{Item, class_of};
+use crate::key_states::KeyState;
+use crate::keys::Key;
 use crate::memory::NoMemory;
 use crate::object_flags::{Placement, Protections};
 use crate::refusals::Refusal;
@@ -17,6 +19,7 @@ use std::marker::Model;
 #[derive(Debug, Drop)]
 enum Object {
     Data(Data),
+    Key(Key),
 }
 
 /// The attributes of one object. Contracts see them as items in the order of the table.
@@ -40,10 +43,18 @@ impl Record {
     ghost use Rattle.std.specs.Prelude.{option_map, length};
     ghost use Rattle.ck_types.specs.Attributes.{type_of};
     ghost use Rattle.ck_types.specs.Checks.{check_of, first_error};
-    ghost use Rattle.ck_types.specs.Templates.{value_at, created_error, form_error};
-    ghost use Rattle.ck_types.specs.declared.attributes.Attribute.TheVariants as attribute;
+    ghost use Rattle.std.specs.Prelude.{Some, true, is_some, IfSome};
+    ghost use Rattle.std.specs.Result.{result_err};
+    ghost use Rattle.ck_types.specs.Templates.{value_at, created_error, generated_error};
+    ghost use Rattle.ck_types.specs.Templates.{form_error, permission_error};
+    ghost use Rattle.ck_types.specs.declared.attributes.Purpose.TheVariants as purpose;
+    ghost use Rattle.ck_types.specs.Records.{generated_items, data_items, key_items, is_key};
+    ghost use Rattle.ck_types.specs.Records.{readable_value, read_error, state_in, key_value};
+    ghost use Rattle.ck_types.specs.Records.{with_state};
     ghost use Rattle.ck_types.specs.Records.{IsRecordUnless, created_items, with_given};
-    ghost use Rattle.ck_types.specs.Records.{class_of, protections_of, placement_of};
+    ghost use Rattle.ck_types.specs.Templates.{class_of, flag_at};
+    ghost use Rattle.ck_types.specs.Records.{protections_of, placement_of, is_revealable};
+    ghost use Rattle.ck_types.specs.Records.{is_hidden};
     ghost use Rattle.ck_types.specs.Records.{copied_error, changed_error};
     ghost use Rattle.ck_types.specs.Records.{flag_in, is_set, has_item, matches};
     ghost use Rattle.ck_types.specs.Fields.{field_bytes, flag_field};
@@ -59,15 +70,62 @@ impl Record {
     }
 
     /// The object that a template makes which passes the checks of a creation.
-    #[tactic(auto, unfolding(crate::specs::Records::created_items))]
     pub fn create_with(alloc: Global, template: &Template) -> Result<Record, NoMemory>
         requires { created_error template.now.items ≡ None }
         ensures { IfOk result (λ made. made ≡ created_items template.now.items) }
     {
-        let data = Data::blank(alloc).with(alloc, template.items.as_slice())?;
-        Ok(Record {
-            object: Object::Data(data),
-        })
+        let items = template.items.as_slice();
+        match class_of(items) {
+            Class::Data => {
+                let data = Data::created(alloc, items)?;
+                Ok(Record::of_data(data))
+            }
+            Class::SecretKey => {
+                let key = Key::created(alloc, items)?;
+                Ok(Record::of_key(key))
+            }
+        }
+    }
+
+    /// The key that C_GenerateKey makes by a template from random bytes (PKCS #11 Base 3.0, Key
+    /// management functions). The template is refused with the error of
+    /// `Template::check_generation`.
+    pub fn generated(alloc: Global, template: &Template, random: &[u8]) -> Result<Record, Refusal>
+        ensures { IsRecordUnless (generated_error template.now.items random.now)
+            (generated_items template.now.items random.now) result }
+    {
+        template.check_generation(random)?;
+        Ok(Record::generate_with(alloc, template, random)?)
+    }
+
+    /// The key that is made from random bytes by a template which passes the checks of a
+    /// generation.
+    pub fn generate_with(
+        alloc: Global,
+        template: &Template,
+        random: &[u8],
+    ) -> Result<Record, NoMemory>
+        requires { generated_error template.now.items random.now ≡ None }
+        ensures { IfOk result (λ made. made ≡ generated_items template.now.items random.now) }
+    {
+        let key = Key::generated(alloc, template.items.as_slice(), random)?;
+        Ok(Record::of_key(key))
+    }
+
+    fn of_data(object: Data) -> Record
+        ensures { result ≡ data_items object }
+    {
+        Record {
+            object: Object::Data(object),
+        }
+    }
+
+    fn of_key(key: Key) -> Record
+        ensures { result ≡ key_items key }
+    {
+        Record {
+            object: Object::Key(key),
+        }
     }
 
     /// A copy of the object with the values that a template of C_CopyObject gives (PKCS #11 Base
@@ -112,8 +170,11 @@ impl Record {
             ≡ None }
         ensures { result ≡ placement_of (with_given template.now.items self.now) }
     {
-        let Object::Data(data) = &self.object;
-        data.placement().with(template.items.as_slice())
+        let items = template.items.as_slice();
+        match &self.object {
+            Object::Data(data) => data.placement().with(items),
+            Object::Key(key) => key.placement().with(items),
+        }
     }
 
     /// A copy of the object with the values that a template gives
@@ -160,16 +221,24 @@ impl Record {
         self.with(alloc, template.items.as_slice())
     }
 
+    /// The object with the items' values of the attributes that they give, each of which a copy may
+    /// be given.
     fn with(&self, alloc: Global, items: &[Item]) -> Result<Record, NoMemory>
         requires well_formed { first_error form_error items.now ≡ None }
-        requires class { value_at items.now (type_of attribute.Class) ≡ None }
+        requires permitted { first_error (permission_error (class_of self.now) purpose.Copy)
+            items.now ≡ None }
         ensures { IfOk result (λ made. made ≡ with_given items.now self.now) }
     {
-        let Object::Data(data) = &self.object;
-        let data = data.with(alloc, items)?;
-        Ok(Record {
-            object: Object::Data(data),
-        })
+        match &self.object {
+            Object::Data(data) => {
+                let data = data.with(alloc, items)?;
+                Ok(Record::of_data(data))
+            }
+            Object::Key(key) => {
+                let key = key.copied(alloc, items)?;
+                Ok(Record::of_key(key))
+            }
+        }
     }
 
     /// The object's class (CKA_CLASS).
@@ -178,6 +247,7 @@ impl Record {
     {
         match &self.object {
             Object::Data(_) => Class::Data,
+            Object::Key(_) => Class::SecretKey,
         }
     }
 
@@ -196,24 +266,56 @@ impl Record {
     pub fn placement(&self) -> Placement
         ensures { result ≡ placement_of self.now }
     {
-        let Object::Data(data) = &self.object;
-        data.placement()
+        match &self.object {
+            Object::Data(data) => data.placement(),
+            Object::Key(key) => key.placement(),
+        }
     }
 
     /// Whether the object matches a template of C_FindObjectsInit (PKCS #11 Base 3.0, Object
-    /// management functions): it has each attribute of the template with equal bytes. The template
-    /// isn't checked: one without items matches every object, and a type that the object doesn't
-    /// have, or two values of one type, match none.
+    /// management functions): it has each attribute of the template with equal bytes, none of them
+    /// hidden. The template isn't checked: one without items matches every object, and a type that
+    /// the object doesn't have, or two different values of one type, match none.
     pub fn matches(&self, template: &Template) -> bool
         ensures { result ≡ matches self.now template.now.items }
     {
         template.items.as_slice().iter().all(|item| self.has(item))
     }
 
-    /// Whether the object has the item's attribute with equal bytes.
+    /// Whether the value may be revealed (CKA_VALUE; PKCS #11 Base 3.0, Secret key objects).
+    pub fn is_revealable(&self) -> bool
+        ensures { result ≡ is_revealable self.now }
+    {
+        match &self.object {
+            Object::Data(_) => true,
+            Object::Key(key) => key.is_revealable(),
+        }
+    }
+
+    /// The bytes of the value (CKA_VALUE), whether or not they may be revealed.
+    pub fn value_bytes(&self) -> &[u8]
+        ensures { result.now ≡ key_value self.now }
+    {
+        match &self.object {
+            Object::Data(data) => data.value.as_slice(),
+            Object::Key(key) => key.value.as_slice(),
+        }
+    }
+
+    /// Whether the attribute is a value that may not be revealed.
+    pub fn is_hidden(&self, kind: u64) -> bool
+        ensures { result ≡ is_hidden self.now kind }
+    {
+        kind == Attribute::Value.number() && !self.is_revealable()
+    }
+
+    /// Whether the object has the item's attribute with equal bytes, and it isn't hidden.
     fn has(&self, item: &Item) -> bool
         ensures { result ≡ has_item self.now item.now }
     {
+        if self.is_hidden(item.kind) {
+            return false;
+        }
         match self.field(item.kind) {
             None => false,
             Some(field) => field.has_bytes(item.value.as_slice()),
@@ -224,8 +326,7 @@ impl Record {
     pub fn is_set(&self, flag: Attribute) -> bool
         ensures { result ≡ is_set self.now flag }
     {
-        let Object::Data(data) = &self.object;
-        matches!(data.field(flag), Some(Field::Flag(true)))
+        matches!(self.field_of(flag), Some(Field::Flag(true)))
     }
 
     /// The value of an attribute that is a flag, or `None` where the object has no such flag.
@@ -262,14 +363,72 @@ impl Record {
         }
     }
 
+    /// The value of an attribute as C_GetAttributeValue reads it (PKCS #11 Base 3.0, Object
+    /// management functions): CKR_ATTRIBUTE_SENSITIVE for a value that may not be revealed,
+    /// CKR_ATTRIBUTE_TYPE_INVALID for an attribute that the object doesn't have.
+    pub fn readable(&self, kind: u64) -> Result<Field, RvError>
+        ensures value { IfOk result (λ field.
+            readable_value self.now kind ≡ Some (field_bytes field)) }
+        ensures error { result_err result ≡ read_error self.now kind }
+    {
+        error_if(self.is_hidden(kind), RvError::AttributeSensitive)?;
+        self.field(kind).ok_or(RvError::AttributeTypeInvalid)
+    }
+
+    /// The state of a key, or `None` for a data object.
+    pub fn key_state(&self) -> Option<KeyState>
+        ensures { result ≡ state_in self.now }
+    {
+        match &self.object {
+            Object::Data(_) => None,
+            Object::Key(key) => Some(key.state),
+        }
+    }
+
+    /// The bytes of a key, also of one that may not be revealed, or `None` for a data object.
+    pub fn key(&self) -> Option<&[u8]>
+        ensures class { is_some result ≡ is_key self.now }
+        ensures value { IfSome result (λ bytes. bytes.now ≡ key_value self.now) }
+    {
+        match &self.object {
+            Object::Data(_) => None,
+            Object::Key(key) => Some(key.value.as_slice()),
+        }
+    }
+
+    /// Moves a key to another state, whether or not it may go over to it. A data object has no
+    /// state and stays as it is.
+    pub fn set_state(&mut self, state: KeyState)
+        ensures { self.new ≡ with_state state self.old }
+    {
+        if let Object::Key(key) = &mut self.object {
+            key.state = state;
+        }
+    }
+
+    fn field_of(&self, attribute: Attribute) -> Option<Field>
+        ensures value { option_map field_bytes result ≡ value_at self.now (type_of attribute) }
+        ensures flag { flag_field result ≡ flag_at self.now attribute }
+    {
+        match &self.object {
+            Object::Data(data) => data.field(attribute),
+            Object::Key(key) => key.field(attribute),
+        }
+    }
+
     fn field(&self, kind: u64) -> Option<Field>
         ensures value { option_map field_bytes result ≡ value_at self.now kind }
         ensures flag { flag_field result ≡ flag_in self.now kind }
     {
-        let Object::Data(data) = &self.object;
-        match Attribute::of(kind) {
-            None => None,
-            Some(attribute) => data.field(attribute),
+        match &self.object {
+            Object::Data(data) => match Attribute::of(kind) {
+                None => None,
+                Some(attribute) => data.field(attribute),
+            },
+            Object::Key(key) => match Attribute::of(kind) {
+                None => None,
+                Some(attribute) => key.field(attribute),
+            },
         }
     }
 }

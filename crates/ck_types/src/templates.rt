@@ -1,10 +1,17 @@
-ghost use Rattle.std.specs.Prelude.{◌≡◌, None};
+ghost use Rattle.std.specs.Prelude.{◌≡◌, ◌==◌, ◌∷◌, [], None, not, is_none, length};
+ghost use Rattle.ck_types.specs.Attributes.{type_of};
+ghost use Rattle.ck_types.specs.Checks.{check_of, first_error, first_of, error_if};
+ghost use Rattle.ck_types.specs.Templates.{form_error, gives_other_class, is_key_length};
+ghost use Rattle.ck_types.specs.Templates.{new_key_error, new_object_error, given_length, value_at};
+ghost use Rattle.ck_types.specs.declared.attributes.Attribute.TheVariants as attribute;
+ghost use Rattle.ck_types.specs.declared.errors.RvError.TheVariants as rv_error;
 
 use crate::attributes::{Attribute, Class, Purpose};
 use crate::checks::error_if;
 use crate::errors::RvError;
+use crate::forms::is_number;
 use crate::items::{
-    Item, check_creation_forms, check_forms, check_permissions, flag_or, has_conflict, value_at,
+    Item, check_forms, check_permissions, class_of, flag_or, has_conflict, number_at, value_at,
 };
 use crate::object_flags::{Placement, Protections};
 use crate::sequences::Sequence;
@@ -17,38 +24,75 @@ pub struct Template {
 }
 
 impl Template {
-    ghost use Rattle.ck_types.specs.Checks.{check_of, first_error};
-    ghost use Rattle.ck_types.specs.Templates.{form_error, created_error, template_error};
-    ghost use Rattle.ck_types.specs.Records.{created_items, placement_of, exposes_key};
-    ghost use Rattle.ck_types.specs.Records.{makes_public};
+    ghost use Rattle.std.specs.Prelude.{ℕ, List};
+    ghost use Rattle.ck_types.specs.Templates.{created_error, generated_error, template_error};
+    ghost use Rattle.ck_types.specs.Records.{created_items, generated_items, placement_of};
+    ghost use Rattle.ck_types.specs.Records.{exposes_key, makes_public};
 
     /// The checks of a template of C_CreateObject (PKCS #11 Base 3.0, Object management functions),
     /// of which the first that fails answers: a type that the token doesn't know
-    /// (CKR_ATTRIBUTE_TYPE_INVALID) or a value that isn't of its form or, for now, is the class of
-    /// secret keys (CKR_ATTRIBUTE_VALUE_INVALID), item by item; two values of one type
+    /// (CKR_ATTRIBUTE_TYPE_INVALID) or a value that isn't of its form
+    /// (CKR_ATTRIBUTE_VALUE_INVALID), item by item; two values of one type
     /// (CKR_TEMPLATE_INCONSISTENT); no class (CKR_TEMPLATE_INCOMPLETE); an attribute that the class
     /// doesn't have (CKR_ATTRIBUTE_TYPE_INVALID) or that may not be given
-    /// (CKR_ATTRIBUTE_READ_ONLY), item by item.
+    /// (CKR_ATTRIBUTE_READ_ONLY), item by item; for a key no key type or no value
+    /// (CKR_TEMPLATE_INCOMPLETE), or a value of no byte or more than 4096
+    /// (CKR_ATTRIBUTE_VALUE_INVALID).
+    #[tactic(auto, using(crate::proofs::CheckLemmas::checks))]
     pub fn check_creation(&self) -> Result<(), RvError>
         ensures { result ≡ check_of (created_error self.now.items) }
     {
         let items = self.items.as_slice();
-        check_creation_forms(items)?;
+        check_forms(items)?;
         error_if(has_conflict(items), RvError::TemplateInconsistent)?;
-        let class = value_at(items, Attribute::Class.number());
-        error_if(class.is_none(), RvError::TemplateIncomplete)?;
-        check_permissions(Class::Data, Purpose::Create, items)
+        let is_missing = value_at(items, Attribute::Class.number()).is_none();
+        error_if(is_missing, RvError::TemplateIncomplete)?;
+        let class = class_of(items);
+        check_permissions(class, Purpose::Create, items)?;
+        check_new_object(class, items)
     }
 
     /// CKA_TOKEN and CKA_PRIVATE of the object that the template creates.
-    #[tactic(auto, unfolding(crate::specs::Records::created_items))]
     pub fn creation_placement(&self) -> Placement
         requires { created_error self.now.items ≡ None }
         ensures { result ≡ placement_of (created_items self.now.items) }
     {
+        let items = self.items.as_slice();
         let placement = Placement {
             token: false,
-            private: false,
+            private: class_of(items).is_key(),
+        };
+        placement.with(items)
+    }
+
+    /// The checks of a template of C_GenerateKey (PKCS #11 Base 3.0, Key management functions) and
+    /// of the random bytes that the key gets, of which the first that fails answers: types and
+    /// values as in `check_creation`; two values of one type or another class than that of secret
+    /// keys (CKR_TEMPLATE_INCONSISTENT); an attribute that keys don't have
+    /// (CKR_ATTRIBUTE_TYPE_INVALID) or that may not be given (CKR_ATTRIBUTE_READ_ONLY), item by
+    /// item; no length (CKR_TEMPLATE_INCOMPLETE), or one of 0 or more than 4096
+    /// (CKR_KEY_SIZE_RANGE); fewer or more random bytes (CKR_ARGUMENTS_BAD).
+    #[tactic(auto, using(crate::proofs::CheckLemmas::checks))]
+    pub fn check_generation(&self, random: &[u8]) -> Result<(), RvError>
+        ensures { result ≡ check_of (generated_error self.now.items random.now) }
+    {
+        let items = self.items.as_slice();
+        check_forms(items)?;
+        error_if(has_conflict(items), RvError::TemplateInconsistent)?;
+        error_if(gives_other_class(items), RvError::TemplateInconsistent)?;
+        check_permissions(Class::SecretKey, Purpose::Generate, items)?;
+        check_given_length(items, random)
+    }
+
+    /// CKA_TOKEN and CKA_PRIVATE of the key that is generated with the template.
+    pub fn generation_placement(&self) -> Placement
+        requires { first_error form_error self.now.items ≡ None }
+        ensures { (random : List ℕ)
+            → result ≡ placement_of (generated_items self.now.items random) }
+    {
+        let placement = Placement {
+            token: false,
+            private: true,
         };
         placement.with(self.items.as_slice())
     }
@@ -80,5 +124,67 @@ impl Template {
         ensures { result ≡ makes_public protections self.now.items }
     {
         protections.private && !flag_or(self.items.as_slice(), Attribute::Private, true)
+    }
+}
+
+/// Whether a key may have so many bytes.
+fn is_key_length(length: u64) -> bool
+    ensures { result ≡ is_key_length length }
+{
+    1 <= length && length <= 4096
+}
+
+/// The checks of what an object of the class can't do without.
+fn check_new_object(class: Class, items: &[Item]) -> Result<(), RvError>
+    ensures { result ≡ check_of (new_object_error class items.now) }
+{
+    match class {
+        Class::Data => Ok(()),
+        Class::SecretKey => check_new_key(items),
+    }
+}
+
+#[tactic(auto, using(crate::proofs::CheckLemmas::checks))]
+fn check_new_key(items: &[Item]) -> Result<(), RvError>
+    ensures { result ≡ check_of (new_key_error items.now) }
+{
+    let is_missing = value_at(items, Attribute::KeyType.number()).is_none();
+    error_if(is_missing, RvError::TemplateIncomplete)?;
+    match value_at(items, Attribute::Value.number()) {
+        None => Err(RvError::TemplateIncomplete),
+        Some(value) => {
+            let length = value.as_slice().len() as u64;
+            error_if(!is_key_length(length), RvError::AttributeValueInvalid)
+        }
+    }
+}
+
+/// Whether the items give a class that isn't that of secret keys.
+fn gives_other_class(items: &[Item]) -> bool
+    ensures { result ≡ gives_other_class items.now }
+{
+    match value_at(items, Attribute::Class.number()) {
+        None => false,
+        Some(value) => !is_number(value.as_slice(), 4),
+    }
+}
+
+/// The checks of the length that the items give a key, and of the random bytes.
+#[tactic(auto, using(crate::proofs::CheckLemmas::checks))]
+fn check_given_length(items: &[Item], random: &[u8]) -> Result<(), RvError>
+    requires { first_error form_error items.now ≡ None }
+    ensures { result ≡ check_of (first_of (
+        error_if (is_none (value_at items.now (type_of attribute.ValueLen)))
+        rv_error.TemplateIncomplete
+        ∷ error_if (not (is_key_length (given_length items.now))) rv_error.KeySizeRange
+        ∷ error_if (not (length random.now == given_length items.now)) rv_error.ArgumentsBad
+        ∷ [])) }
+{
+    match number_at(items, Attribute::ValueLen) {
+        None => Err(RvError::TemplateIncomplete),
+        Some(length) => {
+            error_if(!is_key_length(length), RvError::KeySizeRange)?;
+            error_if(random.len() as u64 != length, RvError::ArgumentsBad)
+        }
     }
 }

@@ -1,6 +1,16 @@
 use Rattle.ck_types.proofs.GivenLemmas.{form-created}
+use Rattle.ck_types.proofs.KeyLemmas.{created-placement, same-placement}
 use Rattle.ck_types.proofs.templates.Template.creation_placement.Goals as goal
 
 -- a template that passes the checks has no fault in form
 pub with-requires : goal.with-requires
-with-requires c = rw c.as_slice.ensures (form-created c.args.self.now.items c.requires)
+with-requires c = rw c.as_slice-items.ensures (form-created c.args.self.now.items c.requires)
+
+-- its flags are the template's, else the defaults of its class
+pub returns : goal.returns
+returns c =
+    let token = rw c.as_slice-items.ensures at c.with.ensures.token in
+    let class = rw c.as_slice-items.ensures at c.class_of.ensures in
+    let private =
+    rw (c.as_slice-items.ensures, c.is_key.ensures, class) at c.with.ensures.private in
+    rw (created-placement c.args.self.now.items) (same-placement c.with.result _ _ token private)
