@@ -4,10 +4,12 @@
 
 mod digests;
 mod macs;
+mod running_tags;
 mod tags;
 
 pub use digests::{Running, digest};
 pub use macs::Mac;
+pub use running_tags::RunningTag;
 pub use tags::Tag;
 
 #[cfg(test)]

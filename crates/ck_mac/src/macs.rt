@@ -1,5 +1,4 @@
-ghost use Rattle.std.specs.Prelude.{◌≡◌, ⊤, ◌≤◌, ℕ, List, [], ◌++◌, length, take};
-ghost use Rattle.ck_types.specs.Attributes.{same_bytes};
+ghost use Rattle.std.specs.Prelude.{◌≡◌, ⊤, ◌≤◌, ℕ, List, [], ◌++◌, take};
 ghost use Rattle.ck_types.specs.Hashes.{block_length, digest_length};
 ghost use Rattle.ck_types.specs.declared.hashes.Hash.{Hash};
 
@@ -63,6 +62,15 @@ impl Mac {
         self.inner.update(bytes);
     }
 
+    /// How many bytes the tag has.
+    #[tactic(auto, unfolding(crate::specs::Macs::HoldsMac))]
+    pub fn len(&self) -> u64
+        ensures { (hash : Hash) (key : List ℕ) (n : ℕ) (message : List ℕ)
+            → HoldsMac hash key n self.now message → result ≡ n }
+    {
+        self.len
+    }
+
     /// The HMAC of the message, or its first bytes.
     pub fn finish(self) -> Tag
         ensures first { (hash : Hash) (key : List ℕ) (n : ℕ) (message : List ℕ)
@@ -88,14 +96,7 @@ impl Mac {
             → HoldsMac hash key n self message
             → result ≡ check_of (signature_error (take n (hmac hash key message)) signature.now) }
     {
-        let tag = self.finish();
-        if signature.len() != tag.bytes().len() {
-            return Err(RvError::SignatureLenRange);
-        }
-        if !constant_time_eq(signature, tag.bytes()) {
-            return Err(RvError::SignatureInvalid);
-        }
-        Ok(())
+        self.finish().check(signature)
     }
 }
 
@@ -149,18 +150,4 @@ fn xor_each(bytes: &mut [u8], pad: u8)
     for byte in bytes.iter_mut() {
         *byte ^= pad;
     }
-}
-
-/// Whether these are the same bytes. Every byte is looked at whatever differs, so that the time
-/// doesn't say how much of a guessed signature is right.
-#[tactic(auto, using(crate::proofs::DifferenceLemmas::same_so_far_more))]
-fn constant_time_eq(left: &[u8], right: &[u8]) -> bool
-    requires { length left.now ≡ length right.now }
-    ensures { result ≡ same_bytes left.now right.now }
-{
-    let mut difference = 0;
-    for (a, b) in left.iter().zip(right) {
-        difference |= a ^ b;
-    }
-    difference == 0
 }

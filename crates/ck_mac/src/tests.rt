@@ -1,11 +1,14 @@
 use crate::digests::digest;
-use crate::{Mac, Running, Tag};
+use crate::{Mac, Running, RunningTag, Tag};
 use ck_types::{Hash, RvError};
 use std::alloc::{AllocError, Global};
 use std::process::Abort;
 use std::slice;
 use std::test::Fail;
-use vectors::{ABC, DIGESTS, HMACS, HMACS_BY_KEY, JEFE, MILLION};
+use vectors::{
+    ABC, DIGESTS, FIFTY_CD, FIFTY_DD, HI_THERE, HMACS, HMACS_BY_KEY, JEFE, LONG_KEY,
+    LONG_KEY_AND_DATA, MILLION, TRUNCATED,
+};
 
 mod vectors;
 
@@ -125,43 +128,66 @@ fn keys_of_any_length(rt: HostRuntime) -> Result<(), Fail> {
     hmacs_under(&rt, rt.alloc(), HMACS_BY_KEY.as_slice())
 }
 
-/// The vectors of the standards, and two of RFC 4231 with keys of one byte repeated.
+/// The HMACs of a message begin with these bytes, one a hash function.
+fn published_hmacs(
+    rt: &impl Abort,
+    alloc: Global,
+    key: &[u8],
+    message: &[u8],
+    expected: &[&str],
+) -> Result<(), Fail> {
+    for (hash, digits) in HASHES.iter().zip(expected) {
+        hmac_in_pieces(rt, *hash, key, message, bytes_of(alloc, digits)?.as_slice());
+    }
+    Ok(())
+}
+
+#[test]
+fn published_digests(rt: HostRuntime) -> Result<(), Fail> {
+    for (hash, digits) in HASHES.iter().zip(ABC) {
+        digest_in_pieces(&rt, *hash, b"abc", bytes_of(rt.alloc(), digits)?.as_slice());
+    }
+    Ok(())
+}
+
+/// The seven test cases of RFC 4231.
 #[test]
 fn published_vectors(rt: HostRuntime) -> Result<(), Fail> {
     let alloc = rt.alloc();
-    for (hash, digits) in HASHES.iter().zip(ABC) {
-        digest_in_pieces(&rt, *hash, b"abc", bytes_of(alloc, digits)?.as_slice());
-    }
-    for (hash, digits) in HASHES.iter().zip(JEFE) {
-        let message = b"what do ya want for nothing?";
-        hmac_in_pieces(
-            &rt,
-            *hash,
-            b"Jefe",
-            message,
-            bytes_of(alloc, digits)?.as_slice(),
-        );
-    }
-    let expected = "b0344c61d8db38535ca8afceaf0bf12b881dc200c9833da726e9376c2e32cff7";
-    let hmac = bytes_of(alloc, expected)?;
-    hmac_in_pieces(
+    let key = [0x0b; 20];
+    published_hmacs(&rt, alloc, key.as_slice(), b"Hi There", HI_THERE.as_slice())?;
+    let message = b"what do ya want for nothing?";
+    published_hmacs(&rt, alloc, b"Jefe", message, JEFE.as_slice())?;
+    let (key, message) = ([0xaa; 20], [0xdd; 50]);
+    published_hmacs(
         &rt,
-        Hash::Sha256,
-        [0x0b; 20].as_slice(),
-        b"Hi There",
-        hmac.as_slice(),
-    );
+        alloc,
+        key.as_slice(),
+        message.as_slice(),
+        FIFTY_DD.as_slice(),
+    )?;
+    let (key, message) = ((1..26).collect::<Vec<u8>>(alloc)?, [0xcd; 50]);
+    published_hmacs(
+        &rt,
+        alloc,
+        key.as_slice(),
+        message.as_slice(),
+        FIFTY_CD.as_slice(),
+    )?;
+    let (key, message) = ([0x0c; 20], b"Test With Truncation");
+    published_hmacs(&rt, alloc, key.as_slice(), message, TRUNCATED.as_slice())?;
+    let key = [0xaa; 131];
     let message = b"Test Using Larger Than Block-Size Key - Hash Key First";
-    let expected = "60e431591ee0b67f0d8a26aacbf5b77f8e0bc6213728c5140546040f0ee37f54";
-    let hmac = bytes_of(alloc, expected)?;
-    hmac_in_pieces(
+    published_hmacs(&rt, alloc, key.as_slice(), message, LONG_KEY.as_slice())?;
+    let message = b"This is a test using a larger than block-size key and a larger than \
+        block-size data. The key needs to be hashed before being used by the HMAC algorithm.";
+    published_hmacs(
         &rt,
-        Hash::Sha256,
-        [0xaa; 131].as_slice(),
+        alloc,
+        key.as_slice(),
         message,
-        hmac.as_slice(),
-    );
-    Ok(())
+        LONG_KEY_AND_DATA.as_slice(),
+    )
 }
 
 fn digest_of_a_million(hash: Hash) -> Tag {
@@ -239,5 +265,29 @@ fn general_hmacs(rt: HostRuntime) -> Result<(), Fail> {
             assert_eq!(rt; mac.check(hmac.as_slice()), Err(RvError::SignatureLenRange));
         }
     }
+    Ok(())
+}
+
+/// The tag takes in these two pieces, the second also where it is only read.
+fn tag_of_two_pieces(rt: &impl Abort, mut running: RunningTag, pieces: [&[u8]; 2], tag: &[u8]) {
+    assert_eq!(rt; running.len(), tag.len() as u64);
+    running.update(pieces[0]);
+    assert!(rt; running.tag_with(pieces[1]).bytes() == tag);
+    assert!(rt; running.tag().bytes() != tag);
+    running.update(pieces[1]);
+    assert!(rt; running.tag().bytes() == tag);
+    assert_eq!(rt; running.tag().check(tag), Ok(()));
+}
+
+#[test]
+fn running_tags(rt: HostRuntime) -> Result<(), Fail> {
+    let digest = bytes_of(rt.alloc(), ABC[1])?;
+    let running = RunningTag::Digest(Running::new(Hash::Sha256));
+    tag_of_two_pieces(&rt, running, [b"ab", b"c"], digest.as_slice());
+    let hmac = bytes_of(rt.alloc(), JEFE[1])?;
+    let running = RunningTag::Mac(Mac::general(Hash::Sha256, b"Jefe", 16));
+    assert!(rt; hmac.len() > 16);
+    let pieces: [&[u8]; 2] = [b"what do ya want ", b"for nothing?"];
+    tag_of_two_pieces(&rt, running, pieces, &hmac[..16]);
     Ok(())
 }

@@ -349,3 +349,67 @@ pub const JEFE: [&str; 4] = [
     "164b7a7bfcf819e2e395fbe73b56e0a387bd64222e831fd610270cd7ea250554\
      9758bf75c05a994a6d034f65f8f0e6fdcaeab1a34d4a6b4b636e070a38bce737",
 ];
+
+/// The HMACs of "Hi There" under 20 bytes 0x0b
+/// (RFC 4231, test case 1).
+pub const HI_THERE: [&str; 4] = [
+    "896fb1128abbdf196832107cd49df33f47b4b1169912ba4f53684b22",
+    "b0344c61d8db38535ca8afceaf0bf12b881dc200c9833da726e9376c2e32cff7",
+    "afd03944d84895626b0825f4ab46907f15f9dadbe4101ec682aa034c7cebc59c\
+     faea9ea9076ede7f4af152e8b2fa9cb6",
+    "87aa7cdea5ef619d4ff0b4241a1d6cb02379f4e2ce4ec2787ad0b30545e17cde\
+     daa833b7d6b8a702038b274eaea3f4e4be9d914eeb61f1702e696c203a126854",
+];
+
+/// The HMACs of 50 bytes 0xdd under 20 bytes 0xaa
+/// (RFC 4231, test case 3).
+pub const FIFTY_DD: [&str; 4] = [
+    "7fb3cb3588c6c1f6ffa9694d7d6ad2649365b0c1f65d69d1ec8333ea",
+    "773ea91e36800e46854db8ebd09181a72959098b3ef8c122d9635514ced565fe",
+    "88062608d3e6ad8a0aa2ace014c8a86f0aa635d947ac9febe83ef4e55966144b\
+     2a5ab39dc13814b94e3ab6e101a34f27",
+    "fa73b0089d56a284efb0f0756c890be9b1b5dbdd8ee81a3655f83e33b2279d39\
+     bf3e848279a722c806b485a47e67c807b946a337bee8942674278859e13292fb",
+];
+
+/// The HMACs of 50 bytes 0xcd under the bytes 1 to 25
+/// (RFC 4231, test case 4).
+pub const FIFTY_CD: [&str; 4] = [
+    "6c11506874013cac6a2abc1bb382627cec6a90d86efc012de7afec5a",
+    "82558a389a443c0ea4cc819899f2083a85f0faa3e578f8077a2e3ff46729665b",
+    "3e8a69b7783c25851933ab6290af6ca77a9981480850009cc5577c6e1f573b4e\
+     6801dd23c4a7d679ccf8a386c674cffb",
+    "b0ba465637458c6990e5a8c5f61d4af7e576d97ff94b872de76f8050361ee3db\
+     a91ca5c11aa25eb4d679275cc5788063a5f19741120c4f2de2adebeb10a298dd",
+];
+
+/// The HMACs of "Test With Truncation" under 20 bytes 0x0c, the first 16 bytes
+/// (RFC 4231, test case 5).
+pub const TRUNCATED: [&str; 4] = [
+    "0e2aea68a90c8d37c988bcdb9fca6fa8",
+    "a3b6167473100ee06e0c796c2955552b",
+    "3abf34c3503b2a23a46efc619baef897",
+    "415fad6271580a531d4179bc891d87a6",
+];
+
+/// The HMACs of a message under 131 bytes 0xaa
+/// (RFC 4231, test case 6).
+pub const LONG_KEY: [&str; 4] = [
+    "95e9a0db962095adaebe9b2d6f0dbce2d499f112f2d2b7273fa6870e",
+    "60e431591ee0b67f0d8a26aacbf5b77f8e0bc6213728c5140546040f0ee37f54",
+    "4ece084485813e9088d2c63a041bc5b44f9ef1012a2b588f3cd11f05033ac4c6\
+     0c2ef6ab4030fe8296248df163f44952",
+    "80b24263c7c1a3ebb71493c1dd7be8b49b46d1f41b4aeec1121b013783f8f352\
+     6b56d037e05f2598bd0fd2215d6a1e5295e64f73f63f0aec8b915a985d786598",
+];
+
+/// The HMACs of a longer message under 131 bytes 0xaa
+/// (RFC 4231, test case 7).
+pub const LONG_KEY_AND_DATA: [&str; 4] = [
+    "3a854166ac5d9f023f54d517d0b39dbd946770db9c2b95c9f6f565d1",
+    "9b09ffa71b942fcb27635fbcd5b0e944bfdc63644f0713938a7f51535c3a35e2",
+    "6617178e941f020d351e2f254e8fd32c602420feb0b8fb9adccebb82461e99c5\
+     a678cc31e799176d3860e6110c46523e",
+    "e37b6a775dc87dbaa4dfa9f96e5e3ffddebd71f8867289865df5a32d20cdc944\
+     b6022cac3c4982b10d5eeb55c3e4de15134676fb6de0446065c97440fa8c6a58",
+];
