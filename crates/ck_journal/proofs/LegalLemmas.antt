@@ -7,8 +7,11 @@ use Rattle.std.proofs.lemmas.Bool.{eqb-true, eqb-false, ne_eqb, leb-false, not-f
 use Rattle.std.proofs.lemmas.Option.{same_Some}
 use Rattle.ck_types.specs.Checks.{error_if, or_else, first_of}
 use Rattle.ck_types.specs.Pins.{fits_a_pin}
-use Rattle.ck_types.specs.Records.{created_items, with_given, is_set, class_of, protections_of, placement_of, copied_error, changed_error}
-use Rattle.ck_types.specs.Templates.{created_error}
+use Rattle.ck_types.specs.KeyStates.{state_of_number}
+use Rattle.ck_types.specs.Mechanisms.{is_key_generator}
+use Rattle.ck_types.specs.Records.{created_items, generated_items, with_given, with_state, is_set}
+use Rattle.ck_types.specs.Records.{protections_of, placement_of, copied_error, changed_error}
+use Rattle.ck_types.specs.Templates.{class_of, created_error, generated_error}
 use Rattle.ck_types.specs.TokenLimits.{Ranges, AreInRange}
 use Rattle.ck_types.specs.Users.{user_of}
 use Rattle.ck_types.specs.declared.attributes.Attribute.{Attribute}
@@ -17,13 +20,14 @@ use Rattle.ck_types.specs.declared.attributes.Class.{Class}
 use Rattle.ck_types.specs.declared.errors.RvError.{RvError}
 use Rattle.ck_types.specs.declared.errors.RvError.TheVariants as rv_error
 use Rattle.ck_types.specs.declared.items.Item.{Item}
+use Rattle.ck_types.specs.declared.key_states.KeyState.{KeyState}
 use Rattle.ck_types.specs.declared.pins.Pin.{Pin}
 use Rattle.ck_types.specs.declared.return_codes.Rv.TheVariants as rv
 use Rattle.ck_types.specs.declared.users.UserType.{UserType}
 use Rattle.ck_types.specs.declared.users.UserType.TheVariants as user
 use Rattle.ck_types.specs.declared.object_flags.Protections.{Protections}
-use Rattle.ck_mac.specs.Digests.{digest_of}
-use Rattle.ck_types.proofs.ChangeLemmas.{token-kept, private-kept}
+use Rattle.ck_types.proofs.ChangeLemmas.{token-kept, private-kept, token-in_state}
+use Rattle.ck_types.proofs.ChangeLemmas.{private-in_state}
 use Rattle.ck_types.proofs.CheckLemmas.{or_else-none, error_if-none}
 use Rattle.ck_journal.specs.declared.bases.Base.{Base}
 use Rattle.ck_journal.specs.declared.calls.Call.{Call}
@@ -33,13 +37,13 @@ use Rattle.ck_journal.specs.declared.operations.OperationKind.{OperationKind}
 use Rattle.ck_journal.specs.declared.operations.OperationKind.TheVariants as kind
 use Rattle.ck_journal.specs.declared.replies.Body.TheVariants as body
 use Rattle.ck_journal.specs.declared.replies.Reply.{Reply}
-use Rattle.ck_journal.specs.Answers.{unless, refusal, session_error, pin_error, init_token_error, init_pin_error, set_pin_error, known_login_error, user_login_error, logged_in_error, read_only_error, logins_error, object_error, prohibited_error, placement_error, read_only_session_error, creations_error, too_small, ok, bytes_reply, call_error, allowed_reply, answer, IsLegal, is_so, is_so_state}
+use Rattle.ck_journal.specs.Answers.{unless, refusal, session_error, pin_error, init_token_error, init_pin_error, set_pin_error, known_login_error, user_login_error, logged_in_error, read_only_error, logins_error, object_error, prohibited_error, placement_error, read_only_session_error, creations_error, too_small, ok, bytes_reply, call_error, allowed_reply, answer, IsLegal, is_so, is_so_state, tag_in, parameter_error}
 use Rattle.ck_journal.specs.Bases.{base_tries, IsSound}
 use Rattle.ck_journal.specs.Histories.{History, start, ◌◁◌, start_of, done, wrong_try, is_ok, is_wrong_pin}
-use Rattle.ck_journal.specs.Objects.{creates, creations, object_at, object_after, attributes_named, named_attributes, session_of, view_of, names_with, is_session_object}
-use Rattle.ck_journal.specs.Operations.{starts, ends, finishes, is_active, hash_in, message_in}
+use Rattle.ck_journal.specs.Objects.{creates, creations, object_at, object_after, attributes_named, named_attributes, session_of, view_of, names_with, is_session_object, in_state}
+use Rattle.ck_journal.specs.Operations.{message_in}
 use Rattle.ck_journal.specs.Pins.{about, is_about, is_user, is_locked, is_initialized, is_pin, pin_owner, present_pin, resets, tries}
-use Rattle.ck_journal.specs.Queries.{is_missing, lacks_room}
+use Rattle.ck_journal.specs.Queries.{is_sensitive, is_missing, lacks_room}
 use Rattle.ck_journal.specs.Searches.{starts_search, ends_search, is_searching}
 use Rattle.ck_journal.specs.Sessions.{opens, openings, closes, ends_operations, is_open, open_sessions, has_rw_flag, is_read_write, login, logs_user_in, user_logins, state_of}
 use Rattle.ck_journal.proofs.ObjectMoves.{object_at-within}
@@ -150,6 +154,15 @@ module _ (limits : Ranges) where
       (later-passes (placement_error h session (placement_of (created_items template.items))) _
       (later-passes (created_error template.items) _
       (later-passes (session_error h session) _ p))))
+  creation-free h (call.GenerateKey session mechanism template random) p t =
+      count-free limits.creations (creations h) rv_error.DeviceMemory
+      (last-passes (creations_error limits h)
+      (later-passes
+      (placement_error h session (placement_of (generated_items template.items random))) _
+      (later-passes (generated_error template.items random) _
+      (later-passes (parameter_error mechanism) _
+      (later-passes (error_if (not (is_key_generator mechanism.kind)) rv_error.MechanismInvalid) _
+      (later-passes (session_error h session) _ p))))))
   creation-free h (call.CopyObject session object template) p t =
       let found = object-found (attributes_named h object) _ rv_error.ObjectHandleInvalid
       (last-passes (object_error h object _) (later-passes (session_error h session) _ p)) in
@@ -331,13 +344,15 @@ wrong_code : (code : RvError) → is_wrong_pin (rv.Error code) ≡ true → code
 wrong_code rv_error.PinIncorrect w = refl
 wrong_code other w = cc
 
-queries-other : (missing longer : Bool)
-    → is_wrong_pin (cond missing (rv.Error rv_error.AttributeTypeInvalid)
-    (cond longer (rv.Error rv_error.BufferTooSmall) rv.Ok))
+queries-other : (hidden missing longer : Bool)
+    → is_wrong_pin (cond hidden (rv.Error rv_error.AttributeSensitive)
+    (cond missing (rv.Error rv_error.AttributeTypeInvalid)
+    (cond longer (rv.Error rv_error.BufferTooSmall) rv.Ok)))
     ≡ false
-queries-other true longer = refl
-queries-other false true = refl
-queries-other false false = refl
+queries-other true missing longer = refl
+queries-other false true longer = refl
+queries-other false false true = refl
+queries-other false false false = refl
 
 bytes-other : (room : Option ℕ) (bytes : List ℕ) → is_wrong_pin (bytes_reply room bytes).rv ≡ false
 bytes-other None bytes = refl
@@ -351,12 +366,17 @@ bytes-other (Some room) bytes = cases (nat_lt room (length bytes))
 allowed-other : (limits : Ranges) (h : History) (c : Call)
     → is_wrong_pin (allowed_reply limits h c).rv ≡ false
 allowed-other limits h (call.GetAttributeValue session object queries) =
-    queries-other (list_any (is_missing (named_attributes h object)) queries)
+    queries-other (list_any (is_sensitive (named_attributes h object)) queries)
+    (list_any (is_missing (named_attributes h object)) queries)
     (list_any (lacks_room (named_attributes h object)) queries)
 allowed-other limits h (call.Digest session bytes room) =
-    bytes-other room (digest_of (hash_in kind.Digest h session) bytes)
+    bytes-other room (tag_in kind.Digest h session bytes)
 allowed-other limits h (call.DigestFinal session room) =
-    bytes-other room (digest_of (hash_in kind.Digest h session) (message_in kind.Digest h session))
+    bytes-other room (tag_in kind.Digest h session (message_in kind.Digest h session))
+allowed-other limits h (call.Sign session bytes room) =
+    bytes-other room (tag_in kind.Sign h session bytes)
+allowed-other limits h (call.SignFinal session room) =
+    bytes-other room (tag_in kind.Sign h session (message_in kind.Sign h session))
 allowed-other limits h other = refl
 
 wrong_answer : (limits : Ranges) (h : History) (c : Call)
@@ -468,33 +488,6 @@ is_searching-open limits (e ◁ h) legal s active =
     (searched-open limits h s))
     (is_searching-open limits h legal.1 s) active
 
-closing-operation : (k : OperationKind) (d : Option Call) (finished : Bool) (s : ℕ) → closes d s ≡ true
-    → (starts d k s ≡ false) × ((ends_operations d s || finished) ≡ true)
-closing-operation k (Some (call.CloseSession session)) finished s e = (refl, rw e refl)
-closing-operation k (Some call.CloseAllSessions) finished s e = (refl, refl)
-closing-operation k other finished s e = cc
-
-begun-open : (limits : Ranges) (h : History) (c : Call) (k : OperationKind) (s : ℕ)
-    → call_error limits h c ≡ None → starts (Some c) k s ≡ true → is_open h s ≡ true
-begun-open limits h (call.DigestInit session mechanism) kind.Digest s p same =
-    subst (λ k. is_open h k ≡ true) (eqb-true session s same)
-    (session-open h session (or_else-none (session_error h session) _ p).0)
-begun-open limits h (call.DigestInit session mechanism) kind.Sign s p same = cc
-begun-open limits h (call.DigestInit session mechanism) kind.Verify s p same = cc
-begun-open limits h other k s p same = cc
-
--- a session with an active operation is open
-pub is_active-open : (limits : Ranges) (h : History) → IsLegal limits h → (k : OperationKind) (s : ℕ)
-    → is_active k h s ≡ true → is_open h s ≡ true
-is_active-open limits (start b) legal k s active = cc
-is_active-open limits (e ◁ h) legal k s active =
-    stays-open (done e) h s (starts (done e) k s) (ends k e s) (is_active k h s)
-    (closing-operation k (done e) (finishes e.call k e.reply s) s)
-    (by-done limits e h legal (λ d. starts d k s ≡ true → is_open h s ≡ true)
-    (λ t. cc)
-    (λ c p. begun-open limits h c k s p))
-    (is_active-open limits h legal.1 k s) active
-
 -- the next session has no search
 pub is_searching-next : (limits : Ranges) (h : History) → IsLegal limits h
     → is_searching h (suc (openings h)) ≡ false
@@ -529,53 +522,63 @@ not-created false same fresh later b n e = e
 module _ (limits : Ranges) (flag : Attribute)
     (kept : (c : Class) (protections : Protections) (template items : List Item)
     → changed_error c protections template ≡ None
-    → is_set (with_given template items) flag ≡ is_set items flag) where
-  call-keeps : (h : History) (c : Call) → call_error limits h c ≡ None
-      → (n creator : ℕ) (a b : List Item)
-      → object_after (Some c) (view_of h) n creator a ≡ Some b → is_set b flag ≡ is_set a flag
-  call-keeps h (call.DestroyObject session object) p n creator a b e =
-      unless-ends (names_with (view_of h) a object n) a b flag e
-  call-keeps h (call.SetAttributeValue session object template) p n creator a b e =
-      let found = object-found (attributes_named h object) _ rv_error.ObjectHandleInvalid
-      (last-passes (object_error h object _) (later-passes (session_error h session) _ p)) in
-      let passes = last-passes
-      (changed_error (class_of found.0) (protections_of found.0) template.items)
-      (later-passes (prohibited_error attribute.Modifiable found.0) _
-      (later-passes (read_only_session_error h session (placement_of found.0)) _ found.1)) in
-      where-named (names_with (view_of h) a object n) (with_given template.items a) a b flag
-      (kept (class_of found.0) (protections_of found.0) template.items a passes) e
-  call-keeps h (call.InitToken pin) p n creator a b e = cc
-  call-keeps h (call.CloseSession session) p n creator a b e =
-      unless-ends (is_session_object a && session == creator) a b flag e
-  call-keeps h call.CloseAllSessions p n creator a b e =
-      unless-ends (is_session_object a) a b flag e
-  call-keeps h (call.Logout session) p n creator a b e =
-      unless-ends (is_session_object a && is_set a attribute.Private) a b flag e
-  call-keeps h other p n creator a b e = unless-ends false a b flag e
+    → is_set (with_given template items) flag ≡ is_set items flag)
+    (other : (s : KeyState) (items : List Item) → is_set (with_state s items) flag ≡ is_set items flag)
+  where
+    state-keeps : (s : Option KeyState) (items : List Item)
+        → is_set (in_state s items) flag ≡ is_set items flag
+    state-keeps None items = refl
+    state-keeps (Some s) items = other s items
 
-  flag_stays : (e : Entry) (h : History) → IsSound (start_of h) → IsLegal limits (e ◁ h)
-      → (n : ℕ) (a b : List Item)
-      → object_at h n ≡ Some a → object_at (e ◁ h) n ≡ Some b → is_set b flag ≡ is_set a flag
-  flag_stays e h sound legal n a b was now =
-      let within = object_at-within h sound n a was in
-      let other = ne_eqb n (suc (creations h)) (λ same. omega arith) in
-      let old = not-created (creates (done e)) (n == suc (creations h)) _ _ b other now in
-      by-done limits e h legal
-      (λ d. object_after d (view_of h) n (session_of h n) a ≡ Some b
-      → is_set b flag ≡ is_set a flag)
-      (unless-ends false a b flag) (λ c p. call-keeps h c p n (session_of h n) a b)
-      (subst
-      (λ o. option_and_then (object_after (done e) (view_of h) n (session_of h n)) o ≡ Some b)
-      was old)
+    call-keeps : (h : History) (c : Call) → call_error limits h c ≡ None
+        → (n creator : ℕ) (a b : List Item)
+        → object_after (Some c) (view_of h) n creator a ≡ Some b → is_set b flag ≡ is_set a flag
+    call-keeps h (call.DestroyObject session object) p n creator a b e =
+        unless-ends (names_with (view_of h) a object n) a b flag e
+    call-keeps h (call.SetAttributeValue session object template) p n creator a b e =
+        let found = object-found (attributes_named h object) _ rv_error.ObjectHandleInvalid
+        (last-passes (object_error h object _) (later-passes (session_error h session) _ p)) in
+        let passes = last-passes
+        (changed_error (class_of found.0) (protections_of found.0) template.items)
+        (later-passes (prohibited_error attribute.Modifiable found.0) _
+        (later-passes (read_only_session_error h session (placement_of found.0)) _ found.1)) in
+        where-named (names_with (view_of h) a object n) (with_given template.items a) a b flag
+        (kept (class_of found.0) (protections_of found.0) template.items a passes) e
+    call-keeps h (call.SetKeyState session key number) p n creator a b e =
+        where-named (names_with (view_of h) a key n) (in_state (state_of_number number) a) a b flag
+        (state-keeps (state_of_number number) a) e
+    call-keeps h (call.InitToken pin) p n creator a b e = cc
+    call-keeps h (call.CloseSession session) p n creator a b e =
+        unless-ends (is_session_object a && session == creator) a b flag e
+    call-keeps h call.CloseAllSessions p n creator a b e =
+        unless-ends (is_session_object a) a b flag e
+    call-keeps h (call.Logout session) p n creator a b e =
+        unless-ends (is_session_object a && is_set a attribute.Private) a b flag e
+    call-keeps h other p n creator a b e = unless-ends false a b flag e
+
+    flag_stays : (e : Entry) (h : History) → IsSound (start_of h) → IsLegal limits (e ◁ h)
+        → (n : ℕ) (a b : List Item)
+        → object_at h n ≡ Some a → object_at (e ◁ h) n ≡ Some b → is_set b flag ≡ is_set a flag
+    flag_stays e h sound legal n a b was now =
+        let within = object_at-within h sound n a was in
+        let other = ne_eqb n (suc (creations h)) (λ same. omega arith) in
+        let old = not-created (creates (done e)) (n == suc (creations h)) _ _ b other now in
+        by-done limits e h legal
+        (λ d. object_after d (view_of h) n (session_of h n) a ≡ Some b
+        → is_set b flag ≡ is_set a flag)
+        (unless-ends false a b flag) (λ c p. call-keeps h c p n (session_of h n) a b)
+        (subst
+        (λ o. option_and_then (object_after (done e) (view_of h) n (session_of h n)) o ≡ Some b)
+        was old)
 
 pub token_stays : (limits : Ranges) (e : Entry) (h : History) → IsSound (start_of h)
     → IsLegal limits (e ◁ h) → (n : ℕ) (a b : List Item)
     → object_at h n ≡ Some a → object_at (e ◁ h) n ≡ Some b
     → is_set b attribute.Token ≡ is_set a attribute.Token
-token_stays limits = flag_stays limits attribute.Token token-kept
+token_stays limits = flag_stays limits attribute.Token token-kept token-in_state
 
 pub private_stays : (limits : Ranges) (e : Entry) (h : History) → IsSound (start_of h)
     → IsLegal limits (e ◁ h) → (n : ℕ) (a b : List Item)
     → object_at h n ≡ Some a → object_at (e ◁ h) n ≡ Some b
     → is_set b attribute.Private ≡ is_set a attribute.Private
-private_stays limits = flag_stays limits attribute.Private private-kept
+private_stays limits = flag_stays limits attribute.Private private-kept private-in_state

@@ -22,11 +22,13 @@ use Rattle.ck_journal.proofs.Selections.{filter_map-suc, filter_map-same, filter
 -- a creation leaves all objects as they are
 object_after-creation : (c : Option Call) (view : View) (n creator : ℕ) (attributes : List Item) → creates c ≡ true → object_after c view n creator attributes ≡ Some attributes
 object_after-creation (Some (call.CreateObject session template)) view n creator attributes t = refl
+object_after-creation (Some (call.GenerateKey session mechanism template random)) view n creator attributes t = refl
 object_after-creation (Some (call.CopyObject session object template)) view n creator attributes t = refl
 object_after-creation other view n creator attributes t = cc
 
 creates-left : (c : Option Call) → (effects_of c).objects ≡ false → creates c ≡ false
 creates-left (Some (call.CreateObject session template)) l = cc
+creates-left (Some (call.GenerateKey session mechanism template random)) l = cc
 creates-left (Some (call.CopyObject session object template)) l = cc
 creates-left other l = refl
 
@@ -37,6 +39,7 @@ object_after-left (Some (call.CloseSession session)) view n creator attributes l
 object_after-left (Some call.CloseAllSessions) view n creator attributes l = cc
 object_after-left (Some (call.Logout session)) view n creator attributes l = cc
 object_after-left (Some (call.SetAttributeValue session object template)) view n creator attributes l = cc
+object_after-left (Some (call.SetKeyState session key state)) view n creator attributes l = cc
 object_after-left (Some (call.DestroyObject session object)) view n creator attributes l = cc
 object_after-left other view n creator attributes l = refl
 

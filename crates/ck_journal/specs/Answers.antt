@@ -1,45 +1,56 @@
 -- What each call answers, read off the history just before it: a list of checks, of which the first
 -- that fails gives the code, and the reply where none does. Who calls makes no difference.
-use Rattle.std.specs.Prelude.{◌≡◌, ℕ, suc, List, [], ◌∷◌, Option, Some, None, ◌==◌, ◌&&◌, not, is_none, is_some, nat_le, nat_lt, length, map, take, bit_and, if◌then◌else◌, Bool, true, false}
+use Rattle.std.specs.Prelude.{◌≡◌, ℕ, suc, Bool, true, false, List, [], ◌∷◌, Option, Some, None}
+use Rattle.std.specs.Prelude.{◌==◌, ◌&&◌, not, is_none, is_some, nat_le, nat_lt, length, map, take}
+use Rattle.std.specs.Prelude.{bit_and, if◌then◌else◌}
 use Rattle.std.specs.List.{list_any}
 use Rattle.std.specs.Option.{option_map_or}
-use Rattle.ck_types.specs.Pins.{fits_a_pin}
-use Rattle.ck_types.specs.Records.{created_items, with_given, is_set, class_of, protections_of, placement_of, copied_error, changed_error}
 use Rattle.ck_types.specs.Checks.{error_if, first_of}
-use Rattle.ck_types.specs.Mechanisms.{digest_hash}
-use Rattle.ck_types.specs.Templates.{created_error}
+use Rattle.ck_types.specs.KeyStates.{state_of_number, may_become, may_sign, may_verify}
+use Rattle.ck_types.specs.Mechanisms.{mechanism_types, digest_hash, hmac_hash, tag_length}
+use Rattle.ck_types.specs.Mechanisms.{is_key_generator}
+use Rattle.ck_types.specs.Pins.{fits_a_pin}
+use Rattle.ck_types.specs.Records.{created_items, generated_items, with_given, is_set, state_in}
+use Rattle.ck_types.specs.Records.{protections_of, placement_of, copied_error, changed_error}
+use Rattle.ck_types.specs.Templates.{class_of, created_error, generated_error}
 use Rattle.ck_types.specs.TokenFlagBits.{token_flags}
 use Rattle.ck_types.specs.TokenLimits.{Ranges}
 use Rattle.ck_types.specs.Users.{user_of, same_user}
 use Rattle.ck_types.specs.declared.attributes.Attribute.{Attribute}
 use Rattle.ck_types.specs.declared.attributes.Attribute.TheVariants as attribute
-use Rattle.ck_types.specs.declared.pins.Pin.{Pin}
-use Rattle.ck_types.specs.declared.object_flags.Placement.{Placement}
-use Rattle.ck_types.specs.declared.return_codes.Rv.TheVariants as rv
 use Rattle.ck_types.specs.declared.errors.RvError.{RvError}
 use Rattle.ck_types.specs.declared.errors.RvError.TheVariants as rv_error
 use Rattle.ck_types.specs.declared.items.Item.{Item}
+use Rattle.ck_types.specs.declared.key_states.KeyState.{KeyState}
 use Rattle.ck_types.specs.declared.mechanisms.Mechanism.{Mechanism}
+use Rattle.ck_types.specs.declared.object_flags.Placement.{Placement}
+use Rattle.ck_types.specs.declared.pins.Pin.{Pin}
+use Rattle.ck_types.specs.declared.return_codes.Rv.TheVariants as rv
 use Rattle.ck_types.specs.declared.token_flags.TokenFlags.{TokenFlags}
 use Rattle.ck_types.specs.declared.users.SessionState.{SessionState}
 use Rattle.ck_types.specs.declared.users.SessionState.TheVariants as state
 use Rattle.ck_types.specs.declared.users.UserType.{UserType}
 use Rattle.ck_types.specs.declared.users.UserType.TheVariants as user
-use Rattle.ck_mac.specs.Digests.{digest_of}
+use Rattle.ck_mac.specs.Computations.{tag_of}
+use Rattle.ck_mac.specs.Macs.{signature_error}
+use Rattle.ck_journal.specs.declared.calls.Call.{Call}
+use Rattle.ck_journal.specs.declared.calls.Call.TheVariants as call
 use Rattle.ck_journal.specs.declared.operations.OperationKind.{OperationKind}
 use Rattle.ck_journal.specs.declared.operations.OperationKind.TheVariants as kind
 use Rattle.ck_journal.specs.declared.replies.Body.{Body}
 use Rattle.ck_journal.specs.declared.replies.Body.TheVariants as body
-use Rattle.ck_journal.specs.declared.calls.Call.{Call}
-use Rattle.ck_journal.specs.declared.calls.Call.TheVariants as call
 use Rattle.ck_journal.specs.declared.replies.Reply.{Reply}
 use Rattle.ck_journal.specs.Histories.{History, start, ◌◁◌}
-use Rattle.ck_journal.specs.Objects.{creations, view_of, is_user_in, handle_with, handle_of, attributes_named, named_attributes}
-use Rattle.ck_journal.specs.Operations.{is_active, is_updated, is_long_piece, hash_in, message_in}
-use Rattle.ck_journal.specs.Pins.{is_initialized, is_pin, pin_owner, present_pin, user_pin, tries, is_locked}
+use Rattle.ck_journal.specs.Objects.{creations, view_of, is_user_in, handle_with, handle_of}
+use Rattle.ck_journal.specs.Objects.{object_at, attributes_named, named_attributes, key_named}
+use Rattle.ck_journal.specs.Operations.{is_active, is_updated, is_long_piece, key_in}
+use Rattle.ck_journal.specs.Operations.{computation_in, message_in}
+use Rattle.ck_journal.specs.Pins.{is_initialized, is_pin, pin_owner, present_pin, user_pin}
+use Rattle.ck_journal.specs.Pins.{tries, is_locked}
 use Rattle.ck_journal.specs.Queries.{queries_reply}
 use Rattle.ck_journal.specs.Searches.{is_searching, search_rest}
-use Rattle.ck_journal.specs.Sessions.{openings, is_open, flags_of, open_sessions, has_rw_flag, is_read_write, rw_sessions, login, user_logins, state_of}
+use Rattle.ck_journal.specs.Sessions.{openings, is_open, flags_of, open_sessions, has_rw_flag}
+use Rattle.ck_journal.specs.Sessions.{is_read_write, rw_sessions, login, user_logins, state_of}
 
 -- ---- replies
 
@@ -246,30 +257,142 @@ operation_error k h session = first_of (
     ∷ error_if (not (is_active k h session)) rv_error.OperationNotInitialized
     ∷ [])
 
--- the mechanism is a digest's, which has no parameter
+-- the mechanism has a parameter, which it may not have
+abbrev pub parameter_error : Mechanism → Option RvError
+parameter_error mechanism =
+    error_if (not (length mechanism.parameter == 0)) rv_error.MechanismParamInvalid
+
+-- the mechanism is a digest's
 abbrev pub digest_init_error : History → ℕ → Mechanism → Option RvError
 digest_init_error h session mechanism = first_of (
     session_error h session
     ∷ error_if (is_active kind.Digest h session) rv_error.OperationActive
     ∷ error_if (is_none (digest_hash mechanism.kind)) rv_error.MechanismInvalid
-    ∷ error_if (not (length mechanism.parameter == 0)) rv_error.MechanismParamInvalid
+    ∷ parameter_error mechanism
     ∷ [])
+
+-- ---- checks of keys
+
+-- the error of these checks of the attributes of the key that the handle names, where it names one
+abbrev pub key_error : History → ℕ → (List Item → Option RvError) → Option RvError
+key_error h handle checks =
+    option_map_or checks (key_named h handle) (Some rv_error.KeyHandleInvalid)
+
+-- a key of this state may do what operations of the kind do; a digest has no key
+abbrev pub may_serve : OperationKind → KeyState → Bool
+may_serve kind.Digest s = true
+may_serve kind.Sign s = may_sign s
+may_serve kind.Verify s = may_verify s
+
+abbrev pub key_state_error : OperationKind → List Item → Option RvError
+key_state_error k attributes =
+    error_if (not (option_map_or (may_serve k) (state_in attributes) false))
+    rv_error.KeyFunctionNotPermitted
+
+-- the flag of a key that lets operations of the kind have it; a digest has no key
+abbrev pub usage_flag : OperationKind → Attribute
+usage_flag kind.Verify = attribute.Verify
+usage_flag other = attribute.Sign
+
+-- the flag of a key, and then its state, forbid operations of the kind
+abbrev pub usage_error : OperationKind → List Item → Option RvError
+usage_error k attributes = first_of (
+    error_if (not (is_set attributes (usage_flag k))) rv_error.KeyFunctionNotPermitted
+    ∷ key_state_error k attributes
+    ∷ [])
+
+-- the start of a signing or a verifying: the mechanism is an HMAC's with the parameter that it must
+-- have, and the key may be used
+abbrev pub hmac_init_error : OperationKind → History → ℕ → Mechanism → ℕ → Option RvError
+hmac_init_error k h session mechanism key = first_of (
+    session_error h session
+    ∷ error_if (is_active k h session) rv_error.OperationActive
+    ∷ error_if (is_none (hmac_hash mechanism.kind)) rv_error.MechanismInvalid
+    ∷ error_if (is_none (tag_length mechanism)) rv_error.MechanismParamInvalid
+    ∷ key_error h key (usage_error k)
+    ∷ [])
+
+-- the key of an operation, if it has one, hasn't ended and is still of a state that serves
+abbrev pub present_key_error : OperationKind → History → Option ℕ → Option RvError
+present_key_error k h None = None
+present_key_error k h (Some n) =
+    option_map_or (key_state_error k) (object_at h n) (Some rv_error.KeyHandleInvalid)
 
 abbrev pub piece_error : List ℕ → Option RvError
 piece_error bytes = error_if (is_long_piece bytes) rv_error.DataLenRange
 
--- a message that was begun by updates is finished by C_DigestFinal alone
-abbrev pub digest_error : History → ℕ → List ℕ → Option RvError
-digest_error h session bytes = first_of (
-    operation_error kind.Digest h session
-    ∷ error_if (is_updated kind.Digest h session) rv_error.OperationNotInitialized
+-- a message that comes as a whole; one that was begun by updates is finished by the kind's final
+-- call alone
+abbrev pub message_error : OperationKind → History → ℕ → List ℕ → Option RvError
+message_error k h session bytes = first_of (
+    operation_error k h session
+    ∷ error_if (is_updated k h session) rv_error.OperationNotInitialized
+    ∷ piece_error bytes
+    ∷ present_key_error k h (key_in k h session)
+    ∷ [])
+
+-- a piece of a message
+abbrev pub update_error : OperationKind → History → ℕ → List ℕ → Option RvError
+update_error k h session bytes = first_of (
+    operation_error k h session
     ∷ piece_error bytes
     ∷ [])
 
-abbrev pub digest_update_error : History → ℕ → List ℕ → Option RvError
-digest_update_error h session bytes = first_of (
-    operation_error kind.Digest h session
-    ∷ piece_error bytes
+-- the end of a message
+abbrev pub final_error : OperationKind → History → ℕ → Option RvError
+final_error k h session = first_of (
+    operation_error k h session
+    ∷ present_key_error k h (key_in k h session)
+    ∷ [])
+
+-- the tag of a message by the session's operation of the kind
+abbrev pub tag_in : OperationKind → History → ℕ → List ℕ → List ℕ
+tag_in k h session message = tag_of (computation_in k h session) message
+
+abbrev pub verify_error : History → ℕ → List ℕ → List ℕ → Option RvError
+verify_error h session bytes signature = first_of (
+    message_error kind.Verify h session bytes
+    ∷ signature_error (tag_in kind.Verify h session bytes) signature
+    ∷ [])
+
+abbrev pub verify_final_error : History → ℕ → List ℕ → Option RvError
+verify_final_error h session signature = first_of (
+    final_error kind.Verify h session
+    ∷ signature_error (tag_in kind.Verify h session (message_in kind.Verify h session)) signature
+    ∷ [])
+
+-- the flags name no other operations than digests, signings and verifyings
+abbrev pub session_cancel_error : History → ℕ → ℕ → Option RvError
+session_cancel_error h session flags = first_of (
+    session_error h session
+    ∷ error_if (not (bit_and flags 0x2c00 == flags)) rv_error.ArgumentsBad
+    ∷ [])
+
+abbrev pub generate_key_error :
+    Ranges → History → ℕ → Mechanism → List Item → List ℕ → Option RvError
+generate_key_error limits h session mechanism template random = first_of (
+    session_error h session
+    ∷ error_if (not (is_key_generator mechanism.kind)) rv_error.MechanismInvalid
+    ∷ parameter_error mechanism
+    ∷ generated_error template random
+    ∷ placement_error h session (placement_of (generated_items template random))
+    ∷ creations_error limits h
+    ∷ [])
+
+-- there is a state of this number, and a key of the other may go over to it
+abbrev pub transition_error : Option KeyState → Option KeyState → Option RvError
+transition_error before None = Some rv_error.ArgumentsBad
+transition_error before (Some after) =
+    error_if (not (option_map_or (λ s. may_become s after) before false))
+    rv_error.ActionProhibited
+
+abbrev pub set_key_state_error : History → ℕ → ℕ → ℕ → Option RvError
+set_key_state_error h session key number = first_of (
+    session_error h session
+    ∷ key_error h key (λ attributes. first_of (
+    read_only_session_error h session (placement_of attributes)
+    ∷ transition_error (state_in attributes) (state_of_number number)
+    ∷ []))
     ∷ [])
 
 -- ---- the answer
@@ -285,23 +408,39 @@ call_error limits h call.CloseAllSessions = None
 call_error limits h (call.Login session user pin) = login_error limits h session user pin
 call_error limits h (call.Logout session) = logout_error h session
 call_error limits h (call.GetSessionInfo session) = session_error h session
+call_error limits h (call.SessionCancel session flags) = session_cancel_error h session flags
 call_error limits h call.GetTokenInfo = None
+call_error limits h call.GetMechanismList = None
 call_error limits h (call.CreateObject session template) =
     create_object_error limits h session template.items
+call_error limits h (call.GenerateKey session mechanism template random) =
+    generate_key_error limits h session mechanism template.items random
 call_error limits h (call.CopyObject session object template) =
     copy_object_error limits h session object template.items
 call_error limits h (call.GetAttributeValue session object queries) =
     get_attribute_value_error h session object
 call_error limits h (call.SetAttributeValue session object template) =
     set_attribute_value_error h session object template.items
+call_error limits h (call.SetKeyState session key number) =
+    set_key_state_error h session key number
 call_error limits h (call.DestroyObject session object) = destroy_object_error h session object
 call_error limits h (call.FindObjectsInit session template) = find_objects_init_error h session
 call_error limits h (call.FindObjects session max) = search_error h session
 call_error limits h (call.FindObjectsFinal session) = search_error h session
 call_error limits h (call.DigestInit session mechanism) = digest_init_error h session mechanism
-call_error limits h (call.Digest session bytes room) = digest_error h session bytes
-call_error limits h (call.DigestUpdate session bytes) = digest_update_error h session bytes
-call_error limits h (call.DigestFinal session room) = operation_error kind.Digest h session
+call_error limits h (call.Digest session bytes room) = message_error kind.Digest h session bytes
+call_error limits h (call.DigestUpdate session bytes) = update_error kind.Digest h session bytes
+call_error limits h (call.DigestFinal session room) = final_error kind.Digest h session
+call_error limits h (call.SignInit session mechanism key) =
+    hmac_init_error kind.Sign h session mechanism key
+call_error limits h (call.Sign session bytes room) = message_error kind.Sign h session bytes
+call_error limits h (call.SignUpdate session bytes) = update_error kind.Sign h session bytes
+call_error limits h (call.SignFinal session room) = final_error kind.Sign h session
+call_error limits h (call.VerifyInit session mechanism key) =
+    hmac_init_error kind.Verify h session mechanism key
+call_error limits h (call.Verify session bytes signature) = verify_error h session bytes signature
+call_error limits h (call.VerifyUpdate session bytes) = update_error kind.Verify h session bytes
+call_error limits h (call.VerifyFinal session signature) = verify_final_error h session signature
 
 -- the handle of a new object with these attributes
 abbrev pub new_handle : History → List Item → ℕ
@@ -334,6 +473,9 @@ allowed_reply limits h call.GetTokenInfo =
     (length (rw_sessions h)))
 allowed_reply limits h (call.CreateObject session template) =
     ok (body.Handle (new_handle h (created_items template.items)))
+allowed_reply limits h call.GetMechanismList = ok (body.Mechanisms mechanism_types)
+allowed_reply limits h (call.GenerateKey session mechanism template random) =
+    ok (body.Handle (new_handle h (generated_items template.items random)))
 allowed_reply limits h (call.CopyObject session object template) =
     ok (body.Handle (new_handle h (with_given template.items (named_attributes h object))))
 allowed_reply limits h (call.GetAttributeValue session object queries) =
@@ -341,9 +483,13 @@ allowed_reply limits h (call.GetAttributeValue session object queries) =
 allowed_reply limits h (call.FindObjects session max) =
     ok (body.Handles (map (handle_of h) (take max (search_rest h session))))
 allowed_reply limits h (call.Digest session bytes room) =
-    bytes_reply room (digest_of (hash_in kind.Digest h session) bytes)
+    bytes_reply room (tag_in kind.Digest h session bytes)
 allowed_reply limits h (call.DigestFinal session room) =
-    bytes_reply room (digest_of (hash_in kind.Digest h session) (message_in kind.Digest h session))
+    bytes_reply room (tag_in kind.Digest h session (message_in kind.Digest h session))
+allowed_reply limits h (call.Sign session bytes room) =
+    bytes_reply room (tag_in kind.Sign h session bytes)
+allowed_reply limits h (call.SignFinal session room) =
+    bytes_reply room (tag_in kind.Sign h session (message_in kind.Sign h session))
 allowed_reply limits h other = ok body.Empty
 
 abbrev pub answer : Ranges → History → Call → Reply

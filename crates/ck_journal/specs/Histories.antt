@@ -1,7 +1,7 @@
 -- A history is a base and the answered calls since: `start b` is the base b alone, and `e ◁ h` is
 -- the history h and then the entry e. A front of a history is what is left where its last entries
 -- are taken away.
-use Rattle.std.specs.Prelude.{ℕ, suc, Bool, true, false, List, [], ◌∷◌, Option, Some, None, ◌==◌, ◌||◌, if◌then◌else◌}
+use Rattle.std.specs.Prelude.{ℕ, suc, Bool, true, false, List, [], ◌∷◌, Option, Some, None, ◌==◌, ◌||◌, is_some, if◌then◌else◌}
 use Rattle.ck_types.specs.declared.return_codes.Rv.{Rv}
 use Rattle.ck_types.specs.declared.return_codes.Rv.TheVariants as rv
 use Rattle.ck_types.specs.declared.errors.RvError.TheVariants as rv_error
@@ -9,6 +9,7 @@ use Rattle.ck_journal.specs.declared.bases.Base.{Base}
 use Rattle.ck_journal.specs.declared.calls.Call.{Call}
 use Rattle.ck_journal.specs.declared.calls.Call.TheVariants as call
 use Rattle.ck_journal.specs.declared.calls.Entry.{Entry}
+use Rattle.ck_journal.specs.OperationCalls.{operation_step}
 
 infixr 5 ◌◁◌
 pub data History : Type 0 where
@@ -92,42 +93,31 @@ on_sessions_and_objects = record nothing { sessions = true; objects = true }
 abbrev on_all : Effects
 on_all = record { sessions = true; objects = true; searches = true; operations = true }
 
--- what a call that was answered OK may change
+-- what a call that was answered OK may change, beside the operation that it goes on with
 abbrev pub effects_of : Option Call → Effects
-effects_of None = nothing
 effects_of (Some (call.InitToken pin)) = on_sessions_and_objects
 effects_of (Some (call.InitPin session pin)) = on_sessions
 effects_of (Some (call.SetPin session old new)) = on_sessions
 effects_of (Some (call.OpenSession flags)) = on_sessions
 effects_of (Some (call.CloseSession session)) = on_all
 effects_of (Some call.CloseAllSessions) = on_all
+effects_of (Some (call.SessionCancel session flags)) = on_operations
 effects_of (Some (call.Login session user pin)) = on_sessions
 effects_of (Some (call.Logout session)) = on_all
-effects_of (Some (call.GetSessionInfo session)) = nothing
-effects_of (Some call.GetTokenInfo) = nothing
 effects_of (Some (call.CreateObject session template)) = on_objects
+effects_of (Some (call.GenerateKey session mechanism template random)) = on_objects
 effects_of (Some (call.CopyObject session object template)) = on_objects
-effects_of (Some (call.GetAttributeValue session object queries)) = nothing
 effects_of (Some (call.SetAttributeValue session object template)) = on_objects
+effects_of (Some (call.SetKeyState session key state)) = on_objects
 effects_of (Some (call.DestroyObject session object)) = on_objects
 effects_of (Some (call.FindObjectsInit session template)) = on_searches
 effects_of (Some (call.FindObjects session max)) = on_searches
 effects_of (Some (call.FindObjectsFinal session)) = on_searches
-effects_of (Some (call.DigestInit session mechanism)) = on_operations
-effects_of (Some (call.Digest session bytes room)) = on_operations
-effects_of (Some (call.DigestUpdate session bytes)) = on_operations
-effects_of (Some (call.DigestFinal session room)) = on_operations
+effects_of other = nothing
 
--- the calls that may end an operation also where they are refused
-abbrev pub may_end_refused : Call → Bool
-may_end_refused (call.Digest session bytes room) = true
-may_end_refused (call.DigestUpdate session bytes) = true
-may_end_refused (call.DigestFinal session room) = true
-may_end_refused other = false
-
--- what an entry may change; a refusal that ends no operation may still count as a wrong try of a
--- PIN, and changes nothing else
+-- what an entry may change; also a refusal may end an operation or count as a wrong try of a PIN,
+-- and changes nothing else
 abbrev pub effects : Entry → Effects
 effects e = record (effects_of (done e)) {
-  operations = (effects_of (done e)).operations || may_end_refused e.call;
+  operations = (effects_of (done e)).operations || is_some (operation_step e.call);
 }

@@ -4,6 +4,7 @@ pub mod Histories
 pub mod HistoryCode
 pub mod Lists
 pub mod Objects
+pub mod OperationCalls
 pub mod Operations
 pub mod Pins
 pub mod Queries

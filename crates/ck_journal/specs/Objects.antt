@@ -2,9 +2,12 @@
 -- functions)
 use Rattle.std.specs.Prelude.{ℕ, suc, ◌+◌, ◌*◌, ◌^◌, Bool, true, false, List, [], Option, Some, None, ◌==◌, ◌&&◌, ◌||◌, not, find, option_and_then, unwrap_or, if◌then◌else◌}
 use Rattle.std.specs.Option.{option_map_or}
-use Rattle.ck_types.specs.Records.{created_items, with_given, is_set}
+use Rattle.ck_types.specs.KeyStates.{state_of_number}
+use Rattle.ck_types.specs.Records.{created_items, generated_items, with_given, with_state, is_set}
+use Rattle.ck_types.specs.Records.{is_key}
 use Rattle.ck_types.specs.declared.attributes.Attribute.TheVariants as attribute
 use Rattle.ck_types.specs.declared.items.Item.{Item}
+use Rattle.ck_types.specs.declared.key_states.KeyState.{KeyState}
 use Rattle.ck_types.specs.declared.users.UserType.TheVariants as user
 use Rattle.ck_journal.specs.declared.views.View.{View}
 use Rattle.ck_journal.specs.declared.calls.Call.{Call}
@@ -18,6 +21,7 @@ use Rattle.ck_journal.specs.Sessions.{numbers, login, user_logins}
 
 abbrev pub creates : Option Call → Bool
 creates (Some (call.CreateObject session template)) = true
+creates (Some (call.GenerateKey session mechanism template random)) = true
 creates (Some (call.CopyObject session object template)) = true
 creates other = false
 
@@ -28,6 +32,7 @@ creations (e ◁ h) = if creates (done e) then suc (creations h) else creations 
 
 abbrev pub creation_session : Option Call → ℕ
 creation_session (Some (call.CreateObject session template)) = session
+creation_session (Some (call.GenerateKey session mechanism template random)) = session
 creation_session (Some (call.CopyObject session object template)) = session
 creation_session other = 0
 
@@ -81,13 +86,21 @@ attributes_among view object count handle =
 
 -- the attributes of a new object, by those of the object that a handle names
 abbrev pub creation_attributes : Option Call → (ℕ → Option (List Item)) → List Item
-creation_attributes (Some (call.CreateObject session template)) named = created_items template.items
+creation_attributes (Some (call.CreateObject session template)) named =
+    created_items template.items
+creation_attributes (Some (call.GenerateKey session mechanism template random)) named =
+    generated_items template.items random
 creation_attributes (Some (call.CopyObject session object template)) named =
     with_given template.items (unwrap_or (named object) [])
 creation_attributes other named = []
 
 abbrev pub is_session_object : List Item → Bool
 is_session_object attributes = not (is_set attributes attribute.Token)
+
+-- the attributes of a key in this state; as they are where there is no such state
+abbrev pub in_state : Option KeyState → List Item → List Item
+in_state None attributes = attributes
+in_state (Some state) attributes = with_state state attributes
 
 -- the attributes that a call leaves to the object of number n, which this session created, or None
 -- where it ends the object: a destruction that names it, an initialization of the token, for a
@@ -98,6 +111,9 @@ object_after (Some (call.DestroyObject session object)) view n creator attribute
     if names_with view attributes object n then None else Some attributes
 object_after (Some (call.SetAttributeValue session object template)) view n creator attributes =
     Some (if names_with view attributes object n then with_given template.items attributes
+    else attributes)
+object_after (Some (call.SetKeyState session key state)) view n creator attributes =
+    Some (if names_with view attributes key n then in_state (state_of_number state) attributes
     else attributes)
 object_after (Some (call.InitToken pin)) view n creator attributes = None
 object_after (Some (call.CloseSession session)) view n creator attributes =
@@ -134,6 +150,12 @@ attributes_named h handle = attributes_among (view_of h) (object_at h) (creation
 -- its attributes; none where the handle names no object
 abbrev pub named_attributes : History → ℕ → List Item
 named_attributes h handle = unwrap_or (attributes_named h handle) []
+
+-- its attributes, where the handle names a key
+abbrev pub key_named : History → ℕ → Option (List Item)
+key_named h handle =
+    option_and_then (λ attributes. if is_key attributes then Some attributes else None)
+    (attributes_named h handle)
 
 -- the handle of the object of this number; 0, which is no handle, where there is none
 abbrev pub handle_of : History → ℕ → ℕ

@@ -1,14 +1,18 @@
 -- Operations of sessions that take a message in pieces (PKCS #11 Base 3.0, Message digesting
--- functions)
-use Rattle.std.specs.Prelude.{ℕ, ◌^◌, Bool, true, false, List, [], ◌∷◌, ◌++◌, Option, Some, None, ◌==◌, ◌&&◌, ◌||◌, not, nat_lt, length, option_and_then, unwrap_or, if◌then◌else◌}
+-- functions, Signing and MACing functions, Functions for verifying signatures and MACs)
+use Rattle.std.specs.Prelude.{ℕ, ◌^◌, Bool, true, false, List, [], ◌∷◌, ◌++◌, Option, Some, None}
+use Rattle.std.specs.Prelude.{◌==◌, ◌&&◌, ◌||◌, not, nat_lt, length, bit_and}
+use Rattle.std.specs.Prelude.{option_and_then, unwrap_or, if◌then◌else◌}
 use Rattle.std.specs.List.{concat}
-use Rattle.ck_types.specs.Mechanisms.{digest_hash, hmac_hash}
+use Rattle.std.specs.Option.{option_map_or}
+use Rattle.ck_types.specs.Mechanisms.{digest_hash, hmac_hash, tag_length}
+use Rattle.ck_types.specs.Records.{key_value}
 use Rattle.ck_types.specs.declared.errors.RvError.TheVariants as rv_error
-use Rattle.ck_types.specs.declared.hashes.Hash.{Hash}
 use Rattle.ck_types.specs.declared.hashes.Hash.TheVariants as hash
 use Rattle.ck_types.specs.declared.mechanisms.Mechanism.{Mechanism}
 use Rattle.ck_types.specs.declared.return_codes.Rv.{Rv}
 use Rattle.ck_types.specs.declared.return_codes.Rv.TheVariants as rv
+use Rattle.ck_mac.specs.Computations.{Computation, digest_by, hmac_by}
 use Rattle.ck_journal.specs.declared.calls.Call.{Call}
 use Rattle.ck_journal.specs.declared.calls.Call.TheVariants as call
 use Rattle.ck_journal.specs.declared.calls.Entry.{Entry}
@@ -18,16 +22,23 @@ use Rattle.ck_journal.specs.declared.replies.Body.{Body}
 use Rattle.ck_journal.specs.declared.replies.Body.TheVariants as body
 use Rattle.ck_journal.specs.declared.replies.Reply.{Reply}
 use Rattle.ck_journal.specs.Histories.{History, start, ◌◁◌, done}
+use Rattle.ck_journal.specs.Objects.{object_named, named_attributes}
+use Rattle.ck_journal.specs.OperationCalls.{Step, initialize, take_whole, add_piece, finish}
+use Rattle.ck_journal.specs.OperationCalls.{operation_step, step_of, piece_in, bytes_added}
+use Rattle.ck_journal.specs.OperationCalls.{OperationStep}
 use Rattle.ck_journal.specs.Sessions.{ends_operations}
 
 -- ---- whether one is active
 
+abbrev pub is_initialization : Option Step → Bool
+is_initialization (Some initialize) = true
+is_initialization other = false
+
 -- the call starts an operation of the kind in the session
 abbrev pub starts : Option Call → OperationKind → ℕ → Bool
-starts (Some (call.DigestInit session mechanism)) kind.Digest s = session == s
-starts other k s = false
+starts c k s = option_map_or (λ made. is_initialization (step_of made k s)) c false
 
--- a call that would end its operation leaves it active by this code and body: where the room is too
+-- a step that finishes an operation leaves it active by this code and body: where the room is too
 -- small, and where a length was asked for
 abbrev pub leaves_active : Rv → Body → Bool
 leaves_active (rv.Error rv_error.BufferTooSmall) given = true
@@ -38,20 +49,36 @@ abbrev pub is_data_len_range : Rv → Bool
 is_data_len_range (rv.Error rv_error.DataLenRange) = true
 is_data_len_range other = false
 
--- the call ends the session's operation of the kind by this reply: C_Digest and C_DigestFinal by
--- every other than those above, C_DigestUpdate where its piece is too long
+-- a step ends the operation by this reply: one that takes in the whole message or finishes it,
+-- unless the reply leaves it active, which none to a verifying does; a piece where it is refused as
+-- too long
+abbrev pub ends_by : Option Step → Reply → Bool
+ends_by (Some (take_whole bytes)) reply = not (leaves_active reply.rv reply.body)
+ends_by (Some finish) reply = not (leaves_active reply.rv reply.body)
+ends_by (Some (add_piece bytes)) reply = is_data_len_range reply.rv
+ends_by other reply = false
+
+-- the call ends the session's operation of the kind by this reply
 abbrev pub finishes : Call → OperationKind → Reply → ℕ → Bool
-finishes (call.Digest session bytes room) kind.Digest reply s =
-    session == s && not (leaves_active reply.rv reply.body)
-finishes (call.DigestFinal session room) kind.Digest reply s =
-    session == s && not (leaves_active reply.rv reply.body)
-finishes (call.DigestUpdate session bytes) kind.Digest reply s =
-    session == s && is_data_len_range reply.rv
-finishes other k reply s = false
+finishes c k reply s = ends_by (step_of c k s) reply
+
+-- the flag by which C_SessionCancel names operations of the kind (CKF_DIGEST, CKF_SIGN, CKF_VERIFY)
+abbrev pub kind_flag : OperationKind → ℕ
+kind_flag kind.Digest = 0x400
+kind_flag kind.Sign = 0x800
+kind_flag kind.Verify = 0x2000
+
+abbrev pub names_kind : ℕ → OperationKind → Bool
+names_kind flags k = not (bit_and flags (kind_flag k) == 0)
+
+-- the call cancels the session's operation of the kind
+abbrev pub cancels : Option Call → OperationKind → ℕ → Bool
+cancels (Some (call.SessionCancel session flags)) k s = session == s && names_kind flags k
+cancels other k s = false
 
 -- the entry ends the session's operation of the kind
 abbrev pub ends : OperationKind → Entry → ℕ → Bool
-ends k e s = ends_operations (done e) s || finishes e.call k e.reply s
+ends k e s = ends_operations (done e) s || cancels (done e) k s || finishes e.call k e.reply s
 
 -- an operation of the kind is active in the session: one was started, and no later entry ended it
 abbrev pub is_active : OperationKind → History → ℕ → Bool
@@ -61,41 +88,56 @@ is_active k (e ◁ h) s =
     else if ends k e s then false
     else is_active k h s
 
--- ---- its mechanism
+-- ---- what it computes
 
-abbrev pub init_mechanism : Option Call → Option Mechanism
-init_mechanism (Some (call.DigestInit session mechanism)) = Some mechanism
-init_mechanism other = None
+-- the HMAC, or its first bytes, that a mechanism computes under a key; the checks of a start leave
+-- no mechanism without a hash function and a length
+abbrev pub hmac_with : Mechanism → List ℕ → Computation
+hmac_with mechanism key =
+    hmac_by (unwrap_or (hmac_hash mechanism.kind) hash.Sha256) key
+    (unwrap_or (tag_length mechanism) 0)
 
--- the mechanism of the session's last operation of the kind
-abbrev pub mechanism_in : OperationKind → History → ℕ → Option Mechanism
-mechanism_in k (start b) s = None
-mechanism_in k (e ◁ h) s =
-    if starts (done e) k s then init_mechanism (done e) else mechanism_in k h s
+-- what a call starts to compute, by the history just before it
+abbrev pub started_computation : History → Option Call → Computation
+started_computation h (Some (call.DigestInit session mechanism)) =
+    digest_by (unwrap_or (digest_hash mechanism.kind) hash.Sha256)
+started_computation h (Some (call.SignInit session mechanism key)) =
+    hmac_with mechanism (key_value (named_attributes h key))
+started_computation h (Some (call.VerifyInit session mechanism key)) =
+    hmac_with mechanism (key_value (named_attributes h key))
+started_computation h other = digest_by hash.Sha256
 
--- the hash function of a mechanism for operations of the kind
-abbrev pub hash_for : OperationKind → Mechanism → Option Hash
-hash_for kind.Digest mechanism = digest_hash mechanism.kind
-hash_for other mechanism = hmac_hash mechanism.kind
+-- what the session's last operation of the kind computes; no call changes the value of a key, so it
+-- is by the key as it was when the operation started. Where there was none, this isn't read.
+abbrev pub computation_in : OperationKind → History → ℕ → Computation
+computation_in k (start b) s = digest_by hash.Sha256
+computation_in k (e ◁ h) s =
+    if starts (done e) k s then started_computation h (done e) else computation_in k h s
 
--- the hash function of the session's last operation of the kind; SHA-256 where there was none, or
--- its mechanism has no such function
-abbrev pub hash_in : OperationKind → History → ℕ → Hash
-hash_in k h s = unwrap_or (option_and_then (hash_for k) (mechanism_in k h s)) hash.Sha256
+-- the handle of the key that a call starts an operation with
+abbrev pub init_key : Option Call → Option ℕ
+init_key (Some (call.SignInit session mechanism key)) = Some key
+init_key (Some (call.VerifyInit session mechanism key)) = Some key
+init_key other = None
+
+-- the number of the key of the session's last operation of the kind; a digest has none
+abbrev pub key_in : OperationKind → History → ℕ → Option ℕ
+key_in k (start b) s = None
+key_in k (e ◁ h) s =
+    if starts (done e) k s then option_and_then (object_named h) (init_key (done e))
+    else key_in k h s
 
 -- ---- its message
 
 -- the piece that a call adds to the message of the session's operation of the kind, in a list of
 -- its own
 abbrev pub piece_of : Option Call → OperationKind → ℕ → List (List ℕ)
-piece_of (Some (call.DigestUpdate session bytes)) kind.Digest s =
-    if session == s then bytes ∷ [] else []
-piece_of other k s = []
+piece_of None k s = []
+piece_of (Some c) k s = piece_in (step_of c k s)
 
 -- the bytes that an update adds, whatever its session; none for every other call
 abbrev pub added_bytes : Call → List ℕ
-added_bytes (call.DigestUpdate session bytes) = bytes
-added_bytes other = []
+added_bytes c = option_map_or (λ (o : OperationStep). bytes_added o.step) (operation_step c) []
 
 -- the pieces of the session's last operation of the kind, in their order
 abbrev pub pieces_in : OperationKind → History → ℕ → List (List ℕ)

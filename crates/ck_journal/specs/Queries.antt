@@ -1,6 +1,7 @@
 -- What C_GetAttributeValue answers (PKCS #11 Base 3.0, Object management functions)
 use Rattle.std.specs.Prelude.{ℕ, Bool, false, List, Option, Some, None, nat_lt, is_none, length, map, if◌then◌else◌}
 use Rattle.std.specs.List.{list_any}
+use Rattle.ck_types.specs.Records.{readable_value, is_hidden}
 use Rattle.ck_types.specs.Templates.{value_at}
 use Rattle.ck_types.specs.declared.return_codes.Rv.{Rv}
 use Rattle.ck_types.specs.declared.return_codes.Rv.TheVariants as rv
@@ -12,8 +13,8 @@ use Rattle.ck_journal.specs.declared.calls.AttributeQuery.{AttributeQuery}
 use Rattle.ck_journal.specs.declared.replies.Body.TheVariants as body
 use Rattle.ck_journal.specs.declared.replies.Reply.{Reply}
 
--- a value, if the object has one, asked for with this room; room None, like a NULL pValue, asks for
--- its length
+-- a value, if there is one that may be read, asked for with this room; room None, like a NULL
+-- pValue, asks for its length
 abbrev pub value_answer : Option (List ℕ) → Option ℕ → Answer
 value_answer None room = answer.Unavailable
 value_answer (Some value) None = answer.Length (length value)
@@ -21,7 +22,11 @@ value_answer (Some value) (Some room) =
     if nat_lt room (length value) then answer.Unavailable else answer.Value value
 
 abbrev pub query_answer : List Item → AttributeQuery → Answer
-query_answer attributes query = value_answer (value_at attributes query.kind) query.room
+query_answer attributes query = value_answer (readable_value attributes query.kind) query.room
+
+-- the attribute is a value that may not be revealed
+abbrev pub is_sensitive : List Item → AttributeQuery → Bool
+is_sensitive attributes query = is_hidden attributes query.kind
 
 -- the object doesn't have the attribute
 abbrev pub is_missing : List Item → AttributeQuery → Bool
@@ -33,12 +38,14 @@ is_longer other room = false
 
 -- the value needs more room than there is
 abbrev pub lacks_room : List Item → AttributeQuery → Bool
-lacks_room attributes query = is_longer (value_at attributes query.kind) query.room
+lacks_room attributes query = is_longer (readable_value attributes query.kind) query.room
 
--- the one code of the call: a missing attribute comes before too little room
+-- the one code of the call: a hidden value comes before a missing attribute, and that before too
+-- little room
 abbrev pub queries_code : List Item → List AttributeQuery → Rv
 queries_code attributes queries =
-    if list_any (is_missing attributes) queries then rv.Error rv_error.AttributeTypeInvalid
+    if list_any (is_sensitive attributes) queries then rv.Error rv_error.AttributeSensitive
+    else if list_any (is_missing attributes) queries then rv.Error rv_error.AttributeTypeInvalid
     else if list_any (lacks_room attributes) queries then rv.Error rv_error.BufferTooSmall
     else rv.Ok
 

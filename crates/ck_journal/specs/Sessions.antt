@@ -36,13 +36,13 @@ is_open (e ◁ h) s =
     else if closes (done e) s then false
     else is_open h s
 
--- what ends all operations of the session, its search among them: its closing, the closing of all
--- sessions, and any logout
+abbrev pub logs_out : Option Call → Bool
+logs_out (Some (call.Logout session)) = true
+logs_out other = false
+
+-- what ends all operations of the session, its search among them: what closes it, and any logout
 abbrev pub ends_operations : Option Call → ℕ → Bool
-ends_operations (Some (call.CloseSession session)) s = session == s
-ends_operations (Some call.CloseAllSessions) s = true
-ends_operations (Some (call.Logout session)) s = true
-ends_operations other s = false
+ends_operations c s = if logs_out c then true else closes c s
 
 abbrev pub opening_flags : Option Call → ℕ
 opening_flags (Some (call.OpenSession flags)) = flags

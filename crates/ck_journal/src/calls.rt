@@ -45,9 +45,23 @@ pub enum Call {
         session: u64,
     },
     GetTokenInfo,
+    GetMechanismList,
+    /// Ends operations of the session.
+    SessionCancel {
+        session: u64,
+        /// The kinds of operations that end: CKF_DIGEST, CKF_SIGN and CKF_VERIFY.
+        flags: u64,
+    },
     CreateObject {
         session: u64,
         template: Template,
+    },
+    GenerateKey {
+        session: u64,
+        mechanism: Mechanism,
+        template: Template,
+        /// The bytes of the key, which come from the caller: as many as CKA_VALUE_LEN says.
+        random: Bytes,
     },
     CopyObject {
         session: u64,
@@ -63,6 +77,13 @@ pub enum Call {
         session: u64,
         object: u64,
         template: Template,
+    },
+    /// Takes a key to another state, which no function of the standard does.
+    SetKeyState {
+        session: u64,
+        key: u64,
+        /// The number of the state.
+        state: u64,
     },
     DestroyObject {
         session: u64,
@@ -99,6 +120,45 @@ pub enum Call {
         /// As that of `Digest`.
         room: Option<u64>,
     },
+    SignInit {
+        session: u64,
+        mechanism: Mechanism,
+        key: u64,
+    },
+    Sign {
+        session: u64,
+        bytes: Bytes,
+        /// The room for the signature in bytes, or `None`, like a NULL pSignature, to ask for its
+        /// length.
+        room: Option<u64>,
+    },
+    SignUpdate {
+        session: u64,
+        bytes: Bytes,
+    },
+    SignFinal {
+        session: u64,
+        /// As that of `Sign`.
+        room: Option<u64>,
+    },
+    VerifyInit {
+        session: u64,
+        mechanism: Mechanism,
+        key: u64,
+    },
+    Verify {
+        session: u64,
+        bytes: Bytes,
+        signature: Bytes,
+    },
+    VerifyUpdate {
+        session: u64,
+        bytes: Bytes,
+    },
+    VerifyFinal {
+        session: u64,
+        signature: Bytes,
+    },
 }
 
 impl Call {
@@ -110,7 +170,9 @@ impl Call {
         ensures { result.now ≡ added_bytes self.now }
     {
         match self {
-            Call::DigestUpdate { bytes, .. } => bytes.as_slice(),
+            Call::DigestUpdate { bytes, .. }
+            | Call::SignUpdate { bytes, .. }
+            | Call::VerifyUpdate { bytes, .. } => bytes.as_slice(),
             _ => &[],
         }
     }

@@ -11,6 +11,30 @@ pub enum OperationKind {
     Verify,
 }
 
+impl OperationKind {
+    ghost use Rattle.std.specs.Prelude.{◌≡◌};
+    ghost use Rattle.ck_journal.specs.Operations.{kind_flag, names_kind};
+
+    /// The flag by which C_SessionCancel names operations of the kind (CKF_DIGEST, CKF_SIGN,
+    /// CKF_VERIFY; PKCS #11 Base 3.0, Session management functions).
+    pub fn flag(self) -> u64
+        ensures { result ≡ kind_flag self }
+    {
+        match self {
+            OperationKind::Digest => 0x400,
+            OperationKind::Sign => 0x800,
+            OperationKind::Verify => 0x2000,
+        }
+    }
+
+    /// Whether the flags name operations of the kind.
+    pub fn is_named_by(self, flags: u64) -> bool
+        ensures { result ≡ names_kind flags self }
+    {
+        flags & self.flag() != 0
+    }
+}
+
 /// The most bytes that one piece of a message may have, which is a limit of this token.
 const PIECE_LIMIT: usize = 0x10_0000;
 

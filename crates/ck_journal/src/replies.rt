@@ -9,8 +9,8 @@ pub enum Answer {
     Value(Bytes),
     /// The value's length in bytes.
     Length(u64),
-    /// The object doesn't have the attribute, or the room is too small
-    /// (CK_UNAVAILABLE_INFORMATION).
+    /// The value may not be revealed, the object doesn't have the attribute, or the room is too
+    /// small (CK_UNAVAILABLE_INFORMATION).
     Unavailable,
 }
 
@@ -33,6 +33,8 @@ pub enum Body {
         sessions: u64,
         rw_sessions: u64,
     },
+    /// The types of all mechanisms of the token, rising.
+    Mechanisms(Sequence<u64>),
     /// One answer for each query, in their order.
     Attributes(Sequence<Answer>),
     /// The handles of the objects that a search returns, in the order of their creations.
@@ -40,7 +42,7 @@ pub enum Body {
     /// The length in bytes of what the call would give, where the room for it is too small or its
     /// length was asked for.
     Length(u64),
-    /// A digest.
+    /// A digest or a signature.
     Bytes(Bytes),
 }
 
@@ -106,6 +108,10 @@ impl Body {
                 sessions: *sessions,
                 rw_sessions: *rw_sessions,
             }),
+            Body::Mechanisms(types) => {
+                let types = Vec::from_slice(alloc, types.as_slice())?;
+                Ok(Body::Mechanisms(Sequence::from_vec(types)))
+            }
             Body::Attributes(answers) => {
                 let answers = duplicate_answers(alloc, answers.as_slice())?;
                 Ok(Body::Attributes(Sequence::from_vec(answers)))
