@@ -1,77 +1,87 @@
 -- How active operations keep agreeing with the history
-use Rattle.std.proofs.Common.{◌≡◌, ℕ, zero, suc, ◌+◌, Bool, true, false, cond, not, List, [], ◌∷◌, ◌++◌, Option, Some, None, length, refl, sym, ap, ◌∙◌, subst, append-nil, append_assoc, arith}
-use Rattle.std.specs.Prelude.{◌==◌, ◌&&◌, ◌||◌, filter, find, option_map, option_and_then, unwrap_or}
+use Rattle.std.proofs.Common.{◌≡◌, ℕ, suc, Bool, true, false, cond, not, List, [], ◌∷◌, ◌++◌, Option, Some, None, length, refl, sym, ap, ◌∙◌, subst, append-nil, append_assoc, arith}
+use Rattle.std.specs.Prelude.{◌==◌, ◌&&◌, filter, find, option_map, option_and_then}
 use Rattle.std.specs.List.{concat}
 use Rattle.std.specs.Option.{option_or}
 use Rattle.std.proofs.lemmas.Bool.{ne_eqb, eqb-true, eqb-false, eq-eqb}
 use Rattle.std.proofs.lemmas.List.Folds.{find-append}
-use Rattle.ck_types.specs.declared.hashes.Hash.{Hash}
-use Rattle.ck_types.specs.declared.hashes.Hash.TheVariants as hash
-use Rattle.ck_types.specs.declared.mechanisms.Mechanism.{Mechanism}
-use Rattle.ck_journal.specs.declared.calls.Call.{Call}
 use Rattle.ck_journal.specs.declared.calls.Entry.{Entry}
 use Rattle.ck_journal.specs.declared.operations.OperationKind.{OperationKind}
 use Rattle.ck_journal.specs.Histories.{History, ◌◁◌, done}
-use Rattle.ck_journal.specs.Operations.{starts, ends, is_active, mechanism_in, init_mechanism, hash_for, hash_in, piece_of, pieces_in, message_in, is_updated}
+use Rattle.ck_journal.specs.Objects.{object_named}
+use Rattle.ck_journal.specs.OperationCalls.{same_kind}
+use Rattle.ck_journal.specs.Operations.{is_active, computation_in, key_in, pieces_in, started_computation, init_key, names_kind}
+use Rattle.ck_mac.specs.Computations.{Computation, HoldsTag}
+use Rattle.ck_mac.specs.declared.running_tags.RunningTag.{RunningTag}
 use Rattle.ck_operations.specs.Agreement.{OperationsState, ActiveOperation, operation_at, OptionAgrees, OperationAgrees, OperationsAgree}
-use Rattle.ck_operations.specs.Moves.{Move, Stay, Start, Add, End, Does, OnlyIn, OnlyInSession, InAll}
-use Rattle.ck_operations.specs.Rows.{same_kind, is_operation, is_of_session, IsFresh, IsUpdateOfRows, IsUpdateOf, IsUpdateOfOption}
+use Rattle.ck_operations.specs.Moves.{Move, Stay, Start, Add, End, Does, OnlyIn, OnlyInSession, OnlyNamed, InAll, IsStartOf}
+use Rattle.ck_operations.specs.Rows.{is_operation, is_of_session, is_named, new_operation, IsUpdateOfRows, IsUpdateOfOption}
 use Rattle.ck_operations.specs.declared.active_operations.Operation.{Operation}
-use Rattle.ck_operations.proofs.RowLemmas.{find-kept, find-removed, operation-is, same_kind-eq, and-both, apart, apart-back}
+use Rattle.ck_operations.proofs.RowLemmas.{find-kept, find-removed, operation-is, same_kind-eq, same_kind-swap, and-both}
 
 concat-append : (xs : List (List ℕ)) (y : List ℕ) → concat (xs ++ y ∷ []) ≡ concat xs ++ y
 concat-append [] y = append-nil y
 concat-append (x ∷ xs) y =
     ap (λ rest. x ++ rest) (concat-append xs y) ∙ sym (append_assoc x (concat xs) y)
 
-eqb-back : (k s : ℕ) (t : Bool) → s == k ≡ t → k == s ≡ t
-eqb-back k s true e = eq-eqb k s (sym (eqb-true s k e))
-eqb-back k s false e = ne_eqb k s (λ same. eqb-false s k e (sym same))
+not-empty : (pieces : List (List ℕ)) (bytes : List ℕ) → length (pieces ++ bytes ∷ []) == 0 ≡ false
+not-empty [] bytes = ne_eqb 1 0 (λ z. omega arith)
+not-empty (p ∷ pieces) bytes = ne_eqb (suc (length (pieces ++ bytes ∷ []))) 0 (λ z. omega arith)
+
+eqb-swap : (a b : ℕ) → a == b ≡ b == a
+eqb-swap a b = swap (a == b) refl
+  where
+    swap : (t : Bool) → a == b ≡ t → t ≡ b == a
+    swap true e = sym (eq-eqb b a (sym (eqb-true a b e)))
+    swap false e = sym (ne_eqb b a (λ same. eqb-false a b e (sym same)))
 
 -- ---- the history's operation after one more entry
 
--- what a move makes of it
-abbrev moved : Move → Option ActiveOperation → Option ActiveOperation
-moved Stay before = before
-moved (Start hash) before = Some (record { hash = hash; message = []; updated = false })
-moved (Add bytes) before =
+-- what a move makes of it, where a start makes this
+abbrev moved : ActiveOperation → Move → Option ActiveOperation → Option ActiveOperation
+moved started Stay before = before
+moved started Start before = Some started
+moved started (Add bytes) before =
     option_map (λ (a : ActiveOperation). record a { message = a.message ++ bytes; updated = true }) before
-moved End before = None
+moved started End before = None
+
+-- what an entry starts
+abbrev started_by : History → Entry → ActiveOperation
+started_by h e = record {
+  computation = started_computation h (done e);
+  key = option_and_then (object_named h) (init_key (done e));
+  message = [];
+  updated = false;
+}
+
+-- the operation by the facts of it
+abbrev operation_by : Bool → Computation → Option ℕ → List (List ℕ) → Option ActiveOperation
+operation_by active computation key pieces =
+    cond active
+    (Some (record {
+      computation = computation;
+      key = key;
+      message = concat pieces;
+      updated = not (length pieces == 0);
+    }))
+    None
+
+by-added : (started : ActiveOperation) (bytes : List ℕ) (active : Bool) (computation : Computation) (key : Option ℕ) (pieces : List (List ℕ))
+    → operation_by active computation key (pieces ++ bytes ∷ [])
+    ≡ moved started (Add bytes) (operation_by active computation key pieces)
+by-added started bytes false computation key pieces = refl
+by-added started bytes true computation key pieces = rw (concat-append pieces bytes, not-empty pieces bytes) refl
 
 module _ (k : OperationKind) (e : Entry) (h : History) (s : ℕ) where
-  -- the four facts of it, each as one step of the entry makes it
-  abbrev step : Bool → Bool → Bool → Option Mechanism → List (List ℕ) → Option ActiveOperation
-  step started ended active mechanism pieces =
-      cond (cond started true (cond ended false active))
-      (Some (record {
-        hash = unwrap_or (option_and_then (hash_for k) mechanism) hash.Sha256;
-        message = concat pieces;
-        updated = not (length pieces == 0);
-      }))
-      None
-
-  step-left : (active : Bool) (mechanism : Option Mechanism) (pieces : List (List ℕ))
-      → step false false active mechanism (pieces ++ []) ≡ step false false active mechanism pieces
-  step-left active mechanism pieces = ap (step false false active mechanism) (append-nil pieces)
-
-  not-empty : (pieces : List (List ℕ)) (bytes : List ℕ) → length (pieces ++ bytes ∷ []) == 0 ≡ false
-  not-empty [] bytes = ne_eqb 1 0 (λ z. omega arith)
-  not-empty (p ∷ pieces) bytes = ne_eqb (suc (length (pieces ++ bytes ∷ []))) 0 (λ z. omega arith)
-
-  step-added : (bytes : List ℕ) (active : Bool) (mechanism : Option Mechanism) (pieces : List (List ℕ))
-      → step false false active mechanism (pieces ++ bytes ∷ [])
-      ≡ moved (Add bytes) (step false false active mechanism pieces)
-  step-added bytes false mechanism pieces = refl
-  step-added bytes true mechanism pieces =
-      rw (concat-append pieces bytes, not-empty pieces bytes) refl
-
   pub operation_at-moved : (move : Move) → Does move e k s
-      → operation_at k (e ◁ h) s ≡ moved move (operation_at k h s)
+      → operation_at k (e ◁ h) s ≡ moved (started_by h e) move (operation_at k h s)
   operation_at-moved Stay does =
-      rw (does.0, does.1, does.2) (step-left (is_active k h s) (mechanism_in k h s) (pieces_in k h s))
-  operation_at-moved (Start hash) does = rw (does.0, does.1) refl
+      rw (does.0, does.1, does.2)
+      (ap (operation_by (is_active k h s) (computation_in k h s) (key_in k h s)) (append-nil (pieces_in k h s)))
+  operation_at-moved Start does = rw does refl
   operation_at-moved (Add bytes) does =
-      rw (does.0, does.1, does.2) (step-added bytes (is_active k h s) (mechanism_in k h s) (pieces_in k h s))
+      rw (does.0, does.1, does.2)
+      (by-added (started_by h e) bytes (is_active k h s) (computation_in k h s) (key_in k h s) (pieces_in k h s))
   operation_at-moved End does = rw (does.0, does.1) refl
 
 -- ---- operations that are looked for, and those of the history
@@ -82,29 +92,33 @@ none-found None same = refl
 none-found (Some o) same = absurd same
 
 idle-none : (k : OperationKind) (h : History) (s : ℕ) → is_active k h s ≡ false → operation_at k h s ≡ None
-idle-none k h s idle =
-    ap (λ t. cond t (Some (record { hash = hash_in k h s; message = message_in k h s; updated = is_updated k h s })) None) idle
+idle-none k h s idle = ap (λ t. operation_by t (computation_in k h s) (key_in k h s) (pieces_in k h s)) idle
 
-added-same : (bytes : List ℕ) (old new : Option Operation) (before : Option ActiveOperation)
-    → IsUpdateOfOption bytes old new → OptionAgrees old before → OptionAgrees new (moved (Add bytes) before)
-added-same bytes (Some a) (Some b) (Some before) added same =
-    record { message = added.message before.hash before.message same.message; updated = added.updated }
-added-same bytes (Some a) (Some b) None added same = absurd same
-added-same bytes (Some a) None before added same = absurd added
-added-same bytes None (Some b) before added same = absurd added
-added-same bytes None None (Some before) added same = absurd same
-added-same bytes None None None added same = tt
+added-same : (started : ActiveOperation) (bytes : List ℕ) (old new : Option Operation) (before : Option ActiveOperation)
+    → IsUpdateOfOption bytes old new → OptionAgrees old before → OptionAgrees new (moved started (Add bytes) before)
+added-same started bytes (Some a) (Some b) (Some before) added same = record {
+  message = added.message before.computation before.message same.message;
+  key = added.key ∙ same.key;
+  updated = added.updated;
+}
+added-same started bytes (Some a) (Some b) None added same = absurd same
+added-same started bytes (Some a) None before added same = absurd added
+added-same started bytes None (Some b) before added same = absurd added
+added-same started bytes None None (Some before) added same = absurd same
+added-same started bytes None None None added same = tt
 
 or-none : (found : Option Operation) → option_or found None ≡ found
 or-none None = refl
 or-none (Some o) = refl
 
 module _ (h : History) (old : OperationsState) (agree : OperationsAgree h old) (e : Entry) where
+  abbrev after : Move → OperationKind → ℕ → Option ActiveOperation
+  after move k s = moved (started_by h e) move (operation_at k h s)
+
   -- by what the entry does to each operation
   moves : (new : OperationsState) (move : OperationKind → ℕ → Move)
       → ((k : OperationKind) (s : ℕ) → Does (move k s) e k s)
-      → ((k : OperationKind) (s : ℕ)
-      → OptionAgrees (find (is_operation k s) new.rows) (moved (move k s) (operation_at k h s)))
+      → ((k : OperationKind) (s : ℕ) → OptionAgrees (find (is_operation k s) new.rows) (after (move k s) k s))
       → OperationsAgree (e ◁ h) new
   moves new move does same = record {
     each = λ k s. subst (OptionAgrees (find (is_operation k s) new.rows)) (sym (operation_at-moved k e h s (move k s) (does k s)))
@@ -114,55 +128,59 @@ module _ (h : History) (old : OperationsState) (agree : OperationsAgree h old) (
   pub operations-left : InAll Stay e → OperationsAgree (e ◁ h) old
   operations-left does = moves old (λ k s. Stay) does agree.each
 
-  abbrev only : OperationKind → ℕ → Move → OperationKind → ℕ → Move
-  only kind session move k s = cond (same_kind kind k && session == s) move Stay
+  -- the entry ends some operations, and those are removed that pass a test which says the same
+  removed : (ended : OperationKind → ℕ → Bool) (test : Operation → Bool)
+      → ((o : Operation) → test o ≡ ended o.kind o.session)
+      → ((k : OperationKind) (s : ℕ) → Does (cond (ended k s) End Stay) e k s)
+      → (new : OperationsState) → new.rows ≡ filter (λ (row : Operation). not (test row)) old.rows
+      → OperationsAgree (e ◁ h) new
+  removed ended test says does new rows =
+      moves new (λ k s. cond (ended k s) End Stay) does (λ k s. by k s (ended k s) refl)
+    where
+      tested : (k : OperationKind) (s : ℕ) (o : Operation) → is_operation k s o ≡ true → test o ≡ ended k s
+      tested k s o passes =
+          let is = operation-is k s o passes in says o ∙ rw (is.0, is.1) refl
+
+      by : (k : OperationKind) (s : ℕ) (t : Bool) → ended k s ≡ t
+          → OptionAgrees (find (is_operation k s) new.rows) (after (cond t End Stay) k s)
+      by k s true here =
+          subst (λ found. OptionAgrees found None)
+          (sym (ap (find (is_operation k s)) rows
+          ∙ find-removed (is_operation k s) (λ o. not (test o))
+          (λ o passes. ap not (tested k s o passes ∙ here)) old.rows)) tt
+      by k s false there =
+          subst (λ found. OptionAgrees found (operation_at k h s))
+          (sym (ap (find (is_operation k s)) rows
+          ∙ find-kept (is_operation k s) (λ o. not (test o))
+          (λ o passes. ap not (tested k s o passes ∙ there)) old.rows)) (agree.each k s)
 
   pub operations-ended : (kind : OperationKind) (session : ℕ) → OnlyIn kind session End e → (new : OperationsState)
       → new.rows ≡ filter (λ (row : Operation). not (is_operation kind session row)) old.rows
       → OperationsAgree (e ◁ h) new
-  operations-ended kind session does new rows =
-      moves new (only kind session End) does (λ k s. ended k s (same_kind kind k && session == s) refl)
-    where
-      ended : (k : OperationKind) (s : ℕ) (t : Bool) → (same_kind kind k && session == s) ≡ t
-          → OptionAgrees (find (is_operation k s) new.rows) (moved (cond t End Stay) (operation_at k h s))
-      ended k s true here =
-          let both = and-both (same_kind kind k) (session == s) here in
-          let same : (o : Operation) → is_operation k s o ≡ is_operation kind session o =
-          λ o. rw (← same_kind-eq kind k both.0, ← eqb-true session s both.1) refl in
-          subst (λ found. OptionAgrees found None)
-          (sym (ap (find (is_operation k s)) rows
-          ∙ find-removed (is_operation k s) (λ o. not (is_operation kind session o))
-          (λ o passes. ap not (sym (same o) ∙ passes)) old.rows)) tt
-      ended k s false there =
-          subst (λ found. OptionAgrees found (operation_at k h s))
-          (sym (ap (find (is_operation k s)) rows
-          ∙ find-kept (is_operation k s) (λ o. not (is_operation kind session o))
-          (λ o passes. ap not (apart-back kind k session s there o passes)) old.rows)) (agree.each k s)
+  operations-ended kind session =
+      removed (λ k s. same_kind kind k && session == s) (is_operation kind session)
+      (λ o. rw (same_kind-swap kind o.kind, eqb-swap session o.session) refl)
 
   pub operations-closed : (session : ℕ) → OnlyInSession session End e → (new : OperationsState)
       → new.rows ≡ filter (λ (row : Operation). not (is_of_session session row)) old.rows
       → OperationsAgree (e ◁ h) new
-  operations-closed session does new rows =
-      moves new (λ k s. cond (session == s) End Stay) does (λ k s. closed k s (session == s) refl)
-    where
-      closed : (k : OperationKind) (s : ℕ) (t : Bool) → session == s ≡ t
-          → OptionAgrees (find (is_operation k s) new.rows) (moved (cond t End Stay) (operation_at k h s))
-      closed k s true here =
-          subst (λ found. OptionAgrees found None)
-          (sym (ap (find (is_operation k s)) rows
-          ∙ find-removed (is_operation k s) (λ o. not (is_of_session session o))
-          (λ o passes. ap not (ap (λ n. n == session) (operation-is k s o passes).1 ∙ eqb-back s session true here)) old.rows)) tt
-      closed k s false there =
-          subst (λ found. OptionAgrees found (operation_at k h s))
-          (sym (ap (find (is_operation k s)) rows
-          ∙ find-kept (is_operation k s) (λ o. not (is_of_session session o))
-          (λ o passes. ap not (ap (λ n. n == session) (operation-is k s o passes).1 ∙ eqb-back s session false there)) old.rows))
-          (agree.each k s)
+  operations-closed session =
+      removed (λ k s. session == s) (is_of_session session) (λ o. eqb-swap o.session session)
+
+  pub operations-cancelled : (session flags : ℕ) → OnlyNamed session flags End e → (new : OperationsState)
+      → new.rows ≡ filter (λ (row : Operation). not (is_named session flags row)) old.rows
+      → OperationsAgree (e ◁ h) new
+  operations-cancelled session flags =
+      removed (λ k s. session == s && names_kind flags k) (is_named session flags)
+      (λ o. ap (λ t. t && names_kind flags o.kind) (eqb-swap o.session session))
 
   pub operations-all_ended : InAll End e → (new : OperationsState) → new.rows ≡ [] → OperationsAgree (e ◁ h) new
   operations-all_ended does new rows =
       moves new (λ k s. End) does
       (λ k s. subst (λ found. OptionAgrees found None) (sym (ap (find (is_operation k s)) rows)) tt)
+
+  abbrev only : OperationKind → ℕ → Move → OperationKind → ℕ → Move
+  only kind session move k s = cond (same_kind kind k && session == s) move Stay
 
   pub operations-added : (kind : OperationKind) (session : ℕ) (bytes : List ℕ) → OnlyIn kind session (Add bytes) e
       → (new : OperationsState) → IsUpdateOfRows kind session bytes old.rows new.rows → OperationsAgree (e ◁ h) new
@@ -170,39 +188,47 @@ module _ (h : History) (old : OperationsState) (agree : OperationsAgree h old) (
       moves new (only kind session (Add bytes)) does (λ k s. added k s (same_kind kind k && session == s) refl)
     where
       added : (k : OperationKind) (s : ℕ) (t : Bool) → (same_kind kind k && session == s) ≡ t
-          → OptionAgrees (find (is_operation k s) new.rows) (moved (cond t (Add bytes) Stay) (operation_at k h s))
+          → OptionAgrees (find (is_operation k s) new.rows) (after (cond t (Add bytes) Stay) k s)
       added k s true here =
           let both = and-both (same_kind kind k) (session == s) here in
           rw (← same_kind-eq kind k both.0, ← eqb-true session s both.1)
-          (added-same bytes (find (is_operation kind session) old.rows) (find (is_operation kind session) new.rows)
+          (added-same (started_by h e) bytes (find (is_operation kind session) old.rows) (find (is_operation kind session) new.rows)
           (operation_at kind h session) is.added (agree.each kind session))
       added k s false there =
           subst (λ found. OptionAgrees found (operation_at k h s)) (sym (is.others k s there)) (agree.each k s)
 
-  pub operations-started : (kind : OperationKind) (session : ℕ) (hash : Hash) → OnlyIn kind session (Start hash) e
-      → is_active kind h session ≡ false → (new : OperationsState) (o : Operation) → IsFresh kind session hash o
-      → new.rows ≡ old.rows ++ o ∷ [] → OperationsAgree (e ◁ h) new
-  operations-started kind session hash does idle new o fresh rows =
-      moves new (only kind session (Start hash)) does (λ k s. started k s (same_kind kind k && session == s) refl)
+  pub operations-started : (kind : OperationKind) (session : ℕ) (running : RunningTag) (key : Option ℕ)
+      (computation : Computation) → HoldsTag computation running [] → IsStartOf h e computation key
+      → OnlyIn kind session Start e → is_active kind h session ≡ false → (new : OperationsState)
+      → new.rows ≡ old.rows ++ new_operation kind session running key ∷ [] → OperationsAgree (e ◁ h) new
+  operations-started kind session running key computation holds of does idle new rows =
+      moves new (only kind session Start) does (λ k s. started k s (same_kind kind k && session == s) refl)
     where
+      o : Operation
+      o = new_operation kind session running key
+
+      agrees : OperationAgrees o (started_by h e)
+      agrees = record {
+        message = subst (λ c. HoldsTag c running []) (sym of.computation) holds;
+        key = sym of.key;
+        updated = refl;
+      }
+
       started : (k : OperationKind) (s : ℕ) (t : Bool) → (same_kind kind k && session == s) ≡ t
-          → OptionAgrees (find (is_operation k s) new.rows) (moved (cond t (Start hash) Stay) (operation_at k h s))
+          → OptionAgrees (find (is_operation k s) new.rows) (after (cond t Start Stay) k s)
       started k s true here =
           let both = and-both (same_kind kind k) (session == s) here in
           let p = is_operation k s in
-          let passes : p o ≡ true = rw (fresh.session, fresh.kind) here in
           let inactive : operation_at k h s ≡ None =
           rw (← same_kind-eq kind k both.0, ← eqb-true session s both.1) (idle-none kind h session idle) in
           let none : find p old.rows ≡ None = none-found (find p old.rows) (subst (OptionAgrees (find p old.rows)) inactive (agree.each k s)) in
           let last : find p new.rows ≡ Some o =
           ap (find p) rows ∙ find-append p old.rows (o ∷ []) ∙ ap (λ found. option_or found (find p (o ∷ []))) none
-          ∙ ap (λ t. cond t (Some o) None) passes in
-          subst (λ found. OptionAgrees found (Some (record { hash = hash; message = []; updated = false }))) (sym last)
-          (record { message = fresh.message; updated = fresh.updated })
+          ∙ ap (λ t. cond t (Some o) None) here in
+          subst (λ found. OptionAgrees found (Some (started_by h e))) (sym last) agrees
       started k s false there =
           let p = is_operation k s in
-          let fails : p o ≡ false = rw (fresh.session, fresh.kind) there in
           let before : find p new.rows ≡ find p old.rows =
-          ap (find p) rows ∙ find-append p old.rows (o ∷ []) ∙ ap (λ t. option_or (find p old.rows) (cond t (Some o) None)) fails
+          ap (find p) rows ∙ find-append p old.rows (o ∷ []) ∙ ap (λ t. option_or (find p old.rows) (cond t (Some o) None)) there
           ∙ or-none (find p old.rows) in
           subst (λ found. OptionAgrees found (operation_at k h s)) (sym before) (agree.each k s)

@@ -1,5 +1,5 @@
 -- Active operations that are looked for, after rows were added, changed or removed
-use Rattle.std.proofs.Common.{◌≡◌, ℕ, Bool, true, false, cond, not, List, [], ◌∷◌, Option, Some, None, refl, sym, ap, ◌∙◌, get_or}
+use Rattle.std.proofs.Common.{◌≡◌, ℕ, Bool, true, false, cond, List, [], ◌∷◌, Option, Some, None, refl, sym, ap, ◌∙◌, get_or}
 use Rattle.std.specs.Prelude.{◌==◌, ◌&&◌, filter, find}
 use Rattle.std.specs.List.{position, position_or_len, slice_get}
 use Rattle.std.proofs.Math.ListN.{set}
@@ -12,7 +12,8 @@ use Rattle.ck_journal.specs.declared.operations.OperationKind.TheVariants as kin
 use Rattle.ck_journal.specs.Lists.{change_first}
 use Rattle.ck_operations.specs.declared.active_operations.Operation.{Operation}
 use Rattle.ck_journal.proofs.Changes.{change_first-place}
-use Rattle.ck_operations.specs.Rows.{same_kind, is_operation, is_of_session, IsUpdateOfRows, IsUpdateOf, IsUpdateOfOption}
+use Rattle.ck_journal.specs.OperationCalls.{same_kind}
+use Rattle.ck_operations.specs.Rows.{is_operation, IsUpdateOfRows, IsUpdateOf, IsUpdateOfOption}
 
 module _ {X : Type 0} (test keeps : X → Bool) where
   kept-step : (x : X) (xs : List X) → (test x ≡ true → keeps x ≡ true)
@@ -81,6 +82,17 @@ same_kind-eq kind.Sign kind.Digest e = cc
 same_kind-eq kind.Sign kind.Verify e = cc
 same_kind-eq kind.Verify kind.Digest e = cc
 same_kind-eq kind.Verify kind.Sign e = cc
+
+pub same_kind-swap : (k l : OperationKind) → same_kind k l ≡ same_kind l k
+same_kind-swap kind.Digest kind.Digest = refl
+same_kind-swap kind.Digest kind.Sign = refl
+same_kind-swap kind.Digest kind.Verify = refl
+same_kind-swap kind.Sign kind.Digest = refl
+same_kind-swap kind.Sign kind.Sign = refl
+same_kind-swap kind.Sign kind.Verify = refl
+same_kind-swap kind.Verify kind.Digest = refl
+same_kind-swap kind.Verify kind.Sign = refl
+same_kind-swap kind.Verify kind.Verify = refl
 
 -- an operation that passes the test is of this kind in this session
 pub operation-is : (k : OperationKind) (s : ℕ) (o : Operation) → is_operation k s o ≡ true

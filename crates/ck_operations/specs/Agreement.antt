@@ -1,10 +1,10 @@
 -- When the active operations are what a history says
 use Rattle.std.specs.Prelude.{◌≡◌, ℕ, Bool, List, Option, Some, None, find, if◌then◌else◌}
-use Rattle.ck_types.specs.declared.hashes.Hash.{Hash}
 use Rattle.ck_journal.specs.declared.operations.OperationKind.{OperationKind}
 use Rattle.ck_journal.specs.Histories.{History}
-use Rattle.ck_journal.specs.Operations.{is_active, hash_in, message_in, is_updated}
-use Rattle.ck_operations.specs.Rows.{is_operation, HoldsMessage, has_update}
+use Rattle.ck_journal.specs.Operations.{is_active, computation_in, key_in, message_in, is_updated}
+use Rattle.ck_mac.specs.Computations.{Computation}
+use Rattle.ck_operations.specs.Rows.{is_operation, HoldsMessage, operation_key, has_update}
 use Rattle.ck_operations.specs.declared.active_operations.Operation.{Operation}
 
 -- the active operations of all sessions, and for how many more there is room
@@ -12,25 +12,30 @@ pub record OperationsState : Type 0 where
   pub rows : List Operation
   pub spare : ℕ
 
--- an active operation: its hash function, its message so far, and whether there was an update
+-- an active operation: what it computes, the number of the key that it computes with, its message
+-- so far, and whether there was an update
 pub record ActiveOperation : Type 0 where
-  pub hash : Hash
+  pub computation : Computation
+  pub key : Option ℕ
   pub message : List ℕ
   pub updated : Bool
 
+-- what is so of the session's operation of the kind, where one is active
+abbrev pub active_operation : OperationKind → History → ℕ → ActiveOperation
+active_operation k h s = record {
+  computation = computation_in k h s;
+  key = key_in k h s;
+  message = message_in k h s;
+  updated = is_updated k h s;
+}
+
 -- the session's operation of the kind, where one is active
 abbrev pub operation_at : OperationKind → History → ℕ → Option ActiveOperation
-operation_at k h s =
-    if is_active k h s
-    then Some (record {
-      hash = hash_in k h s;
-      message = message_in k h s;
-      updated = is_updated k h s;
-    })
-    else None
+operation_at k h s = if is_active k h s then Some (active_operation k h s) else None
 
 pub record OperationAgrees (o : Operation) (a : ActiveOperation) : Type 0 where
-  pub message : HoldsMessage a.hash o a.message
+  pub message : HoldsMessage a.computation o a.message
+  pub key : operation_key o ≡ a.key
   pub updated : has_update o ≡ a.updated
 
 abbrev pub OptionAgrees : Option Operation → Option ActiveOperation → Type 0
@@ -38,8 +43,9 @@ OptionAgrees (Some o) (Some a) = OperationAgrees o a
 OptionAgrees None None = Unit {0}
 OptionAgrees o a = ⊥
 
--- a session has an operation of a kind exactly where the history has one active, and then it has
--- taken in the pieces that the history says
+-- a session has an operation of a kind exactly where the history has one active, and then it
+-- computes what the history says, under the key that it says, and has taken in the pieces that it
+-- says
 pub record OperationsAgree (h : History) (o : OperationsState) : Type 0 where
   pub each : (k : OperationKind) (s : ℕ)
       → OptionAgrees (find (is_operation k s) o.rows) (operation_at k h s)

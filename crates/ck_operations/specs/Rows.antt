@@ -1,16 +1,12 @@
 -- The active operations as contracts see them
-use Rattle.std.specs.Prelude.{◌≡◌, ℕ, Bool, true, false, List, [], ◌++◌, Option, Some, None, ◌==◌, ◌&&◌, find}
-use Rattle.ck_types.specs.declared.hashes.Hash.{Hash}
+use Rattle.std.specs.Prelude.{◌≡◌, ℕ, Bool, true, false, List, ◌++◌, Option, Some, None, ◌==◌}
+use Rattle.std.specs.Prelude.{◌&&◌, find}
+use Rattle.ck_journal.specs.OperationCalls.{same_kind}
+use Rattle.ck_journal.specs.Operations.{names_kind}
 use Rattle.ck_journal.specs.declared.operations.OperationKind.{OperationKind}
-use Rattle.ck_journal.specs.declared.operations.OperationKind.TheVariants as kind
-use Rattle.ck_mac.specs.Digests.{Holds}
+use Rattle.ck_mac.specs.Computations.{Computation, HoldsTag}
+use Rattle.ck_mac.specs.declared.running_tags.RunningTag.{RunningTag}
 use Rattle.ck_operations.specs.declared.active_operations.Operation.{Operation}
-
-abbrev pub same_kind : OperationKind → OperationKind → Bool
-same_kind kind.Digest kind.Digest = true
-same_kind kind.Sign kind.Sign = true
-same_kind kind.Verify kind.Verify = true
-same_kind other another = false
 
 abbrev pub is_of_session : ℕ → Operation → Bool
 is_of_session session o = o.session == session
@@ -19,27 +15,34 @@ is_of_session session o = o.session == session
 abbrev pub is_operation : OperationKind → ℕ → Operation → Bool
 is_operation k session o = same_kind o.kind k && is_of_session session o
 
--- the operation is of this hash function and has taken in the message
-abbrev pub HoldsMessage : Hash → Operation → List ℕ → Type 0
-HoldsMessage hash o message = Holds hash o.running message
+-- the operation is in this session and of a kind that the flags name
+abbrev pub is_named : ℕ → ℕ → Operation → Bool
+is_named session flags o = is_of_session session o && names_kind flags o.kind
+
+-- the operation is of this computation and has taken in the message
+abbrev pub HoldsMessage : Computation → Operation → List ℕ → Type 0
+HoldsMessage computation o message = HoldsTag computation o.running message
+
+-- the number of the key that it computes with
+abbrev pub operation_key : Operation → Option ℕ
+operation_key o = o.key
 
 -- there was an update
 abbrev pub has_update : Operation → Bool
 has_update o = o.updated
 
--- an operation that has taken in nothing
-pub record IsFresh (k : OperationKind) (s : ℕ) (hash : Hash) (o : Operation) : Type 0 where
-  pub kind : o.kind ≡ k
-  pub session : o.session ≡ s
-  pub message : HoldsMessage hash o []
-  pub updated : o.updated ≡ false
+-- an operation before its first update
+abbrev pub new_operation : OperationKind → ℕ → RunningTag → Option ℕ → Operation
+new_operation k s running key =
+    record { kind = k; session = s; running = running; key = key; updated = false }
 
 -- the operation after an update
 pub record IsUpdateOf (bytes : List ℕ) (old new : Operation) : Type 0 where
   pub kind : new.kind ≡ old.kind
   pub session : new.session ≡ old.session
-  pub message : (hash : Hash) (message : List ℕ) → HoldsMessage hash old message
-      → HoldsMessage hash new (message ++ bytes)
+  pub message : (computation : Computation) (message : List ℕ)
+      → HoldsMessage computation old message → HoldsMessage computation new (message ++ bytes)
+  pub key : new.key ≡ old.key
   pub updated : new.updated ≡ true
 
 -- where there is one

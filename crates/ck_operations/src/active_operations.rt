@@ -1,33 +1,40 @@
-ghost use Rattle.std.specs.Prelude.{◌≡◌, ℕ, List, false};
-ghost use Rattle.ck_types.specs.declared.hashes.Hash.{Hash};
-ghost use Rattle.ck_mac.specs.Digests.{Holds, digest_of};
-ghost use Rattle.ck_operations.specs.Rows.{is_operation, is_of_session, IsUpdateOf, HoldsMessage, has_update, IsFresh};
+ghost use Rattle.std.specs.Prelude.{◌≡◌, ℕ, List, ◌++◌};
+ghost use Rattle.ck_mac.specs.Computations.{Computation, tag_of, tag_size};
+ghost use Rattle.ck_operations.specs.Rows.{is_operation, is_of_session, is_named, IsUpdateOf};
+ghost use Rattle.ck_operations.specs.Rows.{HoldsMessage, operation_key, has_update, new_operation};
 
 use ck_journal::OperationKind;
-use ck_mac::{Running, Tag};
-use ck_types::Hash;
+use ck_mac::{RunningTag, Tag};
 
 /// An active operation of a session: a message that comes in pieces (PKCS #11 Base 3.0, Message
-/// digesting functions).
+/// digesting functions, Signing and MACing functions, Functions for verifying signatures and MACs).
 #[derive(Debug, Drop)]
 pub struct Operation {
     kind: OperationKind,
     session: u64,
-    /// The digest of the message so far.
-    running: Running,
+    /// The tag of the message so far.
+    running: RunningTag,
+    /// The number of the key that it computes with; a digest has none.
+    key: Option<u64>,
     /// Whether there was an update, be it of no bytes.
     updated: bool,
 }
 
 impl Operation {
-    /// An operation that has taken in nothing.
-    pub(crate) fn new(kind: OperationKind, session: u64, hash: Hash) -> Operation
-        ensures { IsFresh kind session hash result }
+    /// An operation before its first update.
+    pub(crate) fn new(
+        kind: OperationKind,
+        session: u64,
+        running: RunningTag,
+        key: Option<u64>,
+    ) -> Operation
+        ensures { result ≡ new_operation kind session running key }
     {
         Operation {
             kind,
             session,
-            running: Running::new(hash),
+            running,
+            key,
             updated: false,
         }
     }
@@ -44,12 +51,17 @@ impl Operation {
         self.session == session
     }
 
-    /// The hash function of its mechanism.
-    pub fn hash(&self) -> Hash
-        ensures { (hash : Hash) (message : List ℕ) → HoldsMessage hash self.now message
-            → result ≡ hash }
+    pub(crate) fn is_named(&self, session: u64, flags: u64) -> bool
+        ensures { result ≡ is_named session flags self.now }
     {
-        self.running.hash()
+        self.session == session && self.kind.is_named_by(flags)
+    }
+
+    /// The number of the key that it computes with; a digest has none.
+    pub fn key(&self) -> Option<u64>
+        ensures { result ≡ operation_key self.now }
+    {
+        self.key
     }
 
     /// Whether there was an update since it began, be it of no bytes.
@@ -59,12 +71,29 @@ impl Operation {
         self.updated
     }
 
-    /// The digest of the message so far.
-    pub fn tag(&self) -> Tag
-        ensures { (hash : Hash) (message : List ℕ) → HoldsMessage hash self.now message
-            → result ≡ digest_of hash message }
+    /// How many bytes its tag has.
+    pub fn len(&self) -> u64
+        ensures { (computation : Computation) (message : List ℕ)
+            → HoldsMessage computation self.now message → result ≡ tag_size computation }
     {
-        self.running.clone().unwrap().finish()
+        self.running.len()
+    }
+
+    /// The tag of the message so far: its digest or its HMAC.
+    pub fn tag(&self) -> Tag
+        ensures { (computation : Computation) (message : List ℕ)
+            → HoldsMessage computation self.now message → result ≡ tag_of computation message }
+    {
+        self.running.tag()
+    }
+
+    /// The tag of the message so far, followed by these bytes.
+    pub fn tag_with(&self, bytes: &[u8]) -> Tag
+        ensures { (computation : Computation) (message : List ℕ)
+            → HoldsMessage computation self.now message
+            → result ≡ tag_of computation (message ++ bytes.now) }
+    {
+        self.running.tag_with(bytes)
     }
 
     /// Adds a piece to its message.

@@ -1,12 +1,14 @@
 use crate::active_operations::Operation;
-use crate::rows::{add_piece, find_operation, remove_operation, remove_session};
+use crate::rows::{add_piece, find_operation, remove_named, remove_operation, remove_session};
 use ck_journal::OperationKind;
-use ck_types::{Hash, NoMemory};
+use ck_mac::RunningTag;
+use ck_types::NoMemory;
 use std::alloc::Global;
 use std::marker::Model;
 
 /// The active operations of all sessions that take a message in pieces, at most one of a kind in a
-/// session (PKCS #11 Base 3.0, Message digesting functions).
+/// session (PKCS #11 Base 3.0, Message digesting functions, Signing and MACing functions, Functions
+/// for verifying signatures and MACs).
 #[derive(Debug, Drop)]
 pub struct Operations {
     rows: Vec<Operation>,
@@ -25,14 +27,16 @@ impl Model for Operations {
 }
 
 impl Operations {
-    ghost use Rattle.std.specs.Prelude.{◌≡◌, ◌<◌, ℕ, false, OnOk, IsOk};
+    ghost use Rattle.std.specs.Prelude.{◌≡◌, ◌<◌, ℕ, [], false, Option, OnOk, IsOk};
     ghost use Rattle.std.specs.Option.{option_copied};
     ghost use Rattle.ck_journal.specs.Bases.{empty_base};
     ghost use Rattle.ck_journal.specs.Histories.{History, start, ◌◁◌};
     ghost use Rattle.ck_journal.specs.Operations.{is_active};
     ghost use Rattle.ck_journal.specs.declared.calls.Entry.{Entry};
     ghost use Rattle.ck_operations.specs.Agreement.{OperationsAgree, OptionAgrees, operation_at};
-    ghost use Rattle.ck_operations.specs.Moves.{Start, Add, End, OnlyIn, OnlyInSession, InAll};
+    ghost use Rattle.ck_mac.specs.Computations.{Computation, HoldsTag};
+    ghost use Rattle.ck_operations.specs.Moves.{Start, Add, End, OnlyIn, OnlyInSession, OnlyNamed};
+    ghost use Rattle.ck_operations.specs.Moves.{InAll, IsStartOf};
 
     /// No operations, which takes no memory.
     pub fn new(alloc: Global) -> Operations
@@ -64,14 +68,21 @@ impl Operations {
     // ---- changes, each by what the entry of an answered call does to operations
 
     /// Starts an operation where the session has none of the kind and there is room for it, and
-    /// takes no memory.
-    pub fn start(&mut self, kind: OperationKind, session: u64, hash: Hash)
+    /// takes no memory. The tag is that of the empty message; `key` is the number of its key.
+    pub fn start(
+        &mut self,
+        kind: OperationKind,
+        session: u64,
+        running: RunningTag,
+        key: Option<u64>,
+    )
         requires { 0 < self.old.spare }
-        ensures agree { (h : History) (e : Entry) → OnlyIn kind session (Start hash) e
-            → is_active kind h session ≡ false
+        ensures agree { (h : History) (e : Entry) (computation : Computation)
+            → HoldsTag computation running [] → IsStartOf h e computation key
+            → OnlyIn kind session Start e → is_active kind h session ≡ false
             → OperationsAgree h self.old → OperationsAgree (e ◁ h) self.new }
     {
-        let operation = Operation::new(kind, session, hash);
+        let operation = Operation::new(kind, session, running, key);
         self.rows.push(operation).unwrap();
     }
 
@@ -97,6 +108,14 @@ impl Operations {
             → OperationsAgree h self.old → OperationsAgree (e ◁ h) self.new }
     {
         remove_session(&mut self.rows, session);
+    }
+
+    /// Ends the operations of the session whose kinds the flags name.
+    pub fn cancel(&mut self, session: u64, flags: u64)
+        ensures agree { (h : History) (e : Entry) → OnlyNamed session flags End e
+            → OperationsAgree h self.old → OperationsAgree (e ◁ h) self.new }
+    {
+        remove_named(&mut self.rows, session, flags);
     }
 
     /// Ends all operations of all sessions.

@@ -1,7 +1,7 @@
 ghost use Rattle.std.specs.Prelude.{◌≡◌, not, filter, find, position};
 ghost use Rattle.std.specs.Option.{option_copied};
 ghost use Rattle.ck_operations.specs.declared.active_operations.Operation.{Operation};
-ghost use Rattle.ck_operations.specs.Rows.{is_operation, is_of_session, IsUpdateOfRows};
+ghost use Rattle.ck_operations.specs.Rows.{is_operation, is_of_session, is_named, IsUpdateOfRows};
 
 use crate::active_operations::Operation;
 use ck_journal::OperationKind;
@@ -44,4 +44,11 @@ pub(crate) fn remove_session(rows: &mut Vec<Operation>, session: u64)
         ≡ filter (λ (row : Operation). not (is_of_session session row)) rows.old.items }
 {
     rows.retain(|row| !row.is_of_session(session));
+}
+
+pub(crate) fn remove_named(rows: &mut Vec<Operation>, session: u64, flags: u64)
+    ensures { rows.new.items
+        ≡ filter (λ (row : Operation). not (is_named session flags row)) rows.old.items }
+{
+    rows.retain(|row| !row.is_named(session, flags));
 }

@@ -3,17 +3,21 @@ use Rattle.std.proofs.Common.{◌≡◌, ℕ, suc, ◌+◌, ◌<◌, ◌^◌, Bo
 use Rattle.std.proofs.Common.{[], ◌∷◌, ◌++◌, Option, Some, None, refl, sym, ap, ◌∙◌, add-one}
 use Rattle.std.specs.Prelude.{◌==◌, map, filter, filter_map, option_map}
 use Rattle.std.proofs.lemmas.Bool.{eqb-true}
-use Rattle.ck_types.specs.Records.{with_given, is_set}
+use Rattle.ck_types.specs.KeyStates.{state_of_number}
+use Rattle.ck_types.specs.Records.{with_given, with_state, is_set}
 use Rattle.ck_types.specs.declared.attributes.Attribute.TheVariants as attribute
 use Rattle.ck_types.specs.declared.items.Item.{Item}
+use Rattle.ck_types.specs.declared.key_states.KeyState.{KeyState}
 use Rattle.ck_types.specs.declared.pins.Pin.{Pin}
 use Rattle.ck_types.specs.declared.templates.Template.{Template}
+use Rattle.ck_types.proofs.ChangeLemmas.{token-in_state}
 use Rattle.ck_journal.specs.declared.calls.Call.{Call}
 use Rattle.ck_journal.specs.declared.calls.Call.TheVariants as call
 use Rattle.ck_journal.specs.declared.calls.Entry.{Entry}
 use Rattle.ck_journal.specs.Histories.{History, ◌◁◌, done, effects}
 use Rattle.ck_journal.specs.Objects.{creates, creations, creation_session, session_of}
 use Rattle.ck_journal.specs.Objects.{creation_attributes, object_at, object_after, view_of}
+use Rattle.ck_journal.specs.Objects.{in_state}
 use Rattle.ck_journal.specs.Objects.{is_session_object, object_named, attributes_named}
 use Rattle.ck_journal.specs.Objects.{named_attributes}
 use Rattle.ck_journal.proofs.ObjectMoves.{object_rows, creations-created, object_rows-created}
@@ -23,6 +27,7 @@ use Rattle.ck_journal.proofs.Selections.{filter_map-kept, filter_map-changed}
 use Rattle.ck_store.specs.Agreement.{StoreState, StoreAgrees}
 use Rattle.ck_store.specs.Rows.{ObjectRow, object_row, owning_session, has_number, is_of_session}
 use Rattle.ck_store.specs.Rows.{is_session_row, is_private_session_row, with_attributes}
+use Rattle.ck_store.specs.Rows.{with_key_state}
 use Rattle.ck_store.proofs.Readings.{names-number, named_attributes-number}
 
 module _ (h : History) (old : StoreState) (agree : StoreAgrees h old) (e : Entry) where
@@ -207,3 +212,30 @@ module _ (h : History) (old : StoreState) (agree : StoreAgrees h old) (e : Entry
               (names-number h old agree object small number named k attributes is)
               ∙ ap Some (given_case k attributes (k == number) is refl))
               (rows ∙ filter_map-changed (with_attributes number given) old.rows)
+
+        module _ (n : ℕ) (state : KeyState) (is_state : state_of_number n ≡ Some state) where
+          state_case : (k creator : ℕ) (attributes : List Item) (t : Bool)
+              → object_row k creator (cond t (in_state (state_of_number n) attributes) attributes)
+              ≡ cond t
+              (record (object_row k creator attributes) { attributes = with_state state attributes })
+              (object_row k creator attributes)
+          state_case k creator attributes false = refl
+          state_case k creator attributes true =
+              ap (λ o. object_row k creator (in_state o attributes)) is_state
+              ∙ ap (λ token. record {
+                number = k;
+                session = cond (not token) (Some creator) None;
+                attributes = with_state state attributes;
+              }) (token-in_state state attributes)
+
+          pub StoreAgrees-state_set : done e ≡ Some (call.SetKeyState session object n)
+              → new.rows ≡ map (with_key_state number state) old.rows → StoreAgrees (e ◁ h) new
+          StoreAgrees-state_set d rows =
+              StoreAgrees-later (call.SetKeyState session object n) d refl count
+              (λ row. Some (with_key_state number state row))
+              (λ k attributes is.
+              ap (λ t. Some (object_row k (session_of h k)
+              (cond t (in_state (state_of_number n) attributes) attributes)))
+              (names-number h old agree object small number named k attributes is)
+              ∙ ap Some (state_case k (session_of h k) attributes (k == number)))
+              (rows ∙ filter_map-changed (with_key_state number state) old.rows)

@@ -2,9 +2,10 @@
 use Rattle.std.specs.Prelude.{ℕ, ◌<◌, Bool, false, List, Option, Some, None, ◌==◌, ◌&&◌, AllPairs}
 use Rattle.std.specs.Prelude.{filter, is_some, map, if◌then◌else◌}
 use Rattle.std.specs.Option.{option_map_or}
-use Rattle.ck_types.specs.Records.{is_set}
+use Rattle.ck_types.specs.Records.{is_set, with_state}
 use Rattle.ck_types.specs.declared.attributes.Attribute.TheVariants as attribute
 use Rattle.ck_types.specs.declared.items.Item.{Item}
+use Rattle.ck_types.specs.declared.key_states.KeyState.{KeyState}
 use Rattle.ck_journal.specs.Objects.{is_session_object, is_visible_with, handle_with}
 use Rattle.ck_journal.specs.Searches.{is_match_with}
 use Rattle.ck_journal.specs.declared.views.View.{View}
@@ -56,6 +57,13 @@ visible_handle view row =
 abbrev pub with_attributes : ℕ → List Item → ObjectRow → ObjectRow
 with_attributes number attributes row =
     if has_number number row then record row { attributes = attributes } else row
+
+-- the object of this number, a key, in this state; another object as it is
+abbrev pub with_key_state : ℕ → KeyState → ObjectRow → ObjectRow
+with_key_state number state row =
+    if has_number number row
+    then record row { attributes = with_state state row.attributes }
+    else row
 
 -- ---- lists of objects
 

@@ -1,12 +1,13 @@
 ghost use Rattle.std.specs.Prelude.{◌≡◌, ◌<◌, length, map, not, filter, find, position};
 ghost use Rattle.std.specs.Prelude.{IfOk, IfSome};
 ghost use Rattle.std.specs.Option.{option_copied};
-ghost use Rattle.ck_store.specs.Rows.{has_number, with_attributes, NumbersRise, matching_numbers};
+ghost use Rattle.ck_store.specs.Rows.{has_number, with_attributes, with_key_state, NumbersRise};
+ghost use Rattle.ck_store.specs.Rows.{matching_numbers};
 ghost use Rattle.ck_store.specs.Rows.{is_of_session, is_session_row, is_private_session_row};
 
 use crate::stored_objects::StoredObject;
 use ck_journal::View;
-use ck_types::{NoMemory, Record, Template};
+use ck_types::{KeyState, NoMemory, Record, Template};
 use std::alloc::Global;
 
 /// The place of the object that has the number, among objects whose numbers rise.
@@ -52,6 +53,16 @@ pub(crate) fn set_numbered(rows: &mut Vec<StoredObject>, number: u64, attributes
 {
     if let Some(place) = place_of(rows.as_slice(), number) {
         rows[place].set_attributes(attributes);
+    }
+}
+
+/// Gives the key that has the number this state, among objects whose numbers rise.
+pub(crate) fn set_state_numbered(rows: &mut Vec<StoredObject>, number: u64, state: KeyState)
+    ensures { NumbersRise rows.old.items
+        → rows.new.items ≡ map (with_key_state number state) rows.old.items }
+{
+    if let Some(place) = place_of(rows.as_slice(), number) {
+        rows[place].set_state(state);
     }
 }
 

@@ -1,5 +1,5 @@
 use ck_journal::View;
-use ck_types::{Attribute, Record, Template};
+use ck_types::{Attribute, KeyState, Record, Template};
 use std::marker::Model;
 
 /// An object that hasn't ended.
@@ -28,6 +28,7 @@ impl Model for StoredObject {
 
 impl StoredObject {
     ghost use Rattle.std.specs.Prelude.{◌≡◌, ◌<◌, ◌^◌};
+    ghost use Rattle.ck_types.specs.Records.{with_state};
     ghost use Rattle.ck_journal.specs.Objects.{is_visible_with};
     ghost use Rattle.ck_store.specs.Rows.{is_of_session, is_session_row, is_private_session_row};
     ghost use Rattle.ck_store.specs.Rows.{object_row, is_match, visible_handle};
@@ -65,6 +66,12 @@ impl StoredObject {
         ensures { self.new ≡ record self.old { attributes = attributes } }
     {
         self.attributes = attributes;
+    }
+
+    pub(crate) fn set_state(&mut self, state: KeyState)
+        ensures { self.new ≡ record self.old { attributes = with_state state self.old.attributes } }
+    {
+        self.attributes.set_state(state);
     }
 
     fn is_visible(&self, view: View) -> bool

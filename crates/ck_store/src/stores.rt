@@ -1,10 +1,10 @@
 use crate::rows::{
     find_matching, find_numbered, remove_numbered, remove_of_session,
-    remove_private_session_objects, remove_session_objects, set_numbered,
+    remove_private_session_objects, remove_session_objects, set_numbered, set_state_numbered,
 };
 use crate::stored_objects::StoredObject;
 use ck_journal::{View, number_of_handle};
-use ck_types::{NoMemory, Record, Template};
+use ck_types::{KeyState, NoMemory, Record, Template};
 use std::alloc::Global;
 use std::marker::Model;
 
@@ -34,6 +34,7 @@ impl Store {
     ghost use Rattle.std.specs.Prelude.{◌≡◌, ◌+◌, ◌<◌, ◌^◌, ℕ, true, None, Some};
     ghost use Rattle.std.specs.Prelude.{IfNone, IfOk, IfSome, OnOk};
     ghost use Rattle.std.specs.Option.{option_copied};
+    ghost use Rattle.ck_types.specs.KeyStates.{state_of_number};
     ghost use Rattle.ck_types.specs.Records.{is_set, with_given};
     ghost use Rattle.ck_types.specs.declared.attributes.Attribute.TheVariants as attribute;
     ghost use Rattle.ck_types.specs.declared.pins.Pin.{Pin};
@@ -152,6 +153,17 @@ impl Store {
             → StoreAgrees h self.old → StoreAgrees (e ◁ h) self.new }
     {
         set_numbered(&mut self.rows, number, attributes);
+    }
+
+    /// Gives the key that has the number this state.
+    pub fn set_state(&mut self, number: u64, state: KeyState)
+        ensures agree { (h : History) (e : Entry) (session key n : ℕ)
+            → done e ≡ Some (call.SetKeyState session key n)
+            → state_of_number n ≡ Some state
+            → object_named h key ≡ Some number
+            → StoreAgrees h self.old → StoreAgrees (e ◁ h) self.new }
+    {
+        set_state_numbered(&mut self.rows, number, state);
     }
 
     /// Ends the object that has the number.

@@ -1,4 +1,3 @@
-use Rattle.std.proofs.Common.{◌∙◌, ap, set}
 use Rattle.ck_operations.proofs.RowLemmas.{added-at, added-nowhere}
 use Rattle.ck_operations.proofs.rows.add_piece.Goals as goal
 

@@ -7,5 +7,6 @@ pub returns : goal.returns
 returns c =
     IfOk-weaker c.find_matching.result _ _
     (λ numbers found h agree view. found
-    ∙ rw (c.as_slice.ensures.value, view) (matching-agree h _ (rw (← c.self.view_is) at agree) _))
+    ∙ rw (c.as_slice.ensures.value, view)
+    (matching-agree h _ (rw (← c.self.view_is) at agree) c.args.template.now.items))
     c.find_matching.ensures
