@@ -1,17 +1,20 @@
 -- That the counts which a change raises stay in range
-use Rattle.std.proofs.Common.{◌≡◌, ℕ, Bool, true, false, not, Option, Some, None, refl, ap, ◌∙◌, subst, arith}
+use Rattle.std.proofs.Common.{◌≡◌, ℕ, Bool, true, false, not, Option, Some, None, refl, ap, sym, ◌∙◌, subst, arith}
 use Rattle.std.specs.Prelude.{is_none, is_some}
 use Rattle.ck_types.specs.Checks.{error_if, or_else}
 use Rattle.ck_types.specs.TokenLimits.{Ranges, AreInRange}
 use Rattle.ck_types.specs.declared.errors.RvError.{RvError}
 use Rattle.ck_types.specs.declared.errors.RvError.TheVariants as rv_error
+use Rattle.ck_types.specs.declared.hashes.Hash.{Hash}
 use Rattle.ck_types.specs.declared.pins.Pin.{Pin}
 use Rattle.ck_types.specs.declared.users.UserType.{UserType}
 use Rattle.ck_types.specs.declared.users.UserType.TheVariants as user
 use Rattle.ck_types.proofs.CheckLemmas.{or_else-none}
+use Rattle.ck_types.proofs.MechanismLemmas.{tag_length-bounds}
 use Rattle.ck_journal.specs.declared.calls.Call.{Call}
 use Rattle.ck_journal.specs.declared.calls.Call.TheVariants as call
 use Rattle.ck_journal.specs.declared.calls.Entry.{Entry}
+use Rattle.ck_journal.specs.declared.operations.OperationKind.{OperationKind}
 use Rattle.ck_journal.specs.declared.replies.Reply.{Reply}
 use Rattle.ck_journal.specs.Answers.{IsLegal, answer, call_error, session_error}
 use Rattle.ck_journal.specs.Histories.{History, done}
@@ -24,7 +27,8 @@ use Rattle.ck_token.specs.Changes.{effect}
 use Rattle.ck_token.specs.declared.changes.Change.{Change}
 use Rattle.ck_token.specs.declared.changes.Change.TheVariants as change
 use Rattle.ck_token.specs.declared.parts.Parts.{Parts}
-use Rattle.ck_token.proofs.Inversions.{done-of_call, of-SetPin, of-CreateObject}
+use Rattle.ck_token.proofs.Inversions.{done-of_call, of-SetPin, of-CreateObject, of-StartHmac}
+use Rattle.ck_token.proofs.PartMoves.{hmac-passed}
 
 credential-agrees : (u : UserType) (h : History) (s : SessionsState) → SessionsAgree h s → CredentialAgrees u h (credential_of u s)
 credential-agrees user.So h s agree = agree.so
@@ -46,6 +50,12 @@ set_pin-passed limits h session old new e =
     is_some-pin (present_pin owner h)
     (some_pin (is_none (present_pin owner h)) _
     (or_else-none (error_if (not (is_read_write h session)) rv_error.SessionReadOnly) _ (or_else-none (session_error h session) _ e).1).1)
+
+-- the hash function, the key and the length that a signing or verifying starts with
+pub started-injected : (k : OperationKind) (session : ℕ) (made : Hash) (number len : ℕ) (other : Hash) (n m : ℕ)
+    → change.StartHmac k session made number len ≡ change.StartHmac k session other n m
+    → (made ≡ other) × (number ≡ n) × (len ≡ m)
+started-injected k session made number len other n m e = (cc, cc, cc)
 
 module _ (limits : Ranges) (in_range : AreInRange limits.sessions limits.openings limits.creations limits.logins) (h : History) (p : Parts)
     (legal : IsLegal limits h) (agree : PartsAgree h p) (c : Call) (r : Reply) (answered : r ≡ answer limits h c) where
@@ -82,4 +92,11 @@ module _ (limits : Ranges) (in_range : AreInRange limits.sessions limits.opening
       let below = tries-bound limits h agree.objects.sound legal u in
       let same = (credential-agrees u h p.sessions agree.sessions).tries in
       omega arith
+  counted (change.StartHmac k session hash key len) is =
+      let d = done-of_call h answered_entry (change.StartHmac k session hash key len) is refl in
+      let of = of-StartHmac h r.body limits c k session hash key len d.1 in
+      let starts = of.3 in
+      let passed = hmac-passed k h session of.0 of.1 (sym starts.error ∙ passes d.0) in
+      let same = started-injected k session hash key len _ _ _ of.2 in
+      tag_length-bounds of.0 hash len (passed.1 ∙ ap Some (sym same.0)) (passed.2 ∙ ap Some (sym same.2))
   counted other is = tt

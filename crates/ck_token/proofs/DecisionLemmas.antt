@@ -1,8 +1,8 @@
 -- Decisions by the checks of a call, one after the other
 use Rattle.std.proofs.Common.{◌≡◌, ℕ, Bool, true, false, cond, not, List, Option, Some, None, Result, Ok, Err, length, refl, sym, ap, ◌∙◌, subst}
-use Rattle.std.specs.Prelude.{◌&&◌, is_none, is_some, nat_lt}
+use Rattle.std.specs.Prelude.{◌==◌, ◌&&◌, is_none, is_some, nat_lt}
 use Rattle.std.specs.List.{list_any}
-use Rattle.std.specs.Result.{IsErrAnd}
+use Rattle.std.specs.Result.{IsErrAnd, IfErr}
 use Rattle.std.specs.Option.{option_map_or}
 use Rattle.ck_types.specs.Checks.{error_if, or_else}
 use Rattle.ck_types.specs.TokenLimits.{Ranges}
@@ -15,21 +15,30 @@ use Rattle.ck_types.specs.declared.users.UserType.{UserType}
 use Rattle.ck_journal.specs.declared.calls.Call.TheVariants as call
 use Rattle.ck_journal.specs.declared.replies.Body.{Body}
 use Rattle.ck_journal.specs.declared.replies.Reply.{Reply}
-use Rattle.ck_mac.specs.Digests.{digest_of}
+use Rattle.ck_mac.specs.Macs.{signature_error}
+use Rattle.ck_types.specs.Attributes.{same_bytes}
+use Rattle.ck_types.specs.Records.{state_in}
 use Rattle.ck_journal.specs.declared.operations.OperationKind.{OperationKind}
 use Rattle.ck_journal.specs.declared.operations.OperationKind.TheVariants as kind
 use Rattle.ck_journal.specs.declared.replies.Body.TheVariants as body
-use Rattle.ck_journal.specs.Operations.{leaves_active, hash_in, message_in}
-use Rattle.ck_journal.specs.Answers.{ok, too_small, bytes_reply, unless, answer, allowed_reply, call_error, session_error, object_error}
-use Rattle.ck_journal.specs.Queries.{is_missing, lacks_room}
+use Rattle.ck_journal.specs.OperationCalls.{Step, initialize, take_whole, add_piece, finish}
+use Rattle.ck_journal.specs.OperationCalls.{OperationStep, operation_step}
+use Rattle.ck_journal.specs.Operations.{leaves_active, message_in, is_active, is_updated, is_long_piece}
+use Rattle.ck_journal.specs.Operations.{key_in}
+use Rattle.ck_journal.specs.Answers.{ok, too_small, bytes_reply, unless, answer, allowed_reply}
+use Rattle.ck_journal.specs.Answers.{call_error, session_error, object_error, operation_error}
+use Rattle.ck_journal.specs.Answers.{present_key_error, key_state_error, may_serve, message_error}
+use Rattle.ck_journal.specs.Answers.{final_error, piece_error, verify_error, verify_final_error, tag_in}
+use Rattle.ck_journal.specs.Queries.{is_sensitive, is_missing, lacks_room}
 use Rattle.ck_journal.specs.Replies.{has_list}
 use Rattle.ck_journal.specs.Histories.{History}
-use Rattle.ck_journal.specs.Objects.{attributes_named, named_attributes}
+use Rattle.ck_journal.specs.Objects.{attributes_named, named_attributes, object_at}
 use Rattle.ck_journal.specs.Pins.{about}
 use Rattle.ck_journal.specs.Sessions.{is_open}
 use Rattle.ck_token.specs.Agreement.{adds}
-use Rattle.ck_token.specs.Changes.{change_of, end_if_too_long, wrong_try_change, refused_change, effect, effect_by}
-use Rattle.ck_token.specs.Decisions.{IsDecision, takes_memory, may_run_out, reply_of}
+use Rattle.ck_token.specs.Changes.{change_of, wrong_try_change, finish_change, refused_change}
+use Rattle.ck_token.specs.Changes.{refused_by, refused_step, effect, effect_by}
+use Rattle.ck_token.specs.Decisions.{IsDecided, IsDecision, takes_memory, may_run_out, reply_of}
 use Rattle.ck_token.specs.declared.changes.Change.{Change}
 use Rattle.ck_token.specs.declared.changes.Change.TheVariants as change
 use Rattle.ck_token.specs.declared.decisions.Decision.{Decision}
@@ -50,21 +59,50 @@ refused-decision limits h c (Err reason) code made fails nobody =
     subst (λ (reason : Refused). IsDecision limits h c (Err reason)) (sym made)
     (fails, sym (nobody ∙ wrong_try_change-nobody code))
 
+-- what is so of an error is so of a result that is it
+pub of-err : {A : Type 0} (result : Result A RvError) (code : RvError) (P : RvError → Type 0)
+    → IsErrAnd result (λ made. made ≡ code) → P code → IfErr result P
+of-err (Ok a) code P is holds = absurd is
+of-err (Err made) code P is holds = subst P (sym is) holds
+
+-- a check fails, and the refusal changes this
+pub refusing-decided : (error : Option RvError) (reply : Reply) (made : Body → Change)
+    (refusing : RvError → Change) (memory : Bool) (reason : Refused) (code : RvError) (change : Change)
+    → reason ≡ refused.Error code change → error ≡ Some code → change ≡ refusing code
+    → IsDecided error reply made refusing memory (Err reason)
+refusing-decided error reply made refusing memory reason code change is fails changes = rw is (fails, changes)
+
+-- a call that a check refuses, and what the refusal changes
+pub refusing-decision : (limits : Ranges) (h : History) (c : Call) (reason : Refused) (code : RvError) (made : Change)
+    → reason ≡ refused.Error code made → call_error limits h c ≡ Some code
+    → made ≡ refused_change c code (about h (Some c)) → IsDecision limits h c (Err reason)
+refusing-decision limits h c reason code made is fails changes = rw is (fails, changes)
+
 -- a call that passes its checks and finds no memory
+pub memory-decided : (error : Option RvError) (reply : Reply) (made : Body → Change)
+    (refusing : RvError → Change) (memory : Bool) (result : Result Decision Refused)
+    → IsErrAnd result (λ made. made ≡ refused.Memory) → error ≡ None → memory ≡ true
+    → IsDecided error reply made refusing memory result
+memory-decided error reply made refusing memory (Ok decision) is passes takes = absurd is
+memory-decided error reply made refusing memory (Err reason) is passes takes =
+    subst (λ (reason : Refused). IsDecided error reply made refusing memory (Err reason)) (sym is)
+    (rw (passes, takes) refl)
+
 pub memory-decision : (limits : Ranges) (h : History) (c : Call) (result : Result Decision Refused)
-    → IsErrAnd result (λ made. made ≡ refused.Memory) → call_error limits h c ≡ None → takes_memory c ≡ true → IsDecision limits h c result
-memory-decision limits h c (Ok decision) made passes takes = absurd made
-memory-decision limits h c (Err reason) made passes takes =
-    subst (λ (reason : Refused). IsDecision limits h c (Err reason)) (sym made) (rw (passes, takes) refl)
+    → IsErrAnd result (λ made. made ≡ refused.Memory) → call_error limits h c ≡ None → takes_memory c ≡ true
+    → IsDecision limits h c result
+memory-decision limits h c =
+    memory-decided (call_error limits h c) (allowed_reply limits h c) (λ b. change_of h c b)
+    (λ code. refused_change c code (about h (Some c))) (takes_memory c)
 
 -- a reply that gives bytes or their length
-by_room : (h : History) (c : Call) (session : ℕ)
-    → ((b : Body) → change_of h c b ≡ change.FinishOperation kind.Digest session (not (leaves_active rv.Ok b)))
-    → refused_change c rv_error.BufferTooSmall (about h (Some c)) ≡ change.FinishOperation kind.Digest session false
+by_room : (h : History) (c : Call) (k : OperationKind) (session : ℕ)
+    → ((b : Body) → change_of h c b ≡ finish_change k session rv.Ok b)
+    → refused_change c rv_error.BufferTooSmall (about h (Some c)) ≡ change.FinishOperation k session false
     → (room : Option ℕ) (bytes : List ℕ)
     → change_of h c (bytes_reply room bytes).body ≡ effect h c (bytes_reply room bytes)
-by_room h c session of stays None bytes = refl
-by_room h c session of stays (Some room) bytes = cases (nat_lt room (length bytes))
+by_room h c k session of stays None bytes = refl
+by_room h c k session of stays (Some room) bytes = cases (nat_lt room (length bytes))
   where
     reply : Bool → Reply
     reply longer = cond longer (too_small (length bytes)) (ok (body.Bytes bytes))
@@ -76,20 +114,30 @@ by_room h c session of stays (Some room) bytes = cases (nat_lt room (length byte
 -- the change of a call that passes its checks is that of its entry
 pub allowed-effect : (limits : Ranges) (h : History) (c : Call) → change_of h c (allowed_reply limits h c).body ≡ effect h c (allowed_reply limits h c)
 allowed-effect limits h (call.GetAttributeValue session object queries) =
-    by_code (list_any (is_missing (named_attributes h object)) queries) (list_any (lacks_room (named_attributes h object)) queries) _
+    by_code (list_any (is_sensitive (named_attributes h object)) queries)
+    (list_any (is_missing (named_attributes h object)) queries)
+    (list_any (lacks_room (named_attributes h object)) queries) _
   where
-    by_code : (missing longer : Bool) (body : Body)
+    by_code : (hidden missing longer : Bool) (body : Body)
         → change.Nothing ≡ effect_by h (call.GetAttributeValue session object queries)
-        (cond missing (rv.Error rv_error.AttributeTypeInvalid) (cond longer (rv.Error rv_error.BufferTooSmall) rv.Ok)) body
-    by_code true longer body = refl
-    by_code false true body = refl
-    by_code false false body = refl
+        (cond hidden (rv.Error rv_error.AttributeSensitive) (cond missing (rv.Error rv_error.AttributeTypeInvalid)
+        (cond longer (rv.Error rv_error.BufferTooSmall) rv.Ok))) body
+    by_code true missing longer body = refl
+    by_code false true longer body = refl
+    by_code false false true body = refl
+    by_code false false false body = refl
 allowed-effect limits h (call.Digest session bytes room) =
-    by_room h (call.Digest session bytes room) session (λ b. refl) refl
-    room (digest_of (hash_in kind.Digest h session) bytes)
+    by_room h (call.Digest session bytes room) kind.Digest session (λ b. refl) refl
+    room (tag_in kind.Digest h session bytes)
 allowed-effect limits h (call.DigestFinal session room) =
-    by_room h (call.DigestFinal session room) session (λ b. refl) refl
-    room (digest_of (hash_in kind.Digest h session) (message_in kind.Digest h session))
+    by_room h (call.DigestFinal session room) kind.Digest session (λ b. refl) refl
+    room (tag_in kind.Digest h session (message_in kind.Digest h session))
+allowed-effect limits h (call.Sign session bytes room) =
+    by_room h (call.Sign session bytes room) kind.Sign session (λ b. refl) refl
+    room (tag_in kind.Sign h session bytes)
+allowed-effect limits h (call.SignFinal session room) =
+    by_room h (call.SignFinal session room) kind.Sign session (λ b. refl) refl
+    room (tag_in kind.Sign h session (message_in kind.Sign h session))
 allowed-effect limits h other = refl
 
 -- ---- what takes no memory
@@ -109,6 +157,11 @@ no_list limits h c r answered free = ap (λ (r : Reply). has_list r.body) answer
         by_call (call.Digest session bytes (Some room)) free = cc
         by_call (call.DigestFinal session None) free = refl
         by_call (call.DigestFinal session (Some room)) free = cc
+        by_call (call.Sign session bytes None) free = refl
+        by_call (call.Sign session bytes (Some room)) free = cc
+        by_call (call.SignFinal session None) free = refl
+        by_call (call.SignFinal session (Some room)) free = cc
+        by_call call.GetMechanismList free = cc
         by_call other free = refl
 
 -- and adds nothing
@@ -122,28 +175,40 @@ adds_nothing limits h c r made answered is free =
     by_pin rv_error.PinIncorrect (Some u) = refl
     by_pin other who = refl
 
-    if_long : (k : OperationKind) (session : ℕ) (code : RvError) → adds (end_if_too_long k session code) ≡ false
-    if_long k session rv_error.DataLenRange = refl
-    if_long k session other = refl
+    by_step : (k : OperationKind) (session : ℕ) (x : Step) (code : RvError) → adds (refused_step k session x code) ≡ false
+    by_step k session initialize code = refl
+    by_step k session (add_piece bytes) rv_error.DataLenRange = refl
+    by_step k session (add_piece bytes) other = refl
+    by_step k session (take_whole bytes) code = refl
+    by_step k session finish code = refl
 
-    by_refusal : (c : Call) (code : RvError) (who : Option UserType) → adds (refused_change c code who) ≡ false
-    by_refusal (call.Digest session bytes room) code who = refl
-    by_refusal (call.DigestUpdate session bytes) code who = if_long kind.Digest session code
-    by_refusal (call.DigestFinal session room) code who = refl
-    by_refusal other code who = by_pin code who
+    by_refusal : (o : Option OperationStep) (code : RvError) (who : Option UserType) → adds (refused_by o code who) ≡ false
+    by_refusal (Some o) code who = by_step o.kind o.session o.step code
+    by_refusal None code who = by_pin code who
 
     by_error : (error : Option RvError) → (is_none error && takes_memory c) ≡ false → adds (effect h c (unless error (allowed_reply limits h c))) ≡ false
-    by_error (Some code) free = by_refusal c code (about h (Some c))
+    by_error (Some code) free = by_refusal (operation_step c) code (about h (Some c))
     by_error None free = ap adds (sym (allowed-effect limits h c)) ∙ by_call c (allowed_reply limits h c).body free
       where
         by_call : (c : Call) (b : Body) → takes_memory c ≡ false → adds (change_of h c b) ≡ false
         by_call (call.OpenSession flags) b free = cc
         by_call (call.CreateObject session template) b free = cc
+        by_call (call.GenerateKey session mechanism template random) b free = cc
         by_call (call.CopyObject session object template) b free = cc
         by_call (call.DigestInit session mechanism) b free = cc
+        by_call (call.SignInit session mechanism key) b free = cc
+        by_call (call.VerifyInit session mechanism key) b free = cc
         by_call other b free = refl
 
 -- ---- checks in order, of which all before one pass
+
+-- a check that passes, and the later ones
+pub skip : (first later : Option RvError) → first ≡ None → or_else first later ≡ later
+skip first later passes = rw passes refl
+
+-- a check that fails, whatever comes later
+pub hit : (first later : Option RvError) (code : RvError) → first ≡ Some code → or_else first later ≡ Some code
+hit first later code fails = rw fails refl
 
 pub second-fails : (a b later : Option RvError) (code : RvError) → a ≡ None → b ≡ Some code → or_else a (or_else b later) ≡ Some code
 second-fails a b later code first fails = rw (first, fails)
@@ -190,9 +255,109 @@ room-given None bytes e = absurd (no_bytes (length bytes) bytes (ap (λ (r : Rep
     no_bytes n bytes e = cc
 room-given (Some room) bytes e = refl
 
-pub gives-bytes : (session : ℕ) (d : Decision) (tag bytes : List ℕ) (expected : Reply)
-    → d ≡ record { rv = rv.Ok; body = body.Bytes tag; change = change.FinishOperation kind.Digest session true }
+pub gives-bytes : (k : OperationKind) (session : ℕ) (d : Decision) (tag bytes : List ℕ) (expected : Reply)
+    → d ≡ record { rv = rv.Ok; body = body.Bytes tag; change = change.FinishOperation k session true }
     → expected ≡ ok (body.Bytes bytes) → tag ≡ bytes
-    → (reply_of d ≡ expected) × (d.change ≡ change.FinishOperation kind.Digest session (not (leaves_active rv.Ok d.body)))
-gives-bytes session d tag bytes expected is given same =
+    → (reply_of d ≡ expected) × (d.change ≡ finish_change k session rv.Ok d.body)
+gives-bytes k session d tag bytes expected is given same =
     rw is (ap (λ bytes. ok (body.Bytes bytes)) same ∙ sym given, refl)
+
+-- a verifying that ends well
+pub ends-decision : (session : ℕ) (d : Decision) (made : Change) (error : Option RvError)
+    → d ≡ record { rv = rv.Ok; body = body.Empty; change = made }
+    → made ≡ change.FinishOperation kind.Verify session true → error ≡ None
+    → (error ≡ None) × (reply_of d ≡ ok body.Empty) × (d.change ≡ finish_change kind.Verify session rv.Ok d.body)
+ends-decision session d made error is ends passes = rw (is, ends) (passes, refl, refl)
+
+-- ---- refusals that end an operation
+
+-- the error isn't that of a room that is too small
+abbrev pub is_final : Option RvError → Bool
+is_final None = true
+is_final (Some code) = not (leaves_active (rv.Error code) body.Empty)
+
+final-or_else : (a b : Option RvError) → is_final a ≡ true → is_final b ≡ true → is_final (or_else a b) ≡ true
+final-or_else None b first later = later
+final-or_else (Some code) b first later = first
+
+final-if : (t : Bool) (code : RvError) → is_final (Some code) ≡ true → is_final (error_if t code) ≡ true
+final-if true code is = is
+final-if false code is = refl
+
+final-session : (h : History) (session : ℕ) → is_final (session_error h session) ≡ true
+final-session h session = final-if (not (is_open h session)) rv_error.SessionHandleInvalid refl
+
+final-operation : (k : OperationKind) (h : History) (session : ℕ) → is_final (operation_error k h session) ≡ true
+final-operation k h session =
+    final-or_else (session_error h session) _ (final-session h session)
+    (final-or_else _ None
+    (final-if (not (is_active k h session)) rv_error.OperationNotInitialized refl) refl)
+
+final-key : (k : OperationKind) (h : History) (key : Option ℕ) → is_final (present_key_error k h key) ≡ true
+final-key k h None = refl
+final-key k h (Some n) = cases (object_at h n)
+  where
+    cases : (object : Option (List Item))
+        → is_final (option_map_or (key_state_error k) object (Some rv_error.KeyHandleInvalid)) ≡ true
+    cases None = refl
+    cases (Some a) =
+        final-if (not (option_map_or (may_serve k) (state_in a) false)) rv_error.KeyFunctionNotPermitted refl
+
+final-message : (k : OperationKind) (h : History) (session : ℕ) (bytes : List ℕ)
+    → is_final (message_error k h session bytes) ≡ true
+final-message k h session bytes =
+    final-or_else (operation_error k h session) _ (final-operation k h session)
+    (final-or_else (error_if (is_updated k h session) rv_error.OperationNotInitialized) _
+    (final-if (is_updated k h session) rv_error.OperationNotInitialized refl)
+    (final-or_else (piece_error bytes) _ (final-if (is_long_piece bytes) rv_error.DataLenRange refl)
+    (final-or_else _ None (final-key k h (key_in k h session)) refl)))
+
+final-final : (k : OperationKind) (h : History) (session : ℕ) → is_final (final_error k h session) ≡ true
+final-final k h session =
+    final-or_else (operation_error k h session) _ (final-operation k h session)
+    (final-or_else _ None (final-key k h (key_in k h session)) refl)
+
+final-signature : (tag signature : List ℕ) → is_final (signature_error tag signature) ≡ true
+final-signature tag signature = cases (length signature == length tag) (same_bytes signature tag)
+  where
+    cases : (fits same : Bool)
+        → is_final (cond fits (cond same None (Some rv_error.SignatureInvalid)) (Some rv_error.SignatureLenRange)) ≡ true
+    cases true true = refl
+    cases true false = refl
+    cases false same = refl
+
+-- such an error ends the operation
+pub ends-finally : (k : OperationKind) (session : ℕ) (error : Option RvError) (code : RvError)
+    → is_final error ≡ true → error ≡ Some code
+    → change.FinishOperation k session true ≡ finish_change k session (rv.Error code) body.Empty
+ends-finally k session error code final is =
+    ap (λ t. change.FinishOperation k session t) (sym (ap is_final (sym is) ∙ final))
+
+pub message-ends : (k : OperationKind) (h : History) (session : ℕ) (bytes : List ℕ) (code : RvError)
+    → message_error k h session bytes ≡ Some code
+    → change.FinishOperation k session true ≡ finish_change k session (rv.Error code) body.Empty
+message-ends k h session bytes code =
+    ends-finally k session (message_error k h session bytes) code (final-message k h session bytes)
+
+pub final-ends : (k : OperationKind) (h : History) (session : ℕ) (code : RvError)
+    → final_error k h session ≡ Some code
+    → change.FinishOperation k session true ≡ finish_change k session (rv.Error code) body.Empty
+final-ends k h session code =
+    ends-finally k session (final_error k h session) code (final-final k h session)
+
+pub verify-ends : (h : History) (session : ℕ) (bytes signature : List ℕ) (code : RvError)
+    → verify_error h session bytes signature ≡ Some code
+    → change.FinishOperation kind.Verify session true ≡ finish_change kind.Verify session (rv.Error code) body.Empty
+verify-ends h session bytes signature code =
+    ends-finally kind.Verify session (verify_error h session bytes signature) code
+    (final-or_else (message_error kind.Verify h session bytes) _ (final-message kind.Verify h session bytes)
+    (final-or_else _ None (final-signature (tag_in kind.Verify h session bytes) signature) refl))
+
+pub verify_final-ends : (h : History) (session : ℕ) (signature : List ℕ) (code : RvError)
+    → verify_final_error h session signature ≡ Some code
+    → change.FinishOperation kind.Verify session true ≡ finish_change kind.Verify session (rv.Error code) body.Empty
+verify_final-ends h session signature code =
+    ends-finally kind.Verify session (verify_final_error h session signature) code
+    (final-or_else (final_error kind.Verify h session) _ (final-final kind.Verify h session)
+    (final-or_else _ None
+    (final-signature (tag_in kind.Verify h session (message_in kind.Verify h session)) signature) refl))

@@ -1,8 +1,10 @@
 -- Which call a change is of
-use Rattle.std.proofs.Common.{◌≡◌, ℕ, Bool, true, false, cond, List, Option, Some, None, refl, sym, ap, ◌∙◌}
+use Rattle.std.proofs.Common.{◌≡◌, ℕ, Bool, true, false, cond, List, Option, Some, None, refl, sym, ap, ◌∙◌, subst}
 use Rattle.std.specs.Prelude.{map, unwrap_or}
+use Rattle.ck_types.specs.KeyStates.{state_of_number}
 use Rattle.ck_types.specs.Mechanisms.{digest_hash}
-use Rattle.ck_types.specs.Records.{with_given}
+use Rattle.ck_types.specs.Records.{with_given, key_value}
+use Rattle.ck_types.specs.TokenLimits.{Ranges}
 use Rattle.ck_types.specs.Users.{user_of}
 use Rattle.ck_types.specs.declared.errors.RvError.{RvError}
 use Rattle.ck_types.specs.declared.errors.RvError.TheVariants as rv_error
@@ -10,6 +12,8 @@ use Rattle.ck_types.specs.declared.return_codes.Rv.{Rv}
 use Rattle.ck_types.specs.declared.return_codes.Rv.TheVariants as rv
 use Rattle.ck_types.specs.declared.hashes.Hash.{Hash}
 use Rattle.ck_types.specs.declared.hashes.Hash.TheVariants as hash
+use Rattle.ck_types.specs.declared.key_states.KeyState.{KeyState}
+use Rattle.ck_types.specs.declared.key_states.KeyState.TheVariants as state
 use Rattle.ck_types.specs.declared.mechanisms.Mechanism.{Mechanism}
 use Rattle.ck_types.specs.declared.pins.Pin.{Pin}
 use Rattle.ck_types.specs.declared.items.Item.{Item}
@@ -28,7 +32,12 @@ use Rattle.ck_journal.specs.Objects.{creates, creation_session, creation_attribu
 use Rattle.ck_journal.specs.Pins.{pin_owner, about}
 use Rattle.ck_journal.specs.Searches.{matching_objects, last_number, last_or, number_of_handle, handles_in}
 use Rattle.ck_journal.specs.Sessions.{state_of}
-use Rattle.ck_token.specs.Changes.{change_of, end_if_too_long, wrong_try_change, refused_change, effect, effect_by}
+use Rattle.ck_journal.specs.Answers.{call_error, hmac_init_error}
+use Rattle.ck_journal.specs.OperationCalls.{Step, initialize, take_whole, add_piece, finish}
+use Rattle.ck_journal.specs.OperationCalls.{OperationStep, operation_step}
+use Rattle.ck_journal.specs.Operations.{added_bytes, started_computation, hmac_with, init_key}
+use Rattle.ck_token.specs.Changes.{change_of, start_hmac, wrong_try_change, refused_by, refused_step}
+use Rattle.ck_token.specs.Changes.{effect, effect_by}
 use Rattle.ck_token.specs.declared.changes.Change.{Change}
 use Rattle.ck_token.specs.declared.changes.Change.TheVariants as change
 
@@ -46,20 +55,23 @@ is_of_call-wrong_try rv_error.PinIncorrect None = refl
 is_of_call-wrong_try rv_error.PinIncorrect (Some u) = refl
 is_of_call-wrong_try other who = refl
 
-is_of_call-long : (k : OperationKind) (session : ℕ) (code : RvError) → is_of_call (end_if_too_long k session code) ≡ false
-is_of_call-long k session rv_error.DataLenRange = refl
-is_of_call-long k session other = refl
+is_of_call-step : (k : OperationKind) (session : ℕ) (x : Step) (code : RvError)
+    → is_of_call (refused_step k session x code) ≡ false
+is_of_call-step k session initialize code = refl
+is_of_call-step k session (add_piece bytes) rv_error.DataLenRange = refl
+is_of_call-step k session (add_piece bytes) other = refl
+is_of_call-step k session (take_whole bytes) code = refl
+is_of_call-step k session finish code = refl
 
-is_of_call-refused : (c : Call) (code : RvError) (who : Option UserType) → is_of_call (refused_change c code who) ≡ false
-is_of_call-refused (call.Digest session bytes room) code who = refl
-is_of_call-refused (call.DigestUpdate session bytes) code who = is_of_call-long kind.Digest session code
-is_of_call-refused (call.DigestFinal session room) code who = refl
-is_of_call-refused other code who = is_of_call-wrong_try code who
+is_of_call-refused : (o : Option OperationStep) (code : RvError) (who : Option UserType)
+    → is_of_call (refused_by o code who) ≡ false
+is_of_call-refused (Some o) code who = is_of_call-step o.kind o.session o.step code
+is_of_call-refused None code who = is_of_call-wrong_try code who
 
 done_step : (h : History) (c : Call) (v : Rv) (b : Body) → is_of_call (effect_by h c v b) ≡ true
     → (cond (is_ok v) (Some c) None ≡ Some c) × (effect_by h c v b ≡ change_of h c b)
 done_step h c rv.Ok b e = (refl, refl)
-done_step h c (rv.Error code) b e = let f = is_of_call-refused c code (about h (Some c)) in cc
+done_step h c (rv.Error code) b e = let f = is_of_call-refused (operation_step c) code (about h (Some c)) in cc
 
 -- its call was answered OK
 pub done-of_call : (h : History) (e : Entry) (made : Change) → made ≡ effect h e.call e.reply → is_of_call made ≡ true
@@ -69,6 +81,34 @@ done-of_call h e made is kind =
     (d.0, is ∙ d.1)
 
 -- ---- one call for each change
+
+-- a piece that is added to this operation
+abbrev piece_step : OperationKind → ℕ → List ℕ → Option OperationStep
+piece_step k session bytes = Some (record { kind = k; session = session; step = add_piece bytes })
+
+step-of : (bytes : List ℕ) (k : OperationKind) (session : ℕ) (l : OperationKind) (y : ℕ)
+    → change.AddPiece k session ≡ change.AddPiece l y
+    → piece_step l y bytes ≡ piece_step k session bytes
+step-of bytes k session l y e =
+    let same : k ≡ l = cc in
+    let there : session ≡ y = cc in
+    rw (same, there) refl
+
+-- the call starts an HMAC of this kind in this session
+pub record IsHmacInit (limits : Ranges) (h : History) (c : Call) (k : OperationKind) (session : ℕ)
+    (mechanism : Mechanism) (handle : ℕ) : Type 0 where
+  pub step : operation_step c ≡ Some (record { kind = k; session = session; step = initialize })
+  pub error : call_error limits h c ≡ hmac_init_error k h session mechanism handle
+  pub computation : started_computation h (Some c) ≡ hmac_with mechanism (key_value (named_attributes h handle))
+  pub key : init_key (Some c) ≡ Some handle
+
+init-sign : (limits : Ranges) (h : History) (session : ℕ) (mechanism : Mechanism) (key : ℕ)
+    → IsHmacInit limits h (call.SignInit session mechanism key) kind.Sign session mechanism key
+init-sign limits h session mechanism key = record { step = refl; error = refl; computation = refl; key = refl }
+
+init-verify : (limits : Ranges) (h : History) (session : ℕ) (mechanism : Mechanism) (key : ℕ)
+    → IsHmacInit limits h (call.VerifyInit session mechanism key) kind.Verify session mechanism key
+init-verify limits h session mechanism key = record { step = refl; error = refl; computation = refl; key = refl }
 
 module _ (h : History) (b : Body) where
   pub of-InitToken : (c : Call) (pin : Pin) → change.InitToken pin ≡ change_of h c b → c ≡ call.InitToken pin
@@ -109,6 +149,7 @@ module _ (h : History) (b : Body) where
   pub of-CreateObject : (c : Call) (session : ℕ) (attributes : List Item) → change.CreateObject session attributes ≡ change_of h c b
       → (creates (Some c) ≡ true) × (session ≡ creation_session (Some c)) × (attributes ≡ creation_attributes (Some c) (attributes_named h))
   of-CreateObject (call.CreateObject other template) session attributes e = (refl, cc, cc)
+  of-CreateObject (call.GenerateKey other mechanism template random) session attributes e = (refl, cc, cc)
   of-CreateObject (call.CopyObject other object template) session attributes e = (refl, cc, cc)
   of-CreateObject other session attributes e = cc
 
@@ -122,6 +163,12 @@ module _ (h : History) (b : Body) where
       → (session object : ℕ) × (c ≡ call.DestroyObject session object) × (number ≡ unwrap_or (object_named h object) 0)
   of-DestroyObject (call.DestroyObject session object) number e = (session, object, refl, cc)
   of-DestroyObject other number e = cc
+
+  pub of-SetKeyState : (c : Call) (number : ℕ) (made : KeyState) → change.SetKeyState number made ≡ change_of h c b
+      → (session key n : ℕ) × (c ≡ call.SetKeyState session key n) × (number ≡ unwrap_or (object_named h key) 0)
+      × (made ≡ unwrap_or (state_of_number n) state.Active)
+  of-SetKeyState (call.SetKeyState session key n) number made e = (session, key, n, refl, cc, cc)
+  of-SetKeyState other number made e = cc
 
   pub of-StartSearch : (c : Call) (session : ℕ) (found : List ℕ) → change.StartSearch session found ≡ change_of h c b
       → (template : Template) × (c ≡ call.FindObjectsInit session template) × (found ≡ matching_objects h template.items)
@@ -137,16 +184,56 @@ module _ (h : History) (b : Body) where
   of-EndSearch (call.FindObjectsFinal other) session e = cc
   of-EndSearch other session e = cc
 
-  pub of-StartOperation : (c : Call) (k : OperationKind) (session : ℕ) (made : Hash) → change.StartOperation k session made ≡ change_of h c b
-      → (mechanism : Mechanism) × (c ≡ call.DigestInit session mechanism) × (k ≡ kind.Digest)
+  pub of-StartDigest : (c : Call) (session : ℕ) (made : Hash) → change.StartDigest session made ≡ change_of h c b
+      → (mechanism : Mechanism) × (c ≡ call.DigestInit session mechanism)
       × (made ≡ unwrap_or (digest_hash mechanism.kind) hash.Sha256)
-  of-StartOperation (call.DigestInit other mechanism) k session made e = (mechanism, cc, cc, cc)
-  of-StartOperation other k session made e = cc
+  of-StartDigest (call.DigestInit other mechanism) session made e = (mechanism, cc, cc)
+  of-StartDigest other session made e = cc
+
+  -- a signing or verifying starts with this mechanism and the key that the handle names
+  pub of-StartHmac : (limits : Ranges) (c : Call) (k : OperationKind) (session : ℕ) (made : Hash) (number len : ℕ)
+      → change.StartHmac k session made number len ≡ change_of h c b
+      → (mechanism : Mechanism) × (key : ℕ)
+      × (change.StartHmac k session made number len ≡ start_hmac k session mechanism (object_named h key))
+      × IsHmacInit limits h c k session mechanism key
+  of-StartHmac limits (call.SignInit other mechanism key) k session made number len e =
+      let same : kind.Sign ≡ k = cc in
+      let there : other ≡ session = cc in
+      let named = object_named h key in
+      let c = call.SignInit other mechanism key in (
+        mechanism,
+        key,
+        e ∙ ap (λ l. start_hmac l other mechanism named) same ∙ ap (λ s. start_hmac k s mechanism named) there,
+        subst (λ s. IsHmacInit limits h c k s mechanism key) there
+            (subst (λ l. IsHmacInit limits h c l other mechanism key) same (init-sign limits h other mechanism key)),
+      )
+  of-StartHmac limits (call.VerifyInit other mechanism key) k session made number len e =
+      let same : kind.Verify ≡ k = cc in
+      let there : other ≡ session = cc in
+      let named = object_named h key in
+      let c = call.VerifyInit other mechanism key in (
+        mechanism,
+        key,
+        e ∙ ap (λ l. start_hmac l other mechanism named) same ∙ ap (λ s. start_hmac k s mechanism named) there,
+        subst (λ s. IsHmacInit limits h c k s mechanism key) there
+            (subst (λ l. IsHmacInit limits h c l other mechanism key) same (init-verify limits h other mechanism key)),
+      )
+  of-StartHmac limits other k session made number len e = cc
 
   pub of-AddPiece : (c : Call) (k : OperationKind) (session : ℕ) → change.AddPiece k session ≡ change_of h c b
-      → (bytes : List ℕ) × (c ≡ call.DigestUpdate session bytes) × (k ≡ kind.Digest)
-  of-AddPiece (call.DigestUpdate other bytes) k session e = (bytes, cc, cc)
+      → operation_step c ≡ piece_step k session (added_bytes c)
+  of-AddPiece (call.DigestUpdate other bytes) k session e =
+      step-of bytes k session kind.Digest other e
+  of-AddPiece (call.SignUpdate other bytes) k session e =
+      step-of bytes k session kind.Sign other e
+  of-AddPiece (call.VerifyUpdate other bytes) k session e =
+      step-of bytes k session kind.Verify other e
   of-AddPiece other k session e = cc
+
+  pub of-CancelOperations : (c : Call) (session flags : ℕ) → change.CancelOperations session flags ≡ change_of h c b
+      → c ≡ call.SessionCancel session flags
+  of-CancelOperations (call.SessionCancel other given) session flags e = cc
+  of-CancelOperations other session flags e = cc
 
 -- ---- the call of an entry, by its change
 

@@ -4,5 +4,6 @@ pub mod Entering
 pub mod Inversions
 pub mod OperationMoves
 pub mod PartMoves
+pub mod QueryLemmas
 pub mod RunLemmas
 pub mod SearchLemmas

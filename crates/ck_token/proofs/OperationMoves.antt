@@ -1,8 +1,10 @@
 -- What the calls do to operations
-use Rattle.std.proofs.Common.{◌≡◌, ℕ, Bool, true, false, cond, not, List, [], ◌∷◌, Option, Some, None, refl, sym, ap, ◌∙◌, subst}
-use Rattle.std.specs.Prelude.{◌==◌, ◌&&◌, ◌||◌, option_and_then, unwrap_or, is_none}
+use Rattle.std.proofs.Common.{◌≡◌, ℕ, Bool, true, false, cond, not, List, [], ◌∷◌, Option, Some, None}
+use Rattle.std.proofs.Common.{refl, sym, ap, ◌∙◌, subst, length}
+use Rattle.std.specs.Prelude.{◌==◌, ◌&&◌, ◌||◌, option_and_then, unwrap_or, is_none, is_some}
+use Rattle.std.specs.Option.{option_map_or}
 use Rattle.ck_types.specs.Checks.{error_if, or_else}
-use Rattle.ck_types.specs.Mechanisms.{digest_hash}
+use Rattle.ck_types.specs.Mechanisms.{digest_hash, hmac_hash, tag_length}
 use Rattle.ck_types.specs.TokenLimits.{Ranges}
 use Rattle.ck_types.specs.declared.errors.RvError.{RvError}
 use Rattle.ck_types.specs.declared.errors.RvError.TheVariants as rv_error
@@ -12,6 +14,7 @@ use Rattle.ck_types.specs.declared.mechanisms.Mechanism.{Mechanism}
 use Rattle.ck_types.specs.declared.return_codes.Rv.{Rv}
 use Rattle.ck_types.specs.declared.return_codes.Rv.TheVariants as rv
 use Rattle.ck_types.specs.declared.users.UserType.{UserType}
+use Rattle.ck_types.specs.declared.users.UserType.TheVariants as user
 use Rattle.ck_types.proofs.CheckLemmas.{or_else-none, error_if-none}
 use Rattle.ck_journal.specs.declared.calls.Call.{Call}
 use Rattle.ck_journal.specs.declared.calls.Call.TheVariants as call
@@ -21,163 +24,65 @@ use Rattle.ck_journal.specs.declared.operations.OperationKind.TheVariants as kin
 use Rattle.ck_journal.specs.declared.replies.Body.{Body}
 use Rattle.ck_journal.specs.declared.replies.Body.TheVariants as body
 use Rattle.ck_journal.specs.declared.replies.Reply.{Reply}
-use Rattle.ck_journal.specs.Answers.{call_error, session_error}
-use Rattle.ck_journal.specs.Histories.{History, ◌◁◌, done, is_ok, is_wrong_pin, effects_of, effects, may_end_refused}
-use Rattle.ck_journal.specs.Operations.{starts, ends, finishes, piece_of, is_active, leaves_active, is_data_len_range, init_mechanism, hash_for}
+use Rattle.ck_journal.specs.Histories.{History, ◌◁◌, done, is_ok, is_wrong_pin, effects_of, effects}
+use Rattle.ck_journal.specs.OperationCalls.{Step, initialize, take_whole, add_piece, finish}
+use Rattle.ck_journal.specs.OperationCalls.{OperationStep, operation_step, step_in, same_kind, piece_in}
+use Rattle.ck_journal.specs.Operations.{starts, ends, finishes, cancels, piece_of, ends_by, added_bytes}
+use Rattle.ck_journal.specs.Operations.{is_initialization, leaves_active, is_data_len_range, names_kind}
+use Rattle.ck_journal.specs.Operations.{is_updated, pieces_in, message_in}
+use Rattle.std.specs.List.{concat}
+use Rattle.std.proofs.lemmas.Bool.{true≢false}
+use Rattle.std.proofs.Math.Dec.{eqb-suc-zero}
 use Rattle.ck_journal.specs.Objects.{creates}
 use Rattle.ck_journal.specs.Pins.{about, is_about, is_user}
 use Rattle.ck_journal.specs.Sessions.{ends_operations}
-use Rattle.ck_journal.proofs.OperationMoves.{starts_none, ends_none, adds_none}
+use Rattle.ck_journal.proofs.OperationMoves.{starts_none, ends_none, adds_none, starts_no_step}
+use Rattle.ck_journal.proofs.OperationMoves.{adds_no_step, finishes_no_step}
 use Rattle.ck_operations.specs.Agreement.{OperationsState, OperationsAgree}
-use Rattle.ck_operations.specs.Moves.{Move, Stay, Start, Add, End, Does, OnlyIn, OnlyInSession, InAll}
-use Rattle.ck_operations.specs.Rows.{same_kind}
+use Rattle.ck_operations.specs.Moves.{Move, Stay, Start, Add, End, Does, OnlyIn, OnlyInSession}
+use Rattle.ck_operations.specs.Moves.{OnlyNamed, InAll}
 use Rattle.ck_operations.proofs.Moves.{operations-left}
-use Rattle.ck_token.specs.Changes.{wrong_try_change, end_if_too_long, effect_by}
+use Rattle.ck_token.specs.Changes.{wrong_try_change, end_if_too_long, finish_change, refused_by}
+use Rattle.ck_token.specs.Changes.{refused_step, effect_by, change_of}
 use Rattle.ck_token.specs.declared.changes.Change.{Change}
 use Rattle.ck_token.specs.declared.changes.Change.TheVariants as change
 
--- ---- a call that was answered OK
+-- ---- a call that makes a step on an operation
 
-call-done : (ok : Bool) (made c : Call) → cond ok (Some made) None ≡ Some c → made ≡ c
-call-done true made c e = cc
-call-done false made c e = cc
+-- it is about nobody's PIN, and does nothing but its step
+pub record IsStepAlone (h : History) (c : Call) : Type 0 where
+  pub sessions : (effects_of (Some c)).sessions ≡ false
+  pub objects : (effects_of (Some c)).objects ≡ false
+  pub searches : (effects_of (Some c)).searches ≡ false
+  pub unclosed : (s : ℕ) → ends_operations (Some c) s ≡ false
+  pub uncancelled : (k : OperationKind) (s : ℕ) → cancels (Some c) k s ≡ false
+  pub about : about h (Some c) ≡ None
 
-module _ (e : Entry) (c : Call) (d : done e ≡ Some c) where
-  finishes-done : (k : OperationKind) (s : ℕ) → finishes e.call k e.reply s ≡ finishes c k e.reply s
-  finishes-done k s = ap (λ x. finishes x k e.reply s) (call-done (is_ok e.reply.rv) e.call c d)
+abbrev alone : {h : History} {c : Call} → (effects_of (Some c)).sessions ≡ false
+    → (effects_of (Some c)).objects ≡ false → (effects_of (Some c)).searches ≡ false
+    → ((s : ℕ) → ends_operations (Some c) s ≡ false)
+    → ((k : OperationKind) (s : ℕ) → cancels (Some c) k s ≡ false) → about h (Some c) ≡ None
+    → IsStepAlone h c
+alone a b c d e f =
+    record { sessions = a; objects = b; searches = c; unclosed = d; uncancelled = e; about = f }
 
-  -- one that leaves operations as they are
-  pub operations-kept : (h : History) (o : OperationsState) → (effects_of (Some c)).operations ≡ false
-      → may_end_refused c ≡ false → OperationsAgree h o → OperationsAgree (e ◁ h) o
-  operations-kept h o idle quiet agree =
-      let called = call-done (is_ok e.reply.rv) e.call c d in
-      let l : (effects e).operations ≡ false =
-      ap (λ o. (effects_of o).operations || may_end_refused e.call) d ∙ ap (λ t. t || may_end_refused e.call) idle
-      ∙ ap may_end_refused called ∙ quiet in
-      operations-left h o agree e (λ k s. (starts_none e l k s, ends_none e l k s, adds_none e l k s))
+pub step-alone : (h : History) (c : Call) (o : OperationStep) → operation_step c ≡ Some o
+    → IsStepAlone h c
+step-alone h (call.DigestInit session mechanism) o e = alone refl refl refl (λ s. refl) (λ k s. refl) refl
+step-alone h (call.Digest session bytes room) o e = alone refl refl refl (λ s. refl) (λ k s. refl) refl
+step-alone h (call.DigestUpdate session bytes) o e = alone refl refl refl (λ s. refl) (λ k s. refl) refl
+step-alone h (call.DigestFinal session room) o e = alone refl refl refl (λ s. refl) (λ k s. refl) refl
+step-alone h (call.SignInit session mechanism key) o e = alone refl refl refl (λ s. refl) (λ k s. refl) refl
+step-alone h (call.Sign session bytes room) o e = alone refl refl refl (λ s. refl) (λ k s. refl) refl
+step-alone h (call.SignUpdate session bytes) o e = alone refl refl refl (λ s. refl) (λ k s. refl) refl
+step-alone h (call.SignFinal session room) o e = alone refl refl refl (λ s. refl) (λ k s. refl) refl
+step-alone h (call.VerifyInit session mechanism key) o e = alone refl refl refl (λ s. refl) (λ k s. refl) refl
+step-alone h (call.Verify session bytes signature) o e = alone refl refl refl (λ s. refl) (λ k s. refl) refl
+step-alone h (call.VerifyUpdate session bytes) o e = alone refl refl refl (λ s. refl) (λ k s. refl) refl
+step-alone h (call.VerifyFinal session signature) o e = alone refl refl refl (λ s. refl) (λ k s. refl) refl
+step-alone h other o e = cc
 
-  creation-quiet : (c : Call) → creates (Some c) ≡ true → ((effects_of (Some c)).operations ≡ false) × (may_end_refused c ≡ false)
-  creation-quiet (call.CreateObject session template) t = (refl, refl)
-  creation-quiet (call.CopyObject session object template) t = (refl, refl)
-  creation-quiet other t = cc
-
-  pub operations-created : creates (Some c) ≡ true → (h : History) (o : OperationsState) → OperationsAgree h o → OperationsAgree (e ◁ h) o
-  operations-created t h o agree = let q = creation-quiet c t in operations-kept h o q.0 q.1 agree
-
-  -- one that may end operations, and starts none
-  ends-done : (starts_nothing : (k : OperationKind) (s : ℕ) → starts (Some c) k s ≡ false)
-      → (quiet : (k : OperationKind) (s : ℕ) → finishes c k e.reply s ≡ false)
-      → (piece : (k : OperationKind) (s : ℕ) → piece_of (Some c) k s ≡ [])
-      → (k : OperationKind) (s : ℕ) (t : Bool) → ends_operations (Some c) s ≡ t → Does (cond t End Stay) e k s
-  ends-done none quiet piece k s true e_s = (
-    ap (λ x. starts x k s) d ∙ none k s,
-    ap (λ x. ends_operations x s || finishes e.call k e.reply s) d ∙ ap (λ t. t || finishes e.call k e.reply s) e_s,
-  )
-  ends-done none quiet piece k s false e_s = (
-    ap (λ x. starts x k s) d ∙ none k s,
-    ap (λ x. ends_operations x s || finishes e.call k e.reply s) d
-        ∙ ap (λ t. t || finishes e.call k e.reply s) e_s ∙ finishes-done k s ∙ quiet k s,
-    ap (λ x. piece_of x k s) d ∙ piece k s,
-  )
-
-pub closed-one : (e : Entry) (session : ℕ) → done e ≡ Some (call.CloseSession session) → OnlyInSession session End e
-closed-one e session d k s =
-    ends-done e (call.CloseSession session) d (λ k s. refl) (λ k s. refl) (λ k s. refl) k s (session == s) refl
-
-pub closed-all : (e : Entry) → done e ≡ Some call.CloseAllSessions → InAll End e
-closed-all e d k s = ends-done e call.CloseAllSessions d (λ k s. refl) (λ k s. refl) (λ k s. refl) k s true refl
-
-pub logged-out : (e : Entry) (session : ℕ) → done e ≡ Some (call.Logout session) → InAll End e
-logged-out e session d k s = ends-done e (call.Logout session) d (λ k s. refl) (λ k s. refl) (λ k s. refl) k s true refl
-
--- ---- starts and pieces
-
-passes-known : (found : Option Hash) (later : Option RvError)
-    → or_else (error_if (is_none found) rv_error.MechanismInvalid) later ≡ None
-    → found ≡ Some (unwrap_or found hash.Sha256)
-passes-known None later e = cc
-passes-known (Some hash) later e = refl
-
--- a digest that starts had none before it, and its mechanism is a digest's
-pub digest-passed : (limits : Ranges) (h : History) (session : ℕ) (mechanism : Mechanism)
-    → call_error limits h (call.DigestInit session mechanism) ≡ None
-    → (is_active kind.Digest h session ≡ false)
-    × (digest_hash mechanism.kind ≡ Some (unwrap_or (digest_hash mechanism.kind) hash.Sha256))
-digest-passed limits h session mechanism e =
-    let after = (or_else-none (session_error h session) _ e).1 in
-    let idle = or_else-none (error_if (is_active kind.Digest h session) rv_error.OperationActive) _ after in (
-      error_if-none (is_active kind.Digest h session) rv_error.OperationActive idle.0,
-      passes-known (digest_hash mechanism.kind) _ idle.1,
-    )
-
-done-ok : (ok : Bool) (made c : Call) → cond ok (Some made) None ≡ Some c → ok ≡ true
-done-ok true made c e = refl
-done-ok false made c e = cc
-
-data_len_range-ok : (v : Rv) → is_ok v ≡ true → is_data_len_range v ≡ false
-data_len_range-ok rv.Ok e = refl
-data_len_range-ok (rv.Error code) e = cc
-
-and-false : (t : Bool) → (t && false) ≡ false
-and-false true = refl
-and-false false = refl
-
-and-true : (t : Bool) → (t && true) ≡ t
-and-true true = refl
-and-true false = refl
-
--- what a call does in a session that it names, and nothing in others
-module _ (e : Entry) (c : Call) (d : done e ≡ Some c) (ops : (s : ℕ) → ends_operations (Some c) s ≡ false)
-    (k : OperationKind) (s : ℕ) (quiet : finishes c k e.reply s ≡ false) where
-  ends-nothing : ends k e s ≡ false
-  ends-nothing =
-      ap (λ x. ends_operations x s || finishes e.call k e.reply s) d
-      ∙ ap (λ t. t || finishes e.call k e.reply s) (ops s) ∙ finishes-done e c d k s ∙ quiet
-
-  does-stay : starts (Some c) k s ≡ false → piece_of (Some c) k s ≡ [] → Does Stay e k s
-  does-stay none nowhere = (ap (λ x. starts x k s) d ∙ none, ends-nothing, ap (λ x. piece_of x k s) d ∙ nowhere)
-
-module _ (e : Entry) (session : ℕ) where
-  pub digest-started : (mechanism : Mechanism) (hash : Hash) → done e ≡ Some (call.DigestInit session mechanism)
-      → digest_hash mechanism.kind ≡ Some hash → OnlyIn kind.Digest session (Start hash) e
-  digest-started mechanism hash d known kind.Digest s = here (session == s) refl
-    where
-      here : (t : Bool) → session == s ≡ t → Does (cond t (Start hash) Stay) e kind.Digest s
-      here true is = (
-        ap (λ x. starts x kind.Digest s) d ∙ is,
-        ap (λ x. option_and_then (hash_for kind.Digest) (init_mechanism x)) d ∙ known,
-      )
-      here false is = does-stay e (call.DigestInit session mechanism) d (λ s. refl) kind.Digest s refl is refl
-  digest-started mechanism hash d known kind.Sign s =
-      does-stay e (call.DigestInit session mechanism) d (λ s. refl) kind.Sign s refl refl refl
-  digest-started mechanism hash d known kind.Verify s =
-      does-stay e (call.DigestInit session mechanism) d (λ s. refl) kind.Verify s refl refl refl
-
-  pub piece-added : (bytes : List ℕ) → done e ≡ Some (call.DigestUpdate session bytes)
-      → OnlyIn kind.Digest session (Add bytes) e
-  piece-added bytes d kind.Digest s = here (session == s) refl
-    where
-      quiet : finishes (call.DigestUpdate session bytes) kind.Digest e.reply s ≡ false
-      quiet =
-          ap (λ t. session == s && t) (data_len_range-ok e.reply.rv (done-ok (is_ok e.reply.rv) e.call (call.DigestUpdate session bytes) d))
-          ∙ and-false (session == s)
-
-      here : (t : Bool) → session == s ≡ t → Does (cond t (Add bytes) Stay) e kind.Digest s
-      here true is = (
-        ap (λ x. starts x kind.Digest s) d,
-        ends-nothing e (call.DigestUpdate session bytes) d (λ s. refl) kind.Digest s quiet,
-        ap (λ x. piece_of x kind.Digest s) d ∙ ap (λ t. cond t (bytes ∷ []) []) is,
-      )
-      here false is =
-          does-stay e (call.DigestUpdate session bytes) d (λ s. refl) kind.Digest s quiet refl
-          (ap (λ t. cond t (bytes ∷ []) []) is)
-  piece-added bytes d kind.Sign s =
-      does-stay e (call.DigestUpdate session bytes) d (λ s. refl) kind.Sign s refl refl refl
-  piece-added bytes d kind.Verify s =
-      does-stay e (call.DigestUpdate session bytes) d (λ s. refl) kind.Verify s refl refl refl
-
--- ---- what the reply makes of an operation
-
+-- what an entry is of: its call and the reply's code and body
 abbrev pub entry : ℕ → Call → Rv → Body → Entry
 entry n c v b = record { caller = n; call = c; reply = record { rv = v; body = b } }
 
@@ -185,59 +90,203 @@ entry n c v b = record { caller = n; call = c; reply = record { rv = v; body = b
 abbrev done_of : Call → Rv → Option Call
 done_of c v = cond (is_ok v) (Some c) None
 
--- the call is a digest's, and its reply ends the session's digest or does nothing
-pub record IsFinish (h : History) (session : ℕ) (last : Bool) (c : Call) (v : Rv) (b : Body) : Type 0 where
-  pub none : (k : OperationKind) (s : ℕ) → starts (done_of c v) k s ≡ false
-  pub unclosed : (s : ℕ) → ends_operations (done_of c v) s ≡ false
-  pub nowhere : (k : OperationKind) (s : ℕ) → piece_of (done_of c v) k s ≡ []
-  pub finishes : (k : OperationKind) (s : ℕ)
-      → finishes c k (record { rv = v; body = b }) s ≡ (last && (same_kind kind.Digest k && session == s))
-  pub sessions : (effects_of (done_of c v)).sessions ≡ false
-  pub objects : (effects_of (done_of c v)).objects ≡ false
-  pub searches : (effects_of (done_of c v)).searches ≡ false
-  pub untried : (u : UserType) → is_about u h (cond (is_wrong_pin v) (Some c) None) ≡ false
+abbrev step_on : OperationKind → ℕ → Step → Option OperationStep
+step_on k session x = Some (record { kind = k; session = session; step = x })
 
-and-sym : (a b : Bool) → (a && b) ≡ (b && a)
-and-sym true true = refl
-and-sym true false = refl
-and-sym false true = refl
-and-sym false false = refl
+-- a fact of a call and of none is one of the call that was answered OK
+pub of-done : {A : Type 0} (f : Option Call → A) (a : A) (c : Call) (v : Rv)
+    → f (Some c) ≡ a → f None ≡ a → f (done_of c v) ≡ a
+of-done f a c rv.Ok one none = one
+of-done f a c (rv.Error code) one none = none
 
-finishes-digest : (x : ℕ) (bytes : List ℕ) (room : Option ℕ) (r : Reply) (session : ℕ) (last : Bool) → session ≡ x
-    → last ≡ not (leaves_active r.rv r.body) → (k : OperationKind) (s : ℕ)
-    → finishes (call.Digest x bytes room) k r s ≡ (last && (same_kind kind.Digest k && session == s))
-finishes-digest x bytes room r session last same is kind.Digest s =
-    and-sym (x == s) (not (leaves_active r.rv r.body)) ∙ ap (λ y. not (leaves_active r.rv r.body) && (y == s)) (sym same)
-    ∙ ap (λ t. t && (session == s)) (sym is)
-finishes-digest x bytes room r session last same is kind.Sign s = sym (and-false last)
-finishes-digest x bytes room r session last same is kind.Verify s = sym (and-false last)
+-- a call that was done was answered OK
+pub done-ok : (ok : Bool) (made c : Call) → cond ok (Some made) None ≡ Some c → ok ≡ true
+done-ok true made c e = refl
+done-ok false made c e = cc
 
-finishes-final : (x : ℕ) (room : Option ℕ) (r : Reply) (session : ℕ) (last : Bool) → session ≡ x
-    → last ≡ not (leaves_active r.rv r.body) → (k : OperationKind) (s : ℕ)
-    → finishes (call.DigestFinal x room) k r s ≡ (last && (same_kind kind.Digest k && session == s))
-finishes-final x room r session last same is kind.Digest s =
-    and-sym (x == s) (not (leaves_active r.rv r.body)) ∙ ap (λ y. not (leaves_active r.rv r.body) && (y == s)) (sym same)
-    ∙ ap (λ t. t && (session == s)) (sym is)
-finishes-final x room r session last same is kind.Sign s = sym (and-false last)
-finishes-final x room r session last same is kind.Verify s = sym (and-false last)
+-- ---- a step does what it says to one operation, and nothing to any other
 
-finishes-update : (x : ℕ) (bytes : List ℕ) (r : Reply) (session : ℕ) (last : Bool) → session ≡ x
-    → last ≡ is_data_len_range r.rv → (k : OperationKind) (s : ℕ)
-    → finishes (call.DigestUpdate x bytes) k r s ≡ (last && (same_kind kind.Digest k && session == s))
-finishes-update x bytes r session last same is kind.Digest s =
-    and-sym (x == s) (is_data_len_range r.rv) ∙ ap (λ y. is_data_len_range r.rv && (y == s)) (sym same)
-    ∙ ap (λ t. t && (session == s)) (sym is)
-finishes-update x bytes r session last same is kind.Sign s = sym (and-false last)
-finishes-update x bytes r session last same is kind.Verify s = sym (and-false last)
+module _ (h : History) (n : ℕ) (c : Call) (v : Rv) (b : Body) (kind : OperationKind) (session : ℕ) (x : Step)
+    (is : operation_step c ≡ step_on kind session x) where
+  abbrev reply : Reply
+  reply = record { rv = v; body = b }
 
-wrong_try_change-finishes : (code : RvError) (who : Option UserType) (k : OperationKind) (session : ℕ) (last : Bool)
-    → change.FinishOperation k session last ≡ wrong_try_change code who → ⊥
+  quiet : IsStepAlone h c
+  quiet = step-alone h c (record { kind = kind; session = session; step = x }) is
+
+  abbrev here : OperationKind → ℕ → Bool
+  here k s = same_kind kind k && session == s
+
+  module _ (k : OperationKind) (s : ℕ) where
+    step-here : (t : Bool) → here k s ≡ t → step_in (operation_step c) k s ≡ cond t (Some x) None
+    step-here t e = ap (λ o. step_in o k s) is ∙ ap (λ t. cond t (Some x) None) e
+
+    ends-here : (t : Bool) → here k s ≡ t → ends k (entry n c v b) s ≡ ends_by (cond t (Some x) None) reply
+    ends-here t e =
+        ap (λ a. a || cancels (done_of c v) k s || finishes c k reply s)
+        (of-done (λ d. ends_operations d s) false c v (quiet.unclosed s) refl)
+        ∙ ap (λ a. a || finishes c k reply s) (of-done (λ d. cancels d k s) false c v (quiet.uncancelled k s) refl)
+        ∙ ap (λ o. ends_by o reply) (step-here t e)
+
+    starts-here : (t : Bool) → here k s ≡ t → is_ok v ≡ true
+        → starts (done_of c v) k s ≡ is_initialization (cond t (Some x) None)
+    starts-here t e ok =
+        ap (λ a. starts (cond a (Some c) None) k s) ok ∙ ap is_initialization (step-here t e)
+
+    adds-here : (t : Bool) → here k s ≡ t → is_ok v ≡ true
+        → piece_of (done_of c v) k s ≡ piece_in (cond t (Some x) None)
+    adds-here t e ok = ap (λ a. piece_of (cond a (Some c) None) k s) ok ∙ ap piece_in (step-here t e)
+
+    -- a call that was refused starts and adds nothing
+    starts-refused : is_ok v ≡ false → starts (done_of c v) k s ≡ false
+    starts-refused bad = ap (λ a. starts (cond a (Some c) None) k s) bad
+
+    adds-refused : is_ok v ≡ false → piece_of (done_of c v) k s ≡ []
+    adds-refused bad = ap (λ a. piece_of (cond a (Some c) None) k s) bad
+
+  -- a start
+  pub does-start : is_ok v ≡ true → x ≡ initialize → OnlyIn kind session Start (entry n c v b)
+  does-start ok first k s = cases (here k s) refl
+    where
+      cases : (t : Bool) → here k s ≡ t → Does (cond t Start Stay) (entry n c v b) k s
+      cases true e = starts-here k s true e ok ∙ ap (λ x. is_initialization (Some x)) first
+      cases false e = (starts-here k s false e ok, ends-here k s false e, adds-here k s false e ok)
+
+  -- a piece
+  pub does-add : (bytes : List ℕ) → is_ok v ≡ true → x ≡ add_piece bytes
+      → OnlyIn kind session (Add bytes) (entry n c v b)
+  does-add bytes ok adds k s = cases (here k s) refl
+    where
+      short : (w : Rv) → is_ok w ≡ true → is_data_len_range w ≡ false
+      short rv.Ok e = refl
+      short (rv.Error code) e = cc
+
+      cases : (t : Bool) → here k s ≡ t → Does (cond t (Add bytes) Stay) (entry n c v b) k s
+      cases true e = (
+        starts-here k s true e ok ∙ ap (λ x. is_initialization (Some x)) adds,
+        ends-here k s true e ∙ ap (λ x. ends_by (Some x) reply) adds ∙ short v ok,
+        adds-here k s true e ok ∙ ap (λ x. piece_in (Some x)) adds,
+      )
+      cases false e = (starts-here k s false e ok, ends-here k s false e, adds-here k s false e ok)
+
+  -- the end, or nothing
+  pub does-end : (last : Bool) → ends_by (Some x) reply ≡ last
+      → ((k : OperationKind) (s : ℕ) → starts (done_of c v) k s ≡ false)
+      → ((k : OperationKind) (s : ℕ) → piece_of (done_of c v) k s ≡ [])
+      → (k : OperationKind) (s : ℕ) → Does (cond (last && here k s) End Stay) (entry n c v b) k s
+  does-end last by none nowhere k s = cases last (here k s) by refl
+    where
+      cases : (last t : Bool) → ends_by (Some x) reply ≡ last → here k s ≡ t
+          → Does (cond (last && t) End Stay) (entry n c v b) k s
+      cases true true by e = (none k s, ends-here k s true e ∙ by)
+      cases true false by e = (none k s, ends-here k s false e, nowhere k s)
+      cases false true by e = (none k s, ends-here k s true e ∙ by, nowhere k s)
+      cases false false by e = (none k s, ends-here k s false e, nowhere k s)
+
+-- ---- a call that makes no step
+
+-- it leaves operations as they are where it neither closes nor cancels any
+pub no-step-stays : (n : ℕ) (c : Call) (v : Rv) (b : Body) → operation_step c ≡ None
+    → ((s : ℕ) → ends_operations (done_of c v) s ≡ false)
+    → ((k : OperationKind) (s : ℕ) → cancels (done_of c v) k s ≡ false) → InAll Stay (entry n c v b)
+no-step-stays n c v b idle unclosed uncancelled k s = (
+  starts_no_step c idle k s (is_ok v),
+  ap (λ a. a || cancels (done_of c v) k s || finishes c k (record { rv = v; body = b }) s) (unclosed s)
+      ∙ ap (λ a. a || finishes c k (record { rv = v; body = b }) s) (uncancelled k s)
+      ∙ finishes_no_step c idle k s (record { rv = v; body = b }),
+  adds_no_step c idle k s (is_ok v),
+)
+
+call-done : (ok : Bool) (made c : Call) → cond ok (Some made) None ≡ Some c → made ≡ c
+call-done true made c e = cc
+call-done false made c e = cc
+
+module _ (e : Entry) (c : Call) (d : done e ≡ Some c) where
+  called : e.call ≡ c
+  called = call-done (is_ok e.reply.rv) e.call c d
+
+  -- one that leaves operations as they are
+  pub operations-kept : (h : History) (o : OperationsState) → (effects_of (Some c)).operations ≡ false
+      → operation_step c ≡ None → OperationsAgree h o → OperationsAgree (e ◁ h) o
+  operations-kept h o idle quiet agree =
+      let l : (effects e).operations ≡ false =
+      ap (λ d. (effects_of d).operations || is_some (operation_step e.call)) d
+      ∙ ap (λ t. t || is_some (operation_step e.call)) idle
+      ∙ ap (λ c. is_some (operation_step c)) called ∙ ap is_some quiet in
+      operations-left h o agree e (λ k s. (starts_none e l k s, ends_none e l k s, adds_none e l k s))
+
+  creation-quiet : (c : Call) → creates (Some c) ≡ true
+      → ((effects_of (Some c)).operations ≡ false) × (operation_step c ≡ None)
+  creation-quiet (call.CreateObject session template) t = (refl, refl)
+  creation-quiet (call.GenerateKey session mechanism template random) t = (refl, refl)
+  creation-quiet (call.CopyObject session object template) t = (refl, refl)
+  creation-quiet other t = cc
+
+  pub operations-created : creates (Some c) ≡ true → (h : History) (o : OperationsState)
+      → OperationsAgree h o → OperationsAgree (e ◁ h) o
+  operations-created t h o agree = let q = creation-quiet c t in operations-kept h o q.0 q.1 agree
+
+  -- one that ends operations, and makes no step on one
+  ends-done : operation_step c ≡ None → (k : OperationKind) (s : ℕ) (t : Bool)
+      → (ends_operations (Some c) s || cancels (Some c) k s) ≡ t → Does (cond t End Stay) e k s
+  ends-done idle k s t ended = cases t ended
+    where
+      quiet : operation_step e.call ≡ None
+      quiet = ap operation_step called ∙ idle
+
+      now : ends k e s ≡ (ends_operations (Some c) s || cancels (Some c) k s)
+      now =
+          ap (λ x. ends_operations x s || cancels x k s || finishes e.call k e.reply s) d
+          ∙ ap (λ t. ends_operations (Some c) s || cancels (Some c) k s || t)
+          (finishes_no_step e.call quiet k s e.reply)
+          ∙ or-false (ends_operations (Some c) s) (cancels (Some c) k s)
+        where
+          or-false : (a b : Bool) → (a || b || false) ≡ (a || b)
+          or-false true b = refl
+          or-false false true = refl
+          or-false false false = refl
+
+      cases : (t : Bool) → (ends_operations (Some c) s || cancels (Some c) k s) ≡ t
+          → Does (cond t End Stay) e k s
+      cases true ended = (starts_no_step e.call quiet k s (is_ok e.reply.rv), now ∙ ended)
+      cases false ended = (
+        starts_no_step e.call quiet k s (is_ok e.reply.rv),
+        now ∙ ended,
+        adds_no_step e.call quiet k s (is_ok e.reply.rv),
+      )
+
+or-no : (t : Bool) → (t || false) ≡ t
+or-no true = refl
+or-no false = refl
+
+pub closed-one : (e : Entry) (session : ℕ) → done e ≡ Some (call.CloseSession session)
+    → OnlyInSession session End e
+closed-one e session d k s =
+    ends-done e (call.CloseSession session) d refl k s (session == s)
+    (or-no (session == s))
+
+pub closed-all : (e : Entry) → done e ≡ Some call.CloseAllSessions → InAll End e
+closed-all e d k s = ends-done e call.CloseAllSessions d refl k s true refl
+
+pub logged-out : (e : Entry) (session : ℕ) → done e ≡ Some (call.Logout session) → InAll End e
+logged-out e session d k s = ends-done e (call.Logout session) d refl k s true refl
+
+pub cancelled : (e : Entry) (session flags : ℕ) → done e ≡ Some (call.SessionCancel session flags)
+    → OnlyNamed session flags End e
+cancelled e session flags d k s =
+    ends-done e (call.SessionCancel session flags) d refl k s (session == s && names_kind flags k) refl
+
+-- ---- which step a change is of
+
+wrong_try_change-finishes : (code : RvError) (who : Option UserType) (k : OperationKind) (session : ℕ)
+    (last : Bool) → change.FinishOperation k session last ≡ wrong_try_change code who → ⊥
 wrong_try_change-finishes rv_error.PinIncorrect None k session last is = cc
 wrong_try_change-finishes rv_error.PinIncorrect (Some u) k session last is = cc
 wrong_try_change-finishes other who k session last is = cc
 
 -- a refusal's code says whether it leaves an operation active, whatever its body
-any_body : (code : RvError) (b given : Body) → leaves_active (rv.Error code) b ≡ leaves_active (rv.Error code) given
+any_body : (code : RvError) (b given : Body)
+    → leaves_active (rv.Error code) b ≡ leaves_active (rv.Error code) given
 any_body rv_error.BufferTooSmall b given = refl
 any_body other b given = refl
 
@@ -247,124 +296,184 @@ pub nobody-tried : (h : History) (wrong : Bool) (c : Call) → about h (Some c) 
 nobody-tried h true c e u = ap (is_user u) e
 nobody-tried h false c e u = refl
 
+-- the call makes a step on the operation that the reply ends or leaves, starts none and adds nothing
+pub record IsFinish (h : History) (k : OperationKind) (session : ℕ) (last : Bool) (c : Call) (v : Rv) (b : Body)
+    : Type 0 where
+  pub step : Step
+  pub is : operation_step c ≡ step_on k session step
+  pub ending : ends_by (Some step) (record { rv = v; body = b }) ≡ last
+  pub none : (k : OperationKind) (s : ℕ) → starts (done_of c v) k s ≡ false
+  pub nowhere : (k : OperationKind) (s : ℕ) → piece_of (done_of c v) k s ≡ []
+
 finish-injected : (k l : OperationKind) (session x : ℕ) (last t : Bool)
-    → change.FinishOperation k session last ≡ change.FinishOperation l x t → (k ≡ l) × (session ≡ x) × (last ≡ t)
+    → change.FinishOperation k session last ≡ change.FinishOperation l x t
+    → (k ≡ l) × (session ≡ x) × (last ≡ t)
 finish-injected k l session x last t is = (cc, cc, cc)
 
+module _ (h : History) (c : Call) (b : Body) (k : OperationKind) (session : ℕ) (last : Bool) where
+  step-same : (l : OperationKind) (y : ℕ) (x : Step) → operation_step c ≡ step_on l y x → k ≡ l → session ≡ y
+      → operation_step c ≡ step_on k session x
+  step-same l y x e same there =
+      e ∙ ap (λ l. step_on l y x) (sym same) ∙ ap (λ y. step_on k y x) (sym there)
+
+  -- a call that was answered OK
+  from-ok : (l : OperationKind) (y : ℕ) (x : Step) → operation_step c ≡ step_on l y x
+      → is_initialization (Some x) ≡ false → piece_in (Some x) ≡ []
+      → change.FinishOperation k session last
+      ≡ change.FinishOperation l y (ends_by (Some x) (record { rv = rv.Ok; body = b }))
+      → IsFinish h k session last c rv.Ok b
+  from-ok l y x e no_start no_piece is =
+      let i = finish-injected k l session y last _ is in
+      record {
+        step = x;
+        is = step-same l y x e i.0 i.1;
+        ending = sym i.2;
+        none = λ m s. ap (λ o. is_initialization (step_in o m s)) e ∙ nothing m s (same_kind l m && y == s);
+        nowhere = λ m s. ap (λ o. piece_in (step_in o m s)) e ∙ no_bytes (same_kind l m && y == s);
+      }
+    where
+      nothing : (m : OperationKind) (s : ℕ) (t : Bool) → is_initialization (cond t (Some x) None) ≡ false
+      nothing m s true = no_start
+      nothing m s false = refl
+
+      no_bytes : (t : Bool) → piece_in (cond t (Some x) None) ≡ []
+      no_bytes true = no_piece
+      no_bytes false = refl
+
+  -- a call that was refused
+  from-refused : (code : RvError) (l : OperationKind) (y : ℕ) (x : Step) → operation_step c ≡ step_on l y x
+      → change.FinishOperation k session last ≡ refused_step l y x code
+      → IsFinish h k session last c (rv.Error code) b
+  from-refused code l y initialize e is = cc
+  from-refused rv_error.DataLenRange l y (add_piece bytes) e is =
+      let i = finish-injected k l session y last true is in
+      record {
+        step = add_piece bytes;
+        is = step-same l y (add_piece bytes) e i.0 i.1;
+        ending = sym i.2;
+        none = λ k s. refl;
+        nowhere = λ k s. refl;
+      }
+  from-refused code l y (add_piece bytes) e is = cc
+  from-refused code l y (take_whole bytes) e is =
+      let i = finish-injected k l session y last _ is in
+      record {
+        step = take_whole bytes;
+        is = step-same l y (take_whole bytes) e i.0 i.1;
+        ending = ap not (any_body code b body.Empty) ∙ sym i.2;
+        none = λ k s. refl;
+        nowhere = λ k s. refl;
+      }
+  from-refused code l y finish e is =
+      let i = finish-injected k l session y last _ is in
+      record {
+        step = finish;
+        is = step-same l y finish e i.0 i.1;
+        ending = ap not (any_body code b body.Empty) ∙ sym i.2;
+        none = λ k s. refl;
+        nowhere = λ k s. refl;
+      }
+
+  from-any : (code : RvError) (who : Option UserType) (o : Option OperationStep) → operation_step c ≡ o
+      → change.FinishOperation k session last ≡ refused_by o code who
+      → IsFinish h k session last c (rv.Error code) b
+  from-any code who None e is = absurd (wrong_try_change-finishes code who k session last is)
+  from-any code who (Some o) e is = from-refused code o.kind o.session o.step e is
+
 pub finished-is : (h : History) (c : Call) (v : Rv) (b : Body) (k : OperationKind) (session : ℕ) (last : Bool)
-    → change.FinishOperation k session last ≡ effect_by h c v b → (k ≡ kind.Digest) × IsFinish h session last c v b
+    → change.FinishOperation k session last ≡ effect_by h c v b → IsFinish h k session last c v b
 finished-is h (call.Digest x bytes room) rv.Ok b k session last is =
-    let i = finish-injected k kind.Digest session x last _ is in (
-      i.0,
-      record {
-        none = λ k s. refl;
-        unclosed = λ s. refl;
-        nowhere = λ k s. refl;
-        finishes = finishes-digest x bytes room (record { rv = rv.Ok; body = b }) session last i.1 i.2;
-        sessions = refl;
-        objects = refl;
-        searches = refl;
-        untried = λ u. refl;
-      },
-    )
-finished-is h (call.Digest x bytes room) (rv.Error code) b k session last is =
-    let i = finish-injected k kind.Digest session x last _ is in (
-      i.0,
-      record {
-        none = λ k s. refl;
-        unclosed = λ s. refl;
-        nowhere = λ k s. refl;
-        finishes = finishes-digest x bytes room (record { rv = rv.Error code; body = b }) session last i.1 (i.2 ∙ ap not (any_body code body.Empty b));
-        sessions = refl;
-        objects = refl;
-        searches = refl;
-        untried = nobody-tried h (is_wrong_pin (rv.Error code)) (call.Digest x bytes room) refl;
-      },
-    )
+    from-ok h (call.Digest x bytes room) b k session last kind.Digest x (take_whole bytes) refl refl refl is
 finished-is h (call.DigestFinal x room) rv.Ok b k session last is =
-    let i = finish-injected k kind.Digest session x last _ is in (
-      i.0,
-      record {
-        none = λ k s. refl;
-        unclosed = λ s. refl;
-        nowhere = λ k s. refl;
-        finishes = finishes-final x room (record { rv = rv.Ok; body = b }) session last i.1 i.2;
-        sessions = refl;
-        objects = refl;
-        searches = refl;
-        untried = λ u. refl;
-      },
-    )
-finished-is h (call.DigestFinal x room) (rv.Error code) b k session last is =
-    let i = finish-injected k kind.Digest session x last _ is in (
-      i.0,
-      record {
-        none = λ k s. refl;
-        unclosed = λ s. refl;
-        nowhere = λ k s. refl;
-        finishes = finishes-final x room (record { rv = rv.Error code; body = b }) session last i.1 (i.2 ∙ ap not (any_body code body.Empty b));
-        sessions = refl;
-        objects = refl;
-        searches = refl;
-        untried = nobody-tried h (is_wrong_pin (rv.Error code)) (call.DigestFinal x room) refl;
-      },
-    )
-finished-is h (call.DigestUpdate x bytes) rv.Ok b k session last is = cc
-finished-is h (call.DigestUpdate x bytes) (rv.Error rv_error.DataLenRange) b k session last is =
-    let i = finish-injected k kind.Digest session x last _ is in (
-      i.0,
-      record {
-        none = λ k s. refl;
-        unclosed = λ s. refl;
-        nowhere = λ k s. refl;
-        finishes = finishes-update x bytes (record { rv = rv.Error rv_error.DataLenRange; body = b }) session last i.1 i.2;
-        sessions = refl;
-        objects = refl;
-        searches = refl;
-        untried = λ u. refl;
-      },
-    )
-finished-is h (call.DigestUpdate x bytes) (rv.Error code) b k session last is = cc
+    from-ok h (call.DigestFinal x room) b k session last kind.Digest x finish refl refl refl is
+finished-is h (call.Sign x bytes room) rv.Ok b k session last is =
+    from-ok h (call.Sign x bytes room) b k session last kind.Sign x (take_whole bytes) refl refl refl is
+finished-is h (call.SignFinal x room) rv.Ok b k session last is =
+    from-ok h (call.SignFinal x room) b k session last kind.Sign x finish refl refl refl is
+finished-is h (call.Verify x bytes signature) rv.Ok b k session last is =
+    from-ok h (call.Verify x bytes signature) b k session last kind.Verify x (take_whole bytes) refl refl refl is
+finished-is h (call.VerifyFinal x signature) rv.Ok b k session last is =
+    from-ok h (call.VerifyFinal x signature) b k session last kind.Verify x finish refl refl refl is
 finished-is h other rv.Ok b k session last is = cc
-finished-is h other (rv.Error code) b k session last is =
-    absurd (wrong_try_change-finishes code (about h (Some other)) k session last is)
+finished-is h c (rv.Error code) b k session last is =
+    from-any h c b k session last code (about h (Some c)) (operation_step c) refl is
 
 -- what it ends is that one operation, and nothing where it doesn't end it
-pub finish-does : (h : History) (n : ℕ) (c : Call) (v : Rv) (b : Body) (session : ℕ) (last : Bool) → IsFinish h session last c v b
-    → (k : OperationKind) (s : ℕ)
-    → Does (cond (last && (same_kind kind.Digest k && session == s)) End Stay) (entry n c v b) k s
-finish-does h n c v b session last is k s = here (last && (same_kind kind.Digest k && session == s)) refl
-  where
-    ends-by : (t : Bool) → (last && (same_kind kind.Digest k && session == s)) ≡ t → ends k (entry n c v b) s ≡ t
-    ends-by t e =
-        ap (λ t. t || finishes c k (record { rv = v; body = b }) s) (is.unclosed s) ∙ is.finishes k s ∙ e
-
-    here : (t : Bool) → (last && (same_kind kind.Digest k && session == s)) ≡ t → Does (cond t End Stay) (entry n c v b) k s
-    here true e = (is.none k s, ends-by true e)
-    here false e = (is.none k s, ends-by false e, is.nowhere k s)
+pub finish-does : (h : History) (n : ℕ) (c : Call) (v : Rv) (b : Body) (k : OperationKind) (session : ℕ)
+    (last : Bool) → IsFinish h k session last c v b → (l : OperationKind) (s : ℕ)
+    → Does (cond (last && (same_kind k l && session == s)) End Stay) (entry n c v b) l s
+finish-does h n c v b k session last f =
+    does-end h n c v b k session f.step f.is last f.ending f.none f.nowhere
 
 -- ---- a reply that leaves operations as they are
 
-quiet-update : (x : ℕ) (bytes : List ℕ) (r : Reply) → is_data_len_range r.rv ≡ false
-    → (k : OperationKind) (s : ℕ) → finishes (call.DigestUpdate x bytes) k r s ≡ false
-quiet-update x bytes r short kind.Digest s = ap (λ t. x == s && t) short ∙ and-false (x == s)
-quiet-update x bytes r short kind.Sign s = refl
-quiet-update x bytes r short kind.Verify s = refl
+-- a step is no try of a PIN
+pub step-no_try : (u : UserType) (k : OperationKind) (session : ℕ) (x : Step) (code : RvError)
+    → change.WrongTry u ≡ refused_step k session x code → ⊥
+step-no_try u k session initialize code is = cc
+step-no_try u k session (add_piece bytes) rv_error.DataLenRange is = cc
+step-no_try u k session (add_piece bytes) code is = cc
+step-no_try u k session (take_whole bytes) code is = cc
+step-no_try u k session finish code is = cc
+
+module _ (h : History) (n : ℕ) (c : Call) (b : Body) (code : RvError) where
+  quiet-step : (l : OperationKind) (y : ℕ) (x : Step) → operation_step c ≡ step_on l y x
+      → ends_by (Some x) (record { rv = rv.Error code; body = b }) ≡ false
+      → InAll Stay (entry n c (rv.Error code) b)
+  quiet-step l y x e by k s =
+      does-end h n c (rv.Error code) b l y x e false by (λ k s. refl) (λ k s. refl) k s
+
+  quiet-refused : (l : OperationKind) (y : ℕ) (x : Step) → operation_step c ≡ step_on l y x
+      → change.Nothing ≡ refused_step l y x code → InAll Stay (entry n c (rv.Error code) b)
+  quiet-refused l y initialize e is = quiet-step l y initialize e refl
+  quiet-refused l y (add_piece bytes) e is = quiet-step l y (add_piece bytes) e (other code is)
+    where
+      other : (code : RvError) → change.Nothing ≡ end_if_too_long l y code → is_data_len_range (rv.Error code) ≡ false
+      other rv_error.DataLenRange is = cc
+      other code is = refl
+  quiet-refused l y (take_whole bytes) e is = cc
+  quiet-refused l y finish e is = cc
+
+  nothing-refused : (o : Option OperationStep) → operation_step c ≡ o
+      → change.Nothing ≡ refused_by o code (about h (Some c)) → InAll Stay (entry n c (rv.Error code) b)
+  nothing-refused None e is = no-step-stays n c (rv.Error code) b e (λ s. refl) (λ k s. refl)
+  nothing-refused (Some o) e is = quiet-refused o.kind o.session o.step e is
+
+  -- a wrong try makes no step
+  tried-refused : (u : UserType) (o : Option OperationStep) → operation_step c ≡ o
+      → change.WrongTry u ≡ refused_by o code (about h (Some c)) → InAll Stay (entry n c (rv.Error code) b)
+  tried-refused u None e is = no-step-stays n c (rv.Error code) b e (λ s. refl) (λ k s. refl)
+  tried-refused u (Some o) e is = absurd (step-no_try u o.kind o.session o.step code is)
 
 pub nothing-stays : (h : History) (n : ℕ) (c : Call) (v : Rv) (b : Body) → change.Nothing ≡ effect_by h c v b
     → InAll Stay (entry n c v b)
-nothing-stays h n (call.Digest x bytes room) (rv.Error code) b is k s = cc
-nothing-stays h n (call.DigestFinal x room) (rv.Error code) b is k s = cc
-nothing-stays h n (call.DigestUpdate x bytes) (rv.Error rv_error.DataLenRange) b is k s = cc
-nothing-stays h n (call.DigestUpdate x bytes) (rv.Error code) b is k s =
-    (refl, quiet-update x bytes _ refl k s, refl)
-nothing-stays h n (call.GetSessionInfo session) rv.Ok b is k s = (refl, refl, refl)
-nothing-stays h n call.GetTokenInfo rv.Ok b is k s = (refl, refl, refl)
-nothing-stays h n (call.GetAttributeValue session object queries) rv.Ok b is k s = (refl, refl, refl)
-nothing-stays h n other rv.Ok b is k s = cc
-nothing-stays h n other (rv.Error code) b is k s = (refl, refl, refl)
+nothing-stays h n c (rv.Error code) b is = nothing-refused h n c b code (operation_step c) refl is
+nothing-stays h n (call.GetSessionInfo session) rv.Ok b is =
+    no-step-stays n (call.GetSessionInfo session) rv.Ok b refl (λ s. refl) (λ k s. refl)
+nothing-stays h n call.GetTokenInfo rv.Ok b is =
+    no-step-stays n call.GetTokenInfo rv.Ok b refl (λ s. refl) (λ k s. refl)
+nothing-stays h n call.GetMechanismList rv.Ok b is =
+    no-step-stays n call.GetMechanismList rv.Ok b refl (λ s. refl) (λ k s. refl)
+nothing-stays h n (call.GetAttributeValue session object queries) rv.Ok b is =
+    no-step-stays n (call.GetAttributeValue session object queries) rv.Ok b refl (λ s. refl) (λ k s. refl)
+nothing-stays h n other rv.Ok b is = cc
 
-pub long-no_try : (code : RvError) (k : OperationKind) (session : ℕ) (u : UserType)
-    → change.WrongTry u ≡ end_if_too_long k session code → ⊥
-long-no_try rv_error.DataLenRange k session u is = cc
-long-no_try other k session u is = cc
+pub tried-stays : (h : History) (n : ℕ) (c : Call) (v : Rv) (b : Body) (u : UserType)
+    → change.WrongTry u ≡ effect_by h c v b → InAll Stay (entry n c v b)
+tried-stays h n c (rv.Error code) b u is = tried-refused h n c b code u (operation_step c) refl is
+tried-stays h n c rv.Ok b u is = absurd (no-try_done c is)
+  where
+    no-try_done : (c : Call) → change.WrongTry u ≡ change_of h c b → ⊥
+    no-try_done (call.GetSessionInfo session) is = cc
+    no-try_done other is = cc
+
+-- ---- an operation that has had no update
+
+no_pieces : (pieces : List (List ℕ)) → not (length pieces == 0) ≡ false → concat pieces ≡ []
+no_pieces [] e = refl
+no_pieces (piece ∷ pieces) e = absurd (true≢false (sym (ap not (eqb-suc-zero (length pieces))) ∙ e))
+
+-- has no message yet
+pub unused-message : (k : OperationKind) (h : History) (s : ℕ) → is_updated k h s ≡ false
+    → message_in k h s ≡ []
+unused-message k h s e = no_pieces (pieces_in k h s) e

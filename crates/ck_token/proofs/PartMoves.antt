@@ -1,15 +1,25 @@
 -- How sessions and objects keep agreeing with the history where a change is carried out
 use Rattle.std.proofs.Common.{◌≡◌, ℕ, Bool, true, false, cond, not, List, [], ◌∷◌, Option, Some, None, refl, ap, ◌∙◌}
-use Rattle.std.specs.Prelude.{option_and_then, unwrap_or}
+use Rattle.std.specs.Prelude.{option_and_then, unwrap_or, is_none, if◌then◌else◌}
 use Rattle.std.specs.Option.{option_map_or}
 use Rattle.ck_types.specs.Checks.{error_if, or_else, first_of}
-use Rattle.ck_types.specs.Records.{with_given, is_set, class_of, protections_of, placement_of, changed_error}
+use Rattle.ck_types.specs.Hashes.{digest_length}
+use Rattle.ck_types.specs.KeyStates.{state_of_number}
+use Rattle.ck_types.specs.Mechanisms.{digest_hash, hmac_hash, tag_length}
+use Rattle.ck_types.specs.Records.{with_given, is_set, is_key, state_in, protections_of, placement_of}
+use Rattle.ck_types.specs.Records.{changed_error}
+use Rattle.ck_types.specs.Templates.{class_of}
 use Rattle.ck_types.specs.TokenLimits.{Ranges}
 use Rattle.ck_types.specs.Users.{user_of}
 use Rattle.ck_types.specs.declared.attributes.Attribute.TheVariants as attribute
 use Rattle.ck_types.specs.declared.errors.RvError.{RvError}
 use Rattle.ck_types.specs.declared.errors.RvError.TheVariants as rv_error
+use Rattle.ck_types.specs.declared.hashes.Hash.{Hash}
+use Rattle.ck_types.specs.declared.hashes.Hash.TheVariants as hash
 use Rattle.ck_types.specs.declared.items.Item.{Item}
+use Rattle.ck_types.specs.declared.key_states.KeyState.{KeyState}
+use Rattle.ck_types.specs.declared.key_states.KeyState.TheVariants as state
+use Rattle.ck_types.specs.declared.mechanisms.Mechanism.{Mechanism}
 use Rattle.ck_types.specs.declared.pins.Pin.{Pin}
 use Rattle.ck_types.specs.declared.return_codes.Rv.{Rv}
 use Rattle.ck_types.specs.declared.return_codes.Rv.TheVariants as rv
@@ -17,13 +27,17 @@ use Rattle.ck_types.specs.declared.templates.Template.{Template}
 use Rattle.ck_types.specs.declared.users.UserType.{UserType}
 use Rattle.ck_types.specs.declared.users.UserType.TheVariants as user
 use Rattle.ck_types.proofs.ChangeLemmas.{token-kept}
-use Rattle.ck_types.proofs.CheckLemmas.{or_else-none}
+use Rattle.ck_types.proofs.CheckLemmas.{or_else-none, error_if-none}
 use Rattle.ck_journal.specs.declared.calls.Call.{Call}
 use Rattle.ck_journal.specs.declared.calls.Call.TheVariants as call
 use Rattle.ck_journal.specs.declared.calls.Entry.{Entry}
+use Rattle.ck_journal.specs.declared.operations.OperationKind.{OperationKind}
 use Rattle.ck_journal.specs.declared.operations.OperationKind.TheVariants as kind
 use Rattle.ck_journal.specs.declared.replies.Body.{Body}
-use Rattle.ck_journal.specs.Answers.{call_error, session_error, object_error, read_only_session_error, prohibited_error, known_login_error}
+use Rattle.ck_journal.specs.Answers.{call_error, session_error, object_error, key_error}
+use Rattle.ck_journal.specs.Answers.{read_only_session_error, prohibited_error, known_login_error}
+use Rattle.ck_journal.specs.Answers.{transition_error, set_key_state_error, hmac_init_error}
+use Rattle.ck_journal.specs.Answers.{parameter_error, digest_init_error}
 use Rattle.ck_journal.specs.Histories.{History, ◌◁◌, done, wrong_try, is_ok, is_wrong_pin, effects_of}
 use Rattle.ck_journal.specs.Objects.{creates, named_attributes, object_named, object_at}
 use Rattle.ck_journal.specs.Pins.{about, is_about, is_user}
@@ -33,9 +47,11 @@ use Rattle.ck_sessions.proofs.Moves.{sessions-left}
 use Rattle.ck_sessions.specs.Agreement.{SessionsState, SessionsAgree}
 use Rattle.ck_store.proofs.Moves.{objects-left}
 use Rattle.ck_store.specs.Agreement.{StoreState, StoreAgrees}
-use Rattle.ck_operations.specs.Moves.{Stay, Does, InAll}
-use Rattle.ck_token.proofs.OperationMoves.{entry, long-no_try, nobody-tried}
-use Rattle.ck_token.specs.Changes.{change_of, wrong_try_change, refused_change, effect, effect_by}
+use Rattle.ck_journal.specs.OperationCalls.{OperationStep, operation_step}
+use Rattle.ck_journal.specs.Operations.{is_active, hmac_with}
+use Rattle.ck_mac.specs.Computations.{hmac_by}
+use Rattle.ck_token.proofs.OperationMoves.{nobody-tried, IsStepAlone, step-alone, step-no_try, of-done}
+use Rattle.ck_token.specs.Changes.{change_of, wrong_try_change, refused_by, effect, effect_by}
 use Rattle.ck_token.specs.declared.changes.Change.TheVariants as change
 
 -- ---- the part that a call leaves as it is
@@ -52,6 +68,7 @@ module _ (h : History) (e : Entry) (c : Call) (d : done e ≡ Some c) where
 
   creation-kept : (c : Call) → creates (Some c) ≡ true → ((effects_of (Some c)).sessions ≡ false) × ((effects_of (Some c)).searches ≡ false)
   creation-kept (call.CreateObject session template) t = (refl, refl)
+  creation-kept (call.GenerateKey session mechanism template random) t = (refl, refl)
   creation-kept (call.CopyObject session object template) t = (refl, refl)
   creation-kept other t = cc
 
@@ -67,6 +84,7 @@ module _ (h : History) where
       → ((effects_of (Some c)).sessions ≡ false) × ((effects_of (Some c)).searches ≡ false) × ((effects_of (Some c)).objects ≡ false)
   nothing_done (call.GetSessionInfo session) b is = (refl, refl, refl)
   nothing_done call.GetTokenInfo b is = (refl, refl, refl)
+  nothing_done call.GetMechanismList b is = (refl, refl, refl)
   nothing_done (call.GetAttributeValue session object queries) b is = (refl, refl, refl)
   nothing_done other b is = cc
 
@@ -80,21 +98,18 @@ module _ (h : History) where
       tried (Some other) is = cc
   nothing_tried other c u is = refl
 
-  nothing_refused : (code : RvError) (c : Call) (u : UserType) → change.Nothing ≡ refused_change c code (about h (Some c))
+  nothing_refused : (code : RvError) (c : Call) (u : UserType) (o : Option OperationStep)
+      → operation_step c ≡ o → change.Nothing ≡ refused_by o code (about h (Some c))
       → is_about u h (cond (is_wrong_pin (rv.Error code)) (Some c) None) ≡ false
-  nothing_refused code (call.Digest session bytes room) u is =
-      nobody-tried h (is_wrong_pin (rv.Error code)) (call.Digest session bytes room) refl u
-  nothing_refused code (call.DigestUpdate session bytes) u is =
-      nobody-tried h (is_wrong_pin (rv.Error code)) (call.DigestUpdate session bytes) refl u
-  nothing_refused code (call.DigestFinal session room) u is =
-      nobody-tried h (is_wrong_pin (rv.Error code)) (call.DigestFinal session room) refl u
-  nothing_refused code other u is = nothing_tried code other u is
+  nothing_refused code c u None e is = nothing_tried code c u is
+  nothing_refused code c u (Some o) e is =
+      nobody-tried h (is_wrong_pin (rv.Error code)) c (step-alone h c o e).about u
 
   nothing_step : (c : Call) (v : Rv) (b : Body) → change.Nothing ≡ effect_by h c v b
       → ((effects_of (cond (is_ok v) (Some c) None)).sessions ≡ false) × ((effects_of (cond (is_ok v) (Some c) None)).searches ≡ false)
       × ((effects_of (cond (is_ok v) (Some c) None)).objects ≡ false) × ((u : UserType) → is_about u h (cond (is_wrong_pin v) (Some c) None) ≡ false)
   nothing_step c rv.Ok b is = let n = nothing_done c b is in (n.0, n.1, n.2, λ u. refl)
-  nothing_step c (rv.Error code) b is = (refl, refl, refl, λ u. nothing_refused code c u is)
+  nothing_step c (rv.Error code) b is = (refl, refl, refl, λ u. nothing_refused code c u (operation_step c) refl is)
 
 pub sessions-unchanged : (h : History) (e : Entry) (s : SessionsState) → change.Nothing ≡ effect h e.call e.reply → SessionsAgree h s → SessionsAgree (e ◁ h) s
 sessions-unchanged h e s is agree =
@@ -122,17 +137,16 @@ module _ (h : History) where
       tried (Some other) is = cc
   tried_refusal other c u is = cc
 
-  tried_refused : (code : RvError) (c : Call) (u : UserType) → change.WrongTry u ≡ refused_change c code (about h (Some c))
+  tried_refused : (code : RvError) (c : Call) (u : UserType) (o : Option OperationStep)
+      → change.WrongTry u ≡ refused_by o code (about h (Some c))
       → about h (cond (is_wrong_pin (rv.Error code)) (Some c) None) ≡ Some u
-  tried_refused code (call.Digest session bytes room) u is = cc
-  tried_refused code (call.DigestUpdate session bytes) u is = absurd (long-no_try code kind.Digest session u is)
-  tried_refused code (call.DigestFinal session room) u is = cc
-  tried_refused code other u is = tried_refusal code other u is
+  tried_refused code c u None is = tried_refusal code c u is
+  tried_refused code c u (Some o) is = absurd (step-no_try u o.kind o.session o.step code is)
 
   tried_step : (c : Call) (v : Rv) (b : Body) (u : UserType) → change.WrongTry u ≡ effect_by h c v b
       → (cond (is_ok v) (Some c) None ≡ None) × (about h (cond (is_wrong_pin v) (Some c) None) ≡ Some u)
   tried_step c rv.Ok b u is = absurd (tried_done c b u is)
-  tried_step c (rv.Error code) b u is = (refl, tried_refused code c u is)
+  tried_step c (rv.Error code) b u is = (refl, tried_refused code c u (operation_step c) is)
 
 -- nothing was done, and the user's PIN was tried
 pub tried : (h : History) (e : Entry) (u : UserType) → change.WrongTry u ≡ effect h e.call e.reply
@@ -141,14 +155,6 @@ tried h e u is = tried_step h e.call e.reply.rv e.reply.body u is
 
 pub objects-tried : (h : History) (e : Entry) (o : StoreState) → done e ≡ None → StoreAgrees h o → StoreAgrees (e ◁ h) o
 objects-tried h e o none agree = objects-left h o agree e (ap (λ d. (effects_of d).objects) none)
-
-pub tried-stays : (h : History) (n : ℕ) (c : Call) (v : Rv) (b : Body) (u : UserType)
-    → change.WrongTry u ≡ effect_by h c v b → InAll Stay (entry n c v b)
-tried-stays h n c rv.Ok b u is k s = absurd (tried_done h c b u is)
-tried-stays h n (call.Digest x bytes room) (rv.Error code) b u is k s = cc
-tried-stays h n (call.DigestFinal x room) (rv.Error code) b u is k s = cc
-tried-stays h n (call.DigestUpdate x bytes) (rv.Error code) b u is k s = absurd (long-no_try code kind.Digest x u is)
-tried-stays h n other (rv.Error code) b u is k s = (refl, refl, refl)
 
 -- ---- what the checks of a call say
 
@@ -209,3 +215,113 @@ change-passed limits h session object template e =
 pub destruction-passed : (limits : Ranges) (h : History) (session object : ℕ) → call_error limits h (call.DestroyObject session object) ≡ None
     → object_named h object ≡ Some (unwrap_or (object_named h object) 0)
 destruction-passed limits h session object e = (object-passed h session object _ e).0
+
+-- ---- keys
+
+key_case : (o : Option ℕ) (object : ℕ → Option (List Item)) (checks : List Item → Option RvError)
+    → option_map_or checks
+    (option_and_then (λ a. if is_key a then Some a else None) (option_and_then object o))
+    (Some rv_error.KeyHandleInvalid) ≡ None
+    → (o ≡ Some (unwrap_or o 0)) × (checks (unwrap_or (option_and_then object o) []) ≡ None)
+key_case None object checks e = cc
+key_case (Some n) object checks e = (refl, named (object n) e)
+  where
+    tested : (a : List Item) (t : Bool)
+        → option_map_or checks (cond t (Some a) None) (Some rv_error.KeyHandleInvalid) ≡ None
+        → checks a ≡ None
+    tested a true e = e
+    tested a false e = cc
+
+    named : (a : Option (List Item))
+        → option_map_or checks (option_and_then (λ a. if is_key a then Some a else None) a)
+        (Some rv_error.KeyHandleInvalid) ≡ None → checks (unwrap_or a []) ≡ None
+    named None e = cc
+    named (Some a) e = tested a (is_key a) e
+
+-- a call on a key that passes its checks names one, which passes them
+key-passed : (h : History) (key : ℕ) (checks : List Item → Option RvError)
+    → or_else (key_error h key checks) None ≡ None
+    → (object_named h key ≡ Some (unwrap_or (object_named h key) 0))
+    × (checks (named_attributes h key) ≡ None)
+key-passed h key checks e =
+    key_case (object_named h key) (object_at h) checks (or_else-none (key_error h key checks) None e).0
+
+state-known : (before after : Option KeyState) → or_else (transition_error before after) None ≡ None
+    → after ≡ Some (unwrap_or after state.Active)
+state-known before None e = cc
+state-known before (Some after) e = refl
+
+-- a new state of a key is one, and the key is there
+pub state-passed : (limits : Ranges) (h : History) (session key number : ℕ)
+    → call_error limits h (call.SetKeyState session key number) ≡ None
+    → (object_named h key ≡ Some (unwrap_or (object_named h key) 0))
+    × (state_of_number number ≡ Some (unwrap_or (state_of_number number) state.Active))
+state-passed limits h session key number e =
+    let p = key-passed h key _ (later-passes (session_error h session) _ e) in
+    let a = named_attributes h key in (
+      p.0,
+      state-known (state_in a) (state_of_number number)
+          (later-passes (read_only_session_error h session (placement_of a)) _ p.1),
+    )
+
+-- ---- starts
+
+is_known : {A : Type 0} (found : Option A) (other : A) (code : RvError) (later : Option RvError)
+    → or_else (error_if (is_none found) code) later ≡ None → found ≡ Some (unwrap_or found other)
+is_known None other code later e = cc
+is_known (Some a) other code later e = refl
+
+-- a digest that starts had none before it, and its mechanism is a digest's
+pub digest-passed : (limits : Ranges) (h : History) (session : ℕ) (mechanism : Mechanism)
+    → call_error limits h (call.DigestInit session mechanism) ≡ None
+    → is_active kind.Digest h session ≡ false
+digest-passed limits h session mechanism e =
+    error_if-none (is_active kind.Digest h session) rv_error.OperationActive
+    (or_else-none (error_if (is_active kind.Digest h session) rv_error.OperationActive) _
+    (later-passes (session_error h session) _ e)).0
+
+-- a signing or verifying that starts had none before it, its mechanism is an HMAC's, and its key is
+-- there
+pub hmac-passed : (k : OperationKind) (h : History) (session : ℕ) (mechanism : Mechanism) (key : ℕ)
+    → hmac_init_error k h session mechanism key ≡ None
+    → (is_active k h session ≡ false)
+    × (hmac_hash mechanism.kind ≡ Some (unwrap_or (hmac_hash mechanism.kind) hash.Sha256))
+    × (tag_length mechanism ≡ Some (unwrap_or (tag_length mechanism) 0))
+    × (object_named h key ≡ Some (unwrap_or (object_named h key) 0))
+hmac-passed k h session mechanism key e =
+    let idle = later-passes (session_error h session) _ e in
+    let known = later-passes (error_if (is_active k h session) rv_error.OperationActive) _ idle in
+    let sized = later-passes (error_if (is_none (hmac_hash mechanism.kind)) rv_error.MechanismInvalid) _ known in
+    let keyed =
+    later-passes (error_if (is_none (tag_length mechanism)) rv_error.MechanismParamInvalid) _ sized in (
+      error_if-none (is_active k h session) rv_error.OperationActive
+          (or_else-none (error_if (is_active k h session) rv_error.OperationActive) _ idle).0,
+      is_known (hmac_hash mechanism.kind) hash.Sha256 rv_error.MechanismInvalid _ known,
+      is_known (tag_length mechanism) 0 rv_error.MechanismParamInvalid _ sized,
+      (key-passed h key _ keyed).0,
+    )
+
+-- ---- a step on an operation
+
+-- leaves sessions and objects
+module _ (h : History) (e : Entry) (o : OperationStep) (is : operation_step e.call ≡ Some o) where
+  quiet : IsStepAlone h e.call
+  quiet = step-alone h e.call o is
+
+  pub step-sessions : (s : SessionsState) → SessionsAgree h s → SessionsAgree (e ◁ h) s
+  step-sessions s agree =
+      sessions-left h s agree e
+      (of-done (λ d. (effects_of d).sessions) false e.call e.reply.rv quiet.sessions refl)
+      (of-done (λ d. (effects_of d).searches) false e.call e.reply.rv quiet.searches refl)
+      (nobody-tried h (is_wrong_pin e.reply.rv) e.call quiet.about)
+
+  pub step-objects : (s : StoreState) → StoreAgrees h s → StoreAgrees (e ◁ h) s
+  step-objects s agree =
+      objects-left h s agree e
+      (of-done (λ d. (effects_of d).objects) false e.call e.reply.rv quiet.objects refl)
+
+-- an HMAC by its parts
+pub hmac-is : (made : Hash) (key : List ℕ) (len : ℕ) (mechanism : Mechanism) (value : List ℕ)
+    → made ≡ unwrap_or (hmac_hash mechanism.kind) hash.Sha256 → key ≡ value
+    → len ≡ unwrap_or (tag_length mechanism) 0 → hmac_by made key len ≡ hmac_with mechanism value
+hmac-is made key len mechanism value by same size = rw (by, same, size) refl

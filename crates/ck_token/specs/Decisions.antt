@@ -5,11 +5,13 @@ use Rattle.ck_types.specs.declared.errors.RvError.{RvError}
 use Rattle.ck_types.specs.declared.users.UserType.{UserType}
 use Rattle.ck_journal.specs.declared.calls.Call.{Call}
 use Rattle.ck_journal.specs.declared.calls.Call.TheVariants as call
+use Rattle.ck_journal.specs.declared.replies.Body.{Body}
 use Rattle.ck_journal.specs.declared.replies.Reply.{Reply}
 use Rattle.ck_journal.specs.Answers.{call_error, allowed_reply}
 use Rattle.ck_journal.specs.Histories.{History}
 use Rattle.ck_journal.specs.Pins.{about}
 use Rattle.ck_token.specs.Changes.{change_of, wrong_try_change, refused_change}
+use Rattle.ck_token.specs.declared.changes.Change.{Change}
 use Rattle.ck_token.specs.declared.decisions.Decision.{Decision}
 use Rattle.ck_token.specs.declared.decisions.Refused.{Refused}
 use Rattle.ck_token.specs.declared.decisions.Refused.TheVariants as refused
@@ -18,7 +20,9 @@ use Rattle.ck_token.specs.declared.decisions.Refused.TheVariants as refused
 -- operation or a list in the reply, which a call that asks for a length doesn't have
 abbrev pub takes_memory : Call → Bool
 takes_memory (call.OpenSession flags) = true
+takes_memory call.GetMechanismList = true
 takes_memory (call.CreateObject session template) = true
+takes_memory (call.GenerateKey session mechanism template random) = true
 takes_memory (call.CopyObject session object template) = true
 takes_memory (call.GetAttributeValue session object queries) = true
 takes_memory (call.SetAttributeValue session object template) = true
@@ -27,6 +31,10 @@ takes_memory (call.FindObjects session max) = true
 takes_memory (call.DigestInit session mechanism) = true
 takes_memory (call.Digest session bytes room) = is_some room
 takes_memory (call.DigestFinal session room) = is_some room
+takes_memory (call.SignInit session mechanism key) = true
+takes_memory (call.Sign session bytes room) = is_some room
+takes_memory (call.SignFinal session room) = is_some room
+takes_memory (call.VerifyInit session mechanism key) = true
 takes_memory other = false
 
 -- such a call, and it passes its checks
@@ -46,13 +54,21 @@ IsCheckAbout who error (Err refused.Memory) = ⊥
 abbrev pub reply_of : Decision → Reply
 reply_of decision = record { rv = decision.rv; body = decision.body }
 
--- the call passes its checks, and this is its reply and its change; or it is refused with the code
--- of the first check that fails; or it passes its checks and there is no memory for it
+-- the checks pass, and this is the reply and the change; or they don't, and this is the code of the
+-- first that fails and its change; or they pass and there is no memory for the call, which may take
+-- some
+abbrev pub IsDecided :
+    Option RvError → Reply → (Body → Change) → (RvError → Change) → Bool
+    → Result Decision Refused → Type 0
+IsDecided error reply made refusing memory (Ok decision) =
+    (error ≡ None) × (reply_of decision ≡ reply) × (decision.change ≡ made decision.body)
+IsDecided error reply made refusing memory (Err (refused.Error code change)) =
+    (error ≡ Some code) × (change ≡ refusing code)
+IsDecided error reply made refusing memory (Err refused.Memory) =
+    (is_none error && memory) ≡ true
+
+-- the call is decided as the history says
 abbrev pub IsDecision : Ranges → History → Call → Result Decision Refused → Type 0
-IsDecision limits h c (Ok decision) =
-    (call_error limits h c ≡ None)
-    × (reply_of decision ≡ allowed_reply limits h c)
-    × (decision.change ≡ change_of h c decision.body)
-IsDecision limits h c (Err (refused.Error code change)) =
-    (call_error limits h c ≡ Some code) × (change ≡ refused_change c code (about h (Some c)))
-IsDecision limits h c (Err refused.Memory) = may_run_out limits h c ≡ true
+IsDecision limits h c result =
+    IsDecided (call_error limits h c) (allowed_reply limits h c) (λ b. change_of h c b)
+    (λ code. refused_change c code (about h (Some c))) (takes_memory c) result

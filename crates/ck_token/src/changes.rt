@@ -1,6 +1,6 @@
 use crate::boxed::Boxed;
 use ck_journal::OperationKind;
-use ck_types::{Hash, Pin, Record, Sequence, UserType};
+use ck_types::{Hash, KeyState, Pin, Record, Sequence, UserType};
 
 /// What an answered call changes of sessions, objects and operations.
 #[derive(Drop)]
@@ -41,6 +41,11 @@ pub(crate) enum Change {
         number: u64,
         attributes: Boxed<Record>,
     },
+    /// A new state of the key of this number.
+    SetKeyState {
+        number: u64,
+        state: KeyState,
+    },
     DestroyObject {
         number: u64,
     },
@@ -57,10 +62,19 @@ pub(crate) enum Change {
     EndSearch {
         session: u64,
     },
-    StartOperation {
+    StartDigest {
+        session: u64,
+        hash: Hash,
+    },
+    /// A signing or a verifying.
+    StartHmac {
         kind: OperationKind,
         session: u64,
         hash: Hash,
+        /// The number of the key.
+        key: u64,
+        /// How many bytes a signature has.
+        len: u64,
     },
     /// The bytes of the call are one more piece.
     AddPiece {
@@ -73,5 +87,10 @@ pub(crate) enum Change {
         session: u64,
         /// Whether it ends, where one is active.
         ends: bool,
+    },
+    /// The end of the session's operations of the kinds that the flags name.
+    CancelOperations {
+        session: u64,
+        flags: u64,
     },
 }

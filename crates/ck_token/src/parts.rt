@@ -1,5 +1,6 @@
 use crate::changes::Change;
-use ck_journal::Call;
+use ck_journal::{Call, OperationKind};
+use ck_mac::{Mac, Running, RunningTag};
 use ck_operations::Operations;
 use ck_sessions::Sessions;
 use ck_store::Store;
@@ -15,10 +16,12 @@ pub(crate) struct Parts {
 }
 
 impl Parts {
-    ghost use Rattle.std.specs.Prelude.{◌≡◌, IsOk, OnOk, false};
+    ghost use Rattle.std.specs.Prelude.{◌≡◌, [], IsOk, OnOk, false, unwrap_or};
+    ghost use Rattle.ck_types.specs.Records.{key_value};
     ghost use Rattle.ck_types.specs.TokenLimits.{Ranges};
     ghost use Rattle.ck_journal.specs.Answers.{IsLegal};
     ghost use Rattle.ck_journal.specs.Histories.{History, ◌◁◌};
+    ghost use Rattle.ck_journal.specs.Objects.{object_at};
     ghost use Rattle.ck_journal.specs.declared.calls.Entry.{Entry};
     ghost use Rattle.ck_token.specs.Agreement.{PartsAgree, adds, HasRoom, IsCounted};
     ghost use Rattle.ck_token.specs.Changes.{effect};
@@ -32,8 +35,19 @@ impl Parts {
         match change {
             Change::OpenSession { .. } => self.sessions.reserve(),
             Change::CreateObject { session, .. } => self.objects.reserve(*session),
-            Change::StartOperation { .. } => self.operations.reserve(),
+            Change::StartDigest { .. } | Change::StartHmac { .. } => self.operations.reserve(),
             _ => Ok(()),
+        }
+    }
+
+    /// The bytes of the key of this number; none where there is no such object.
+    fn key_value(&self, number: u64) -> &[u8]
+        ensures { (h : History) → PartsAgree h self.now
+            → result.now ≡ key_value (unwrap_or (object_at h number) []) }
+    {
+        match self.objects.at(number) {
+            None => &[],
+            Some(attributes) => attributes.value_bytes(),
         }
     }
 
@@ -78,6 +92,7 @@ impl Parts {
             Change::SetAttributes { number, attributes } => self
                 .objects
                 .set(number, attributes.into_inner()),
+            Change::SetKeyState { number, state } => self.objects.set_state(number, state),
             Change::DestroyObject { number } => self.objects.destroy(number),
             Change::StartSearch { session, found } => self
                 .sessions
@@ -86,11 +101,22 @@ impl Parts {
                 self.sessions.advance_search(session, number)
             }
             Change::EndSearch { session } => self.sessions.end_search(session),
-            Change::StartOperation {
+            Change::StartDigest { session, hash } => {
+                let running = RunningTag::Digest(Running::new(hash));
+                self.operations
+                    .start(OperationKind::Digest, session, running, None);
+            }
+            Change::StartHmac {
                 kind,
                 session,
                 hash,
-            } => self.operations.start(kind, session, hash),
+                key,
+                len,
+            } => {
+                let mac = Mac::general(hash, self.key_value(key), len);
+                self.operations
+                    .start(kind, session, RunningTag::Mac(mac), Some(key));
+            }
             Change::AddPiece { kind, session } => {
                 self.operations.add_piece(kind, session, call.added_bytes())
             }
@@ -103,6 +129,7 @@ impl Parts {
                     self.operations.end(kind, session);
                 }
             }
+            Change::CancelOperations { session, flags } => self.operations.cancel(session, flags),
         }
     }
 }

@@ -1,10 +1,17 @@
 ghost use Rattle.std.specs.Prelude.{◌≡◌, IfOk, map};
 ghost use Rattle.std.specs.List.{list_any};
-ghost use Rattle.ck_journal.specs.Queries.{query_answer, is_missing, lacks_room, queries_code, queries_reply};
+ghost use Rattle.ck_journal.specs.Queries.{query_answer, is_sensitive, is_missing};
+ghost use Rattle.ck_journal.specs.Queries.{lacks_room, queries_code, queries_reply};
 
 use ck_journal::{Answer, AttributeQuery, Body, Reply};
 use ck_types::{NoMemory, Record, Rv, RvError, Sequence};
 use std::alloc::Global;
+
+fn is_sensitive(attributes: &Record, query: &AttributeQuery) -> bool
+    ensures { result ≡ is_sensitive attributes.now query.now }
+{
+    attributes.is_hidden(query.kind)
+}
 
 fn is_missing(attributes: &Record, query: &AttributeQuery) -> bool
     ensures { result ≡ is_missing attributes.now query.now }
@@ -15,13 +22,19 @@ fn is_missing(attributes: &Record, query: &AttributeQuery) -> bool
 fn lacks_room(attributes: &Record, query: &AttributeQuery) -> bool
     ensures { result ≡ lacks_room attributes.now query.now }
 {
-    match attributes.length(query.kind) {
-        None => false,
-        Some(length) => match query.room {
+    match attributes.readable(query.kind) {
+        Err(_) => false,
+        Ok(value) => match query.room {
             None => false,
-            Some(room) => room < length,
+            Some(room) => room < value.len(),
         },
     }
+}
+
+fn any_is_sensitive(attributes: &Record, queries: &[AttributeQuery]) -> bool
+    ensures { result ≡ list_any (is_sensitive attributes.now) queries.now }
+{
+    queries.iter().any(|query| is_sensitive(attributes, query))
 }
 
 fn any_is_missing(attributes: &Record, queries: &[AttributeQuery]) -> bool
@@ -40,7 +53,9 @@ fn any_lacks_room(attributes: &Record, queries: &[AttributeQuery]) -> bool
 fn queries_code(attributes: &Record, queries: &[AttributeQuery]) -> Rv
     ensures { result ≡ queries_code attributes.now queries.now }
 {
-    if any_is_missing(attributes, queries) {
+    if any_is_sensitive(attributes, queries) {
+        Rv::Error(RvError::AttributeSensitive)
+    } else if any_is_missing(attributes, queries) {
         Rv::Error(RvError::AttributeTypeInvalid)
     } else if any_lacks_room(attributes, queries) {
         Rv::Error(RvError::BufferTooSmall)
@@ -56,20 +71,17 @@ fn query_answer(
 ) -> Result<Answer, NoMemory>
     ensures { IfOk result (λ answer. answer ≡ query_answer attributes.now query.now) }
 {
-    match attributes.length(query.kind) {
-        None => Ok(Answer::Unavailable),
-        Some(length) => match query.room {
-            None => Ok(Answer::Length(length)),
-            Some(room) => {
-                if room < length {
-                    return Ok(Answer::Unavailable);
-                }
-                match attributes.value(alloc, query.kind)? {
-                    None => Ok(Answer::Unavailable),
-                    Some(value) => Ok(Answer::Value(value)),
-                }
-            }
-        },
+    let value = match attributes.readable(query.kind) {
+        Err(_) => return Ok(Answer::Unavailable),
+        Ok(value) => value,
+    };
+    match query.room {
+        None => Ok(Answer::Length(value.len())),
+        Some(room) if room < value.len() => Ok(Answer::Unavailable),
+        Some(_) => {
+            let bytes = value.to_bytes(alloc)?;
+            Ok(Answer::Value(bytes))
+        }
     }
 }
 

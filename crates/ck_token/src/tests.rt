@@ -17,6 +17,8 @@ enum Kind {
     Objects,
     Searches,
     Digests,
+    Keys,
+    Signatures,
 }
 
 /// The calls of a kind, after so many others.
@@ -37,6 +39,8 @@ impl List {
             Kind::Objects => object_step(alloc, number),
             Kind::Searches => search_step(alloc, number),
             Kind::Digests => digest_step(alloc, number),
+            Kind::Keys => key_step(alloc, number),
+            Kind::Signatures => signature_step(alloc, number),
         }
     }
 
@@ -262,6 +266,153 @@ fn digest_step(alloc: Global, number: usize) -> Result<Option<Step>, NoMemory> {
     Ok(Some((4, call, rv)))
 }
 
+/// A public key of 2 bytes.
+fn create_key(alloc: Global) -> Result<Call, NoMemory> {
+    create(
+        alloc,
+        &[
+            (0, &[4, 0, 0, 0, 0, 0, 0, 0]),
+            (0x100, &[16, 0, 0, 0, 0, 0, 0, 0]),
+            (0x11, b"ke"),
+            (2, &[0]),
+        ],
+    )
+}
+
+fn generate_key(alloc: Global) -> Result<Call, NoMemory> {
+    let mechanism = Mechanism {
+        kind: 0x350,
+        parameter: Bytes::new(alloc),
+    };
+    let items: &[(u64, &[u8])] = &[(0x161, &[2, 0, 0, 0, 0, 0, 0, 0]), (2, &[0])];
+    Ok(Call::GenerateKey {
+        session: 1,
+        mechanism,
+        template: template(alloc, items)?,
+        random: Bytes::from_slice(alloc, b"xy")?,
+    })
+}
+
+fn set_state(key: u64, state: u64) -> Call {
+    Call::SetKeyState {
+        session: 1,
+        key,
+        state,
+    }
+}
+
+fn key_step(alloc: Global, number: usize) -> Result<Option<Step>, NoMemory> {
+    let (call, rv) = match number {
+        0 => (Call::InitToken { pin: so_pin() }, Rv::Ok),
+        1 => (Call::OpenSession { flags: 6 }, Rv::Ok),
+        2 => (create_key(alloc)?, Rv::Ok),
+        3 => (generate_key(alloc)?, Rv::Ok),
+        4 => (set_state(2, 5), Rv::Ok),
+        5 => (set_state(2, 0), Rv::Error(RvError::ActionProhibited)),
+        6 => (set_state(3, 1), Rv::Error(RvError::KeyHandleInvalid)),
+        7 => (Call::GetMechanismList, Rv::Ok),
+        _ => return Ok(None),
+    };
+    Ok(Some((5, call, rv)))
+}
+
+/// HMAC-SHA-256.
+fn hmac(alloc: Global) -> Mechanism {
+    Mechanism {
+        kind: 0x251,
+        parameter: Bytes::new(alloc),
+    }
+}
+
+fn start_signing(alloc: Global) -> Call {
+    Call::SignInit {
+        session: 1,
+        mechanism: hmac(alloc),
+        key: 1,
+    }
+}
+
+fn sign(alloc: Global, room: Option<u64>) -> Result<Call, NoMemory> {
+    Ok(Call::Sign {
+        session: 1,
+        bytes: Bytes::from_slice(alloc, b"abc")?,
+        room,
+    })
+}
+
+fn signature_step(alloc: Global, number: usize) -> Result<Option<Step>, NoMemory> {
+    let (call, rv) = match number {
+        0 => (Call::InitToken { pin: so_pin() }, Rv::Ok),
+        1 => (Call::OpenSession { flags: 6 }, Rv::Ok),
+        2 => (create_key(alloc)?, Rv::Ok),
+        3 => (start_signing(alloc), Rv::Ok),
+        4 => (sign(alloc, None)?, Rv::Ok),
+        5 => (sign(alloc, Some(32))?, Rv::Ok),
+        6 => (start_signing(alloc), Rv::Ok),
+        7 => (
+            Call::SignUpdate {
+                session: 1,
+                bytes: Bytes::from_slice(alloc, b"a")?,
+            },
+            Rv::Ok,
+        ),
+        8 => (set_state(1, 2), Rv::Ok),
+        9 => (
+            Call::SignFinal {
+                session: 1,
+                room: Some(32),
+            },
+            Rv::Error(RvError::KeyFunctionNotPermitted),
+        ),
+        _ => return verification_step(alloc, number),
+    };
+    Ok(Some((6, call, rv)))
+}
+
+fn verification_step(alloc: Global, number: usize) -> Result<Option<Step>, NoMemory> {
+    let (call, rv) = match number {
+        10 | 12 => (
+            Call::VerifyInit {
+                session: 1,
+                mechanism: hmac(alloc),
+                key: 1,
+            },
+            Rv::Ok,
+        ),
+        11 => (
+            Call::Verify {
+                session: 1,
+                bytes: Bytes::from_slice(alloc, b"abc")?,
+                signature: Bytes::from_slice(alloc, [0; 32].as_slice())?,
+            },
+            Rv::Error(RvError::SignatureInvalid),
+        ),
+        13 => (
+            Call::VerifyUpdate {
+                session: 1,
+                bytes: Bytes::from_slice(alloc, b"a")?,
+            },
+            Rv::Ok,
+        ),
+        14 => (
+            Call::SessionCancel {
+                session: 1,
+                flags: 0x2000,
+            },
+            Rv::Ok,
+        ),
+        15 => (
+            Call::VerifyFinal {
+                session: 1,
+                signature: Bytes::from_slice(alloc, b"tag")?,
+            },
+            Rv::Error(RvError::OperationNotInitialized),
+        ),
+        _ => return Ok(None),
+    };
+    Ok(Some((6, call, rv)))
+}
+
 fn debug_text(alloc: Global, call: &Call) -> Result<String, Fail> {
     match format!(in alloc; "{call:?}") {
         Ok(text) => Ok(text),
@@ -370,7 +521,14 @@ fn check_list(rt: &impl Abort, alloc: Global, list: List) -> Result<u64, Fail> {
 fn calls_are_answered_and_entered(rt: HostRuntime) -> Result<(), Fail> {
     let mut refused = 0u64;
     for before in 0..8 {
-        for kind in [Kind::Pins, Kind::Objects, Kind::Searches, Kind::Digests] {
+        for kind in [
+            Kind::Pins,
+            Kind::Objects,
+            Kind::Searches,
+            Kind::Digests,
+            Kind::Keys,
+            Kind::Signatures,
+        ] {
             let list = List { before, kind };
             refused = refused.saturating_add(check_list(&rt, rt.alloc(), list)?);
         }

@@ -6,7 +6,7 @@ ghost use Rattle.ck_token.specs.Agreement.{PartsAgree, adds, HasRoom};
 use crate::changes::Change;
 use crate::decisions::{Decision, Refused};
 use crate::parts::Parts;
-use ck_journal::{Body, Call, Entry, Journal, Reply};
+use ck_journal::{Body, Call, Entry, Journal, OperationKind, Reply};
 use ck_operations::Operations;
 use ck_sessions::Sessions;
 use ck_store::Store;
@@ -14,8 +14,8 @@ use ck_types::{Limits, NoMemory, Rv};
 use std::alloc::Global;
 use std::marker::Model;
 
-mod digest_calls;
 mod object_calls;
+mod operation_calls;
 mod pin_calls;
 mod readings;
 mod search_calls;
@@ -150,7 +150,8 @@ impl Token {
     /// Answers a call and enters it in the journal. Where there is no memory for it, nothing has
     /// changed and the call isn't in the journal. Where the journal has room, only a call that
     /// passes its checks can run out of memory, and only one that opens a session, creates or
-    /// changes an object, searches, reads attributes, starts a digest or gives one.
+    /// changes an object, searches, reads attributes or the list of mechanisms, starts an
+    /// operation, or gives a digest or a signature.
     pub fn call(&mut self, alloc: Global, caller: u32, call: Call) -> Result<Reply, NoMemory>
         ensures answered { IfOk result (λ reply. IsAnswered self.old self.new caller call reply) }
         ensures unchanged { OnErr result (IsUnchanged self.old self.new) }
@@ -211,9 +212,17 @@ impl Token {
             Call::Logout { session } => self.logout(*session),
             Call::GetSessionInfo { session } => self.get_session_info(*session),
             Call::GetTokenInfo => Ok(self.get_token_info()),
+            Call::GetMechanismList => self.get_mechanism_list(alloc),
+            Call::SessionCancel { session, flags } => self.session_cancel(*session, *flags),
             Call::CreateObject { session, template } => {
                 self.create_object(alloc, *session, template)
             }
+            Call::GenerateKey {
+                session,
+                mechanism,
+                template,
+                random,
+            } => self.generate_key(alloc, *session, mechanism, template, random.as_slice()),
             Call::CopyObject {
                 session,
                 object,
@@ -229,6 +238,11 @@ impl Token {
                 object,
                 template,
             } => self.set_attribute_value(alloc, *session, *object, template),
+            Call::SetKeyState {
+                session,
+                key,
+                state,
+            } => self.set_key_state(*session, *key, *state),
             Call::DestroyObject { session, object } => self.destroy_object(*session, *object),
             Call::FindObjectsInit { session, template } => {
                 self.find_objects_init(alloc, *session, template)
@@ -240,11 +254,57 @@ impl Token {
                 session,
                 bytes,
                 room,
-            } => self.digest(alloc, *session, bytes.as_slice(), *room),
+            } => self.take_whole(
+                alloc,
+                OperationKind::Digest,
+                *session,
+                bytes.as_slice(),
+                *room,
+            ),
             Call::DigestUpdate { session, bytes } => {
-                self.digest_update(*session, bytes.as_slice())
+                self.add_piece(OperationKind::Digest, *session, bytes.as_slice())
             }
-            Call::DigestFinal { session, room } => self.digest_final(alloc, *session, *room),
+            Call::DigestFinal { session, room } => {
+                self.finish_message(alloc, OperationKind::Digest, *session, *room)
+            }
+            Call::SignInit {
+                session,
+                mechanism,
+                key,
+            } => self.hmac_init(OperationKind::Sign, *session, mechanism, *key),
+            Call::Sign {
+                session,
+                bytes,
+                room,
+            } => self.take_whole(
+                alloc,
+                OperationKind::Sign,
+                *session,
+                bytes.as_slice(),
+                *room,
+            ),
+            Call::SignUpdate { session, bytes } => {
+                self.add_piece(OperationKind::Sign, *session, bytes.as_slice())
+            }
+            Call::SignFinal { session, room } => {
+                self.finish_message(alloc, OperationKind::Sign, *session, *room)
+            }
+            Call::VerifyInit {
+                session,
+                mechanism,
+                key,
+            } => self.hmac_init(OperationKind::Verify, *session, mechanism, *key),
+            Call::Verify {
+                session,
+                bytes,
+                signature,
+            } => self.verify(*session, bytes.as_slice(), signature.as_slice()),
+            Call::VerifyUpdate { session, bytes } => {
+                self.add_piece(OperationKind::Verify, *session, bytes.as_slice())
+            }
+            Call::VerifyFinal { session, signature } => {
+                self.verify_final(*session, signature.as_slice())
+            }
         }
     }
 }

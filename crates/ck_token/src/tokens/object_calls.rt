@@ -1,6 +1,8 @@
-ghost use Rattle.std.specs.Prelude.{◌≡◌};
+ghost use Rattle.std.specs.Prelude.{◌≡◌, Some, None, IfOk, IfErr};
 ghost use Rattle.ck_types.specs.Checks.{check_of};
-ghost use Rattle.ck_journal.specs.Answers.{prohibited_error};
+ghost use Rattle.ck_types.specs.KeyStates.{state_of_number};
+ghost use Rattle.ck_types.specs.Records.{state_in};
+ghost use Rattle.ck_journal.specs.Answers.{prohibited_error, parameter_error, transition_error};
 
 use super::Token;
 use crate::boxed::Boxed;
@@ -9,7 +11,10 @@ use crate::decisions::{Decision, Refused};
 use crate::queries::queries_reply;
 use ck_journal::{AttributeQuery, Body};
 use ck_sessions::Session;
-use ck_types::{Attribute, Placement, Record, Rv, RvError, Template, error_if};
+use ck_types::{
+    Attribute, KeyState, Mechanism, Placement, Record, Rv, RvError, Template, error_if,
+    is_key_generator,
+};
 use std::alloc::Global;
 
 /// CKR_ACTION_PROHIBITED where the flag (CKA_COPYABLE, CKA_MODIFIABLE or CKA_DESTROYABLE) is false.
@@ -17,6 +22,34 @@ fn check_flag(attributes: &Record, flag: Attribute) -> Result<(), RvError>
     ensures { result ≡ check_of (prohibited_error flag attributes.now) }
 {
     error_if(!attributes.is_set(flag), RvError::ActionProhibited)
+}
+
+/// CKR_MECHANISM_PARAM_INVALID where the mechanism has a parameter.
+pub(super) fn check_no_parameter(mechanism: &Mechanism) -> Result<(), RvError>
+    ensures { result ≡ check_of (parameter_error mechanism.now) }
+{
+    let has_parameter = !mechanism.parameter.as_slice().is_empty();
+    error_if(has_parameter, RvError::MechanismParamInvalid)
+}
+
+/// The state of this number, else CKR_ARGUMENTS_BAD, where the key may go over to it, else
+/// CKR_ACTION_PROHIBITED.
+fn transition(key: &Record, number: u64) -> Result<KeyState, RvError>
+    ensures state { IfOk result (λ state. state_of_number number ≡ Some state) }
+    ensures passes { IfOk result (λ state.
+        transition_error (state_in key.now) (state_of_number number) ≡ None) }
+    ensures fails { IfErr result (λ code.
+        transition_error (state_in key.now) (state_of_number number) ≡ Some code) }
+{
+    let Some(after) = KeyState::of(number) else {
+        return Err(RvError::ArgumentsBad);
+    };
+    let is_allowed = match key.key_state() {
+        None => false,
+        Some(before) => before.may_become(after),
+    };
+    error_if(!is_allowed, RvError::ActionProhibited)?;
+    Ok(after)
 }
 
 /// Creating, copying, reading, changing and destroying objects.
@@ -90,6 +123,29 @@ impl Token {
         self.check_placement(row, template.creation_placement())?;
         let number = self.next_number()?;
         let made = Record::create_with(alloc, template)?;
+        let attributes = Boxed::new(alloc, made)?;
+        Ok(self.creation(session, number, attributes))
+    }
+
+    pub(super) fn generate_key(
+        &self,
+        alloc: Global,
+        session: u64,
+        mechanism: &Mechanism,
+        template: &Template,
+        random: &[u8],
+    ) -> Result<Decision, Refused>
+        ensures { IsDecision self.now.limits self.now.history
+            (call.GenerateKey session mechanism.now template.now random.now) result }
+    {
+        let row = self.session(session)?;
+        let generates = is_key_generator(mechanism.kind);
+        error_if(!generates, RvError::MechanismInvalid)?;
+        check_no_parameter(mechanism)?;
+        template.check_generation(random)?;
+        self.check_placement(row, template.generation_placement())?;
+        let number = self.next_number()?;
+        let made = Record::generate_with(alloc, template, random)?;
         let attributes = Boxed::new(alloc, made)?;
         Ok(self.creation(session, number, attributes))
     }
@@ -173,6 +229,22 @@ impl Token {
         let made = present.change_with(alloc, template)?;
         let attributes = Boxed::new(alloc, made)?;
         Ok(Decision::of_change(Change::SetAttributes { number, attributes }))
+    }
+
+    pub(super) fn set_key_state(
+        &self,
+        session: u64,
+        key: u64,
+        state: u64,
+    ) -> Result<Decision, Refused>
+        ensures { IsDecision self.now.limits self.now.history
+            (call.SetKeyState session key state) result }
+    {
+        let row = self.session(session)?;
+        let (number, attributes) = self.key(key)?;
+        self.check_writable(row, attributes.placement())?;
+        let state = transition(attributes, state)?;
+        Ok(Decision::of_change(Change::SetKeyState { number, state }))
     }
 
     pub(super) fn destroy_object(&self, session: u64, object: u64) -> Result<Decision, Refused>

@@ -7,7 +7,7 @@ use super::Token;
 use ck_journal::{OperationKind, View};
 use ck_operations::Operation;
 use ck_sessions::{Credential, Session};
-use ck_types::{Record, RvError, SessionState, UserType};
+use ck_types::{Class, Record, RvError, SessionState, UserType};
 
 /// The state of a session, by who is logged in and whether the session is read/write.
 fn session_state(login: Option<UserType>, is_read_write: bool) -> SessionState
@@ -34,11 +34,11 @@ impl Token {
     ghost use Rattle.std.specs.Prelude.{◌≡◌, ◌<◌, ◌≤◌, ◌^◌, ℕ, true, false, not, Some, None, IfOk, IfErr, length};
     ghost use Rattle.std.specs.List.{list_any};
     ghost use Rattle.ck_types.specs.declared.errors.RvError.TheVariants as rv_error;
-    ghost use Rattle.ck_journal.specs.Objects.{creations, view_of, is_user_in, object_named, attributes_named};
+    ghost use Rattle.ck_journal.specs.Objects.{creations, view_of, is_user_in, object_named, attributes_named, key_named};
     ghost use Rattle.ck_journal.specs.Pins.{is_initialized, present_pin, tries};
     ghost use Rattle.ck_journal.specs.Sessions.{openings, is_open, open_sessions, is_read_write, rw_sessions, login, user_logins, state_of};
-    ghost use Rattle.ck_journal.specs.Operations.{is_active, hash_in, message_in, is_updated};
-    ghost use Rattle.ck_operations.specs.Rows.{HoldsMessage, has_update};
+    ghost use Rattle.ck_journal.specs.Operations.{is_active};
+    ghost use Rattle.ck_operations.specs.Agreement.{OperationAgrees, active_operation};
     ghost use Rattle.ck_sessions.specs.Agreement.{session_row};
 
     pub(super) fn is_initialized(&self) -> bool
@@ -142,11 +142,8 @@ impl Token {
     /// The session's active operation of the kind, else CKR_OPERATION_NOT_INITIALIZED.
     pub(super) fn operation(&self, kind: OperationKind, session: u64) -> Result<&Operation, RvError>
         ensures active { IfOk result (λ operation. is_active kind self.now.history session ≡ true) }
-        ensures message { IfOk result (λ operation.
-            HoldsMessage (hash_in kind self.now.history session) operation.now
-            (message_in kind self.now.history session)) }
-        ensures updated { IfOk result (λ operation.
-            has_update operation.now ≡ is_updated kind self.now.history session) }
+        ensures agrees { IfOk result (λ operation.
+            OperationAgrees operation.now (active_operation kind self.now.history session)) }
         ensures none { IfErr result (λ code. code ≡ rv_error.OperationNotInitialized) }
         ensures idle { IfErr result (λ code. is_active kind self.now.history session ≡ false) }
     {
@@ -169,6 +166,23 @@ impl Token {
         match self.parts.objects.get(self.view(), handle) {
             Some(found) => Ok(found),
             None => Err(RvError::ObjectHandleInvalid),
+        }
+    }
+
+    /// The number and the attributes of the key that the handle names, else CKR_KEY_HANDLE_INVALID.
+    pub(super) fn key(&self, handle: u64) -> Result<(u64, &Record), RvError>
+        ensures number { IfOk result (λ found.
+            object_named self.now.history handle ≡ Some found.0) }
+        ensures attributes { IfOk result (λ found.
+            key_named self.now.history handle ≡ Some found.1.now) }
+        ensures none { IfErr result (λ code. code ≡ rv_error.KeyHandleInvalid) }
+        ensures unnamed { IfErr result (λ code. key_named self.now.history handle ≡ None) }
+    {
+        match self.parts.objects.get(self.view(), handle) {
+            Some((number, attributes)) if attributes.class() == Class::SecretKey => {
+                Ok((number, attributes))
+            }
+            _ => Err(RvError::KeyHandleInvalid),
         }
     }
 }

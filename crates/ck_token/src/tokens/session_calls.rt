@@ -1,13 +1,29 @@
+ghost use Rattle.std.specs.Prelude.{◌≡◌, IfOk};
+ghost use Rattle.ck_types.specs.Mechanisms.{mechanism_types};
+ghost use Rattle.ck_journal.specs.declared.replies.Body.TheVariants as body;
+
 use super::Token;
 use crate::changes::Change;
 use crate::decisions::{Decision, Refused};
 use ck_journal::{Body, RW_SESSION, SERIAL_SESSION, is_read_write};
-use ck_types::{Rv, RvError, TokenFlags, UserType, error_if};
+use ck_types::{NoMemory, Rv, RvError, Sequence, TokenFlags, UserType, error_if, mechanism_types};
+use std::alloc::Global;
 
 /// All flags that a session may be opened with.
 const SESSION_FLAGS: u64 = RW_SESSION | SERIAL_SESSION;
 
-/// Opening and closing sessions, and what is read of them and of the token.
+/// All flags by which operations are cancelled: CKF_DIGEST, CKF_SIGN and CKF_VERIFY.
+const CANCEL_FLAGS: u64 = 0x2c00;
+
+fn mechanism_list(alloc: Global) -> Result<Body, NoMemory>
+    ensures { IfOk result (λ list. list ≡ body.Mechanisms mechanism_types) }
+{
+    let types = Vec::from_slice(alloc, mechanism_types().as_slice())?;
+    Ok(Body::Mechanisms(Sequence::from_vec(types)))
+}
+
+/// Opening and closing sessions, cancelling their operations, and what is read of them and of the
+/// token.
 impl Token {
     ghost use Rattle.std.specs.Prelude.{◌≡◌};
     ghost use Rattle.ck_journal.specs.Answers.{allowed_reply};
@@ -76,5 +92,20 @@ impl Token {
             sessions: self.session_count(),
             rw_sessions: self.read_write_count(),
         })
+    }
+
+    pub(super) fn session_cancel(&self, session: u64, flags: u64) -> Result<Decision, Refused>
+        ensures { IsDecision self.now.limits self.now.history
+            (call.SessionCancel session flags) result }
+    {
+        self.session(session)?;
+        error_if(flags & CANCEL_FLAGS != flags, RvError::ArgumentsBad)?;
+        Ok(Decision::of_change(Change::CancelOperations { session, flags }))
+    }
+
+    pub(super) fn get_mechanism_list(&self, alloc: Global) -> Result<Decision, Refused>
+        ensures { IsDecision self.now.limits self.now.history call.GetMechanismList result }
+    {
+        Ok(Decision::of_body(mechanism_list(alloc)?))
     }
 }

@@ -1,18 +1,32 @@
-use Rattle.std.proofs.Common.{◌≡◌, false, List, sym, ap, ◌∙◌, refl, Some, subst}
-use Rattle.ck_types.specs.Records.{is_set}
+use Rattle.std.proofs.Common.{◌≡◌, false, List, [], sym, ap, ◌∙◌, refl, Some, subst}
+use Rattle.std.specs.Prelude.{option_and_then, unwrap_or}
+use Rattle.ck_types.specs.Records.{is_set, key_value}
 use Rattle.ck_types.specs.declared.attributes.Attribute.TheVariants as attribute
 use Rattle.ck_types.specs.declared.items.Item.{Item}
-use Rattle.ck_journal.proofs.LegalLemmas.{passed-done, is_searching-next}
+use Rattle.ck_mac.specs.Computations.{digest_by, hmac_by}
+use Rattle.ck_journal.specs.Histories.{is_ok}
+use Rattle.ck_journal.specs.Objects.{object_named, object_at, named_attributes}
+use Rattle.ck_journal.specs.OperationCalls.{initialize, add_piece, operation_step}
+use Rattle.ck_journal.specs.Operations.{added_bytes, started_computation, init_key}
 use Rattle.ck_journal.specs.declared.operations.OperationKind.TheVariants as kind
-use Rattle.ck_journal.specs.Operations.{is_active, added_bytes}
-use Rattle.ck_operations.specs.Moves.{Start, Add, End, OnlyIn}
+use Rattle.ck_journal.proofs.LegalLemmas.{passed-done, is_searching-next}
+use Rattle.ck_operations.specs.Moves.{Add, OnlyIn}
 use Rattle.ck_operations.proofs.Moves.{operations-left}
-use Rattle.ck_sessions.proofs.Moves.{sessions-left}
-use Rattle.ck_store.proofs.Moves.{objects-left}
 use Rattle.ck_token.specs.declared.changes.Change.TheVariants as change
-use Rattle.ck_token.proofs.OperationMoves.{operations-kept, operations-created, closed-one, closed-all, logged-out, digest-started, digest-passed, piece-added, finished-is, finish-does, nothing-stays}
-use Rattle.ck_token.proofs.Inversions.{done-of_call, of-InitPin, of-SetPin, of-LogIn, of-LogOut, of-CreateObject, of-SetAttributes, of-DestroyObject, of-StartSearch, of-AdvanceSearch, of-StartOperation, of-AddPiece, called-InitToken, called-OpenSession, called-CloseSession, called-CloseAllSessions, called-EndSearch}
-use Rattle.ck_token.proofs.PartMoves.{sessions-kept, objects-kept, sessions-created, sessions-unchanged, objects-unchanged, tried, tried-stays, objects-tried, login-passed, change-passed, destruction-passed}
+use Rattle.ck_token.proofs.Counts.{started-injected}
+use Rattle.ck_token.proofs.OperationMoves.{operations-kept, operations-created, closed-one, closed-all}
+use Rattle.ck_token.proofs.OperationMoves.{logged-out, cancelled, does-start, does-add, finished-is}
+use Rattle.ck_token.proofs.OperationMoves.{finish-does, nothing-stays, tried-stays, done-ok}
+use Rattle.ck_token.proofs.Inversions.{done-of_call, of-InitPin, of-SetPin, of-LogIn, of-LogOut}
+use Rattle.ck_token.proofs.Inversions.{of-CreateObject, of-SetAttributes, of-SetKeyState, of-DestroyObject}
+use Rattle.ck_token.proofs.Inversions.{of-StartSearch, of-AdvanceSearch, of-StartDigest, of-StartHmac}
+use Rattle.ck_token.proofs.Inversions.{of-AddPiece, of-CancelOperations}
+use Rattle.ck_token.proofs.Inversions.{called-InitToken, called-OpenSession, called-CloseSession}
+use Rattle.ck_token.proofs.Inversions.{called-CloseAllSessions, called-EndSearch}
+use Rattle.ck_token.proofs.PartMoves.{sessions-kept, objects-kept, sessions-created, sessions-unchanged}
+use Rattle.ck_token.proofs.PartMoves.{objects-unchanged, tried, objects-tried, login-passed, change-passed}
+use Rattle.ck_token.proofs.PartMoves.{destruction-passed, state-passed, digest-passed, hmac-passed}
+use Rattle.ck_token.proofs.PartMoves.{step-sessions, step-objects, hmac-is}
 use Rattle.ck_token.proofs.parts.Parts.apply.Goals as goal
 
 pub returns-in-Nothing : goal.returns-in-Nothing
@@ -162,6 +176,22 @@ returns-in-SetAttributes c = record {
       };
 }
 
+pub returns-in-SetKeyState : goal.returns-in-SetKeyState
+returns-in-SetKeyState c = record {
+  agree = λ limits h e legal is called agree.
+      let number = c.in-SetKeyState.number in
+      let state = c.in-SetKeyState.state in
+      let made = done-of_call h e (change.SetKeyState number state) (sym c.in-SetKeyState.is ∙ is) refl in
+      let of = of-SetKeyState h e.reply.body e.call number state made.1 in
+      let d = made.0 ∙ ap Some of.3 in
+      let p = state-passed limits h of.0 of.1 of.2 (passed-done limits e h legal _ d) in
+      record {
+        sessions = sessions-kept h e _ d _ refl refl agree.sessions;
+        objects = c.set_state.ensures.agree h e of.0 of.1 of.2 d (p.1 ∙ ap Some (sym of.5)) (p.0 ∙ ap Some (sym of.4)) agree.objects;
+        operations = operations-kept e _ d h _ refl refl agree.operations;
+      };
+}
+
 pub returns-in-DestroyObject : goal.returns-in-DestroyObject
 returns-in-DestroyObject c = record {
   agree = λ limits h e legal is called agree.
@@ -213,22 +243,58 @@ returns-in-EndSearch c = record {
       };
 }
 
-pub returns-in-StartOperation : goal.returns-in-StartOperation
-returns-in-StartOperation c = record {
+pub returns-in-StartDigest : goal.returns-in-StartDigest
+returns-in-StartDigest c = record {
   agree = λ limits h e legal is called agree.
-      let k = c.in-StartOperation.kind in
-      let session = c.in-StartOperation.session in
-      let hash = c.in-StartOperation.hash in
-      let made = done-of_call h e (change.StartOperation k session hash) (sym c.in-StartOperation.is ∙ is) refl in
-      let of = of-StartOperation h e.reply.body e.call k session hash made.1 in
+      let session = c.in-StartDigest.session in
+      let hash = c.in-StartDigest.hash in
+      let made = done-of_call h e (change.StartDigest session hash) (sym c.in-StartDigest.is ∙ is) refl in
+      let of = of-StartDigest h e.reply.body e.call session hash made.1 in
       let d = made.0 ∙ ap Some of.1 in
-      let p = digest-passed limits h session of.0 (passed-done limits e h legal _ d) in
-      let does = digest-started e session of.0 hash d (p.1 ∙ ap Some (sym of.3)) in
+      let idle = digest-passed limits h session of.0 (passed-done limits e h legal _ d) in
       record {
         sessions = sessions-kept h e _ d _ refl refl agree.sessions;
         objects = objects-kept h e _ d _ refl agree.objects;
-        operations = c.start.ensures.agree h e (subst (λ k. OnlyIn k session (Start hash) e) (sym of.2) does)
-            (subst (λ k. is_active k h session ≡ false) (sym of.2) p.0) agree.operations;
+        operations = c.start.ensures.agree h e (digest_by hash) c.new.ensures
+            (record {
+              computation = ap (started_computation h) d ∙ ap digest_by (sym of.2);
+              key = ap (λ d. option_and_then (object_named h) (init_key d)) d;
+            })
+            (does-start h e.caller e.call e.reply.rv e.reply.body kind.Digest session initialize
+            (ap operation_step of.1) (done-ok (is_ok e.reply.rv) e.call _ d) refl) idle agree.operations;
+      };
+}
+
+pub returns-in-StartHmac : goal.returns-in-StartHmac
+returns-in-StartHmac c = record {
+  agree = λ limits h e legal is called agree.
+      let k = c.in-StartHmac.kind in
+      let session = c.in-StartHmac.session in
+      let hash = c.in-StartHmac.hash in
+      let number = c.in-StartHmac.key in
+      let len = c.in-StartHmac.len in
+      let made = done-of_call h e (change.StartHmac k session hash number len) (sym c.in-StartHmac.is ∙ is) refl in
+      let of = of-StartHmac h e.reply.body limits e.call k session hash number len made.1 in
+      let starts = of.3 in
+      let passed =
+      hmac-passed k h session of.0 of.1 (sym starts.error ∙ passed-done limits e h legal e.call made.0) in
+      let same = started-injected k session hash number len _ _ _ of.2 in
+      let named : object_named h of.1 ≡ Some number = passed.3 ∙ ap Some (sym same.1) in
+      let key = c.key_value.result.now in
+      let value : key ≡ key_value (named_attributes h of.1) =
+      c.key_value.ensures h agree
+      ∙ ap (λ o. key_value (unwrap_or (option_and_then (object_at h) o) [])) (sym named) in
+      record {
+        sessions = step-sessions h e _ starts.step _ agree.sessions;
+        objects = step-objects h e _ starts.step _ agree.objects;
+        operations = c.start-in-StartHmac.ensures.agree h e (hmac_by hash key len) c.general-mac.ensures
+            (record {
+              computation = ap (started_computation h) made.0 ∙ starts.computation ∙ sym (hmac-is hash key len of.0 _ same.0 value same.2);
+              key = ap (λ d. option_and_then (object_named h) (init_key d)) made.0
+                  ∙ ap (option_and_then (object_named h)) starts.key ∙ named;
+            })
+            (does-start h e.caller e.call e.reply.rv e.reply.body k session initialize starts.step
+            (done-ok (is_ok e.reply.rv) e.call _ made.0) refl) passed.0 agree.operations;
       };
 }
 
@@ -238,15 +304,15 @@ returns-in-AddPiece c = record {
       let k = c.in-AddPiece.kind in
       let session = c.in-AddPiece.session in
       let made = done-of_call h e (change.AddPiece k session) (sym c.in-AddPiece.is ∙ is) refl in
-      let of = of-AddPiece h e.reply.body e.call k session made.1 in
-      let d = made.0 ∙ ap Some of.1 in
-      let bytes = c.added_bytes.ensures ∙ ap added_bytes (called ∙ of.1) in
+      let step = of-AddPiece h e.reply.body e.call k session made.1 in
+      let bytes = c.added_bytes.ensures ∙ ap added_bytes called in
       record {
-        sessions = sessions-kept h e _ d _ refl refl agree.sessions;
-        objects = objects-kept h e _ d _ refl agree.objects;
+        sessions = step-sessions h e _ step _ agree.sessions;
+        objects = step-objects h e _ step _ agree.objects;
         operations = c.add_piece.ensures.agree h e
-            (subst (λ k. OnlyIn k session (Add c.added_bytes.result.now) e) (sym of.2)
-            (subst (λ bytes. OnlyIn kind.Digest session (Add bytes) e) (sym bytes) (piece-added e session of.0 d)))
+            (subst (λ bytes. OnlyIn k session (Add bytes) e) (sym bytes)
+            (does-add h e.caller e.call e.reply.rv e.reply.body k session (add_piece (added_bytes e.call)) step
+            (added_bytes e.call) (done-ok (is_ok e.reply.rv) e.call _ made.0) refl))
             agree.operations;
       };
 }
@@ -257,13 +323,11 @@ returns-then-ends c = record {
       let k = c.in-FinishOperation.kind in
       let session = c.in-FinishOperation.session in
       let f = finished-is h e.call e.reply.rv e.reply.body k session _ (sym c.in-FinishOperation.is ∙ is) in
-      let does = finish-does h e.caller e.call e.reply.rv e.reply.body session _ f.1 in
+      let does = finish-does h e.caller e.call e.reply.rv e.reply.body k session _ f in
       record {
-        sessions = sessions-left h _ agree.sessions e f.1.sessions f.1.searches f.1.untried;
-        objects = objects-left h _ agree.objects e f.1.objects;
-        operations = c.end.ensures.agree h e
-            (subst (λ k. OnlyIn k session End e) (sym f.0)
-            (rw c.if-ends.true at does)) agree.operations;
+        sessions = step-sessions h e _ f.is _ agree.sessions;
+        objects = step-objects h e _ f.is _ agree.objects;
+        operations = c.end.ensures.agree h e (rw c.if-ends.true at does) agree.operations;
       };
 }
 
@@ -273,10 +337,24 @@ returns-else-ends c = record {
       let k = c.in-FinishOperation.kind in
       let session = c.in-FinishOperation.session in
       let f = finished-is h e.call e.reply.rv e.reply.body k session _ (sym c.in-FinishOperation.is ∙ is) in
-      let does = finish-does h e.caller e.call e.reply.rv e.reply.body session _ f.1 in
+      let does = finish-does h e.caller e.call e.reply.rv e.reply.body k session _ f in
       record {
-        sessions = sessions-left h _ agree.sessions e f.1.sessions f.1.searches f.1.untried;
-        objects = objects-left h _ agree.objects e f.1.objects;
+        sessions = step-sessions h e _ f.is _ agree.sessions;
+        objects = step-objects h e _ f.is _ agree.objects;
         operations = operations-left h _ agree.operations e (rw c.if-ends.false at does);
+      };
+}
+
+pub returns-in-CancelOperations : goal.returns-in-CancelOperations
+returns-in-CancelOperations c = record {
+  agree = λ limits h e legal is called agree.
+      let session = c.in-CancelOperations.session in
+      let flags = c.in-CancelOperations.flags in
+      let made = done-of_call h e (change.CancelOperations session flags) (sym c.in-CancelOperations.is ∙ is) refl in
+      let d = made.0 ∙ ap Some (of-CancelOperations h e.reply.body e.call session flags made.1) in
+      record {
+        sessions = sessions-kept h e _ d _ refl refl agree.sessions;
+        objects = objects-kept h e _ d _ refl agree.objects;
+        operations = c.cancel.ensures.agree h e (cancelled e session flags d) agree.operations;
       };
 }

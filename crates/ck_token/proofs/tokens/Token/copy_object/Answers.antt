@@ -1,6 +1,7 @@
 use Rattle.std.proofs.Common.{List, [], refl, sym, ap, ◌∙◌}
 use Rattle.std.specs.Prelude.{unwrap_or}
-use Rattle.ck_types.specs.Records.{with_given, class_of, protections_of, copied_error}
+use Rattle.ck_types.specs.Records.{with_given, protections_of, copied_error}
+use Rattle.ck_types.specs.Templates.{class_of}
 use Rattle.ck_types.specs.declared.attributes.Attribute.TheVariants as attribute
 use Rattle.ck_types.specs.declared.items.Item.{Item}
 use Rattle.ck_types.specs.declared.object_flags.Placement.{Placement}

@@ -1,0 +1,382 @@
+ghost use Rattle.std.specs.Prelude.{◌≡◌, ℕ, true, List, length, IfOk, MatchOption};
+ghost use Rattle.ck_types.specs.Checks.{check_of};
+ghost use Rattle.ck_types.specs.declared.return_codes.Rv.TheVariants as rv;
+ghost use Rattle.ck_journal.specs.Answers.{ok, bytes_reply, key_state_error, may_serve, usage_flag};
+ghost use Rattle.ck_journal.specs.Answers.{usage_error};
+ghost use Rattle.ck_journal.specs.declared.replies.Body.TheVariants as body;
+ghost use Rattle.ck_token.specs.declared.changes.Change.TheVariants as change;
+ghost use Rattle.ck_token.specs.declared.decisions.Refused.TheVariants as refused;
+
+use super::Token;
+use super::object_calls::check_no_parameter;
+use crate::changes::Change;
+use crate::decisions::{Decision, Refused};
+use ck_journal::{Body, OperationKind, is_long_piece};
+use ck_mac::Tag;
+use ck_operations::Operation;
+use ck_types::{
+    Attribute, Bytes, KeyState, Mechanism, NoMemory, Record, Rv, RvError, digest_of, error_if,
+    mac_of,
+};
+use std::alloc::Global;
+
+/// The code of a reply that gives a length alone: where it is asked for, and where the room is too
+/// small.
+fn length_code(len: u64, room: Option<u64>) -> Option<Rv>
+    ensures { (bytes : List ℕ) → length bytes ≡ len → MatchOption result
+        (bytes_reply room bytes ≡ ok (body.Bytes bytes))
+        (λ code. bytes_reply room bytes ≡ record { rv = code; body = body.Length len }) }
+{
+    match room {
+        None => Some(Rv::Ok),
+        Some(room) if room < len => Some(Rv::Error(RvError::BufferTooSmall)),
+        Some(_) => None,
+    }
+}
+
+/// What the reply makes of the session's operation.
+fn finish(kind: OperationKind, session: u64, ends: bool) -> Change
+    ensures { result ≡ change.FinishOperation kind session ends }
+{
+    Change::FinishOperation {
+        kind,
+        session,
+        ends,
+    }
+}
+
+/// Gives a digest or a signature, which ends the session's operation.
+fn give(alloc: Global, kind: OperationKind, session: u64, tag: &Tag) -> Result<Decision, NoMemory>
+    ensures { IfOk result (λ decision. decision ≡ record {
+      rv = rv.Ok;
+      body = body.Bytes tag.now;
+      change = change.FinishOperation kind session true;
+    }) }
+{
+    let bytes = Bytes::from_slice(alloc, tag.bytes())?;
+    Ok(Decision {
+        rv: Rv::Ok,
+        body: Body::Bytes(bytes),
+        change: finish(kind, session, true),
+    })
+}
+
+/// A refusal that ends the session's operation, where one is active.
+fn refused(kind: OperationKind, session: u64, error: RvError) -> Refused
+    ensures { result ≡ refused.Error error (change.FinishOperation kind session true) }
+{
+    Refused::Error {
+        error,
+        change: finish(kind, session, true),
+    }
+}
+
+/// Whether a key of this state may do what operations of the kind do.
+fn may_serve(kind: OperationKind, state: KeyState) -> bool
+    ensures { result ≡ may_serve kind state }
+{
+    match kind {
+        OperationKind::Digest => true,
+        OperationKind::Sign => state.may_sign(),
+        OperationKind::Verify => state.may_verify(),
+    }
+}
+
+/// CKR_KEY_FUNCTION_NOT_PERMITTED where the key's state forbids operations of the kind.
+fn check_key_state(kind: OperationKind, key: &Record) -> Result<(), RvError>
+    ensures { result ≡ check_of (key_state_error kind key.now) }
+{
+    let serves = match key.key_state() {
+        None => false,
+        Some(state) => may_serve(kind, state),
+    };
+    error_if(!serves, RvError::KeyFunctionNotPermitted)
+}
+
+/// The flag of a key that lets operations of the kind have it.
+fn usage_flag(kind: OperationKind) -> Attribute
+    ensures { result ≡ usage_flag kind }
+{
+    match kind {
+        OperationKind::Verify => Attribute::Verify,
+        _ => Attribute::Sign,
+    }
+}
+
+/// CKR_KEY_FUNCTION_NOT_PERMITTED where the key's flag or its state forbids operations of the kind.
+#[tactic(auto, using(ck_types::proofs::CheckLemmas::checks))]
+fn check_usage(kind: OperationKind, key: &Record) -> Result<(), RvError>
+    ensures { result ≡ check_of (usage_error kind key.now) }
+{
+    error_if(
+        !key.is_set(usage_flag(kind)),
+        RvError::KeyFunctionNotPermitted,
+    )?;
+    check_key_state(kind, key)
+}
+
+/// Digests, signatures and their checks: messages as a whole and in pieces.
+impl Token {
+    ghost use Rattle.std.specs.Prelude.{◌≡◌, true, false, Some, None, IfOk, IfErr, is_some};
+    ghost use Rattle.ck_types.specs.Checks.{check_of};
+    ghost use Rattle.ck_journal.specs.Answers.{operation_error, key_error, usage_error};
+    ghost use Rattle.ck_journal.specs.Answers.{present_key_error, message_error};
+    ghost use Rattle.ck_journal.specs.Answers.{final_error, verify_error, verify_final_error};
+    ghost use Rattle.ck_journal.specs.Answers.{update_error, hmac_init_error, tag_in, bytes_reply};
+    ghost use Rattle.ck_journal.specs.Objects.{object_named};
+    ghost use Rattle.ck_journal.specs.Operations.{message_in, is_updated};
+    ghost use Rattle.ck_journal.specs.declared.calls.Call.TheVariants as call;
+    ghost use Rattle.ck_journal.specs.declared.operations.OperationKind.TheVariants as kind;
+    ghost use Rattle.ck_operations.specs.Agreement.{OperationAgrees, active_operation};
+    ghost use Rattle.ck_token.specs.Changes.{finish_change, end_if_too_long, start_hmac};
+    ghost use Rattle.ck_token.specs.Decisions.{IsDecision, IsDecided};
+
+    // ---- starts
+
+    pub(super) fn digest_init(
+        &self,
+        session: u64,
+        mechanism: &Mechanism,
+    ) -> Result<Decision, Refused>
+        ensures { IsDecision self.now.limits self.now.history
+            (call.DigestInit session mechanism.now) result }
+    {
+        self.session(session)?;
+        let active = self.operation(OperationKind::Digest, session).is_ok();
+        error_if(active, RvError::OperationActive)?;
+        let Some(hash) = digest_of(mechanism.kind) else {
+            return Err(Refused::from(RvError::MechanismInvalid));
+        };
+        check_no_parameter(mechanism)?;
+        Ok(Decision::of_change(Change::StartDigest { session, hash }))
+    }
+
+    /// The number of the key that the handle names, where its flag and its state let operations of
+    /// the kind have it (else CKR_KEY_HANDLE_INVALID or CKR_KEY_FUNCTION_NOT_PERMITTED).
+    fn usable_key(&self, kind: OperationKind, handle: u64) -> Result<u64, RvError>
+        ensures number { IfOk result (λ number.
+            object_named self.now.history handle ≡ Some number) }
+        ensures passes { IfOk result (λ number.
+            key_error self.now.history handle (usage_error kind) ≡ None) }
+        ensures fails { IfErr result (λ code.
+            key_error self.now.history handle (usage_error kind) ≡ Some code) }
+    {
+        let (number, attributes) = self.key(handle)?;
+        check_usage(kind, attributes)?;
+        Ok(number)
+    }
+
+    /// The start of a signing or a verifying.
+    pub(super) fn hmac_init(
+        &self,
+        kind: OperationKind,
+        session: u64,
+        mechanism: &Mechanism,
+        key: u64,
+    ) -> Result<Decision, Refused>
+        ensures { IsDecided (hmac_init_error kind self.now.history session mechanism.now key)
+            (ok body.Empty)
+            (λ b. start_hmac kind session mechanism.now (object_named self.now.history key))
+            (λ code. change.Nothing) true result }
+    {
+        self.session(session)?;
+        let active = self.operation(kind, session).is_ok();
+        error_if(active, RvError::OperationActive)?;
+        let Some(hash) = mac_of(mechanism.kind) else {
+            return Err(Refused::from(RvError::MechanismInvalid));
+        };
+        let Some(len) = mechanism.tag_length() else {
+            return Err(Refused::from(RvError::MechanismParamInvalid));
+        };
+        let key = self.usable_key(kind, key)?;
+        Ok(Decision::of_change(Change::StartHmac {
+            kind,
+            session,
+            hash,
+            key,
+            len,
+        }))
+    }
+
+    // ---- checks of an active operation
+
+    /// The session's active operation of the kind, else the code of the first check that fails.
+    fn active(&self, kind: OperationKind, session: u64) -> Result<&Operation, RvError>
+        ensures passes { IfOk result (λ operation.
+            operation_error kind self.now.history session ≡ None) }
+        ensures agrees { IfOk result (λ operation.
+            OperationAgrees operation.now (active_operation kind self.now.history session)) }
+        ensures fails { IfErr result (λ code.
+            operation_error kind self.now.history session ≡ Some code) }
+    {
+        self.session(session)?;
+        self.operation(kind, session)
+    }
+
+    /// The key of an operation, if it has one, hasn't ended (CKR_KEY_HANDLE_INVALID) and its state
+    /// doesn't forbid the operation (CKR_KEY_FUNCTION_NOT_PERMITTED).
+    fn check_present_key(&self, kind: OperationKind, key: Option<u64>) -> Result<(), RvError>
+        ensures { result ≡ check_of (present_key_error kind self.now.history key) }
+    {
+        let Some(number) = key else {
+            return Ok(());
+        };
+        match self.parts.objects.at(number) {
+            None => Err(RvError::KeyHandleInvalid),
+            Some(attributes) => check_key_state(kind, attributes),
+        }
+    }
+
+    /// The session's operation, where it may take in this message as a whole.
+    fn unused(&self, kind: OperationKind, session: u64, bytes: &[u8]) -> Result<&Operation, RvError>
+        ensures passes { IfOk result (λ operation.
+            message_error kind self.now.history session bytes.now ≡ None) }
+        ensures agrees { IfOk result (λ operation.
+            OperationAgrees operation.now (active_operation kind self.now.history session)) }
+        ensures unused { IfOk result (λ operation.
+            is_updated kind self.now.history session ≡ false) }
+        ensures fails { IfErr result (λ code.
+            message_error kind self.now.history session bytes.now ≡ Some code) }
+    {
+        let operation = self.active(kind, session)?;
+        error_if(operation.is_updated(), RvError::OperationNotInitialized)?;
+        error_if(is_long_piece(bytes), RvError::DataLenRange)?;
+        self.check_present_key(kind, operation.key())?;
+        Ok(operation)
+    }
+
+    /// The session's operation, where its message may end.
+    fn ending(&self, kind: OperationKind, session: u64) -> Result<&Operation, RvError>
+        ensures passes { IfOk result (λ operation.
+            final_error kind self.now.history session ≡ None) }
+        ensures agrees { IfOk result (λ operation.
+            OperationAgrees operation.now (active_operation kind self.now.history session)) }
+        ensures fails { IfErr result (λ code.
+            final_error kind self.now.history session ≡ Some code) }
+    {
+        let operation = self.active(kind, session)?;
+        self.check_present_key(kind, operation.key())?;
+        Ok(operation)
+    }
+
+    // ---- messages
+
+    /// A digest or a signature of a message as a whole.
+    pub(super) fn take_whole(
+        &self,
+        alloc: Global,
+        kind: OperationKind,
+        session: u64,
+        bytes: &[u8],
+        room: Option<u64>,
+    ) -> Result<Decision, Refused>
+        ensures { IsDecided (message_error kind self.now.history session bytes.now)
+            (bytes_reply room (tag_in kind self.now.history session bytes.now))
+            (λ b. finish_change kind session rv.Ok b)
+            (λ code. finish_change kind session (rv.Error code) body.Empty) (is_some room) result }
+    {
+        let operation = match self.unused(kind, session, bytes) {
+            Err(error) => return Err(refused(kind, session, error)),
+            Ok(operation) => operation,
+        };
+        let len = operation.len();
+        if let Some(rv) = length_code(len, room) {
+            return Ok(Decision {
+                rv,
+                body: Body::Length(len),
+                change: finish(kind, session, false),
+            });
+        }
+        Ok(give(alloc, kind, session, &operation.tag_with(bytes))?)
+    }
+
+    /// One more piece of a message.
+    pub(super) fn add_piece(
+        &self,
+        kind: OperationKind,
+        session: u64,
+        bytes: &[u8],
+    ) -> Result<Decision, Refused>
+        ensures { IsDecided (update_error kind self.now.history session bytes.now) (ok body.Empty)
+            (λ b. change.AddPiece kind session) (end_if_too_long kind session) false result }
+    {
+        self.active(kind, session)?;
+        if is_long_piece(bytes) {
+            return Err(refused(kind, session, RvError::DataLenRange));
+        }
+        Ok(Decision::of_change(Change::AddPiece { kind, session }))
+    }
+
+    /// The digest or the signature of a message in pieces.
+    pub(super) fn finish_message(
+        &self,
+        alloc: Global,
+        kind: OperationKind,
+        session: u64,
+        room: Option<u64>,
+    ) -> Result<Decision, Refused>
+        ensures { IsDecided (final_error kind self.now.history session)
+            (bytes_reply room (tag_in kind self.now.history session
+            (message_in kind self.now.history session)))
+            (λ b. finish_change kind session rv.Ok b)
+            (λ code. finish_change kind session (rv.Error code) body.Empty) (is_some room) result }
+    {
+        let operation = match self.ending(kind, session) {
+            Err(error) => return Err(refused(kind, session, error)),
+            Ok(operation) => operation,
+        };
+        let len = operation.len();
+        if let Some(rv) = length_code(len, room) {
+            return Ok(Decision {
+                rv,
+                body: Body::Length(len),
+                change: finish(kind, session, false),
+            });
+        }
+        Ok(give(alloc, kind, session, &operation.tag())?)
+    }
+
+    // ---- checks of a signature, each of which ends the session's operation
+
+    /// The checks of C_Verify.
+    fn check_whole(&self, session: u64, bytes: &[u8], signature: &[u8]) -> Result<(), RvError>
+        ensures { result
+            ≡ check_of (verify_error self.now.history session bytes.now signature.now) }
+    {
+        let operation = self.unused(OperationKind::Verify, session, bytes)?;
+        operation.tag_with(bytes).check(signature)
+    }
+
+    /// The checks of C_VerifyFinal.
+    fn check_final(&self, session: u64, signature: &[u8]) -> Result<(), RvError>
+        ensures { result ≡ check_of (verify_final_error self.now.history session signature.now) }
+    {
+        let operation = self.ending(OperationKind::Verify, session)?;
+        operation.tag().check(signature)
+    }
+
+    pub(super) fn verify(
+        &self,
+        session: u64,
+        bytes: &[u8],
+        signature: &[u8],
+    ) -> Result<Decision, Refused>
+        ensures { IsDecision self.now.limits self.now.history
+            (call.Verify session bytes.now signature.now) result }
+    {
+        match self.check_whole(session, bytes, signature) {
+            Err(error) => Err(refused(OperationKind::Verify, session, error)),
+            Ok(()) => Ok(Decision::of_change(finish(OperationKind::Verify, session, true))),
+        }
+    }
+
+    pub(super) fn verify_final(&self, session: u64, signature: &[u8]) -> Result<Decision, Refused>
+        ensures { IsDecision self.now.limits self.now.history
+            (call.VerifyFinal session signature.now) result }
+    {
+        match self.check_final(session, signature) {
+            Err(error) => Err(refused(OperationKind::Verify, session, error)),
+            Ok(()) => Ok(Decision::of_change(finish(OperationKind::Verify, session, true))),
+        }
+    }
+}
