@@ -1,67 +1,100 @@
 //! Scripts played over devices in memory.
-use crate::{MemorySink, MemorySource, PlayFault, play_with, run};
+use crate::{MemorySink, MemorySource, PlayFault, play_with};
+use ck_script::{BadLine, LONGEST_LINE};
 use ck_types::Limits;
 use std::alloc::Global;
-use std::env::FillError;
+use std::process::Abort;
 use std::test::Fail;
 
-/// The result of playing a script, as the program's text without a bad line's reason, and its
-/// status, or as `played`.
-pub(crate) fn result_text(
-    alloc: Global,
-    limits: Limits,
-    reader: &mut MemorySource,
-    writer: &mut MemorySink,
-    turns: u64,
-) -> Result<String, Fail> {
-    match play_with(alloc, limits, reader, writer, turns) {
-        Ok(()) => Ok(String::from_str(alloc, "played")?),
-        Err(PlayFault::Line(number, _)) => Ok(format!(in alloc; "line {number}: bad script, 1")?),
-        Err(fault) => Ok(format!(in alloc; "{fault}, {}", fault.status())?),
+/// How devices in memory move bytes, and which of their reads and writes fail: 0 is none.
+#[derive(Clone, Copy)]
+pub(crate) struct Devices {
+    /// The most bytes of a read and of a write.
+    pub(crate) piece: usize,
+    pub(crate) read_fails_at: u64,
+    pub(crate) write_fails_at: u64,
+    pub(crate) write_stops_at: u64,
+    /// The most reads.
+    pub(crate) turns: u64,
+}
+
+impl Devices {
+    /// Devices that never fail.
+    pub(crate) fn of(piece: usize) -> Devices {
+        Devices {
+            piece,
+            read_fails_at: 0,
+            write_fails_at: 0,
+            write_stops_at: 0,
+            turns: 1_000,
+        }
     }
 }
 
+/// What is written while a script is played, and at its end how that ends: as the program's text
+/// without a bad line's reason, or as `played`.
+pub(crate) fn transcript(alloc: Global, script: &[u8], devices: Devices) -> Result<String, Fail> {
+    let mut reader = MemorySource::new(script, devices.piece, devices.read_fails_at);
+    let mut writer = MemorySink::new(
+        alloc,
+        devices.piece,
+        devices.write_fails_at,
+        devices.write_stops_at,
+    );
+    let limits = Limits::largest();
+    let result = play_with(alloc, limits, &mut reader, &mut writer, devices.turns);
+    let text = String::from_utf8_lossy(alloc, writer.as_slice())?;
+    match result {
+        Ok(()) => Ok(format!(in alloc; "{text}played")?),
+        Err(PlayFault::Line(number, _)) => Ok(format!(in alloc; "{text}line {number}")?),
+        Err(fault) => Ok(format!(in alloc; "{text}{fault}")?),
+    }
+}
+
+/// Scripts, and behind the arrow their transcripts. A `/` stands for each line's end.
+#[rattlefmt::skip]
+const PLAYS: &str = "\
+# x -> played
+ -> played
+//# x/ -> played
+//# x/Nope -> line 4
+/Nope/# x/Nope/ -> line 2
+1 InitToken 31323334 -> 0/played
+1 InitToken 31323334/ -> 0/played
+1 InitToken 31323334//# x/1 Nope -> 0/line 4
+1 InitToken 31323334//# x/1 Nope/1 InitToken 31/ -> 0/line 4
+1 InitTok -> line 1
+1 InitToken  -> line 1
+1 InitToken 31 -> a2/played
+1 InitToken 313 -> line 1
+1 InitToken 3132 -> a2/played
+1 InitToken 31/2 InitToken 31323334/ -> a2/0/played
+1 InitToken 31323334/1 OpenSession 6/1 CreateObject 1 0=00 -> 0/0 1/13/played
+1 InitToken 31323334/1 OpenSession 6/1 CreateObject 1 0=0000000000000000,3=61 -> 0/0 1/0 1/played
+1 InitToken 31323334/1 OpenSession 6/1 CreateObject 1 0=0000000000000000,3=6 -> 0/0 1/line 3
+";
+
+fn assert_transcript(rt: &impl Abort, alloc: Global, script: &str, want: &str) -> Result<(), Fail> {
+    let lines = script.replace(alloc, '/', "\n")?;
+    let want = want.replace(alloc, '/', "\n")?;
+    for piece in [1, 3, 1_000] {
+        let text = transcript(alloc, lines.as_bytes(), Devices::of(piece))?;
+        assert_eq!(rt;
+            text.as_str(),
+            want.as_str(),
+            "{script}, {piece} bytes a read"
+        );
+    }
+    Ok(())
+}
+
 #[test]
-fn playing_ends_at_a_bad_line(rt: HostRuntime) -> Result<(), Fail> {
-    let rows: [(&str, &str, &str); 11] = [
-        ("", "played", ""),
-        (
-            "1 InitToken 31323334\n\n# x\n1 Nope",
-            "line 4: bad script, 1",
-            "0\n",
-        ),
-        (
-            "1 InitToken 31323334\n\n# x\n1 Nope\n1 InitToken 31\n",
-            "line 4: bad script, 1",
-            "0\n",
-        ),
-        ("1 InitToken 31323334", "played", "0\n"),
-        ("1 InitToken 31323334\n", "played", "0\n"),
-        ("1 InitTok", "line 1: bad script, 1", ""),
-        ("1 InitToken ", "line 1: bad script, 1", ""),
-        ("1 InitToken 31", "played", "a2\n"),
-        ("1 InitToken 313", "line 1: bad script, 1", ""),
-        ("1 InitToken 3132", "played", "a2\n"),
-        (
-            "1 InitToken 31\n2 InitToken 31323334\n",
-            "played",
-            "a2\n0\n",
-        ),
-    ];
-    for (script, result, output) in rows {
-        for piece in [1, 3, 1_000] {
-            let mut reader = MemorySource::new(script.as_bytes(), piece, 0);
-            let mut writer = MemorySink::new(rt.alloc(), piece, 0, 0);
-            let played = result_text(
-                rt.alloc(),
-                Limits::largest(),
-                &mut reader,
-                &mut writer,
-                1_000,
-            )?;
-            assert_eq!(rt; played.as_str(), result, "{script}");
-            assert_eq!(rt; writer.as_slice(), output.as_bytes(), "{script}");
-        }
+fn scripts_have_their_transcripts(rt: HostRuntime) -> Result<(), Fail> {
+    for row in PLAYS.lines() {
+        let Some((script, want)) = row.split_once(" -> ") else {
+            return Err(Fail::new("a row has no transcript"));
+        };
+        assert_transcript(&rt, rt.alloc(), script, want)?;
     }
     Ok(())
 }
@@ -69,47 +102,47 @@ fn playing_ends_at_a_bad_line(rt: HostRuntime) -> Result<(), Fail> {
 #[test]
 fn a_template_may_have_many_items(rt: HostRuntime) -> Result<(), Fail> {
     let rows = [
-        (",3=61", "0\n0 1\n0 1\n"),
-        (",3=62", "0\n0 1\nd1\n"),
-        (",103=01", "0\n0 1\n12\n"),
+        (",3=61", "0\n0 1\n0 1\nplayed"),
+        (",3=62", "0\n0 1\nd1\nplayed"),
+        (",103=01", "0\n0 1\n12\nplayed"),
     ];
-    for (last, output) in rows {
-        let mut script = String::from_str(
-            rt.alloc(),
-            "1 InitToken 31323334\n1 OpenSession 6\n1 CreateObject 1 0=0000000000000000",
+    let mut items = String::new(rt.alloc());
+    for _ in 0..9_999 {
+        items.push_str(",3=61")?;
+    }
+    for (last, want) in rows {
+        let script = format!(in rt.alloc();
+            "1 InitToken 31323334\n1 OpenSession 6\n1 CreateObject 1 0=0000000000000000{items}{last}"
         )?;
-        for _ in 0..9_999 {
-            script.push_str(",3=61")?;
-        }
-        script.push_str(last)?;
-        let mut reader = MemorySource::new(script.as_bytes(), 100_000, 0);
-        let mut writer = MemorySink::new(rt.alloc(), 100, 0, 0);
-        let played = result_text(rt.alloc(), Limits::largest(), &mut reader, &mut writer, 100)?;
-        assert_eq!(rt; played.as_str(), "played", "{last}");
-        assert_eq!(rt; writer.as_slice(), output.as_bytes(), "{last}");
+        let text = transcript(rt.alloc(), script.as_bytes(), Devices::of(100_000))?;
+        assert_eq!(rt; text.as_str(), want, "{last}");
     }
     Ok(())
 }
 
 #[test]
-fn the_program_ends_with_a_status(rt: HostRuntime) -> Result<(), Fail> {
-    let no_argument = Err(FillError::NotPresent);
-    let rows: [(Result<usize, FillError>, &[u8], u64, u64, u8, &[u8]); 8] = [
-        (no_argument, b"", 0, 0, 0, b""),
-        (no_argument, b"1 InitToken 31323334", 0, 0, 0, b"0\n"),
-        (no_argument, b"1 InitToken 31\n1 Login", 0, 0, 1, b"a2\n"),
-        (no_argument, b"1 InitToken 31\n", 2, 0, 3, b"a2\n"),
-        (no_argument, b"1 InitToken 31\n", 0, 2, 3, b"a"),
-        (Ok(0), b"1 InitToken 31\n", 0, 0, 2, b""),
-        (Ok(1), b"", 0, 0, 2, b""),
-        (Err(FillError::TooLong), b"", 0, 0, 2, b""),
-    ];
-    for (argument, script, read_fails_at, write_fails_at, status, output) in rows {
-        let mut reader = MemorySource::new(script, 100, read_fails_at);
-        let mut writer = MemorySink::new(rt.alloc(), 1, write_fails_at, 0);
-        let ended = run(rt.alloc(), argument, &mut reader, &mut writer, &rt);
-        assert_eq!(rt; ended, status, "{script:?}");
-        assert_eq!(rt; writer.as_slice(), output, "{script:?}");
+fn the_longest_line_is_played(rt: HostRuntime) -> Result<(), Fail> {
+    let mut script = vec![in rt.alloc(); b'#'; LONGEST_LINE]?;
+    for (byte, want) in [(b'\n', "played"), (b'#', "line 1")] {
+        let text = transcript(rt.alloc(), script.as_slice(), Devices::of(1_000_000))?;
+        assert_eq!(rt; text.as_str(), "played");
+        script.push(byte)?;
+        let text = transcript(rt.alloc(), script.as_slice(), Devices::of(1_000_000))?;
+        assert_eq!(rt; text.as_str(), want);
+        script.truncate(LONGEST_LINE);
     }
+    Ok(())
+}
+
+#[test]
+fn reads_no_further_than_a_line_may_go(rt: HostRuntime) -> Result<(), Fail> {
+    let script = vec![in rt.alloc(); b'#'; 2 * LONGEST_LINE]?;
+    let mut reader = MemorySource::new(script.as_slice(), LONGEST_LINE, 0);
+    let mut writer = MemorySink::new(rt.alloc(), 1, 0, 0);
+    let limits = Limits::largest();
+    let result = play_with(rt.alloc(), limits, &mut reader, &mut writer, 1_000);
+    assert!(rt; matches!(result, Err(PlayFault::Line(1, BadLine::TooLong))));
+    // 64 reads of 65,536 bytes are a longest line.
+    assert_eq!(rt; reader.reads(), 65);
     Ok(())
 }

@@ -74,6 +74,11 @@ abbrev pub all_three : {A B C D : Type 0}
 all_three make None second third = None
 all_three make (Some a) second third = both (make a) second third
 
+abbrev pub all_four : {A B C D E : Type 0}
+    → (A → B → C → D → E) → Option A → Option B → Option C → Option D → Option E
+all_four make None second third fourth = None
+all_four make (Some a) second third fourth = all_three (make a) second third fourth
+
 abbrev pub each : {A : Type 0} → (List ℕ → Option A) → List (List ℕ) → Option (List A)
 each meaning [] = Some []
 each meaning (part ∷ parts) = both (λ a rest. a ∷ rest) (meaning part) (each meaning parts)

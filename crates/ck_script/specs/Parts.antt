@@ -26,6 +26,10 @@ abbrev pub three_of : List (List ℕ) → Option (List ℕ × List ℕ × List �
 three_of (a ∷ b ∷ c ∷ []) = Some (a, b, c)
 three_of others = None
 
+abbrev pub four_of : List (List ℕ) → Option (List ℕ × List ℕ × List ℕ × List ℕ)
+four_of (a ∷ b ∷ c ∷ d ∷ []) = Some (a, b, c, d)
+four_of others = None
+
 -- what the parts mean, where there are exactly as many, and None where there aren't
 abbrev pub with_none : {A : Type 0} → A → List (List ℕ) → Option A
 with_none meaning parts = if length parts == 0 then Some meaning else None
@@ -40,3 +44,9 @@ abbrev pub with_three : {A : Type 0}
     → (List ℕ → List ℕ → List ℕ → Option A) → List (List ℕ) → Option A
 with_three meaning parts =
     option_and_then (λ (p : List ℕ × List ℕ × List ℕ). meaning p.0 p.1 p.2) (three_of parts)
+
+abbrev pub with_four : {A : Type 0}
+    → (List ℕ → List ℕ → List ℕ → List ℕ → Option A) → List (List ℕ) → Option A
+with_four meaning parts =
+    option_and_then (λ (p : List ℕ × List ℕ × List ℕ × List ℕ). meaning p.0 p.1 p.2 p.3)
+    (four_of parts)

@@ -32,10 +32,10 @@ abbrev pub answers_text : List Answer → List ℕ
 answers_text [] = codes "-"
 answers_text (a ∷ answers) = join_with_byte comma (map answer_text (a ∷ answers))
 
--- handles, joined by commas, and `-` for none
-abbrev pub handles_text : List ℕ → List ℕ
-handles_text [] = codes "-"
-handles_text (h ∷ handles) = join_with_byte comma (map decimal (h ∷ handles))
+-- numbers in a base, joined by commas, and `-` for none
+abbrev pub numbers_text : ℕ → List ℕ → List ℕ
+numbers_text base [] = codes "-"
+numbers_text base (n ∷ numbers) = join_with_byte comma (map (digits base false) (n ∷ numbers))
 
 -- what stands after the code
 abbrev pub body_text : Body → List ℕ
@@ -46,8 +46,9 @@ body_text (body.Session state flags) =
 body_text (body.Token flags limit sessions rw_sessions) =
     codes " " ++ hexadecimal flags.0 ++ codes " " ++ decimal limit
     ++ codes " " ++ decimal sessions ++ codes " " ++ decimal rw_sessions
+body_text (body.Mechanisms types) = codes " " ++ numbers_text 16 types
 body_text (body.Attributes answers) = codes " " ++ answers_text answers
-body_text (body.Handles handles) = codes " " ++ handles_text handles
+body_text (body.Handles handles) = codes " " ++ numbers_text 10 handles
 body_text (body.Length length) = codes " :" ++ decimal length
 body_text (body.Bytes bytes) = codes " " ++ bytes_text bytes
 

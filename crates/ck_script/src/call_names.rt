@@ -12,6 +12,7 @@ pub enum Arity {
     One,
     Two,
     Three,
+    Four,
 }
 
 impl fmt::Display for Arity {
@@ -21,21 +22,24 @@ impl fmt::Display for Arity {
             Arity::One => "1 argument",
             Arity::Two => "2 arguments",
             Arity::Three => "3 arguments",
+            Arity::Four => "4 arguments",
         })
     }
 }
 
-/// The functions of the standard that a script calls.
+/// The functions that a script calls: all but `SetKeyState` are the standard's.
 #[derive(Clone, Copy, Debug, PartialEq, Eq)]
 pub enum Function {
     InitToken,
     InitPin,
     SetPin,
     GetTokenInfo,
+    GetMechanismList,
     OpenSession,
     CloseSession,
     CloseAllSessions,
     GetSessionInfo,
+    SessionCancel,
     Login,
     Logout,
     CreateObject,
@@ -50,15 +54,26 @@ pub enum Function {
     Digest,
     DigestUpdate,
     DigestFinal,
+    SignInit,
+    Sign,
+    SignUpdate,
+    SignFinal,
+    VerifyInit,
+    Verify,
+    VerifyUpdate,
+    VerifyFinal,
+    GenerateKey,
+    SetKeyState,
 }
 
-/// A function that a script calls, with its name there: that of the standard without `C_`.
+/// A function that a script calls, with its name there: where it is the standard's, that name
+/// without `C_`.
 #[derive(Clone, Copy, Debug, PartialEq, Eq)]
 pub struct CallName(pub(crate) Function, &'static str);
 
 impl CallName {
     /// All calls of a script.
-    pub fn all() -> [CallName; 22]
+    pub fn all() -> [CallName; 34]
         ensures { map (λ name. (name.0, name.1.now)) result ≡ names }
     {
         [
@@ -66,10 +81,12 @@ impl CallName {
             CallName(Function::InitPin, "InitPIN"),
             CallName(Function::SetPin, "SetPIN"),
             CallName(Function::GetTokenInfo, "GetTokenInfo"),
+            CallName(Function::GetMechanismList, "GetMechanismList"),
             CallName(Function::OpenSession, "OpenSession"),
             CallName(Function::CloseSession, "CloseSession"),
             CallName(Function::CloseAllSessions, "CloseAllSessions"),
             CallName(Function::GetSessionInfo, "GetSessionInfo"),
+            CallName(Function::SessionCancel, "SessionCancel"),
             CallName(Function::Login, "Login"),
             CallName(Function::Logout, "Logout"),
             CallName(Function::CreateObject, "CreateObject"),
@@ -84,6 +101,16 @@ impl CallName {
             CallName(Function::Digest, "Digest"),
             CallName(Function::DigestUpdate, "DigestUpdate"),
             CallName(Function::DigestFinal, "DigestFinal"),
+            CallName(Function::SignInit, "SignInit"),
+            CallName(Function::Sign, "Sign"),
+            CallName(Function::SignUpdate, "SignUpdate"),
+            CallName(Function::SignFinal, "SignFinal"),
+            CallName(Function::VerifyInit, "VerifyInit"),
+            CallName(Function::Verify, "Verify"),
+            CallName(Function::VerifyUpdate, "VerifyUpdate"),
+            CallName(Function::VerifyFinal, "VerifyFinal"),
+            CallName(Function::GenerateKey, "GenerateKey"),
+            CallName(Function::SetKeyState, "SetKeyState"),
         ]
     }
 

@@ -1,6 +1,6 @@
 ghost use Rattle.std.specs.Prelude.{◌≡◌, ◌⊎◌, Some, None, IfOk, IfErr};
 ghost use Rattle.ck_script.specs.Parts.{with_none, with_one};
-ghost use Rattle.ck_script.specs.Calls.{two_in, three_in, call_of, call_in};
+ghost use Rattle.ck_script.specs.Calls.{two_in, three_in, four_in, call_of, call_in};
 
 use crate::arguments::{Argument, CodeNumber};
 use crate::call_names::{Arity, CallName, Function};
@@ -86,6 +86,30 @@ impl<'a> Arguments<'a> {
         let third = C::value_in(self.alloc, third)?;
         Ok(made(first, second, third))
     }
+
+    /// The call that is made of four arguments.
+    fn four<A, B, C, D, F>(self, made: F) -> Result<Call, LineError>
+    where
+        A: Argument + Drop,
+        B: Argument + Drop,
+        C: Argument + Drop,
+        D: Argument,
+        F: FnOnce(A, B, C, D) -> Call,
+        requires { F.IsAlwaysCallable made }
+        ensures call { IfOk result (λ call. (a : A) × (b : B) × (c : C) × (d : D)
+            × (four_in A.value_in B.value_in C.value_in D.value_in self.entry.parts
+            ≡ Some (a, b, c, d)) × F.post made a b c d call) }
+        ensures bad { IfErr result (λ e. (e ≡ LineError.Memory)
+            ⊎ (four_in A.value_in B.value_in C.value_in D.value_in self.entry.parts ≡ None)) }
+    {
+        let count = BadLine::ArgumentCount(self.name, Arity::Four);
+        let (first, second, third, fourth) = self.parts.four().ok_or(count)?;
+        let first = A::value_in(self.alloc, first)?;
+        let second = B::value_in(self.alloc, second)?;
+        let third = C::value_in(self.alloc, third)?;
+        let fourth = D::value_in(self.alloc, fourth)?;
+        Ok(made(first, second, third, fourth))
+    }
 }
 
 fn call_of(arguments: Arguments) -> Result<Call, LineError>
@@ -99,10 +123,15 @@ fn call_of(arguments: Arguments) -> Result<Call, LineError>
         Function::InitPin => arguments.two(|session, pin| Call::InitPin { session, pin }),
         Function::SetPin => arguments.three(|session, old, new| Call::SetPin { session, old, new }),
         Function::GetTokenInfo => arguments.none(Call::GetTokenInfo),
+        Function::GetMechanismList => arguments.none(Call::GetMechanismList),
         Function::OpenSession => arguments.one(|CodeNumber(flags)| Call::OpenSession { flags }),
         Function::CloseSession => arguments.one(|session| Call::CloseSession { session }),
         Function::CloseAllSessions => arguments.none(Call::CloseAllSessions),
         Function::GetSessionInfo => arguments.one(|session| Call::GetSessionInfo { session }),
+        Function::SessionCancel => arguments.two(|session, CodeNumber(flags)| Call::SessionCancel {
+            session,
+            flags,
+        }),
         Function::Login => arguments.three(|session, user, pin| Call::Login { session, user, pin }),
         Function::Logout => arguments.one(|session| Call::Logout { session }),
         Function::CreateObject => arguments.two(|session, template| Call::CreateObject {
@@ -152,6 +181,49 @@ fn call_of(arguments: Arguments) -> Result<Call, LineError>
             bytes,
         }),
         Function::DigestFinal => arguments.two(|session, room| Call::DigestFinal { session, room }),
+        Function::SignInit => arguments.three(|session, mechanism, key| Call::SignInit {
+            session,
+            mechanism,
+            key,
+        }),
+        Function::Sign => arguments.three(|session, bytes, room| Call::Sign {
+            session,
+            bytes,
+            room,
+        }),
+        Function::SignUpdate => arguments.two(|session, bytes| Call::SignUpdate { session, bytes }),
+        Function::SignFinal => arguments.two(|session, room| Call::SignFinal { session, room }),
+        Function::VerifyInit => arguments.three(|session, mechanism, key| Call::VerifyInit {
+            session,
+            mechanism,
+            key,
+        }),
+        Function::Verify => arguments.three(|session, bytes, signature| Call::Verify {
+            session,
+            bytes,
+            signature,
+        }),
+        Function::VerifyUpdate => arguments.two(|session, bytes| Call::VerifyUpdate {
+            session,
+            bytes,
+        }),
+        Function::VerifyFinal => arguments.two(|session, signature| Call::VerifyFinal {
+            session,
+            signature,
+        }),
+        Function::GenerateKey => arguments.four(
+            |session, mechanism, template, random| Call::GenerateKey {
+                session,
+                mechanism,
+                template,
+                random,
+            },
+        ),
+        Function::SetKeyState => arguments.three(|session, key, state| Call::SetKeyState {
+            session,
+            key,
+            state,
+        }),
     }
 }
 

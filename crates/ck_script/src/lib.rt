@@ -6,6 +6,8 @@ mod call_names;
 mod calls;
 mod line_errors;
 #[cfg(test)]
+mod line_tables;
+#[cfg(test)]
 mod line_tests;
 mod lines;
 mod parts;

@@ -29,7 +29,7 @@ impl<'a> Model for Parts<'a> {
 impl<'a> Parts<'a> {
     ghost use Rattle.std.specs.Prelude.{◌≡◌, ◌==◌, ◌∷◌, [], length, MatchOption, option_map};
     ghost use Rattle.std.specs.Option.{option_copied};
-    ghost use Rattle.ck_script.specs.Parts.{parts_of, one_of, two_of, three_of};
+    ghost use Rattle.ck_script.specs.Parts.{parts_of, one_of, two_of, three_of, four_of};
 
     /// All parts of the text.
     pub(crate) fn new(text: &'a [u8], separator: u8) -> Parts<'a>
@@ -107,6 +107,25 @@ impl<'a> Parts<'a> {
     {
         match (self.next(), self.next(), self.next(), self.next()) {
             (Some(first), Some(second), Some(third), None) => Some((first, second, third)),
+            _ => None,
+        }
+    }
+
+    /// The parts, where exactly four are left.
+    pub(crate) fn four(mut self) -> Option<(&'a [u8], &'a [u8], &'a [u8], &'a [u8])>
+        ensures { option_map (λ parts. (parts.0.now, parts.1.now, parts.2.now, parts.3.now)) result
+            ≡ four_of self.entry }
+    {
+        match (
+            self.next(),
+            self.next(),
+            self.next(),
+            self.next(),
+            self.next(),
+        ) {
+            (Some(first), Some(second), Some(third), Some(fourth), None) => {
+                Some((first, second, third, fourth))
+            }
             _ => None,
         }
     }

@@ -1,7 +1,7 @@
 ghost use Rattle.std.specs.Prelude.{◌≡◌, ◌++◌, ◌≤◌, ◌<◌, false, codes, OnOk};
 ghost use Rattle.std.specs.Fmt.{digit_glyph, digits};
 ghost use Rattle.hex.specs.Hex.{encode_lower};
-ghost use Rattle.ck_script.specs.Replies.{bytes_text, answer_text, answers_text, handles_text};
+ghost use Rattle.ck_script.specs.Replies.{bytes_text, answer_text, answers_text, numbers_text};
 ghost use Rattle.ck_script.specs.Replies.{body_text, reply_text};
 
 use crate::arguments::{COLON, COMMA, DASH, EQUALS_SIGN};
@@ -104,18 +104,19 @@ fn push_answers(out: &mut Vec<u8>, answers: &[Answer]) -> Result<(), NoMemory>
     Ok(())
 }
 
-/// Appends the handles with a comma between two of them, and no handles as `-`.
-fn push_handles(out: &mut Vec<u8>, handles: &[u64]) -> Result<(), NoMemory>
-    ensures { OnOk result (out.new.items ≡ out.old.items ++ handles_text handles.now) }
+/// Appends the numbers in a base with a comma between two of them, and no numbers as `-`.
+fn push_numbers(out: &mut Vec<u8>, numbers: &[u64], base: u64) -> Result<(), NoMemory>
+    requires { (2 ≤ base) × (base ≤ 16) }
+    ensures { OnOk result (out.new.items ≡ out.old.items ++ numbers_text base numbers.now) }
 {
-    let Some((first, rest)) = handles.split_first() else {
+    let Some((first, rest)) = numbers.split_first() else {
         out.push(DASH)?;
         return Ok(());
     };
-    push_number(out, *first, 10)?;
-    for handle in rest {
+    push_number(out, *first, base)?;
+    for number in rest {
         out.push(COMMA)?;
-        push_number(out, *handle, 10)?;
+        push_number(out, *number, base)?;
     }
     Ok(())
 }
@@ -142,13 +143,17 @@ fn push_body(out: &mut Vec<u8>, body: &Body) -> Result<(), NoMemory>
             push_next(out, *sessions, 10)?;
             push_next(out, *rw_sessions, 10)
         }
+        Body::Mechanisms(types) => {
+            out.push(SPACE)?;
+            push_numbers(out, types.as_slice(), 16)
+        }
         Body::Attributes(answers) => {
             out.push(SPACE)?;
             push_answers(out, answers.as_slice())
         }
         Body::Handles(handles) => {
             out.push(SPACE)?;
-            push_handles(out, handles.as_slice())
+            push_numbers(out, handles.as_slice(), 10)
         }
         Body::Length(length) => {
             out.push(SPACE)?;

@@ -1,156 +1,127 @@
 use crate::replies::push_reply;
 use ck_journal::{Answer, Body, Reply};
-use ck_types::{Bytes, NoMemory, Rv, RvError, Sequence, SessionState, TokenFlags};
+use ck_types::{Bytes, Rv, RvError, Sequence, SessionState, TokenFlags};
 use std::alloc::Global;
+use std::process::Abort;
 use std::test::Fail;
 
-fn value(alloc: Global, bytes: &[u8]) -> Result<Answer, NoMemory> {
-    Ok(Answer::Value(Bytes::from_slice(alloc, bytes)?))
+fn assert_text(rt: &impl Abort, alloc: Global, reply: Reply, want: &str) -> Result<(), Fail> {
+    let mut text = Vec::new(alloc);
+    push_reply(&mut text, &reply)?;
+    assert_eq!(rt; text.as_slice(), want.as_bytes(), "{want}");
+    Ok(())
 }
 
-fn attributes(rv: Rv, answers: Vec<Answer>) -> Reply {
-    Reply {
-        rv,
-        body: Body::Attributes(Sequence::from_vec(answers)),
-    }
-}
-
-fn handle(number: u64) -> Reply {
-    Reply {
-        rv: Rv::Ok,
-        body: Body::Handle(number),
-    }
-}
-
-fn session(state: SessionState, flags: u64) -> Reply {
-    Reply {
-        rv: Rv::Ok,
-        body: Body::Session { state, flags },
-    }
-}
-
-fn token(flags: TokenFlags, limit: u64, sessions: u64, rw_sessions: u64) -> Reply {
-    Reply {
-        rv: Rv::Ok,
-        body: Body::Token {
-            flags,
-            limit,
-            sessions,
-            rw_sessions,
-        },
-    }
-}
-
-fn handles(numbers: Vec<u64>) -> Reply {
-    Reply {
-        rv: Rv::Ok,
-        body: Body::Handles(Sequence::from_vec(numbers)),
-    }
-}
-
-fn length(rv: Rv, number: u64) -> Reply {
-    Reply {
-        rv,
-        body: Body::Length(number),
-    }
-}
-
-fn bytes(bytes: Bytes) -> Reply {
-    Reply {
-        rv: Rv::Ok,
-        body: Body::Bytes(bytes),
-    }
-}
-
-fn code(rv: Rv) -> Reply {
-    Reply {
-        rv,
-        body: Body::Empty,
-    }
+/// The reply of a call that is answered with CKR_OK.
+fn ok(body: Body) -> Reply {
+    Reply { rv: Rv::Ok, body }
 }
 
 #[test]
-fn replies_have_their_text(rt: HostRuntime) -> Result<(), Fail> {
-    let alloc = rt.alloc();
-    let no_bytes = value(alloc, &[])?;
-    let some_bytes = value(alloc, &[0x00, 0x0f, 0xa0, 0xff])?;
-    let letter = value(alloc, b"a")?;
-    let replies = [
-        (code(Rv::Ok), "0\n"),
-        (code(Rv::Error(RvError::ArgumentsBad)), "7\n"),
-        (code(Rv::Error(RvError::AttributeReadOnly)), "10\n"),
-        (code(Rv::Error(RvError::ActionProhibited)), "1b\n"),
-        (code(Rv::Error(RvError::SessionHandleInvalid)), "b3\n"),
-        (code(Rv::Error(RvError::UserAlreadyLoggedIn)), "100\n"),
-        (code(Rv::Error(RvError::BufferTooSmall)), "150\n"),
-        (handle(0), "0 0\n"),
-        (handle(9), "0 9\n"),
-        (handle(10), "0 10\n"),
-        (handle(4_294_967_298), "0 4294967298\n"),
-        (handle(u64::MAX), "0 18446744073709551615\n"),
-        (session(SessionState::RoPublic, 4), "0 0 4\n"),
-        (session(SessionState::RoUser, 4), "0 1 4\n"),
-        (session(SessionState::RwPublic, 6), "0 2 6\n"),
-        (session(SessionState::RwUser, 10), "0 3 a\n"),
-        (session(SessionState::RwSo, 16), "0 4 10\n"),
+fn codes_have_their_text(rt: HostRuntime) -> Result<(), Fail> {
+    let rows = [
+        (RvError::ArgumentsBad, "7\n"),
+        (RvError::AttributeReadOnly, "10\n"),
+        (RvError::ActionProhibited, "1b\n"),
+        (RvError::SessionHandleInvalid, "b3\n"),
+        (RvError::UserAlreadyLoggedIn, "100\n"),
+        (RvError::BufferTooSmall, "150\n"),
+    ];
+    for (error, text) in rows {
+        let reply = Reply {
+            rv: Rv::Error(error),
+            body: Body::Empty,
+        };
+        assert_text(&rt, rt.alloc(), reply, text)?;
+    }
+    assert_text(&rt, rt.alloc(), ok(Body::Empty), "0\n")
+}
+
+#[test]
+fn numbers_have_their_text(rt: HostRuntime) -> Result<(), Fail> {
+    let rows = [
+        (0, "0 0\n", "0 :0\n"),
+        (10, "0 10\n", "0 :10\n"),
         (
-            token(TokenFlags::of(false, false, 0, 0), 64, 0, 0),
-            "0 4 64 0 0\n",
-        ),
-        (
-            token(TokenFlags::of(true, true, 2, 0), 64, 12, 11),
-            "0 3040c 64 12 11\n",
-        ),
-        (
-            token(TokenFlags::of(true, false, 0, 3), 1, 0, 0),
-            "0 500404 1 0 0\n",
-        ),
-        (attributes(Rv::Ok, vec![in alloc;]?), "0 -\n"),
-        (attributes(Rv::Ok, vec![in alloc; no_bytes]?), "0 =-\n"),
-        (
-            attributes(Rv::Ok, vec![in alloc; some_bytes]?),
-            "0 =000fa0ff\n",
-        ),
-        (
-            attributes(
-                Rv::Ok,
-                vec![in alloc; Answer::Length(0), Answer::Length(120)]?,
-            ),
-            "0 :0,:120\n",
-        ),
-        (
-            attributes(
-                Rv::Error(RvError::AttributeTypeInvalid),
-                vec![in alloc; letter, Answer::Unavailable, Answer::Length(8)]?,
-            ),
-            "12 =61,!,:8\n",
-        ),
-        (handles(vec![in alloc;]?), "0 -\n"),
-        (handles(vec![in alloc; 0]?), "0 0\n"),
-        (handles(vec![in alloc; 12]?), "0 12\n"),
-        (
-            handles(vec![in alloc; 1, 10, 4_294_967_299, u64::MAX]?),
-            "0 1,10,4294967299,18446744073709551615\n",
-        ),
-        (length(Rv::Ok, 0), "0 :0\n"),
-        (length(Rv::Ok, 64), "0 :64\n"),
-        (
-            length(Rv::Error(RvError::BufferTooSmall), u64::MAX),
-            "150 :18446744073709551615\n",
-        ),
-        (bytes(Bytes::from_slice(alloc, &[])?), "0 -\n"),
-        (bytes(Bytes::from_slice(alloc, &[0])?), "0 00\n"),
-        (
-            bytes(Bytes::from_slice(alloc, &[0x0a, 0xf0, 0xff])?),
-            "0 0af0ff\n",
+            u64::MAX,
+            "0 18446744073709551615\n",
+            "0 :18446744073709551615\n",
         ),
     ];
-    let mut all = Vec::new(alloc);
-    let mut texts = String::new(alloc);
-    for (reply, text) in &replies {
-        push_reply(&mut all, reply)?;
-        texts.push_str(text)?;
-        assert_eq!(rt; all.as_slice(), texts.as_bytes());
+    for (number, as_handle, as_length) in rows {
+        assert_text(&rt, rt.alloc(), ok(Body::Handle(number)), as_handle)?;
+        assert_text(&rt, rt.alloc(), ok(Body::Length(number)), as_length)?;
     }
     Ok(())
+}
+
+#[test]
+fn sessions_and_the_token_have_their_text(rt: HostRuntime) -> Result<(), Fail> {
+    let rows = [
+        (SessionState::RoPublic, 4, "0 0 4\n"),
+        (SessionState::RoUser, 4, "0 1 4\n"),
+        (SessionState::RwPublic, 6, "0 2 6\n"),
+        (SessionState::RwUser, 10, "0 3 a\n"),
+        (SessionState::RwSo, 16, "0 4 10\n"),
+    ];
+    for (state, flags, text) in rows {
+        assert_text(&rt, rt.alloc(), ok(Body::Session { state, flags }), text)?;
+    }
+    let token = Body::Token {
+        flags: TokenFlags::of(true, true, 2, 0),
+        limit: 64,
+        sessions: 12,
+        rw_sessions: 11,
+    };
+    assert_text(&rt, rt.alloc(), ok(token), "0 3040c 64 12 11\n")
+}
+
+#[test]
+fn bytes_have_their_text(rt: HostRuntime) -> Result<(), Fail> {
+    let rows: [(&[u8], &str, &str); 3] = [
+        (&[], "0 -\n", "0 =-\n"),
+        (&[0], "0 00\n", "0 =00\n"),
+        (&[0x00, 0x0f, 0xa0, 0xff], "0 000fa0ff\n", "0 =000fa0ff\n"),
+    ];
+    for (bytes, text, as_value) in rows {
+        let body = Body::Bytes(Bytes::from_slice(rt.alloc(), bytes)?);
+        assert_text(&rt, rt.alloc(), ok(body), text)?;
+        let value = Answer::Value(Bytes::from_slice(rt.alloc(), bytes)?);
+        let answers = Sequence::from_vec(vec![in rt.alloc(); value]?);
+        assert_text(&rt, rt.alloc(), ok(Body::Attributes(answers)), as_value)?;
+    }
+    Ok(())
+}
+
+#[test]
+fn lists_have_their_text(rt: HostRuntime) -> Result<(), Fail> {
+    let rows: [(&[u64], &str, &str); 3] = [
+        (&[], "0 -\n", "0 -\n"),
+        (&[12], "0 12\n", "0 c\n"),
+        (
+            &[1, 592, u64::MAX],
+            "0 1,592,18446744073709551615\n",
+            "0 1,250,ffffffffffffffff\n",
+        ),
+    ];
+    for (numbers, as_handles, as_mechanisms) in rows {
+        let handles = Sequence::from_vec(Vec::from_slice(rt.alloc(), numbers)?);
+        assert_text(&rt, rt.alloc(), ok(Body::Handles(handles)), as_handles)?;
+        let types = Sequence::from_vec(Vec::from_slice(rt.alloc(), numbers)?);
+        assert_text(&rt, rt.alloc(), ok(Body::Mechanisms(types)), as_mechanisms)?;
+    }
+    Ok(())
+}
+
+#[test]
+fn attributes_have_their_text(rt: HostRuntime) -> Result<(), Fail> {
+    let none = Body::Attributes(Sequence::new(rt.alloc()));
+    assert_text(&rt, rt.alloc(), ok(none), "0 -\n")?;
+    let letter = Answer::Value(Bytes::from_slice(rt.alloc(), b"a")?);
+    let answers = vec![in rt.alloc(); letter, Answer::Unavailable, Answer::Length(120)]?;
+    let reply = Reply {
+        rv: Rv::Error(RvError::AttributeTypeInvalid),
+        body: Body::Attributes(Sequence::from_vec(answers)),
+    };
+    assert_text(&rt, rt.alloc(), reply, "12 =61,!,:120\n")
 }
