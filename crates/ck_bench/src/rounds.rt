@@ -6,8 +6,23 @@ use ck_token::Token;
 use ck_types::{Bytes, Item, Limits, Mechanism, NoMemory, Pin, Rv, Sequence, Template};
 use std::alloc::Global;
 
-/// CKA_LABEL.
+/// CKA_CLASS, CKA_PRIVATE, CKA_LABEL, CKA_VALUE and CKA_KEY_TYPE.
+const CLASS: u64 = 0;
+
+const PRIVATE: u64 = 2;
+
 const LABEL: u64 = 3;
+
+const VALUE: u64 = 0x11;
+
+const KEY_TYPE: u64 = 0x100;
+
+/// CKO_DATA, CKO_SECRET_KEY and CKK_GENERIC_SECRET as the bytes of attributes.
+const DATA: &[u8] = &[0; 8];
+
+const SECRET_KEY: &[u8] = &[4, 0, 0, 0, 0, 0, 0, 0];
+
+const GENERIC_SECRET: &[u8] = &[16, 0, 0, 0, 0, 0, 0, 0];
 
 #[derive(Clone, Copy, Debug, PartialEq, Eq)]
 pub(crate) enum Kind {
@@ -21,9 +36,15 @@ pub(crate) enum Kind {
     CreateReadDestroy,
     /// A digest of 64 bytes by one call, with its start.
     ShortDigest,
+    /// A signature of 64 bytes by one call, with its start.
+    ShortHmac,
+    /// A data object without attributes of its own, and its end.
+    CreateData,
+    /// A key of 32 bytes, and its end.
+    CreateKey,
 }
 
-pub(crate) const KINDS: [Kind; 7] = [
+pub(crate) const KINDS: [Kind; 10] = [
     Kind::SessionInfo,
     Kind::TokenInfo,
     Kind::OpenAndClose,
@@ -31,6 +52,9 @@ pub(crate) const KINDS: [Kind; 7] = [
     Kind::ReadLabel,
     Kind::CreateReadDestroy,
     Kind::ShortDigest,
+    Kind::ShortHmac,
+    Kind::CreateData,
+    Kind::CreateKey,
 ];
 
 impl Kind {
@@ -43,12 +67,15 @@ impl Kind {
             Kind::ReadLabel => "get label",
             Kind::CreateReadDestroy => "create, get label and destroy (the three together)",
             Kind::ShortDigest => "digest of 64 bytes (with its start)",
+            Kind::ShortHmac => "HMAC of 64 bytes (with its start)",
+            Kind::CreateData => "create and destroy a data object (both together)",
+            Kind::CreateKey => "create and destroy a key (both together)",
         }
     }
 }
 
 /// How many calls a figure is for: an opening with its closing counts as two, an object's three
-/// calls and a digest's two as one.
+/// calls, a digest's two, a signature's two and a creation with its end as one.
 pub(crate) fn calls_in(kind: Kind) -> u64
     ensures bounds { 1 ≤ result }
     ensures most { result ≤ 2 }
@@ -88,7 +115,7 @@ fn item(alloc: Global, kind: u64, value: &[u8]) -> Result<Item, NoMemory> {
 /// A data object with a label of 8 bytes.
 fn labelled(alloc: Global) -> Result<Call, NoMemory> {
     let mut items = Vec::with_capacity(alloc, 2)?;
-    items.push(item(alloc, 0, [0; 8].as_slice())?)?;
+    items.push(item(alloc, CLASS, DATA)?)?;
     items.push(item(alloc, LABEL, b"a label ")?)?;
     let items = Sequence::from_vec(items);
     let template = Template { items };
@@ -109,13 +136,44 @@ fn read_label(alloc: Global, object: u64) -> Result<Call, NoMemory> {
     })
 }
 
-/// A token with an open read/write session and an object of number 1.
+/// A template that creates an object which is public: a data object, or a key of 32 bytes.
+fn create(alloc: Global, items: &[(u64, &[u8])]) -> Result<Call, NoMemory> {
+    let mut all = Vec::with_capacity(alloc, items.len())?;
+    for (kind, value) in items {
+        all.push(item(alloc, *kind, value)?)?;
+    }
+    let items = Sequence::from_vec(all);
+    let template = Template { items };
+    Ok(Call::CreateObject {
+        session: 1,
+        template,
+    })
+}
+
+fn data_object(alloc: Global) -> Result<Call, NoMemory> {
+    create(alloc, &[(CLASS, DATA)])
+}
+
+fn secret_key(alloc: Global) -> Result<Call, NoMemory> {
+    create(
+        alloc,
+        &[
+            (CLASS, SECRET_KEY),
+            (KEY_TYPE, GENERIC_SECRET),
+            (VALUE, &[7; 32]),
+            (PRIVATE, &[0]),
+        ],
+    )
+}
+
+/// A token with an open read/write session, an object of number 1 and a key of number 2.
 pub(crate) fn prepared(alloc: Global) -> Result<Token, Failed> {
     let mut token = Token::new(alloc, Limits::largest());
     let pin = Pin::of(b"1234");
     call(&mut token, alloc, Call::InitToken { pin })?;
     call(&mut token, alloc, Call::OpenSession { flags: 6 })?;
     call(&mut token, alloc, labelled(alloc)?)?;
+    call(&mut token, alloc, secret_key(alloc)?)?;
     Ok(token)
 }
 
@@ -187,6 +245,44 @@ fn short_digest(token: &mut Token, alloc: Global) -> Result<(), Failed> {
     Ok(())
 }
 
+/// A signature of 64 bytes by HMAC-SHA-256 under the key of number 2.
+#[inline(never)]
+fn short_hmac(token: &mut Token, alloc: Global) -> Result<(), Failed> {
+    let mechanism = Mechanism {
+        kind: 0x251,
+        parameter: Bytes::new(alloc),
+    };
+    let start = Call::SignInit {
+        session: 1,
+        mechanism,
+        key: 2,
+    };
+    call(token, alloc, start)?;
+    let sign = Call::Sign {
+        session: 1,
+        bytes: Bytes::from_slice(alloc, [7; 64].as_slice())?,
+        room: Some(32),
+    };
+    call(token, alloc, sign)?;
+    Ok(())
+}
+
+fn create_and_end(token: &mut Token, alloc: Global, create: Call) -> Result<(), Failed> {
+    let object = call(token, alloc, create)?;
+    call(token, alloc, Call::DestroyObject { session: 1, object })?;
+    Ok(())
+}
+
+#[inline(never)]
+fn create_data(token: &mut Token, alloc: Global) -> Result<(), Failed> {
+    create_and_end(token, alloc, data_object(alloc)?)
+}
+
+#[inline(never)]
+fn create_key(token: &mut Token, alloc: Global) -> Result<(), Failed> {
+    create_and_end(token, alloc, secret_key(alloc)?)
+}
+
 /// One round of the kind. Each kind has a function of its own, so that a round takes no time for
 /// what another kind would need.
 pub(crate) fn round(token: &mut Token, alloc: Global, kind: Kind) -> Result<(), Failed> {
@@ -198,5 +294,8 @@ pub(crate) fn round(token: &mut Token, alloc: Global, kind: Kind) -> Result<(), 
         Kind::ReadLabel => get_label(token, alloc, 1),
         Kind::CreateReadDestroy => create_and_destroy(token, alloc),
         Kind::ShortDigest => short_digest(token, alloc),
+        Kind::ShortHmac => short_hmac(token, alloc),
+        Kind::CreateData => create_data(token, alloc),
+        Kind::CreateKey => create_key(token, alloc),
     }
 }
