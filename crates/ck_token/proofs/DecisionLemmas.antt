@@ -35,12 +35,12 @@ use Rattle.ck_journal.specs.Histories.{History}
 use Rattle.ck_journal.specs.Objects.{attributes_named, named_attributes, object_at}
 use Rattle.ck_journal.specs.Pins.{about}
 use Rattle.ck_journal.specs.Sessions.{is_open}
-use Rattle.ck_token.specs.Agreement.{adds}
-use Rattle.ck_token.specs.Changes.{change_of, wrong_try_change, finish_change, refused_change}
-use Rattle.ck_token.specs.Changes.{refused_by, refused_step, effect, effect_by}
+use Rattle.ck_parts.specs.Agreement.{adds}
+use Rattle.ck_parts.specs.Changes.{change_of, wrong_try_change, finish_change, refused_change}
+use Rattle.ck_parts.specs.Changes.{refused_by, refused_step, effect, effect_by}
 use Rattle.ck_token.specs.Decisions.{IsDecided, IsDecision, takes_memory, may_run_out, reply_of}
-use Rattle.ck_token.specs.declared.changes.Change.{Change}
-use Rattle.ck_token.specs.declared.changes.Change.TheVariants as change
+use Rattle.ck_parts.specs.declared.changes.Change.{Change}
+use Rattle.ck_parts.specs.declared.changes.Change.TheVariants as change
 use Rattle.ck_token.specs.declared.decisions.Decision.{Decision}
 use Rattle.ck_token.specs.declared.decisions.Refused.{Refused}
 use Rattle.ck_token.specs.declared.decisions.Refused.TheVariants as refused

@@ -6,10 +6,11 @@ use Rattle.ck_journal.specs.declared.calls.Entry.{Entry}
 use Rattle.ck_journal.specs.declared.replies.Reply.{Reply}
 use Rattle.ck_journal.specs.Answers.{IsLegal, answer}
 use Rattle.ck_journal.specs.Histories.{History, ◌◁◌}
-use Rattle.ck_token.specs.Agreement.{PartsAgree, TokenAgrees}
-use Rattle.ck_token.specs.Changes.{effect}
-use Rattle.ck_token.specs.declared.changes.Change.{Change}
-use Rattle.ck_token.specs.declared.parts.Parts.{Parts}
+use Rattle.ck_parts.specs.Agreement.{PartsAgree}
+use Rattle.ck_token.specs.Agreement.{TokenAgrees}
+use Rattle.ck_parts.specs.Changes.{effect}
+use Rattle.ck_parts.specs.declared.changes.Change.{Change}
+use Rattle.ck_parts.specs.declared.parts.Parts.{Parts}
 
 pub entered-agrees : (limits : Ranges) (h : History) (p : Parts) → TokenAgrees limits h p → (caller : ℕ) (c : Call) (reply entered : Reply)
     (made : Change) (p' : Parts) (after : History) → reply ≡ answer limits h c → entered ≡ reply → made ≡ effect h c reply

@@ -10,8 +10,8 @@ use Rattle.ck_journal.specs.declared.replies.Reply.{Reply}
 use Rattle.ck_journal.specs.Answers.{call_error, allowed_reply}
 use Rattle.ck_journal.specs.Histories.{History}
 use Rattle.ck_journal.specs.Pins.{about}
-use Rattle.ck_token.specs.Changes.{change_of, wrong_try_change, refused_change}
-use Rattle.ck_token.specs.declared.changes.Change.{Change}
+use Rattle.ck_parts.specs.Changes.{change_of, wrong_try_change, refused_change}
+use Rattle.ck_parts.specs.declared.changes.Change.{Change}
 use Rattle.ck_token.specs.declared.decisions.Decision.{Decision}
 use Rattle.ck_token.specs.declared.decisions.Refused.{Refused}
 use Rattle.ck_token.specs.declared.decisions.Refused.TheVariants as refused

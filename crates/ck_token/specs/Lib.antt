@@ -5,7 +5,6 @@ pub use Rattle.ck_journal.specs.Pins
 pub use Rattle.ck_journal.specs.Queries
 pub use Rattle.ck_journal.specs.Sessions
 pub mod Agreement
-pub mod Changes
 pub mod Decisions
 pub mod Runs
 pub mod TokenStates

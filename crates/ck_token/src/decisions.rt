@@ -1,6 +1,6 @@
 ghost use Rattle.std.specs.Prelude.{◌≡◌};
 
-use crate::changes::Change;
+use ck_parts::Change;
 use ck_journal::Body;
 use ck_types::{NoMemory, Rv, RvError};
 
@@ -23,7 +23,7 @@ pub(crate) enum Refused {
 }
 
 impl From<RvError> for Refused {
-    ghost use Rattle.ck_token.specs.declared.changes.Change.TheVariants as change;
+    ghost use Rattle.ck_parts.specs.declared.changes.Change.TheVariants as change;
     ghost use Rattle.ck_token.specs.declared.decisions.Refused.TheVariants as refused;
 
     ghost from_gives = { λ code made. made ≡ refused.Error code change.Nothing };
@@ -52,7 +52,7 @@ impl Decision {
     ghost use Rattle.std.specs.Prelude.{◌≡◌};
     ghost use Rattle.ck_types.specs.declared.return_codes.Rv.TheVariants as rv;
     ghost use Rattle.ck_journal.specs.declared.replies.Body.TheVariants as body;
-    ghost use Rattle.ck_token.specs.declared.changes.Change.TheVariants as change;
+    ghost use Rattle.ck_parts.specs.declared.changes.Change.TheVariants as change;
 
     /// A call that changes something and gives nothing beside the code.
     #[inline(always)]

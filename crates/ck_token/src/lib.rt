@@ -2,10 +2,7 @@
 //! journal itself.
 #![tactic(auto)]
 
-mod boxed;
-mod changes;
 mod decisions;
-mod parts;
 mod queries;
 mod runs;
 #[cfg(test)]

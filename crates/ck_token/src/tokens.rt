@@ -1,11 +1,11 @@
 ghost use Rattle.std.specs.Prelude.{◌≡◌, ◌<◌, ◌≤◌, false, IfOk, IsOk, OnOk};
 ghost use Rattle.ck_journal.specs.Histories.{History};
 ghost use Rattle.ck_journal.specs.Replies.{has_list};
-ghost use Rattle.ck_token.specs.Agreement.{PartsAgree, adds, HasRoom};
+ghost use Rattle.ck_parts.specs.Agreement.{PartsAgree, adds, HasRoom};
 
-use crate::changes::Change;
+use ck_parts::Change;
 use crate::decisions::{Decision, Refused};
-use crate::parts::Parts;
+use ck_parts::Parts;
 use ck_journal::{Body, Call, Entry, Journal, OperationKind, Reply};
 use ck_operations::Operations;
 use ck_sessions::Sessions;
@@ -102,7 +102,7 @@ impl Token {
     ghost use Rattle.ck_journal.specs.Answers.{IsLegal, answer};
     ghost use Rattle.ck_journal.specs.Bases.{empty_base};
     ghost use Rattle.ck_journal.specs.Histories.{start};
-    ghost use Rattle.ck_token.specs.Changes.{effect};
+    ghost use Rattle.ck_parts.specs.Changes.{effect};
     ghost use Rattle.ck_token.specs.Decisions.{IsDecision, may_run_out, reply_of};
     ghost use Rattle.ck_token.specs.TokenStates.{IsAnswered, IsUnchanged};
 

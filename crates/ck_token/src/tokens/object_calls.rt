@@ -5,8 +5,8 @@ ghost use Rattle.ck_types.specs.Records.{state_in};
 ghost use Rattle.ck_journal.specs.Answers.{prohibited_error, parameter_error, transition_error};
 
 use super::Token;
-use crate::boxed::Boxed;
-use crate::changes::Change;
+use ck_parts::Boxed;
+use ck_parts::Change;
 use crate::decisions::{Decision, Refused};
 use crate::queries::queries_reply;
 use ck_journal::{AttributeQuery, Body};
@@ -63,7 +63,7 @@ impl Token {
     ghost use Rattle.ck_journal.specs.declared.calls.Call.TheVariants as call;
     ghost use Rattle.ck_sessions.specs.Agreement.{session_row};
     ghost use Rattle.ck_token.specs.Decisions.{IsDecision, reply_of};
-    ghost use Rattle.ck_token.specs.declared.changes.Change.TheVariants as change;
+    ghost use Rattle.ck_parts.specs.declared.changes.Change.TheVariants as change;
 
     // ---- checks
 

@@ -4,12 +4,12 @@ ghost use Rattle.ck_types.specs.declared.return_codes.Rv.TheVariants as rv;
 ghost use Rattle.ck_journal.specs.Answers.{ok, bytes_reply, key_state_error, may_serve, usage_flag};
 ghost use Rattle.ck_journal.specs.Answers.{usage_error};
 ghost use Rattle.ck_journal.specs.declared.replies.Body.TheVariants as body;
-ghost use Rattle.ck_token.specs.declared.changes.Change.TheVariants as change;
+ghost use Rattle.ck_parts.specs.declared.changes.Change.TheVariants as change;
 ghost use Rattle.ck_token.specs.declared.decisions.Refused.TheVariants as refused;
 
 use super::Token;
 use super::object_calls::check_no_parameter;
-use crate::changes::Change;
+use ck_parts::Change;
 use crate::decisions::{Decision, Refused};
 use ck_journal::{Body, OperationKind, is_long_piece};
 use ck_mac::Tag;
@@ -128,7 +128,7 @@ impl Token {
     ghost use Rattle.ck_journal.specs.declared.calls.Call.TheVariants as call;
     ghost use Rattle.ck_journal.specs.declared.operations.OperationKind.TheVariants as kind;
     ghost use Rattle.ck_operations.specs.Agreement.{OperationAgrees, active_operation};
-    ghost use Rattle.ck_token.specs.Changes.{finish_change, end_if_too_long, start_hmac};
+    ghost use Rattle.ck_parts.specs.Changes.{finish_change, end_if_too_long, start_hmac};
     ghost use Rattle.ck_token.specs.Decisions.{IsDecision, IsDecided};
 
     // ---- starts

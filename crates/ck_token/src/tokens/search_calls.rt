@@ -1,5 +1,5 @@
 use super::Token;
-use crate::changes::Change;
+use ck_parts::Change;
 use crate::decisions::{Decision, Refused};
 use ck_journal::{Body, number_of_handle};
 use ck_types::{NoMemory, Rv, RvError, Sequence, Template, error_if};

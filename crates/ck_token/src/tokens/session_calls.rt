@@ -3,7 +3,7 @@ ghost use Rattle.ck_types.specs.Mechanisms.{mechanism_types};
 ghost use Rattle.ck_journal.specs.declared.replies.Body.TheVariants as body;
 
 use super::Token;
-use crate::changes::Change;
+use ck_parts::Change;
 use crate::decisions::{Decision, Refused};
 use ck_journal::{Body, RW_SESSION, SERIAL_SESSION, is_read_write};
 use ck_types::{NoMemory, Rv, RvError, Sequence, TokenFlags, UserType, error_if, mechanism_types};
@@ -29,7 +29,7 @@ impl Token {
     ghost use Rattle.ck_journal.specs.Answers.{allowed_reply};
     ghost use Rattle.ck_journal.specs.declared.calls.Call.TheVariants as call;
     ghost use Rattle.ck_token.specs.Decisions.{IsDecision, reply_of};
-    ghost use Rattle.ck_token.specs.declared.changes.Change.TheVariants as change;
+    ghost use Rattle.ck_parts.specs.declared.changes.Change.TheVariants as change;
 
     pub(super) fn open_session(&self, flags: u64) -> Result<Decision, Refused>
         ensures { IsDecision self.now.limits self.now.history (call.OpenSession flags) result }

@@ -3,7 +3,7 @@ use Rattle.ck_journal.specs.declared.replies.Body.{Body}
 use Rattle.ck_journal.specs.declared.replies.Reply.{Reply}
 use Rattle.ck_token.specs.Agreement.{TokenAgrees}
 use Rattle.ck_token.specs.Decisions.{reply_of}
-use Rattle.ck_token.proofs.Counts.{counted}
+use Rattle.ck_parts.proofs.Counts.{counted}
 use Rattle.ck_token.proofs.DecisionLemmas.{no_list, adds_nothing}
 use Rattle.ck_token.proofs.Entering.{entered-agrees}
 use Rattle.ck_token.proofs.tokens.Token.call.Goals as goal

@@ -9,7 +9,7 @@ use Rattle.ck_types.proofs.CheckLemmas.{check_of-ok, check_of-err}
 use Rattle.ck_journal.specs.Answers.{ok, new_handle, placement_error, prohibited_error}
 use Rattle.ck_journal.specs.declared.calls.Call.TheVariants as call
 use Rattle.ck_journal.specs.declared.replies.Body.TheVariants as body
-use Rattle.ck_token.specs.declared.changes.Change.TheVariants as change
+use Rattle.ck_parts.specs.declared.changes.Change.TheVariants as change
 use Rattle.ck_token.proofs.DecisionLemmas.{refused-decision, memory-decision, object-checks, second-fails, third-fails, fourth-fails, four-pass}
 use Rattle.ck_token.proofs.tokens.Token.copy_object.Goals as goal
 

@@ -6,7 +6,7 @@ use Rattle.ck_types.specs.declared.items.Item.{Item}
 use Rattle.ck_journal.specs.Answers.{ok, new_handle, placement_error}
 use Rattle.ck_journal.specs.declared.replies.Body.TheVariants as body
 use Rattle.ck_journal.specs.declared.calls.Call.TheVariants as call
-use Rattle.ck_token.specs.declared.changes.Change.TheVariants as change
+use Rattle.ck_parts.specs.declared.changes.Change.TheVariants as change
 use Rattle.ck_token.proofs.DecisionLemmas.{refused-decision, memory-decision, second-fails, third-fails, four-pass, session-passes}
 use Rattle.ck_token.proofs.tokens.Token.create_object.Goals as goal
 

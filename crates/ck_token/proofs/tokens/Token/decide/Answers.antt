@@ -1,6 +1,6 @@
 use Rattle.std.proofs.Common.{◌≡◌, sym, ◌∙◌, subst}
 use Rattle.ck_journal.specs.declared.replies.Reply.{Reply}
-use Rattle.ck_token.specs.Changes.{change_of, effect}
+use Rattle.ck_parts.specs.Changes.{change_of, effect}
 use Rattle.ck_token.proofs.DecisionLemmas.{allowed-effect}
 use Rattle.ck_token.proofs.tokens.Token.decide.Goals as goal
 

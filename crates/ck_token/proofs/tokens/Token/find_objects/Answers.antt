@@ -6,7 +6,7 @@ use Rattle.ck_journal.specs.Answers.{ok}
 use Rattle.ck_journal.specs.Objects.{handle_of, is_visible}
 use Rattle.ck_journal.specs.Searches.{is_searching, remaining_objects, last_number, last_or, number_of_handle}
 use Rattle.ck_journal.specs.declared.replies.Body.TheVariants as body
-use Rattle.ck_token.specs.declared.changes.Change.TheVariants as change
+use Rattle.ck_parts.specs.declared.changes.Change.TheVariants as change
 use Rattle.ck_token.proofs.DecisionLemmas.{two-pass, session-passes}
 use Rattle.ck_token.proofs.SearchLemmas.{left-found, last_or-some, last_or-none}
 use Rattle.ck_token.proofs.tokens.Token.find_objects.Goals.{in-Some-last, in-None}

@@ -6,7 +6,7 @@ use Rattle.ck_mac.proofs.LengthLemmas.{length-tag_of}
 use Rattle.ck_journal.specs.Answers.{final_error, bytes_reply}
 use Rattle.ck_journal.specs.Operations.{computation_in, message_in}
 use Rattle.ck_journal.specs.declared.replies.Body.TheVariants as body
-use Rattle.ck_token.specs.Changes.{finish_change}
+use Rattle.ck_parts.specs.Changes.{finish_change}
 use Rattle.ck_token.proofs.DecisionLemmas.{gives-bytes, memory-decided, room-given}
 use Rattle.ck_token.proofs.tokens.Token.finish_message.Goals as goal
 

@@ -9,7 +9,7 @@ use Rattle.ck_types.proofs.CheckLemmas.{check_of-ok, check_of-err}
 use Rattle.ck_journal.specs.Answers.{ok, new_handle, parameter_error, placement_error, creations_error}
 use Rattle.ck_journal.specs.declared.replies.Body.TheVariants as body
 use Rattle.ck_journal.specs.declared.calls.Call.TheVariants as call
-use Rattle.ck_token.specs.declared.changes.Change.TheVariants as change
+use Rattle.ck_parts.specs.declared.changes.Change.TheVariants as change
 use Rattle.ck_token.proofs.DecisionLemmas.{refused-decision, memory-decision, skip, hit, session-passes}
 use Rattle.ck_token.proofs.tokens.Token.generate_key.Goals as goal
 

@@ -9,7 +9,7 @@ use Rattle.ck_types.proofs.CheckLemmas.{check_of-ok, check_of-err}
 use Rattle.ck_journal.specs.Answers.{read_only_session_error, prohibited_error}
 use Rattle.ck_journal.specs.Objects.{object_named}
 use Rattle.ck_journal.specs.declared.calls.Call.TheVariants as call
-use Rattle.ck_token.specs.declared.changes.Change.TheVariants as change
+use Rattle.ck_parts.specs.declared.changes.Change.TheVariants as change
 use Rattle.ck_token.specs.Decisions.{reply_of}
 use Rattle.ck_token.specs.declared.decisions.Decision.{Decision}
 use Rattle.ck_token.proofs.DecisionLemmas.{refused-decision, memory-decision, object-checks, second-fails, third-fails, three-pass}

@@ -6,10 +6,10 @@ use Rattle.ck_mac.proofs.LengthLemmas.{length-tag_of}
 use Rattle.ck_journal.specs.Answers.{message_error, bytes_reply}
 use Rattle.ck_journal.specs.Operations.{computation_in, message_in}
 use Rattle.ck_journal.specs.declared.replies.Body.TheVariants as body
-use Rattle.ck_token.specs.Changes.{finish_change}
+use Rattle.ck_parts.specs.Changes.{finish_change}
 use Rattle.ck_token.proofs.DecisionLemmas.{gives-bytes, memory-decided, room-given}
 use Rattle.ck_token.proofs.DecisionLemmas.{refusing-decided, message-ends}
-use Rattle.ck_token.proofs.OperationMoves.{unused-message}
+use Rattle.ck_parts.proofs.OperationMoves.{unused-message}
 use Rattle.ck_token.proofs.tokens.Token.take_whole.Goals as goal
 
 pub returns-in-Some : goal.returns-in-Some

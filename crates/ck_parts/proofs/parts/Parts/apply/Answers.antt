@@ -12,22 +12,22 @@ use Rattle.ck_journal.specs.declared.operations.OperationKind.TheVariants as kin
 use Rattle.ck_journal.proofs.LegalLemmas.{passed-done, is_searching-next}
 use Rattle.ck_operations.specs.Moves.{Add, OnlyIn}
 use Rattle.ck_operations.proofs.Moves.{operations-left}
-use Rattle.ck_token.specs.declared.changes.Change.TheVariants as change
-use Rattle.ck_token.proofs.Counts.{started-injected}
-use Rattle.ck_token.proofs.OperationMoves.{operations-kept, operations-created, closed-one, closed-all}
-use Rattle.ck_token.proofs.OperationMoves.{logged-out, cancelled, does-start, does-add, finished-is}
-use Rattle.ck_token.proofs.OperationMoves.{finish-does, nothing-stays, tried-stays, done-ok}
-use Rattle.ck_token.proofs.Inversions.{done-of_call, of-InitPin, of-SetPin, of-LogIn, of-LogOut}
-use Rattle.ck_token.proofs.Inversions.{of-CreateObject, of-SetAttributes, of-SetKeyState, of-DestroyObject}
-use Rattle.ck_token.proofs.Inversions.{of-StartSearch, of-AdvanceSearch, of-StartDigest, of-StartHmac}
-use Rattle.ck_token.proofs.Inversions.{of-AddPiece, of-CancelOperations}
-use Rattle.ck_token.proofs.Inversions.{called-InitToken, called-OpenSession, called-CloseSession}
-use Rattle.ck_token.proofs.Inversions.{called-CloseAllSessions, called-EndSearch}
-use Rattle.ck_token.proofs.PartMoves.{sessions-kept, objects-kept, sessions-created, sessions-unchanged}
-use Rattle.ck_token.proofs.PartMoves.{objects-unchanged, tried, objects-tried, login-passed, change-passed}
-use Rattle.ck_token.proofs.PartMoves.{destruction-passed, state-passed, digest-passed, hmac-passed}
-use Rattle.ck_token.proofs.PartMoves.{step-sessions, step-objects, hmac-is}
-use Rattle.ck_token.proofs.parts.Parts.apply.Goals as goal
+use Rattle.ck_parts.specs.declared.changes.Change.TheVariants as change
+use Rattle.ck_parts.proofs.Counts.{started-injected}
+use Rattle.ck_parts.proofs.OperationMoves.{operations-kept, operations-created, closed-one, closed-all}
+use Rattle.ck_parts.proofs.OperationMoves.{logged-out, cancelled, does-start, does-add, finished-is}
+use Rattle.ck_parts.proofs.OperationMoves.{finish-does, nothing-stays, tried-stays, done-ok}
+use Rattle.ck_parts.proofs.Inversions.{done-of_call, of-InitPin, of-SetPin, of-LogIn, of-LogOut}
+use Rattle.ck_parts.proofs.Inversions.{of-CreateObject, of-SetAttributes, of-SetKeyState, of-DestroyObject}
+use Rattle.ck_parts.proofs.Inversions.{of-StartSearch, of-AdvanceSearch, of-StartDigest, of-StartHmac}
+use Rattle.ck_parts.proofs.Inversions.{of-AddPiece, of-CancelOperations}
+use Rattle.ck_parts.proofs.Inversions.{called-InitToken, called-OpenSession, called-CloseSession}
+use Rattle.ck_parts.proofs.Inversions.{called-CloseAllSessions, called-EndSearch}
+use Rattle.ck_parts.proofs.PartMoves.{sessions-kept, objects-kept, sessions-created, sessions-unchanged}
+use Rattle.ck_parts.proofs.PartMoves.{objects-unchanged, tried, objects-tried, login-passed, change-passed}
+use Rattle.ck_parts.proofs.PartMoves.{destruction-passed, state-passed, digest-passed, hmac-passed}
+use Rattle.ck_parts.proofs.PartMoves.{step-sessions, step-objects, hmac-is}
+use Rattle.ck_parts.proofs.parts.Parts.apply.Goals as goal
 
 pub returns-in-Nothing : goal.returns-in-Nothing
 returns-in-Nothing c = record {

@@ -42,10 +42,10 @@ use Rattle.ck_operations.specs.Agreement.{OperationsState, OperationsAgree}
 use Rattle.ck_operations.specs.Moves.{Move, Stay, Start, Add, End, Does, OnlyIn, OnlyInSession}
 use Rattle.ck_operations.specs.Moves.{OnlyNamed, InAll}
 use Rattle.ck_operations.proofs.Moves.{operations-left}
-use Rattle.ck_token.specs.Changes.{wrong_try_change, end_if_too_long, finish_change, refused_by}
-use Rattle.ck_token.specs.Changes.{refused_step, effect_by, change_of}
-use Rattle.ck_token.specs.declared.changes.Change.{Change}
-use Rattle.ck_token.specs.declared.changes.Change.TheVariants as change
+use Rattle.ck_parts.specs.Changes.{wrong_try_change, end_if_too_long, finish_change, refused_by}
+use Rattle.ck_parts.specs.Changes.{refused_step, effect_by, change_of}
+use Rattle.ck_parts.specs.declared.changes.Change.{Change}
+use Rattle.ck_parts.specs.declared.changes.Change.TheVariants as change
 
 -- ---- a call that makes a step on an operation
 

@@ -9,10 +9,10 @@ use ck_types::NoMemory;
 /// The sessions, the objects and the operations of a token. While a call is carried out they are
 /// ahead of the journal, so what ties them to a history stands in the contracts.
 #[derive(Debug, Drop)]
-pub(crate) struct Parts {
-    pub(crate) sessions: Sessions,
-    pub(crate) objects: Store,
-    pub(crate) operations: Operations,
+pub struct Parts {
+    pub sessions: Sessions,
+    pub objects: Store,
+    pub operations: Operations,
 }
 
 impl Parts {
@@ -23,11 +23,11 @@ impl Parts {
     ghost use Rattle.ck_journal.specs.Histories.{History, ◌◁◌};
     ghost use Rattle.ck_journal.specs.Objects.{object_at};
     ghost use Rattle.ck_journal.specs.declared.calls.Entry.{Entry};
-    ghost use Rattle.ck_token.specs.Agreement.{PartsAgree, adds, HasRoom, IsCounted};
-    ghost use Rattle.ck_token.specs.Changes.{effect};
+    ghost use Rattle.ck_parts.specs.Agreement.{PartsAgree, adds, HasRoom, IsCounted};
+    ghost use Rattle.ck_parts.specs.Changes.{effect};
 
     /// Makes room for what a change adds.
-    pub(crate) fn reserve(&mut self, change: &Change) -> Result<(), NoMemory>
+    pub fn reserve(&mut self, change: &Change) -> Result<(), NoMemory>
         ensures agree { (h : History) → PartsAgree h self.old → PartsAgree h self.new }
         ensures room { OnOk result (HasRoom self.new change.now) }
         ensures succeeds { adds change.now ≡ false → IsOk result }
@@ -52,7 +52,7 @@ impl Parts {
     }
 
     /// Carries out the change of an answered call, and takes no memory.
-    pub(crate) fn apply(&mut self, change: Change, call: &Call)
+    pub fn apply(&mut self, change: Change, call: &Call)
         requires room { HasRoom self.old change }
         requires counted { IsCounted self.old change }
         ensures agree { (limits : Ranges) (h : History) (e : Entry) → IsLegal limits (e ◁ h)

@@ -4,7 +4,7 @@ use ck_types::{Hash, KeyState, Pin, Record, Sequence, UserType};
 
 /// What an answered call changes of sessions, objects and operations.
 #[derive(Drop)]
-pub(crate) enum Change {
+pub enum Change {
     Nothing,
     /// The try of a wrong PIN.
     WrongTry {

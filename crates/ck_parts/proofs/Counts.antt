@@ -22,13 +22,13 @@ use Rattle.ck_journal.specs.Pins.{pin_owner, present_pin}
 use Rattle.ck_journal.specs.Sessions.{is_read_write, state_of}
 use Rattle.ck_journal.proofs.LegalLemmas.{passed-done, creation-free, user_logins-bound, openings-bound, tries-bound}
 use Rattle.ck_sessions.specs.Agreement.{SessionsState, SessionsAgree, CredentialAgrees, credential_of}
-use Rattle.ck_token.specs.Agreement.{PartsAgree, IsCounted}
-use Rattle.ck_token.specs.Changes.{effect}
-use Rattle.ck_token.specs.declared.changes.Change.{Change}
-use Rattle.ck_token.specs.declared.changes.Change.TheVariants as change
-use Rattle.ck_token.specs.declared.parts.Parts.{Parts}
-use Rattle.ck_token.proofs.Inversions.{done-of_call, of-SetPin, of-CreateObject, of-StartHmac}
-use Rattle.ck_token.proofs.PartMoves.{hmac-passed}
+use Rattle.ck_parts.specs.Agreement.{PartsAgree, IsCounted}
+use Rattle.ck_parts.specs.Changes.{effect}
+use Rattle.ck_parts.specs.declared.changes.Change.{Change}
+use Rattle.ck_parts.specs.declared.changes.Change.TheVariants as change
+use Rattle.ck_parts.specs.declared.parts.Parts.{Parts}
+use Rattle.ck_parts.proofs.Inversions.{done-of_call, of-SetPin, of-CreateObject, of-StartHmac}
+use Rattle.ck_parts.proofs.PartMoves.{hmac-passed}
 
 credential-agrees : (u : UserType) (h : History) (s : SessionsState) → SessionsAgree h s → CredentialAgrees u h (credential_of u s)
 credential-agrees user.So h s agree = agree.so

@@ -30,8 +30,8 @@ use Rattle.ck_journal.specs.Pins.{pin_owner, about}
 use Rattle.ck_journal.specs.Searches.{matching_objects, last_number, last_or, number_of_handle}
 use Rattle.ck_journal.specs.Searches.{handles_in}
 use Rattle.ck_journal.specs.Sessions.{state_of}
-use Rattle.ck_token.specs.declared.changes.Change.{Change}
-use Rattle.ck_token.specs.declared.changes.Change.TheVariants as change
+use Rattle.ck_parts.specs.declared.changes.Change.{Change}
+use Rattle.ck_parts.specs.declared.changes.Change.TheVariants as change
 
 -- what a reply makes of an operation that a call finishes, by its code and body
 abbrev pub finish_change : OperationKind → ℕ → Rv → Body → Change

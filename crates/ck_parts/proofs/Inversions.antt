@@ -36,10 +36,10 @@ use Rattle.ck_journal.specs.Answers.{call_error, hmac_init_error}
 use Rattle.ck_journal.specs.OperationCalls.{Step, initialize, take_whole, add_piece, finish}
 use Rattle.ck_journal.specs.OperationCalls.{OperationStep, operation_step}
 use Rattle.ck_journal.specs.Operations.{added_bytes, started_computation, hmac_with, init_key}
-use Rattle.ck_token.specs.Changes.{change_of, start_hmac, wrong_try_change, refused_by, refused_step}
-use Rattle.ck_token.specs.Changes.{effect, effect_by}
-use Rattle.ck_token.specs.declared.changes.Change.{Change}
-use Rattle.ck_token.specs.declared.changes.Change.TheVariants as change
+use Rattle.ck_parts.specs.Changes.{change_of, start_hmac, wrong_try_change, refused_by, refused_step}
+use Rattle.ck_parts.specs.Changes.{effect, effect_by}
+use Rattle.ck_parts.specs.declared.changes.Change.{Change}
+use Rattle.ck_parts.specs.declared.changes.Change.TheVariants as change
 
 -- ---- a change of a call that was answered OK
 

@@ -6,7 +6,7 @@ use std::marker::Model;
 
 /// A value on the heap, so that what holds it is small and moves fast. Contracts see the value.
 #[derive(Drop)]
-pub(crate) struct Boxed<T> {
+pub struct Boxed<T> {
     inner: Box<T>,
 }
 
@@ -19,13 +19,13 @@ impl<T> Model for Boxed<T> {
 }
 
 impl<T> Boxed<T> {
-    pub(crate) fn get(&self) -> &T
+    pub fn get(&self) -> &T
         ensures { result.now ≡ self.now }
     {
         &self.inner
     }
 
-    pub(crate) fn into_inner(self) -> T
+    pub fn into_inner(self) -> T
         ensures { result ≡ self }
     {
         let Boxed { inner } = self;
@@ -34,7 +34,7 @@ impl<T> Boxed<T> {
 }
 
 impl<T: Drop> Boxed<T> {
-    pub(crate) fn new(alloc: Global, value: T) -> Result<Boxed<T>, NoMemory>
+    pub fn new(alloc: Global, value: T) -> Result<Boxed<T>, NoMemory>
         ensures { IfOk result (λ b. b ≡ value) }
     {
         Ok(Boxed {

@@ -50,9 +50,9 @@ use Rattle.ck_store.specs.Agreement.{StoreState, StoreAgrees}
 use Rattle.ck_journal.specs.OperationCalls.{OperationStep, operation_step}
 use Rattle.ck_journal.specs.Operations.{is_active, hmac_with}
 use Rattle.ck_mac.specs.Computations.{hmac_by}
-use Rattle.ck_token.proofs.OperationMoves.{nobody-tried, IsStepAlone, step-alone, step-no_try, of-done}
-use Rattle.ck_token.specs.Changes.{change_of, wrong_try_change, refused_by, effect, effect_by}
-use Rattle.ck_token.specs.declared.changes.Change.TheVariants as change
+use Rattle.ck_parts.proofs.OperationMoves.{nobody-tried, IsStepAlone, step-alone, step-no_try, of-done}
+use Rattle.ck_parts.specs.Changes.{change_of, wrong_try_change, refused_by, effect, effect_by}
+use Rattle.ck_parts.specs.declared.changes.Change.TheVariants as change
 
 -- ---- the part that a call leaves as it is
 

@@ -1,0 +1,4 @@
+pub mod Counts
+pub mod Inversions
+pub mod OperationMoves
+pub mod PartMoves

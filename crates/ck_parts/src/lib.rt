@@ -1,0 +1,11 @@
+//! What an answered call changes, and the parts of a token that it changes: its sessions, its
+//! objects and its operations, which stay what the journal says.
+#![tactic(auto)]
+
+mod boxed;
+mod changes;
+mod parts;
+
+pub use boxed::Boxed;
+pub use changes::Change;
+pub use parts::Parts;
