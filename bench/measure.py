@@ -1,6 +1,6 @@
 #!/usr/bin/env python3
 """Plays scripts of 1,000, 10,000 and 100,000 lines with the built program, and prints what a line takes. Then plays
-searches among 1,000, 10,000 and 50,000 objects, and prints what an object takes in one search.
+searches among 1,000, 10,000 and 50,000 objects, data objects and keys, and prints what an object takes in one search.
 
 The program is crates/ck_run/out/ck_run, or the path that is given; it is built by `rt run` in crates/ck_run. Times are
 processor time, the best of several runs, and memory is the peak; those of an empty script are taken off both. Off the
@@ -84,15 +84,15 @@ def check_searches(program, text, count):
         sys.exit("searches: not every search found its object")
 
 
-def measure_searches(program):
+def measure_searches(program, searches, creations, what):
     times = []
     for count in OBJECT_COUNTS:
-        text = script("searches", count)
+        text = script(searches, count)
         check_searches(program, text, count)
-        objects_time = best_time(program, script("labels", count), count)
+        objects_time = best_time(program, script(creations, count), count)
         times.append((best_time(program, text, count) - objects_time) / (SEARCHES * count))
-        print(f"searches, {count} objects: {times[-1] * 1e9:.1f} ns an object")
-    return is_within("searches, objects", times, OBJECT_COUNTS)
+        print(f"{searches}, {count} {what}: {times[-1] * 1e9:.1f} ns each")
+    return is_within(searches, times, OBJECT_COUNTS)
 
 
 def main():
@@ -101,7 +101,8 @@ def main():
     start_memory = peak_memory(program, "")
     print(f"empty script: {start_time * 1e6:.0f} us, {start_memory} KiB")
     met = [measure(program, kind, start_time, start_memory) for kind in ROUNDS]
-    met.append(measure_searches(program))
+    met.append(measure_searches(program, "searches", "labels", "data objects"))
+    met.append(measure_searches(program, "key-searches", "keys", "keys"))
     return 0 if all(met) else 1
 
 

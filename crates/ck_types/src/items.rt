@@ -31,6 +31,17 @@ pub struct Item {
 }
 
 impl Item {
+    /// A copy of the item.
+    pub fn duplicate(&self, alloc: Global) -> Result<Item, NoMemory>
+        ensures { IfOk result (λ copy. copy ≡ self.now) }
+    {
+        let value = Bytes::from_slice(alloc, self.value.as_slice())?;
+        Ok(Item {
+            kind: self.kind,
+            value,
+        })
+    }
+
     /// CKR_ATTRIBUTE_TYPE_INVALID for a type that the token doesn't know,
     /// CKR_ATTRIBUTE_VALUE_INVALID for a value that isn't of the type's form.
     fn check_form(&self) -> Result<(), RvError>

@@ -1,10 +1,12 @@
-ghost use Rattle.std.specs.Prelude.{◌≡◌};
+ghost use Rattle.std.specs.Prelude.{◌≡◌, IfOk};
 ghost use Rattle.ck_types.specs.Mechanisms.{digest_hash, hmac_hash, is_key_generator};
 ghost use Rattle.ck_types.specs.Mechanisms.{given_tag_length, algorithm_of, mechanism_types};
 
 use crate::forms::number_of;
 use crate::hashes::Hash;
+use crate::memory::NoMemory;
 use crate::sequences::Bytes;
+use std::alloc::Global;
 
 /// A mechanism with its parameter (CK_MECHANISM).
 #[derive(Debug, Drop)]
@@ -17,6 +19,17 @@ pub struct Mechanism {
 
 impl Mechanism {
     ghost use Rattle.ck_types.specs.Mechanisms.{tag_length};
+
+    /// A copy of the mechanism and its parameter.
+    pub fn duplicate(&self, alloc: Global) -> Result<Mechanism, NoMemory>
+        ensures { IfOk result (λ copy. copy ≡ self.now) }
+    {
+        let parameter = Bytes::from_slice(alloc, self.parameter.as_slice())?;
+        Ok(Mechanism {
+            kind: self.kind,
+            parameter,
+        })
+    }
 
     /// The length in bytes of the tag that the mechanism signs with, or `None` where it doesn't
     /// sign or can't have the parameter. A whole HMAC has no parameter; one of a given length has

@@ -1,4 +1,4 @@
-ghost use Rattle.std.specs.Prelude.{◌≡◌, ◌==◌, ◌∷◌, [], None, not, is_none, length};
+ghost use Rattle.std.specs.Prelude.{◌≡◌, ◌==◌, ◌∷◌, [], None, IfOk, not, is_none, length};
 ghost use Rattle.ck_types.specs.Attributes.{type_of};
 ghost use Rattle.ck_types.specs.Checks.{check_of, first_error, first_of, error_if};
 ghost use Rattle.ck_types.specs.Templates.{form_error, gives_other_class, is_key_length};
@@ -13,8 +13,21 @@ use crate::forms::is_number;
 use crate::items::{
     Item, check_forms, check_permissions, class_of, flag_or, has_conflict, number_at, value_at,
 };
+use crate::memory::NoMemory;
 use crate::object_flags::{Placement, Protections};
 use crate::sequences::Sequence;
+use std::alloc::Global;
+
+fn duplicate_items(alloc: Global, items: &[Item]) -> Result<Vec<Item>, NoMemory>
+    ensures { IfOk result (λ copies. copies.items ≡ items.now) }
+{
+    let mut copies = Vec::with_capacity(alloc, items.len())?;
+    for item in items {
+        let copy = item.duplicate(alloc)?;
+        copies.push(copy)?;
+    }
+    Ok(copies)
+}
 
 /// The attributes that a caller gives, in the caller's order (PKCS #11 Base 3.0,
 /// Object management functions).
@@ -28,6 +41,16 @@ impl Template {
     ghost use Rattle.ck_types.specs.Templates.{created_error, generated_error, template_error};
     ghost use Rattle.ck_types.specs.Records.{created_items, generated_items, placement_of};
     ghost use Rattle.ck_types.specs.Records.{exposes_key, makes_public};
+
+    /// A copy of the template.
+    pub fn duplicate(&self, alloc: Global) -> Result<Template, NoMemory>
+        ensures { IfOk result (λ copy. copy ≡ self.now) }
+    {
+        let items = duplicate_items(alloc, self.items.as_slice())?;
+        Ok(Template {
+            items: Sequence::from_vec(items),
+        })
+    }
 
     /// The checks of a template of C_CreateObject (PKCS #11 Base 3.0, Object management functions),
     /// of which the first that fails answers: a type that the token doesn't know
