@@ -375,7 +375,7 @@ allowed-other limits h (call.SignFinal session room) =
     bytes-other room (tag_in kind.Sign h session (message_in kind.Sign h session))
 allowed-other limits h other = refl
 
-wrong_answer : (limits : Ranges) (h : History) (c : Call)
+pub wrong_answer : (limits : Ranges) (h : History) (c : Call)
     → is_wrong_pin (answer limits h c).rv ≡ true
     → call_error limits h c ≡ Some rv_error.PinIncorrect
 wrong_answer limits h c w = cases (call_error limits h c) w
@@ -424,7 +424,7 @@ tries-bound limits (e ◁ h) sound legal u =
 -- ---- operations of sessions
 
 -- a session stays open where an entry leaves or starts something in it that a closing would end
-stays-open : (d : Option Call) (h : History) (s : ℕ) (started ended active : Bool)
+pub stays-open : (d : Option Call) (h : History) (s : ℕ) (started ended active : Bool)
     → (closes d s ≡ true → (started ≡ false) × (ended ≡ true))
     → (started ≡ true → is_open h s ≡ true) → (active ≡ true → is_open h s ≡ true)
     → cond started true (cond ended false active) ≡ true

@@ -1,10 +1,15 @@
 pub mod Changes
+pub mod CutBases
+pub mod CutMoves
+pub mod CutReadings
+pub mod CutLaws
 pub mod EntryLemmas
 pub mod LegalLemmas
 pub mod LoginMoves
 pub mod NameLemmas
 pub mod NumberTests
 pub mod ObjectMoves
+pub mod OpenLemmas
 pub mod OperationMoves
 pub mod ProtectionLemmas
 pub mod RisingLemmas

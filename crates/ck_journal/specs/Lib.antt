@@ -1,5 +1,6 @@
 pub mod Answers
 pub mod Bases
+pub mod Cuts
 pub mod Histories
 pub mod HistoryCode
 pub mod Lists

@@ -4,6 +4,7 @@
 
 mod bases;
 mod calls;
+mod cuts;
 mod journals;
 mod operations;
 mod replies;
@@ -14,6 +15,7 @@ mod views;
 
 pub use bases::{Base, KeptObject};
 pub use calls::{AttributeQuery, Call, Entry};
+pub use cuts::cut_law;
 pub use journals::Journal;
 pub use operations::{OperationKind, is_long_piece};
 pub use replies::{Answer, Body, Reply};
