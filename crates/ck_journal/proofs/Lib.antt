@@ -4,6 +4,9 @@ pub mod CutMoves
 pub mod CutReadings
 pub mod CutLaws
 pub mod EntryLemmas
+pub mod FrontLemmas
+pub mod HandleLemmas
+pub mod KeyUseLemmas
 pub mod LegalLemmas
 pub mod LoginMoves
 pub mod NameLemmas
@@ -16,3 +19,5 @@ pub mod RisingLemmas
 pub mod SearchMoves
 pub mod Selections
 pub mod SessionMoves
+pub mod SessionObjectLemmas
+pub mod ValueLemmas

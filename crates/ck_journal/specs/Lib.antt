@@ -3,6 +3,8 @@ pub mod Bases
 pub mod Cuts
 pub mod Histories
 pub mod HistoryCode
+pub mod KeyLaws
+pub mod Laws
 pub mod Lists
 pub mod Objects
 pub mod OperationCalls

@@ -6,6 +6,7 @@ mod bases;
 mod calls;
 mod cuts;
 mod journals;
+pub mod laws;
 mod operations;
 mod replies;
 mod session_flags;
