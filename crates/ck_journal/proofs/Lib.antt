@@ -14,6 +14,7 @@ pub mod NumberTests
 pub mod ObjectMoves
 pub mod OpenLemmas
 pub mod OperationMoves
+pub mod ProtectionLaws
 pub mod ProtectionLemmas
 pub mod RisingLemmas
 pub mod SearchMoves
