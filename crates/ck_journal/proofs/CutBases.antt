@@ -9,7 +9,7 @@ use Rattle.std.proofs.lemmas.Bool.{eqb-true, false_from_ne_true, true≢false, n
 use Rattle.std.proofs.lemmas.Option.{same_Some}
 use Rattle.ck_types.specs.Checks.{error_if}
 use Rattle.ck_types.specs.Records.{is_set}
-use Rattle.ck_types.specs.TokenLimits.{Ranges, AreInRange}
+use Rattle.ck_types.specs.TokenLimits.{Ranges}
 use Rattle.ck_types.specs.declared.attributes.Attribute.TheVariants as attribute
 use Rattle.ck_types.specs.declared.errors.RvError.TheVariants as rv_error
 use Rattle.ck_types.specs.declared.items.Item.{Item}
@@ -24,6 +24,7 @@ use Rattle.ck_journal.specs.Answers.{session_error, call_error, IsLegal}
 use Rattle.ck_journal.specs.Bases.{IsCreated, IsProtected, IsSound, base_tries, kept_attributes}
 use Rattle.ck_journal.specs.Cuts.{kept_object, kept_objects, base_of}
 use Rattle.ck_journal.specs.Histories.{History, start, ◌◁◌, start_of}
+use Rattle.ck_journal.specs.Laws.{IsSoundHistory}
 use Rattle.ck_journal.specs.Objects.{creations, object_at, session_of, is_session_object}
 use Rattle.ck_journal.specs.Operations.{is_active}
 use Rattle.ck_journal.specs.Pins.{is_initialized, initializes, named_owner, pin_owner, present_pin}
@@ -36,10 +37,11 @@ use Rattle.ck_journal.proofs.LegalLemmas.{creations-bound, user_logins-bound, is
 use Rattle.ck_journal.proofs.LoginMoves.{login-none}
 use Rattle.ck_journal.proofs.NumberTests.{same_number}
 use Rattle.ck_journal.proofs.ObjectMoves.{object_at-within}
-use Rattle.ck_journal.proofs.OpenLemmas.{is_active-open, session_object-open}
+use Rattle.ck_journal.proofs.OpenLemmas.{is_active-open}
 use Rattle.ck_journal.proofs.ProtectionLemmas.{object-protected}
 use Rattle.ck_journal.proofs.Selections.{list_any-member, find-filter_map, find-only}
 use Rattle.ck_journal.proofs.Selections.{AllPairs-filter_map, All-filter_map}
+use Rattle.ck_journal.proofs.SessionObjectLemmas.{session_object-open}
 use Rattle.ck_journal.proofs.SessionMoves.{is_open-within}
 
 -- ---- the security officer has a PIN exactly where the token is initialized
@@ -155,8 +157,7 @@ base_tries-same : (u : UserType) (h : History) → base_tries u (base_of h) ≡ 
 base_tries-same user.So h = refl
 base_tries-same user.User h = refl
 
-module _ (limits : Ranges) (h : History) (sound : IsSound (start_of h)) (legal : IsLegal limits h)
-    (none : open_sessions h ≡ []) where
+module _ (limits : Ranges) (h : History) (good : IsSoundHistory limits h) (none : open_sessions h ≡ []) where
   no-open : (s : ℕ) → is_open h s ≡ true → ⊥
   no-open s t =
       let within = is_open-within h s t in
@@ -172,7 +173,7 @@ module _ (limits : Ranges) (h : History) (sound : IsSound (start_of h)) (legal :
   token-object n attributes is =
       not-false (is_set attributes attribute.Token)
       (false_from_ne_true (is_session_object attributes)
-      (λ t. no-open (session_of h n) (session_object-open limits h sound legal n attributes is t)))
+      (λ t. no-open (session_of h n) (session_object-open limits h good n attributes is t)))
 
   pub base-alike : Alike h (start (base_of h))
   base-alike = record {
@@ -186,35 +187,34 @@ module _ (limits : Ranges) (h : History) (sound : IsSound (start_of h)) (legal :
     who = sym (login-none h (ap (λ ss. length ss == 0) none));
     is_open_too = fun_ext (closed (is_open h) (λ s t. t));
     flags = λ s t. absurd (no-open s t);
-    objects = fun_ext (λ n. kept-object h n sound);
+    objects = fun_ext (λ n. kept-object h n good.sound);
     creator = λ n attributes is t.
-        absurd (no-open (session_of h n) (session_object-open limits h sound legal n attributes is t));
+        absurd (no-open (session_of h n) (session_object-open limits h good n attributes is t));
   }
 
   pub base-alike_active : AlikeActive h (start (base_of h))
   base-alike_active = record {
-    searching = fun_ext (closed (is_searching h) (is_searching-open limits h legal));
-    found = λ s t. absurd (no-open s (is_searching-open limits h legal s t));
-    last = λ s t. absurd (no-open s (is_searching-open limits h legal s t));
-    active = λ k. fun_ext (closed (is_active k h) (is_active-open limits h legal k));
-    computation = λ k s t. absurd (no-open s (is_active-open limits h legal k s t));
-    key = λ k s t. absurd (no-open s (is_active-open limits h legal k s t));
-    pieces = λ k s t. absurd (no-open s (is_active-open limits h legal k s t));
+    searching = fun_ext (closed (is_searching h) (is_searching-open limits h good.legal));
+    found = λ s t. absurd (no-open s (is_searching-open limits h good.legal s t));
+    last = λ s t. absurd (no-open s (is_searching-open limits h good.legal s t));
+    active = λ k. fun_ext (closed (is_active k h) (is_active-open limits h good.legal k));
+    computation = λ k s t. absurd (no-open s (is_active-open limits h good.legal k s t));
+    key = λ k s t. absurd (no-open s (is_active-open limits h good.legal k s t));
+    pieces = λ k s t. absurd (no-open s (is_active-open limits h good.legal k s t));
   }
 
-  pub base-sound : AreInRange limits.sessions limits.openings limits.creations limits.logins
-      → IsSound (base_of h)
-  base-sound in_range = record {
-    so_pin = so-initialized limits h sound legal;
-    so_tries = tries-bound limits h sound legal user.So;
-    user_tries = tries-bound limits h sound legal user.User;
-    openings = openings-bound limits in_range h sound legal;
-    creations = creations-bound limits in_range h sound legal;
-    logins = user_logins-bound limits in_range h sound legal;
+  pub base-sound : IsSound (base_of h)
+  base-sound = record {
+    so_pin = so-initialized limits h good.sound good.legal;
+    so_tries = tries-bound limits h good.sound good.legal user.So;
+    user_tries = tries-bound limits h good.sound good.legal user.User;
+    openings = openings-bound limits good.in_range h good.sound good.legal;
+    creations = creations-bound limits good.in_range h good.sound good.legal;
+    logins = user_logins-bound limits good.in_range h good.sound good.legal;
     rising = AllPairs-filter_map (λ (kept : KeptObject). kept.number) (row h)
         (λ n kept is. (row-object n (object_at h n) kept is).0) (creations h);
-    numbers = all-kept h (IsCreated (creations h)) (λ n attributes is. object_at-within h sound n attributes is);
+    numbers = all-kept h (IsCreated (creations h)) (λ n attributes is. object_at-within h good.sound n attributes is);
     token_objects = all-kept h (λ (kept : KeptObject). is_set kept.attributes attribute.Token ≡ true) token-object;
     protected = all-kept h (λ (kept : KeptObject). IsProtected kept.attributes)
-        (object-protected limits in_range h sound legal);
+        (object-protected limits good.in_range h good.sound good.legal);
   }

@@ -1,7 +1,7 @@
 -- A journal that is cut: the base that the calls so far leave, and what it must be for the calls
 -- after it to be answered as before
 use Rattle.std.specs.Prelude.{◌≡◌, ◌↔◌, ℕ, List, [], filter_map, option_map}
-use Rattle.ck_types.specs.TokenLimits.{Ranges, AreInRange}
+use Rattle.ck_types.specs.TokenLimits.{Ranges}
 use Rattle.ck_types.specs.declared.items.Item.{Item}
 use Rattle.ck_types.specs.declared.users.UserType.TheVariants as user
 use Rattle.ck_journal.specs.declared.bases.Base.{Base}
@@ -10,7 +10,8 @@ use Rattle.ck_journal.specs.declared.calls.Call.{Call}
 use Rattle.ck_journal.specs.declared.calls.Entry.{Entry}
 use Rattle.ck_journal.specs.Answers.{answer, IsLegal}
 use Rattle.ck_journal.specs.Bases.{IsSound}
-use Rattle.ck_journal.specs.Histories.{History, start, start_of, followed_by}
+use Rattle.ck_journal.specs.Histories.{History, start, followed_by}
+use Rattle.ck_journal.specs.Laws.{IsSoundHistory}
 use Rattle.ck_journal.specs.Objects.{creations, object_at}
 use Rattle.ck_journal.specs.Pins.{is_initialized, so_pin, user_pin, tries}
 use Rattle.ck_journal.specs.Sessions.{numbers, openings, open_sessions, user_logins}
@@ -48,7 +49,5 @@ IsLeftBy limits h b = (later : List Entry)
 -- a legal history that starts from a sound base, and in which no session is open, leaves a sound
 -- base, from which all later calls are answered as after the history
 abbrev pub CutLaw : Type 0
-CutLaw = (limits : Ranges)
-    → AreInRange limits.sessions limits.openings limits.creations limits.logins
-    → (h : History) → IsSound (start_of h) → IsLegal limits h → open_sessions h ≡ []
+CutLaw = (limits : Ranges) (h : History) → IsSoundHistory limits h → open_sessions h ≡ []
     → IsSound (base_of h) × IsLeftBy limits h (base_of h)
