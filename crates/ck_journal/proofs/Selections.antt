@@ -266,6 +266,19 @@ module _ {X : Type 0} where
     find-filter_map [] = refl
     find-filter_map (k ∷ ks) = found_step k (find (λ j. option_map_or wanted (row j) false) ks) (filter_map row ks) (find-filter_map ks) (row k) refl
 
+  module _ (P : X → Type 0) (row : ℕ → Option X) (each : (k : ℕ) (x : X) → row k ≡ Some x → P x) where
+    All-last : (k : ℕ) (found : Option X) → row k ≡ found → All P (cons_option found [])
+    All-last k None e = All-nil P
+    All-last k (Some x) e = All-cons P x [] (each k x e) (All-nil P)
+
+    -- what is so of each row is so of all
+    pub All-filter_map : (n : ℕ) → All P (filter_map row (numbers n))
+    All-filter_map zero = All-nil P
+    All-filter_map (suc n) =
+        subst (All P) (sym (filter_map-suc row n))
+        (All-append P (filter_map row (numbers n)) (cons_option (row (suc n)) []) (All-filter_map n)
+        (All-last (suc n) (row (suc n)) refl))
+
   module _ (number : X → ℕ) (row : ℕ → Option X) (numbered : (k : ℕ) (x : X) → row k ≡ Some x → number x ≡ k) where
     wanted_number : (wanted : X → Bool) (k : ℕ) (x : X) (rest : List ℕ) (rows : List X) → number x ≡ k → map number (filter wanted rows) ≡ rest → (t : Bool)
         → map number (cond t (x ∷ filter wanted rows) (filter wanted rows)) ≡ cond t (k ∷ rest) rest

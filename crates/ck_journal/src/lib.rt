@@ -4,7 +4,9 @@
 
 mod bases;
 mod calls;
+mod cuts;
 mod journals;
+pub mod laws;
 mod operations;
 mod replies;
 mod session_flags;
@@ -14,6 +16,7 @@ mod views;
 
 pub use bases::{Base, KeptObject};
 pub use calls::{AttributeQuery, Call, Entry};
+pub use cuts::cut_law;
 pub use journals::Journal;
 pub use operations::{OperationKind, is_long_piece};
 pub use replies::{Answer, Body, Reply};

@@ -5,7 +5,8 @@ use crate::rows::{
     set_search,
 };
 use crate::searches::Search;
-use ck_types::{NoMemory, Pin, UserType};
+use ck_journal::{Base, KeptObject};
+use ck_types::{NoMemory, Pin, Sequence, UserType};
 use std::alloc::Global;
 use std::marker::Model;
 
@@ -49,8 +50,10 @@ impl Sessions {
     ghost use Rattle.ck_types.specs.declared.pins.Pin.{Pin};
     ghost use Rattle.ck_types.specs.declared.templates.Template.{Template};
     ghost use Rattle.ck_types.specs.declared.users.UserType.TheVariants as user;
-    ghost use Rattle.ck_journal.specs.Bases.{empty_base};
+    ghost use Rattle.ck_journal.specs.Bases.{empty_base, IsSound};
+    ghost use Rattle.ck_journal.specs.Cuts.{base_of, kept_objects};
     ghost use Rattle.ck_journal.specs.Histories.{History, start, ◌◁◌, done, wrong_try};
+    ghost use Rattle.ck_journal.specs.Objects.{creations};
     ghost use Rattle.ck_journal.specs.Pins.{is_initialized, present_pin, tries, pin_owner, about};
     ghost use Rattle.ck_journal.specs.Searches.{is_searching, matching_objects, number_of_handle, handles_in, last_or, last_number};
     ghost use Rattle.ck_journal.specs.Sessions.{openings, is_open, open_sessions, is_read_write, rw_sessions, login, user_logins, state_of};
@@ -69,6 +72,27 @@ impl Sessions {
             logins: 0,
             so: NO_PIN,
             user: NO_PIN,
+        }
+    }
+
+    /// The sessions that start from a base: none, and its PINs and counts. It takes no memory.
+    pub fn from_base(alloc: Global, base: &Base) -> Sessions
+        requires { IsSound base.now }
+        ensures { SessionsAgree (start base.now) result }
+    {
+        Sessions {
+            rows: Vec::new(alloc),
+            openings: base.openings,
+            login: None,
+            logins: base.logins,
+            so: Credential {
+                pin: base.so,
+                tries: base.so_tries,
+            },
+            user: Credential {
+                pin: base.user,
+                tries: base.user_tries,
+            },
         }
     }
 
@@ -153,6 +177,25 @@ impl Sessions {
         match user {
             UserType::So => self.so,
             UserType::User => self.user,
+        }
+    }
+
+    /// The base that is left where these objects are and so many have been created. It takes no
+    /// memory but that of the objects.
+    pub fn base(&self, created: u64, objects: Sequence<KeptObject>) -> Base
+        ensures { (h : History) → SessionsAgree h self.now
+            → created ≡ creations h → objects ≡ kept_objects h → result ≡ base_of h }
+    {
+        Base {
+            initialized: self.so.pin.is_some(),
+            so: self.so.pin,
+            user: self.user.pin,
+            so_tries: self.so.tries,
+            user_tries: self.user.tries,
+            openings: self.openings,
+            creations: created,
+            logins: self.logins,
+            objects,
         }
     }
 

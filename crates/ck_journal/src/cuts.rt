@@ -1,0 +1,7 @@
+ghost use Rattle.ck_journal.specs.Cuts.{CutLaw};
+
+/// A law over the definitions, which this function proves and does nothing else: where no session
+/// is open, what a history leaves takes its place for all later calls.
+pub fn cut_law()
+    ensures { CutLaw }
+{}
