@@ -1,6 +1,6 @@
 -- What is so in every legal history that starts from a sound base, where the limits are in range
 use Rattle.std.proofs.Common.{◌≡◌, ◌≢◌, ℕ, suc, ◌<◌, ◌≤◌, ◌^◌, Bool, true, false, cond, not, ◌&&◌, List, [], ◌∷◌, Option, Some, None, length, refl, sym, ap, ◌∙◌, subst, arith}
-use Rattle.std.specs.Prelude.{◌==◌, ◌||◌, is_none, nat_le, nat_lt, bit_and, option_and_then}
+use Rattle.std.specs.Prelude.{◌==◌, is_none, nat_le, nat_lt, bit_and, option_and_then}
 use Rattle.std.specs.List.{list_any}
 use Rattle.std.specs.Option.{option_map_or}
 use Rattle.std.proofs.lemmas.Bool.{eqb-true, eqb-false, ne_eqb, leb-false, not-false, false_from_ne_true, false≢true}
@@ -14,9 +14,7 @@ use Rattle.ck_types.specs.Records.{protections_of, placement_of, copied_error, c
 use Rattle.ck_types.specs.Templates.{class_of, created_error, generated_error}
 use Rattle.ck_types.specs.TokenLimits.{Ranges, AreInRange}
 use Rattle.ck_types.specs.Users.{user_of}
-use Rattle.ck_types.specs.declared.attributes.Attribute.{Attribute}
 use Rattle.ck_types.specs.declared.attributes.Attribute.TheVariants as attribute
-use Rattle.ck_types.specs.declared.attributes.Class.{Class}
 use Rattle.ck_types.specs.declared.errors.RvError.{RvError}
 use Rattle.ck_types.specs.declared.errors.RvError.TheVariants as rv_error
 use Rattle.ck_types.specs.declared.items.Item.{Item}
@@ -25,7 +23,6 @@ use Rattle.ck_types.specs.declared.pins.Pin.{Pin}
 use Rattle.ck_types.specs.declared.return_codes.Rv.TheVariants as rv
 use Rattle.ck_types.specs.declared.users.UserType.{UserType}
 use Rattle.ck_types.specs.declared.users.UserType.TheVariants as user
-use Rattle.ck_types.specs.declared.object_flags.Protections.{Protections}
 use Rattle.ck_types.proofs.ChangeLemmas.{token-kept, private-kept, token-in_state}
 use Rattle.ck_types.proofs.ChangeLemmas.{private-in_state}
 use Rattle.ck_types.proofs.CheckLemmas.{or_else-none, error_if-none}
@@ -33,7 +30,6 @@ use Rattle.ck_journal.specs.declared.bases.Base.{Base}
 use Rattle.ck_journal.specs.declared.calls.Call.{Call}
 use Rattle.ck_journal.specs.declared.calls.Call.TheVariants as call
 use Rattle.ck_journal.specs.declared.calls.Entry.{Entry}
-use Rattle.ck_journal.specs.declared.operations.OperationKind.{OperationKind}
 use Rattle.ck_journal.specs.declared.operations.OperationKind.TheVariants as kind
 use Rattle.ck_journal.specs.declared.replies.Body.TheVariants as body
 use Rattle.ck_journal.specs.declared.replies.Reply.{Reply}
@@ -45,7 +41,7 @@ use Rattle.ck_journal.specs.Operations.{message_in}
 use Rattle.ck_journal.specs.Pins.{about, is_about, is_user, is_locked, is_initialized, is_pin, pin_owner, present_pin, resets, tries}
 use Rattle.ck_journal.specs.Queries.{is_sensitive, is_missing, lacks_room}
 use Rattle.ck_journal.specs.Searches.{starts_search, ends_search, is_searching}
-use Rattle.ck_journal.specs.Sessions.{opens, openings, closes, ends_operations, is_open, open_sessions, has_rw_flag, is_read_write, login, logs_user_in, user_logins, state_of}
+use Rattle.ck_journal.specs.Sessions.{opens, openings, closes, is_open, open_sessions, has_rw_flag, is_read_write, login, logs_user_in, user_logins, state_of}
 use Rattle.ck_journal.proofs.ObjectMoves.{object_at-within}
 use Rattle.ck_journal.proofs.SessionMoves.{is_open-within}
 
@@ -90,13 +86,13 @@ refused limits h c code e = ap (λ error. unless error (allowed_reply limits h c
 
 -- ---- checks that pass
 
-later-passes : (first later : Option RvError) → or_else first later ≡ None → later ≡ None
+pub later-passes : (first later : Option RvError) → or_else first later ≡ None → later ≡ None
 later-passes first later e = (or_else-none first later e).1
 
-last-passes : (last : Option RvError) → first_of (last ∷ []) ≡ None → last ≡ None
+pub last-passes : (last : Option RvError) → first_of (last ∷ []) ≡ None → last ≡ None
 last-passes last e = (or_else-none last None e).0
 
-session-open : (h : History) (session : ℕ) → session_error h session ≡ None
+pub session-open : (h : History) (session : ℕ) → session_error h session ≡ None
     → is_open h session ≡ true
 session-open h session e =
     not-false (is_open h session)
@@ -107,11 +103,11 @@ count-free : (most count : ℕ) (code : RvError) → error_if (nat_le most count
 count-free most count code e = leb-false most count (error_if-none (nat_le most count) code e)
 
 -- the checks of an object that a handle names: it names one, and they pass
-object-found : (found : Option (List Item)) (checks : List Item → Option RvError) (code : RvError)
-    → option_map_or checks found (Some code) ≡ None
-    → (attributes : List Item) × (checks attributes ≡ None)
+pub object-found : (found : Option (List Item)) (checks : List Item → Option RvError)
+    (code : RvError) → option_map_or checks found (Some code) ≡ None
+    → (attributes : List Item) × (found ≡ Some attributes) × (checks attributes ≡ None)
 object-found None checks code e = cc
-object-found (Some attributes) checks code e = (attributes, e)
+object-found (Some attributes) checks code e = (attributes, refl, e)
 
 -- ---- counts
 
@@ -170,7 +166,7 @@ module _ (limits : Ranges) where
       (last-passes (creations_error limits h)
       (later-passes (placement_error h session (placement_of (with_given template.items found.0))) _
       (later-passes (copied_error (class_of found.0) (protections_of found.0) template.items) _
-      (later-passes (prohibited_error attribute.Copyable found.0) _ found.1))))
+      (later-passes (prohibited_error attribute.Copyable found.0) _ found.2))))
   creation-free h other p t = cc
 
 counts-below : (more : Bool) (n most bound : ℕ) → most < bound → (more ≡ true → n < most)
@@ -498,20 +494,17 @@ is_searching-next limits h legal =
     let within = is_open-within h (suc (openings h)) found in
     omega arith)
 
--- ---- an object keeps CKA_TOKEN and CKA_PRIVATE
+-- ---- what an entry leaves of an object
 
-unless-ends : (ends : Bool) (a b : List Item) (flag : Attribute) → cond ends None (Some a) ≡ Some b
-    → is_set b flag ≡ is_set a flag
-unless-ends true a b flag e = cc
-unless-ends false a b flag e = ap (λ items. is_set items flag) (sym (same_Some a b e))
+unless-ends : (P : List Item → Type 0) (ends : Bool) (a b : List Item) → P a
+    → cond ends None (Some a) ≡ Some b → P b
+unless-ends P true a b same e = cc
+unless-ends P false a b same e = subst P (same_Some a b e) same
 
-where-named : (named : Bool) (changed a b : List Item) (flag : Attribute)
-    → is_set changed flag ≡ is_set a flag → Some (cond named changed a) ≡ Some b
-    → is_set b flag ≡ is_set a flag
-where-named true changed a b flag same e =
-    ap (λ items. is_set items flag) (sym (same_Some changed b e)) ∙ same
-where-named false changed a b flag same e =
-    ap (λ items. is_set items flag) (sym (same_Some a b e))
+where-named : (P : List Item → Type 0) (named : Bool) (changed a b : List Item)
+    → (named ≡ true → P changed) → P a → Some (cond named changed a) ≡ Some b → P b
+where-named P true changed a b then same e = subst P (same_Some changed b e) (then refl)
+where-named P false changed a b then same e = subst P (same_Some a b e) same
 
 not-created : (created same : Bool) (fresh later : Option (List Item)) (b : List Item)
     → same ≡ false → cond (created && same) fresh later ≡ Some b → later ≡ Some b
@@ -519,66 +512,75 @@ not-created true true fresh later b n e = cc
 not-created true false fresh later b n e = e
 not-created false same fresh later b n e = e
 
-module _ (limits : Ranges) (flag : Attribute)
-    (kept : (c : Class) (protections : Protections) (template items : List Item)
-    → changed_error c protections template ≡ None
-    → is_set (with_given template items) flag ≡ is_set items flag)
-    (other : (s : KeyState) (items : List Item) → is_set (with_state s items) flag ≡ is_set items flag)
+-- it is as it was, or changed by a template that passes the checks of the object that it names, or
+-- in another state
+module _ (limits : Ranges) (h : History) (n : ℕ) (a : List Item) (P : List Item → Type 0)
+    (same : P a)
+    (changed : (object : ℕ) (found template : List Item) → attributes_named h object ≡ Some found
+    → names_with (view_of h) a object n ≡ true
+    → changed_error (class_of found) (protections_of found) template ≡ None
+    → P (with_given template a))
+    (other : (s : KeyState) → P (with_state s a))
   where
-    state-keeps : (s : Option KeyState) (items : List Item)
-        → is_set (in_state s items) flag ≡ is_set items flag
-    state-keeps None items = refl
-    state-keeps (Some s) items = other s items
+    state-keeps : (s : Option KeyState) → P (in_state s a)
+    state-keeps None = same
+    state-keeps (Some s) = other s
 
-    call-keeps : (h : History) (c : Call) → call_error limits h c ≡ None
-        → (n creator : ℕ) (a b : List Item)
-        → object_after (Some c) (view_of h) n creator a ≡ Some b → is_set b flag ≡ is_set a flag
-    call-keeps h (call.DestroyObject session object) p n creator a b e =
-        unless-ends (names_with (view_of h) a object n) a b flag e
-    call-keeps h (call.SetAttributeValue session object template) p n creator a b e =
+    call-keeps : (c : Call) → call_error limits h c ≡ None → (creator : ℕ) (b : List Item)
+        → object_after (Some c) (view_of h) n creator a ≡ Some b → P b
+    call-keeps (call.DestroyObject session object) p creator b e =
+        unless-ends P (names_with (view_of h) a object n) a b same e
+    call-keeps (call.SetAttributeValue session object template) p creator b e =
         let found = object-found (attributes_named h object) _ rv_error.ObjectHandleInvalid
         (last-passes (object_error h object _) (later-passes (session_error h session) _ p)) in
         let passes = last-passes
         (changed_error (class_of found.0) (protections_of found.0) template.items)
         (later-passes (prohibited_error attribute.Modifiable found.0) _
-        (later-passes (read_only_session_error h session (placement_of found.0)) _ found.1)) in
-        where-named (names_with (view_of h) a object n) (with_given template.items a) a b flag
-        (kept (class_of found.0) (protections_of found.0) template.items a passes) e
-    call-keeps h (call.SetKeyState session key number) p n creator a b e =
-        where-named (names_with (view_of h) a key n) (in_state (state_of_number number) a) a b flag
-        (state-keeps (state_of_number number) a) e
-    call-keeps h (call.InitToken pin) p n creator a b e = cc
-    call-keeps h (call.CloseSession session) p n creator a b e =
-        unless-ends (is_session_object a && session == creator) a b flag e
-    call-keeps h call.CloseAllSessions p n creator a b e =
-        unless-ends (is_session_object a) a b flag e
-    call-keeps h (call.Logout session) p n creator a b e =
-        unless-ends (is_session_object a && is_set a attribute.Private) a b flag e
-    call-keeps h other p n creator a b e = unless-ends false a b flag e
+        (later-passes (read_only_session_error h session (placement_of found.0)) _ found.2)) in
+        where-named P (names_with (view_of h) a object n) (with_given template.items a) a b
+        (λ named. changed object found.0 template.items found.1 named passes) same e
+    call-keeps (call.SetKeyState session key number) p creator b e =
+        where-named P (names_with (view_of h) a key n) (in_state (state_of_number number) a) a b
+        (λ named. state-keeps (state_of_number number)) same e
+    call-keeps (call.InitToken pin) p creator b e = cc
+    call-keeps (call.CloseSession session) p creator b e =
+        unless-ends P (is_session_object a && session == creator) a b same e
+    call-keeps call.CloseAllSessions p creator b e =
+        unless-ends P (is_session_object a) a b same e
+    call-keeps (call.Logout session) p creator b e =
+        unless-ends P (is_session_object a && is_set a attribute.Private) a b same e
+    call-keeps other_call p creator b e = unless-ends P false a b same e
 
-    flag_stays : (e : Entry) (h : History) → IsSound (start_of h) → IsLegal limits (e ◁ h)
-        → (n : ℕ) (a b : List Item)
-        → object_at h n ≡ Some a → object_at (e ◁ h) n ≡ Some b → is_set b flag ≡ is_set a flag
-    flag_stays e h sound legal n a b was now =
+    pub object_stays : (e : Entry) → IsSound (start_of h) → IsLegal limits (e ◁ h)
+        → (b : List Item) → object_at h n ≡ Some a → object_at (e ◁ h) n ≡ Some b → P b
+    object_stays e sound legal b was now =
         let within = object_at-within h sound n a was in
-        let other = ne_eqb n (suc (creations h)) (λ same. omega arith) in
-        let old = not-created (creates (done e)) (n == suc (creations h)) _ _ b other now in
+        let older = ne_eqb n (suc (creations h)) (λ same. omega arith) in
+        let old = not-created (creates (done e)) (n == suc (creations h)) _ _ b older now in
         by-done limits e h legal
-        (λ d. object_after d (view_of h) n (session_of h n) a ≡ Some b
-        → is_set b flag ≡ is_set a flag)
-        (unless-ends false a b flag) (λ c p. call-keeps h c p n (session_of h n) a b)
+        (λ d. object_after d (view_of h) n (session_of h n) a ≡ Some b → P b)
+        (unless-ends P false a b same) (λ c p. call-keeps c p (session_of h n) b)
         (subst
         (λ o. option_and_then (object_after (done e) (view_of h) n (session_of h n)) o ≡ Some b)
         was old)
+
+-- ---- an object keeps CKA_TOKEN and CKA_PRIVATE
 
 pub token_stays : (limits : Ranges) (e : Entry) (h : History) → IsSound (start_of h)
     → IsLegal limits (e ◁ h) → (n : ℕ) (a b : List Item)
     → object_at h n ≡ Some a → object_at (e ◁ h) n ≡ Some b
     → is_set b attribute.Token ≡ is_set a attribute.Token
-token_stays limits = flag_stays limits attribute.Token token-kept token-in_state
+token_stays limits e h sound legal n a b =
+    object_stays limits h n a (λ b. is_set b attribute.Token ≡ is_set a attribute.Token) refl
+    (λ object found template is named. token-kept (class_of found) (protections_of found) template a)
+    (λ s. token-in_state s a) e sound legal b
 
 pub private_stays : (limits : Ranges) (e : Entry) (h : History) → IsSound (start_of h)
     → IsLegal limits (e ◁ h) → (n : ℕ) (a b : List Item)
     → object_at h n ≡ Some a → object_at (e ◁ h) n ≡ Some b
     → is_set b attribute.Private ≡ is_set a attribute.Private
-private_stays limits = flag_stays limits attribute.Private private-kept private-in_state
+private_stays limits e h sound legal n a b =
+    object_stays limits h n a (λ b. is_set b attribute.Private ≡ is_set a attribute.Private) refl
+    (λ object found template is named.
+    private-kept (class_of found) (protections_of found) template a)
+    (λ s. private-in_state s a) e sound legal b

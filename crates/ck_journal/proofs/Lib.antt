@@ -2,9 +2,11 @@ pub mod Changes
 pub mod EntryLemmas
 pub mod LegalLemmas
 pub mod LoginMoves
+pub mod NameLemmas
 pub mod NumberTests
 pub mod ObjectMoves
 pub mod OperationMoves
+pub mod ProtectionLemmas
 pub mod RisingLemmas
 pub mod SearchMoves
 pub mod Selections

@@ -38,9 +38,18 @@ base_tries user.User b = b.user_tries
 abbrev pub IsCreated : ℕ → KeptObject → Type 0
 IsCreated creations kept = (1 ≤ kept.number) × (kept.number ≤ creations)
 
+-- a key with these attributes is sensitive where it is said to have been always, and isn't
+-- extractable where it is said to have been never
+pub record IsProtected (attributes : List Item) : Type 0 where
+  pub sensitive : is_set attributes attribute.AlwaysSensitive ≡ true
+      → is_set attributes attribute.Sensitive ≡ true
+  pub unextractable : is_set attributes attribute.NeverExtractable ≡ true
+      → is_set attributes attribute.Extractable ≡ false
+
 -- a base that the calls of a token can leave: the security officer has a PIN exactly where the
 -- token is initialized, no user has made more than three wrong tries, the counts are in range, and
--- the objects are token objects whose numbers rise from 1 to the count of creations
+-- the objects are token objects whose numbers rise from 1 to the count of creations, each as
+-- sensitive and as little extractable as it is said to have been
 pub record IsSound (b : Base) : Type 0 where
   pub so_pin : is_some b.so ≡ b.initialized
   pub so_tries : b.so_tries ≤ 3
@@ -53,3 +62,4 @@ pub record IsSound (b : Base) : Type 0 where
   pub numbers : All (IsCreated b.creations) b.objects
   pub token_objects :
       All (λ (kept : KeptObject). is_set kept.attributes attribute.Token ≡ true) b.objects
+  pub protected : All (λ (kept : KeptObject). IsProtected kept.attributes) b.objects

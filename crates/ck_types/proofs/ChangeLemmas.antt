@@ -1,47 +1,66 @@
 -- What a change of an object keeps
-use Rattle.std.proofs.Common.{◌≡◌, ℕ, Bool, true, false, cond, List, [], ◌∷◌, Some, None, refl, ap}
-use Rattle.std.proofs.Common.{◌∙◌}
+use Rattle.std.proofs.Common.{◌≡◌, ℕ, Bool, true, false, cond, not, ◌&&◌, ◌||◌, List, [], ◌∷◌}
+use Rattle.std.proofs.Common.{Option, Some, None, refl, ap, ◌∙◌}
 use Rattle.std.specs.Prelude.{◌==◌, find, option_and_then, option_map, unwrap_or}
 use Rattle.std.proofs.lemmas.Bool.{eqb-true}
-use Rattle.ck_types.specs.Attributes.{type_of, form_of, permission}
+use Rattle.ck_types.specs.Attributes.{type_of, form_of, permission, flag_bytes, same_bytes}
 use Rattle.ck_types.specs.Checks.{error_if, first_error}
 use Rattle.ck_types.specs.Templates.{value_at, value_or, flag_of, form_error, permission_error}
-use Rattle.ck_types.specs.Templates.{template_error, has_conflict}
+use Rattle.ck_types.specs.Templates.{template_error, has_conflict, flag_at, class_of}
+use Rattle.ck_types.specs.Templates.{error_of_permission}
 use Rattle.ck_types.specs.Records.{with_given, is_set, changed_error, state_item, with_state}
+use Rattle.ck_types.specs.Records.{protections_of, exposes_key, copied_error}
 use Rattle.ck_types.specs.declared.attributes.Attribute.{Attribute}
 use Rattle.ck_types.specs.declared.attributes.Attribute.TheVariants as attribute
 use Rattle.ck_types.specs.declared.attributes.Class.{Class}
 use Rattle.ck_types.specs.declared.attributes.Class.TheVariants as class
+use Rattle.ck_types.specs.declared.attributes.Purpose.{Purpose}
 use Rattle.ck_types.specs.declared.attributes.Purpose.TheVariants as purpose
+use Rattle.ck_types.specs.declared.forms.Form.TheVariants as form
+use Rattle.ck_types.specs.declared.errors.RvError.{RvError}
 use Rattle.ck_types.specs.declared.errors.RvError.TheVariants as rv_error
 use Rattle.ck_types.specs.declared.items.Item.{Item}
 use Rattle.ck_types.specs.declared.key_states.KeyState.{KeyState}
 use Rattle.ck_types.specs.declared.object_flags.Protections.{Protections}
-use Rattle.ck_types.proofs.CheckLemmas.{or_else-none}
-use Rattle.ck_types.proofs.GivenLemmas.{no-value}
+use Rattle.ck_types.proofs.CheckLemmas.{or_else-none, error_if-none}
+use Rattle.ck_types.proofs.GivenLemmas.{no-value, no-value-refused, template-passes, form_holds}
 
--- ---- a type that the template doesn't give
+-- ---- the value of a type
 
-module _ (template : List Item) (kind : ℕ) (none : value_at template kind ≡ None) where
-  same-first : (test : Bool) (item : Item) (items : List Item) → item.kind == kind ≡ test
-      → value_at (with_given template items) kind ≡ value_at items kind
+module _ (template : List Item) (kind : ℕ) where
+  given-first : (test : Bool) (item : Item) (items : List Item) → item.kind == kind ≡ test
+      → value_at (with_given template items) kind
+      ≡ option_map (value_or template kind) (value_at items kind)
       → option_map (λ (i : Item). i.value)
       (cond test
       (Some (record { kind = item.kind; value = value_or template item.kind item.value }))
       (find (λ (i : Item). i.kind == kind) (with_given template items)))
-      ≡ option_map (λ (i : Item). i.value)
-      (cond test (Some item) (find (λ (i : Item). i.kind == kind) items))
-  same-first true item items t later =
+      ≡ option_map (value_or template kind)
+      (option_map (λ (i : Item). i.value)
+      (cond test (Some item) (find (λ (i : Item). i.kind == kind) items)))
+  given-first true item items t later =
       ap (λ n. Some (value_or template n item.value)) (eqb-true item.kind kind t)
-      ∙ ap (λ o. Some (unwrap_or o item.value)) none
-  same-first false item items t later = later
+  given-first false item items t later = later
 
-  -- its value stays
-  value_at-with_given : (items : List Item)
+  -- is the template's where it gives one, else stays
+  value_at-given : (items : List Item)
+      → value_at (with_given template items) kind
+      ≡ option_map (value_or template kind) (value_at items kind)
+  value_at-given [] = refl
+  value_at-given (item ∷ items) =
+      given-first (item.kind == kind) item items refl (value_at-given items)
+
+  -- a type that the template doesn't give keeps its value
+  value_at-with_given : value_at template kind ≡ None → (items : List Item)
       → value_at (with_given template items) kind ≡ value_at items kind
-  value_at-with_given [] = refl
-  value_at-with_given (item ∷ items) =
-      same-first (item.kind == kind) item items refl (value_at-with_given items)
+  value_at-with_given none items =
+      value_at-given items ∙ kept (value_at template kind) (value_at items kind) none
+    where
+      kept : (given was : Option (List ℕ)) → given ≡ None
+          → option_map (λ value. unwrap_or given value) was ≡ was
+      kept None None e = refl
+      kept None (Some value) e = refl
+      kept (Some other) was e = cc
 
 -- ---- the flags that no change may give
 
@@ -105,3 +124,134 @@ token-in_state s items = flag-in_state s attribute.Token items refl
 pub private-in_state : (s : KeyState) (items : List Item)
     → is_set (with_state s items) attribute.Private ≡ is_set items attribute.Private
 private-in_state s items = flag-in_state s attribute.Private items refl
+
+-- ---- what protects a key
+
+-- a key that was sensitive is sensitive after this change, one that wasn't extractable isn't, and
+-- what the token says of all its past stays
+pub record KeepsProtection (before after : List Item) : Type 0 where
+  pub sensitive : is_set before attribute.Sensitive ≡ true
+      → is_set after attribute.Sensitive ≡ true
+  pub extractable : is_set before attribute.Extractable ≡ false
+      → is_set after attribute.Extractable ≡ false
+  pub always_sensitive : is_set after attribute.AlwaysSensitive
+      ≡ is_set before attribute.AlwaysSensitive
+  pub never_extractable : is_set after attribute.NeverExtractable
+      ≡ is_set before attribute.NeverExtractable
+
+abbrev flag_in_value : Option (List ℕ) → Bool → Bool
+flag_in_value value other = unwrap_or (option_and_then (flag_of form.Flag) value) other
+
+sensitive-given : (given was : Option (List ℕ)) → not (flag_in_value given true) ≡ false
+    → flag_in_value was false ≡ true
+    → flag_in_value (option_map (unwrap_or given) was) false ≡ true
+sensitive-given given None g e = cc
+sensitive-given None (Some value) g e = e
+sensitive-given (Some other) (Some value) g e = form_holds (same_bytes other (flag_bytes true)) g
+
+extractable-given : (given was : Option (List ℕ)) → flag_in_value given false ≡ false
+    → flag_in_value was false ≡ false
+    → flag_in_value (option_map (unwrap_or given) was) false ≡ false
+extractable-given given None g e = refl
+extractable-given None (Some value) g e = e
+extractable-given (Some other) (Some value) g e = g
+
+exposes-neither : (sensitive hides extractable shows : Bool)
+    → ((sensitive && hides) || (not extractable && shows)) ≡ false
+    → (sensitive ≡ true → hides ≡ false) × (extractable ≡ false → shows ≡ false)
+exposes-neither true true extractable shows e = cc
+exposes-neither true false true shows e = ((λ t. refl), (λ t. cc))
+exposes-neither true false false shows e = ((λ t. refl), (λ t. e))
+exposes-neither false hides true shows e = ((λ t. cc), (λ t. cc))
+exposes-neither false hides false shows e = ((λ t. cc), (λ t. e))
+
+-- no template of this purpose may give the attribute
+IsFixed : Purpose → Attribute → Type 0
+IsFixed p a = (c : Class) → (error : RvError) × (error_of_permission (permission c p a) ≡ Some error)
+
+flag-fixed : (c : Class) (p : Purpose) (template items : List Item) (a : Attribute) → IsFixed p a
+    → first_error (permission_error c p) template ≡ None
+    → is_set (with_given template items) a ≡ is_set items a
+unfolding IsFixed
+flag-fixed c p template items a fixed fine =
+    let refused = fixed c in
+    ap (λ o. unwrap_or (option_and_then (flag_of (form_of a)) o) false)
+    (value_at-with_given template (type_of a)
+    (no-value-refused c p a template refused.0 refused.1 fine) items)
+
+template-keeps : (c : Class) (p : Purpose) (template items : List Item)
+    → IsFixed p attribute.AlwaysSensitive → IsFixed p attribute.NeverExtractable
+    → first_error (permission_error c p) template ≡ None
+    → exposes_key (protections_of items) template ≡ false
+    → KeepsProtection items (with_given template items)
+template-keeps c p template items always never fine closed =
+    let parts = exposes-neither (is_set items attribute.Sensitive)
+    (not (unwrap_or (flag_at template attribute.Sensitive) true))
+    (is_set items attribute.Extractable)
+    (unwrap_or (flag_at template attribute.Extractable) false) closed in
+    let sensitive = type_of attribute.Sensitive in
+    let extractable = type_of attribute.Extractable in
+    record {
+      sensitive = λ e. ap (λ o. flag_in_value o false) (value_at-given template sensitive items)
+          ∙ sensitive-given (value_at template sensitive) (value_at items sensitive) (parts.0 e) e;
+      extractable = λ e.
+          ap (λ o. flag_in_value o false) (value_at-given template extractable items)
+          ∙ extractable-given (value_at template extractable) (value_at items extractable)
+          (parts.1 e) e;
+      always_sensitive = flag-fixed c p template items attribute.AlwaysSensitive always fine;
+      never_extractable = flag-fixed c p template items attribute.NeverExtractable never fine;
+    }
+
+always-sensitive-copy : IsFixed purpose.Copy attribute.AlwaysSensitive
+unfolding IsFixed
+always-sensitive-copy class.Data = (rv_error.AttributeTypeInvalid, refl)
+always-sensitive-copy class.SecretKey = (rv_error.AttributeReadOnly, refl)
+
+never-extractable-copy : IsFixed purpose.Copy attribute.NeverExtractable
+unfolding IsFixed
+never-extractable-copy class.Data = (rv_error.AttributeTypeInvalid, refl)
+never-extractable-copy class.SecretKey = (rv_error.AttributeReadOnly, refl)
+
+always-sensitive-set : IsFixed purpose.Set attribute.AlwaysSensitive
+unfolding IsFixed
+always-sensitive-set class.Data = (rv_error.AttributeTypeInvalid, refl)
+always-sensitive-set class.SecretKey = (rv_error.AttributeReadOnly, refl)
+
+never-extractable-set : IsFixed purpose.Set attribute.NeverExtractable
+unfolding IsFixed
+never-extractable-set class.Data = (rv_error.AttributeTypeInvalid, refl)
+never-extractable-set class.SecretKey = (rv_error.AttributeReadOnly, refl)
+
+-- a copy keeps it
+pub copied-protection : (template items : List Item)
+    → copied_error (class_of items) (protections_of items) template ≡ None
+    → KeepsProtection items (with_given template items)
+copied-protection template items fine =
+    let parts = or_else-none (template_error (class_of items) purpose.Copy template) _ fine in
+    let exposes = error_if (exposes_key (protections_of items) template)
+    rv_error.AttributeReadOnly in
+    template-keeps (class_of items) purpose.Copy template items always-sensitive-copy
+    never-extractable-copy (template-passes (class_of items) purpose.Copy template parts.0).1
+    (error_if-none _ _ (or_else-none exposes _ parts.1).0)
+
+-- so does a change
+pub changed-protection : (template items : List Item)
+    → changed_error (class_of items) (protections_of items) template ≡ None
+    → KeepsProtection items (with_given template items)
+changed-protection template items fine =
+    let parts = or_else-none (template_error (class_of items) purpose.Set template) _ fine in
+    let exposes = error_if (exposes_key (protections_of items) template)
+    rv_error.AttributeReadOnly in
+    template-keeps (class_of items) purpose.Set template items always-sensitive-set
+    never-extractable-set (template-passes (class_of items) purpose.Set template parts.0).1
+    (error_if-none _ _ (or_else-none exposes None parts.1).0)
+
+-- and another state
+pub protection-in_state : (s : KeyState) (items : List Item)
+    → KeepsProtection items (with_state s items)
+protection-in_state s items = record {
+  sensitive = λ e. flag-in_state s attribute.Sensitive items refl ∙ e;
+  extractable = λ e. flag-in_state s attribute.Extractable items refl ∙ e;
+  always_sensitive = flag-in_state s attribute.AlwaysSensitive items refl;
+  never_extractable = flag-in_state s attribute.NeverExtractable items refl;
+}

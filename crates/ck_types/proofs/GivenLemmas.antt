@@ -267,24 +267,29 @@ data-class-given items data_class fine =
 
 -- ---- a template that passes the checks of a copy or a change
 
--- it doesn't give an attribute that it may not give
-pub no-value : (c : Class) (p : Purpose) (a : Attribute) (items : List Item)
-    → permission c p a ≡ Some false
+-- it doesn't give an attribute that it may not give, whatever the reason
+pub no-value-refused : (c : Class) (p : Purpose) (a : Attribute) (items : List Item)
+    (error : RvError) → error_of_permission (permission c p a) ≡ Some error
     → first_error (permission_error c p) items ≡ None → value_at items (type_of a) ≡ None
-no-value c p a items read_only fine = cases (value_at items (type_of a)) refl
+no-value-refused c p a items error refused fine = cases (value_at items (type_of a)) refl
   where
     cases : (o : Option (List ℕ)) → value_at items (type_of a) ≡ o → o ≡ None
     cases None e = refl
     cases (Some value) e =
         let passes = none-given (permission_error c p) (type_of a) value items fine e in
-        let refused : error_of_permission (Some false) ≡ None =
-        subst (λ o. error_of_permission o ≡ None) read_only
-        (subst (λ o. error_of_permission (option_and_then (permission c p) o) ≡ None)
-        (attribute_of-type_of a) passes) in
+        let permitted : error_of_permission (permission c p a) ≡ None =
+        subst (λ o. error_of_permission (option_and_then (permission c p) o) ≡ None)
+        (attribute_of-type_of a) passes in
         cc
 
+pub no-value : (c : Class) (p : Purpose) (a : Attribute) (items : List Item)
+    → permission c p a ≡ Some false
+    → first_error (permission_error c p) items ≡ None → value_at items (type_of a) ≡ None
+no-value c p a items read_only fine =
+    no-value-refused c p a items rv_error.AttributeReadOnly (ap error_of_permission read_only) fine
+
 -- its items have no fault in form, and may be given
-template-passes : (c : Class) (p : Purpose) (items : List Item) → template_error c p items ≡ None
+pub template-passes : (c : Class) (p : Purpose) (items : List Item) → template_error c p items ≡ None
     → (first_error form_error items ≡ None) × (first_error (permission_error c p) items ≡ None)
 template-passes c p items fine =
     let parts = or_else-none (first_error form_error items) _ fine in

@@ -15,7 +15,7 @@ use Rattle.ck_types.specs.Templates.{gives_other_class, is_key_length, given_len
 use Rattle.ck_types.specs.Templates.{new_object_error}
 use Rattle.ck_types.specs.Records.{keeps, KeepsKey, data_items, key_items, with_given, blank_data}
 use Rattle.ck_types.specs.Records.{blank_key, created_items, generated_items, new_item, placement_of}
-use Rattle.ck_types.specs.Records.{is_key_class}
+use Rattle.ck_types.specs.Records.{is_key_class, is_set}
 use Rattle.ck_types.specs.declared.attributes.Attribute.{Attribute}
 use Rattle.ck_types.specs.declared.attributes.Attribute.TheVariants as attribute
 use Rattle.ck_types.specs.declared.attributes.Class.{Class}
@@ -30,6 +30,7 @@ use Rattle.ck_types.specs.declared.keys.Key.{Key}
 use Rattle.ck_types.specs.declared.keys.Origin.{Origin}
 use Rattle.ck_types.specs.declared.object_flags.Placement.{Placement}
 use Rattle.ck_types.proofs.CheckLemmas.{or_else-none, error_if-none}
+use Rattle.ck_types.proofs.FlagLemmas.{same_bytes-flag_bytes}
 use Rattle.ck_types.proofs.GivenLemmas.{no-value, key_type-kept, key_type-given, form-created}
 use Rattle.ck_types.proofs.GivenLemmas.{permitted-created, other-default, data-class-given}
 use Rattle.ck_types.proofs.GivenLemmas.{class-created, data-created, form_holds}
@@ -353,6 +354,48 @@ pub same-placement : (placement : Placement) (token private : Bool) → placemen
     → placement.private ≡ private
     → placement ≡ record { token = token; private = private }
 same-placement placement token private t p = rw (sym t, sym p) refl
+
+-- ---- what protects a new key
+
+new-unprotected : (c : Class) (template : List Item) → class_of template ≡ c
+    → created_error template ≡ None
+    → (is_set (new_items c template) attribute.AlwaysSensitive ≡ false)
+    × (is_set (new_items c template) attribute.NeverExtractable ≡ false)
+unfolding new_items
+new-unprotected class.Data template e fine = (refl, refl)
+new-unprotected class.SecretKey template e fine =
+    let permitted = permitted-key template e fine in
+    let sensitive = keeps-unpermitted purpose.Create attribute.AlwaysSensitive template
+    (flag_bytes false) refl permitted in
+    let extractable = keeps-unpermitted purpose.Create attribute.NeverExtractable template
+    (flag_bytes false) refl permitted in
+    (rw sensitive refl, rw extractable refl)
+
+-- a created key wasn't always sensitive, nor never extractable
+pub created-unprotected : (template : List Item) → created_error template ≡ None
+    → (is_set (created_items template) attribute.AlwaysSensitive ≡ false)
+    × (is_set (created_items template) attribute.NeverExtractable ≡ false)
+created-unprotected template fine =
+    rw (created-of-class (class_of template) template refl)
+    (new-unprotected (class_of template) template refl fine)
+
+-- a generated one was where it is sensitive
+pub generated-sensitive : (template : List Item) (random : List ℕ)
+    → is_set (generated_items template random) attribute.Sensitive
+    ≡ is_set (generated_items template random) attribute.AlwaysSensitive
+unfolding generated_items
+generated-sensitive template random =
+    given-flag (value_at template (type_of attribute.Sensitive)) false
+    ∙ sym (same_bytes-flag_bytes (unwrap_or (flag_at template attribute.Sensitive) false))
+
+-- and where it isn't extractable
+pub generated-extractable : (template : List Item) (random : List ℕ)
+    → not (is_set (generated_items template random) attribute.Extractable)
+    ≡ is_set (generated_items template random) attribute.NeverExtractable
+unfolding generated_items
+generated-extractable template random =
+    ap not (given-flag (value_at template (type_of attribute.Extractable)) true)
+    ∙ sym (same_bytes-flag_bytes (not (unwrap_or (flag_at template attribute.Extractable) true)))
 
 -- ---- a copy of a data object
 
