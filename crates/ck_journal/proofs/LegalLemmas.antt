@@ -68,6 +68,20 @@ passed-done limits e h legal c d =
     let did = done-call (is_ok e.reply.rv) e.call c d in
     subst (λ c. call_error limits h c ≡ None) did.1 (passed limits e h legal did.0)
 
+allowed-answer : (error : Option RvError) (reply : Reply) → error ≡ None
+    → unless error reply ≡ reply
+allowed-answer None reply none = refl
+allowed-answer (Some code) reply none = cc
+
+-- and has the reply of a call that passes them
+pub allowed-done : (limits : Ranges) (e : Entry) (h : History) → IsLegal limits (e ◁ h) → (c : Call)
+    → done e ≡ Some c → e.reply ≡ allowed_reply limits h c
+allowed-done limits e h legal c d =
+    let did = done-call (is_ok e.reply.rv) e.call c d in
+    legal.0 ∙ ap (answer limits h) did.1
+    ∙ allowed-answer (call_error limits h c) (allowed_reply limits h c)
+    (passed-done limits e h legal c d)
+
 -- what is so of no call, and of every call that passes its checks, is so of what an entry did
 pub by-done : (limits : Ranges) (e : Entry) (h : History) → IsLegal limits (e ◁ h)
     → (P : Option Call → Type 0)
@@ -506,7 +520,7 @@ where-named : (P : List Item → Type 0) (named : Bool) (changed a b : List Item
 where-named P true changed a b then same e = subst P (same_Some changed b e) (then refl)
 where-named P false changed a b then same e = subst P (same_Some a b e) same
 
-not-created : (created same : Bool) (fresh later : Option (List Item)) (b : List Item)
+pub not-created : (created same : Bool) (fresh later : Option (List Item)) (b : List Item)
     → same ≡ false → cond (created && same) fresh later ≡ Some b → later ≡ Some b
 not-created true true fresh later b n e = cc
 not-created true false fresh later b n e = e

@@ -1,5 +1,8 @@
 pub mod Changes
 pub mod EntryLemmas
+pub mod FrontLemmas
+pub mod HandleLemmas
+pub mod KeyUseLemmas
 pub mod LegalLemmas
 pub mod LoginMoves
 pub mod NameLemmas
@@ -11,3 +14,5 @@ pub mod RisingLemmas
 pub mod SearchMoves
 pub mod Selections
 pub mod SessionMoves
+pub mod SessionObjectLemmas
+pub mod ValueLemmas

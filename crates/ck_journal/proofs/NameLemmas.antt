@@ -44,27 +44,34 @@ some_passes : (test : List Item → Bool) (object : Option (List Item))
 some_passes test None t = cc
 some_passes test (Some attributes) t = (attributes, refl, t)
 
-found-object : (object : ℕ → Option (List Item)) (found : Option ℕ) (attributes : List Item)
+pub found-object : (object : ℕ → Option (List Item)) (found : Option ℕ) (attributes : List Item)
     → option_and_then object found ≡ Some attributes
     → (n : ℕ) × (found ≡ Some n) × (object n ≡ Some attributes)
 found-object object None attributes e = cc
 found-object object (Some n) attributes e = (n, refl, e)
 
 -- what a handle names is an object that has been created and hasn't ended
+pub named-passes : (h : History) (handle n : ℕ) → object_named h handle ≡ Some n
+    → (attributes : List Item) × (object_at h n ≡ Some attributes)
+    × (names_with (view_of h) attributes handle n ≡ true)
+named-passes h handle n e =
+    some_passes (λ items. names_with (view_of h) items handle n) (object_at h n)
+    (find-passes (λ k. is_some_with (λ items. names_with (view_of h) items handle k) (object_at h k))
+    (numbers (creations h)) n e)
+
+-- the same, by its attributes
 pub named-object : (h : History) (handle : ℕ) (attributes : List Item)
     → attributes_named h handle ≡ Some attributes
     → (n : ℕ) × (object_named h handle ≡ Some n) × (object_at h n ≡ Some attributes)
     × (names_with (view_of h) attributes handle n ≡ true)
 named-object h handle attributes e =
     let found = found-object (object_at h) (object_named h handle) attributes e in
-    let passes = find-passes
-    (λ k. is_some_with (λ items. names_with (view_of h) items handle k) (object_at h k))
-    (numbers (creations h)) found.0 found.1 in (
+    let passes = named-passes h handle found.0 found.1 in
+    let same : passes.0 ≡ attributes = same_Some passes.0 attributes (sym passes.1 ∙ found.2) in (
       found.0,
       found.1,
       found.2,
-      subst (λ o. is_some_with (λ items. names_with (view_of h) items handle found.0) o ≡ true)
-          found.2 passes,
+      subst (λ items. names_with (view_of h) items handle found.0 ≡ true) same passes.2,
     )
 
 module _ (limits : Ranges)
@@ -77,6 +84,12 @@ module _ (limits : Ranges)
       let within = object_at-within h sound n attributes there in
       let below = creations-bound limits in_range h sound legal in
       names_with-number (view_of h) attributes handle n (omega arith) named
+
+  pub object_named-number : (handle n : ℕ) → object_named h handle ≡ Some n
+      → n ≡ number_of_handle handle
+  object_named-number handle n e =
+      let there = named-passes h handle n e in
+      named-number handle n there.0 there.1 there.2
 
   -- what a call finds by a handle is the object that the handle names
   pub found-named : (handle n : ℕ) (attributes found : List Item)

@@ -114,7 +114,7 @@ creation-protected limits h before other p t = cc
 -- ---- every object
 
 -- what is so of all kept objects is so of the one that is found
-kept-all : (P : List Item → Type 0) (n : ℕ) (objects : List KeptObject)
+pub kept-all : (P : List Item → Type 0) (n : ℕ) (objects : List KeptObject)
     → All (λ (kept : KeptObject). P kept.attributes) objects → (a : List Item)
     → option_map (λ (kept : KeptObject). kept.attributes)
     (find (λ (kept : KeptObject). kept.number == n) objects) ≡ Some a → P a

@@ -2,6 +2,8 @@ pub mod Answers
 pub mod Bases
 pub mod Histories
 pub mod HistoryCode
+pub mod KeyLaws
+pub mod Laws
 pub mod Lists
 pub mod Objects
 pub mod OperationCalls

@@ -5,6 +5,7 @@
 mod bases;
 mod calls;
 mod journals;
+pub mod laws;
 mod operations;
 mod replies;
 mod session_flags;

@@ -1,0 +1,53 @@
+-- The handles of sessions
+use Rattle.std.proofs.Common.{◌≡◌, ℕ, suc, Bool, true, false, cond, List, Option, Some, None, refl}
+use Rattle.std.proofs.Common.{sym, ap, ◌∙◌, arith}
+use Rattle.ck_types.specs.TokenLimits.{Ranges}
+use Rattle.ck_journal.specs.declared.calls.Call.{Call}
+use Rattle.ck_journal.specs.declared.calls.Call.TheVariants as call
+use Rattle.ck_journal.specs.declared.calls.Entry.{Entry}
+use Rattle.ck_journal.specs.declared.replies.Body.{Body}
+use Rattle.ck_journal.specs.declared.replies.Body.TheVariants as body
+use Rattle.ck_journal.specs.declared.replies.Reply.{Reply}
+use Rattle.ck_journal.specs.Answers.{IsLegal}
+use Rattle.ck_journal.specs.Histories.{History, ◌◁◌, followed_by, done}
+use Rattle.ck_journal.specs.Laws.{HandlesNameOneObject, SessionHandlesAreGivenOnce, GivesSession}
+use Rattle.ck_journal.specs.Sessions.{opens, openings}
+use Rattle.ck_journal.proofs.FrontLemmas.{just_before, before_all, openings-rise}
+use Rattle.ck_journal.proofs.LegalLemmas.{allowed-done}
+use Rattle.ck_journal.proofs.NameLemmas.{object_named-number}
+use Rattle.ck_journal.proofs.SessionMoves.{openings-opened}
+
+pub names-one_object : HandlesNameOneObject
+names-one_object limits h later good handle n m first last =
+    let before = before_all limits h later good in
+    object_named-number limits before.in_range h before.sound before.legal handle n first
+    ∙ sym (object_named-number limits good.in_range (followed_by h later) good.sound good.legal
+    handle m last)
+
+opening-call : (d : Option Call) → opens d ≡ true
+    → (flags : ℕ) × (d ≡ Some (call.OpenSession flags))
+opening-call (Some (call.OpenSession flags)) t = (flags, refl)
+opening-call other t = cc
+
+-- the handle of a new session is the count of the openings with it
+given-session : (limits : Ranges) (e : Entry) (h : History) → IsLegal limits (e ◁ h) → (handle : ℕ)
+    → GivesSession e handle
+    → (handle ≡ suc (openings h)) × (openings (e ◁ h) ≡ suc (openings h))
+given-session limits e h legal handle gives =
+    let opening = opening-call (done e) gives.opens in
+    let reply = allowed-done limits e h legal (call.OpenSession opening.0) opening.1 in
+    let same : body.Handle handle ≡ body.Handle (suc (openings h)) =
+    sym gives.returns ∙ ap (λ (r : Reply). r.body) reply in
+    (cc, openings-opened e h opening.0 opening.1)
+
+pub session_handles-once : SessionHandlesAreGivenOnce
+session_handles-once limits h first later second good handle one other =
+    let opened = first ◁ h in
+    let front = followed_by opened later in
+    let before = just_before limits second front good in
+    let starts = before_all limits opened later before in
+    let a = given-session limits first h starts.legal handle one in
+    let b = given-session limits second front good.legal handle other in
+    let rises = openings-rise opened later in
+    let first_count : openings opened ≡ suc (openings h) = a.1 in
+    omega (arith, a.0, b.0, a.1, rises)

@@ -1,0 +1,76 @@
+-- What is so in every history that is legal from a sound base: laws of handles, sessions, wrong
+-- tries and of who sees private objects
+use Rattle.std.specs.Prelude.{◌≡◌, ℕ, suc, ◌≤◌, Bool, true, false, List, [], ◌∷◌, Option, Some}
+use Rattle.std.specs.Prelude.{if◌then◌else◌}
+use Rattle.std.specs.List.{Contains}
+use Rattle.ck_types.specs.Records.{is_set}
+use Rattle.ck_types.specs.TokenLimits.{Ranges, AreInRange}
+use Rattle.ck_types.specs.declared.attributes.Attribute.TheVariants as attribute
+use Rattle.ck_types.specs.declared.items.Item.{Item}
+use Rattle.ck_types.specs.declared.users.UserType.{UserType}
+use Rattle.ck_types.specs.declared.users.UserType.TheVariants as user
+use Rattle.ck_journal.specs.declared.calls.Entry.{Entry}
+use Rattle.ck_journal.specs.declared.replies.Body.TheVariants as body
+use Rattle.ck_journal.specs.Answers.{IsLegal}
+use Rattle.ck_journal.specs.Bases.{IsSound}
+use Rattle.ck_journal.specs.Histories.{History, ◌◁◌, start_of, followed_by, done}
+use Rattle.ck_journal.specs.Objects.{object_at, object_named, session_of, is_session_object}
+use Rattle.ck_journal.specs.Objects.{is_visible}
+use Rattle.ck_journal.specs.Pins.{tries}
+use Rattle.ck_journal.specs.Sessions.{opens, is_open, login}
+
+-- the limits are in range, the base is sound and every reply is the answer at its front
+pub record IsSoundHistory (limits : Ranges) (h : History) : Type 0 where
+  pub in_range : AreInRange limits.sessions limits.openings limits.creations limits.logins
+  pub sound : IsSound (start_of h)
+  pub legal : IsLegal limits h
+
+-- ---- handles and wrong tries
+
+-- a handle names at most one object, over all fronts
+abbrev pub HandlesNameOneObject : Type 0
+HandlesNameOneObject =
+    (limits : Ranges) (h : History) (later : List Entry)
+    → IsSoundHistory limits (followed_by h later) → (handle n m : ℕ)
+    → object_named h handle ≡ Some n → object_named (followed_by h later) handle ≡ Some m
+    → n ≡ m
+
+-- the entry opens a session and returns this handle
+pub record GivesSession (e : Entry) (handle : ℕ) : Type 0 where
+  pub opens : opens (done e) ≡ true
+  pub returns : e.reply.body ≡ body.Handle handle
+
+-- no two sessions are given one handle
+abbrev pub SessionHandlesAreGivenOnce : Type 0
+SessionHandlesAreGivenOnce =
+    (limits : Ranges) (h : History) (first : Entry) (later : List Entry) (second : Entry)
+    → IsSoundHistory limits (second ◁ followed_by (first ◁ h) later) → (handle : ℕ)
+    → GivesSession first handle → GivesSession second handle → ⊥
+
+-- wrong tries never pass three
+abbrev pub TriesAreAtMostThree : Type 0
+TriesAreAtMostThree =
+    (limits : Ranges) (h : History) → IsSoundHistory limits h → (u : UserType) → tries u h ≤ 3
+
+-- ---- session objects
+
+-- the session of a session object that hasn't ended is open
+abbrev pub SessionObjectsHaveOpenSessions : Type 0
+SessionObjectsHaveOpenSessions =
+    (limits : Ranges) (h : History) → IsSoundHistory limits h → (n : ℕ) (attributes : List Item)
+    → object_at h n ≡ Some attributes → is_session_object attributes ≡ true
+    → is_open h (session_of h n) ≡ true
+
+-- ---- private objects
+
+-- there is an object of this number, and it is private
+pub record IsPrivate (h : History) (n : ℕ) : Type 0 where
+  pub attributes : List Item
+  pub present : object_at h n ≡ Some attributes
+  pub private : is_set attributes attribute.Private ≡ true
+
+-- a private object is visible only while the normal user is logged in
+abbrev pub PrivateObjectsAreVisibleToTheUser : Type 0
+PrivateObjectsAreVisibleToTheUser =
+    (limits : Ranges) (h : History) → IsSoundHistory limits h → (n : ℕ)
+    → IsPrivate h n → is_visible h n ≡ true → login h ≡ Some user.User

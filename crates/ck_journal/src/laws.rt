@@ -1,0 +1,62 @@
+//! Laws of every history that is legal from a sound base. Each function's contract is one law; it
+//! takes nothing and does nothing.
+ghost use Rattle.ck_journal.specs.KeyLaws.{
+  AlwaysSensitiveIsTrue,
+  CopiesStaySensitive,
+  CopiesStayUnextractable,
+  HiddenValuesAreNotGiven,
+  NeverExtractableIsTrue,
+  SensitiveStays,
+  SigningKeysMaySign,
+  UnextractableStays,
+  VerifyingKeysMayVerify,
+};
+ghost use Rattle.ck_journal.specs.Laws.{
+  HandlesNameOneObject,
+  PrivateObjectsAreVisibleToTheUser,
+  SessionHandlesAreGivenOnce,
+  SessionObjectsHaveOpenSessions,
+  TriesAreAtMostThree,
+};
+
+/// A handle names at most one object, over all fronts of a history.
+pub fn handles_name_one_object()
+    ensures { HandlesNameOneObject }
+{}
+
+/// No two sessions are given one handle.
+pub fn session_handles_are_given_once()
+    ensures { SessionHandlesAreGivenOnce }
+{}
+
+/// No user's wrong tries pass three.
+pub fn tries_are_at_most_three()
+    ensures { TriesAreAtMostThree }
+{}
+
+/// A session object that hasn't ended has its session open.
+pub fn session_objects_have_open_sessions()
+    ensures { SessionObjectsHaveOpenSessions }
+{}
+
+/// A private object is visible only while the normal user is logged in.
+pub fn private_objects_are_visible_to_the_user()
+    ensures { PrivateObjectsAreVisibleToTheUser }
+{}
+
+/// No reply to C_GetAttributeValue, whatever its code, has the bytes of a CKA_VALUE that may not be
+/// revealed just before it.
+pub fn hidden_values_are_not_given()
+    ensures { HiddenValuesAreNotGiven }
+{}
+
+/// Each OK C_Sign and C_SignFinal stands where the key hasn't ended and its state lets it sign.
+pub fn signing_keys_may_sign()
+    ensures { SigningKeysMaySign }
+{}
+
+/// Each OK C_Verify and C_VerifyFinal stands where the key hasn't ended and its state lets it
+/// verify.
+pub fn verifying_keys_may_verify()
+    ensures { VerifyingKeysMayVerify }
+{}
