@@ -9,6 +9,7 @@ pub mod NameLemmas
 pub mod NumberTests
 pub mod ObjectMoves
 pub mod OperationMoves
+pub mod ProtectionLaws
 pub mod ProtectionLemmas
 pub mod RisingLemmas
 pub mod SearchMoves

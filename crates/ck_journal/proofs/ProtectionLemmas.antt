@@ -34,7 +34,7 @@ use Rattle.ck_journal.proofs.NameLemmas.{named-object, found-named}
 
 -- ---- what keeps it
 
-keeps-itself : (a : List Item) → KeepsProtection a a
+pub keeps-itself : (a : List Item) → KeepsProtection a a
 keeps-itself a =
     record { sensitive = λ t. t; extractable = λ f. f; always_sensitive = refl; never_extractable = refl }
 

@@ -60,3 +60,39 @@ pub fn signing_keys_may_sign()
 pub fn verifying_keys_may_verify()
     ensures { VerifyingKeysMayVerify }
 {}
+
+/// A key that is sensitive stays so while it lasts.
+pub fn sensitive_stays()
+    ensures { SensitiveStays }
+{
+}
+
+/// A key that isn't extractable stays so while it lasts.
+pub fn unextractable_stays()
+    ensures { UnextractableStays }
+{
+}
+
+/// A copy of a sensitive key is sensitive at its creation.
+pub fn copies_stay_sensitive()
+    ensures { CopiesStaySensitive }
+{
+}
+
+/// A copy of a key that isn't extractable isn't extractable at its creation.
+pub fn copies_stay_unextractable()
+    ensures { CopiesStayUnextractable }
+{
+}
+
+/// A key with CKA_ALWAYS_SENSITIVE true has been sensitive at every front since its creation.
+pub fn always_sensitive_is_true()
+    ensures { AlwaysSensitiveIsTrue }
+{
+}
+
+/// A key with CKA_NEVER_EXTRACTABLE true has been extractable at no front since its creation.
+pub fn never_extractable_is_true()
+    ensures { NeverExtractableIsTrue }
+{
+}
