@@ -406,7 +406,7 @@ wrong_try-about : (wrong : Bool) (u : UserType) (h : History) (c : Call)
 wrong_try-about true u h c a = (refl, a)
 wrong_try-about false u h c a = cc
 
-is_user-some : (u : UserType) (o : Option UserType) → is_user u o ≡ true → o ≡ Some u
+pub is_user-some : (u : UserType) (o : Option UserType) → is_user u o ≡ true → o ≡ Some u
 is_user-some u None e = cc
 is_user-some user.So (Some user.So) e = refl
 is_user-some user.So (Some user.User) e = cc
@@ -438,7 +438,7 @@ tries-bound limits (e ◁ h) sound legal u =
 -- ---- operations of sessions
 
 -- a session stays open where an entry leaves or starts something in it that a closing would end
-stays-open : (d : Option Call) (h : History) (s : ℕ) (started ended active : Bool)
+pub stays-open : (d : Option Call) (h : History) (s : ℕ) (started ended active : Bool)
     → (closes d s ≡ true → (started ≡ false) × (ended ≡ true))
     → (started ≡ true → is_open h s ≡ true) → (active ≡ true → is_open h s ≡ true)
     → cond started true (cond ended false active) ≡ true

@@ -17,3 +17,4 @@ pub mod Selections
 pub mod SessionMoves
 pub mod SessionObjectLemmas
 pub mod ValueLemmas
+pub mod VisibilityLemmas
