@@ -11,6 +11,7 @@ pub mod ObjectMoves
 pub mod OperationMoves
 pub mod ProtectionLaws
 pub mod ProtectionLemmas
+pub mod ReturnedHandleLemmas
 pub mod RisingLemmas
 pub mod SearchMoves
 pub mod Selections
