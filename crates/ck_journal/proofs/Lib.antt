@@ -16,9 +16,11 @@ pub mod OpenLemmas
 pub mod OperationMoves
 pub mod ProtectionLaws
 pub mod ProtectionLemmas
+pub mod ReturnedHandleLemmas
 pub mod RisingLemmas
 pub mod SearchMoves
 pub mod Selections
 pub mod SessionMoves
 pub mod SessionObjectLemmas
 pub mod ValueLemmas
+pub mod VisibilityLemmas
