@@ -8,6 +8,7 @@ use Rattle.ck_types.specs.declared.items.Item.{Item}
 use Rattle.ck_types.specs.declared.key_states.KeyState.{KeyState}
 use Rattle.ck_journal.specs.Objects.{is_session_object, is_visible_with, handle_with}
 use Rattle.ck_journal.specs.Searches.{is_match_with}
+use Rattle.ck_journal.specs.declared.bases.KeptObject.{KeptObject}
 use Rattle.ck_journal.specs.declared.views.View.{View}
 
 -- an object's number, the session that created it, where it is a session object, and its attributes
@@ -76,3 +77,11 @@ NumbersRise rows =
 abbrev pub matching_numbers : View → List Item → List ObjectRow → List ℕ
 matching_numbers view template rows =
     map (λ (row : ObjectRow). row.number) (filter (is_match view template) rows)
+
+-- the object that a base has, which no session of now created
+abbrev pub kept_row : KeptObject → ObjectRow
+kept_row kept = object_row kept.number 0 kept.attributes
+
+-- what a base keeps of an object
+abbrev pub kept_of : ObjectRow → KeptObject
+kept_of row = record { number = row.number; attributes = row.attributes }

@@ -1,12 +1,13 @@
-ghost use Rattle.std.specs.Prelude.{◌≡◌, ◌<◌, length, map, not, filter, find, position};
+ghost use Rattle.std.specs.Prelude.{◌≡◌, ◌<◌, ◌^◌, length, map, not, filter, find, position, All};
 ghost use Rattle.std.specs.Prelude.{IfOk, IfSome};
 ghost use Rattle.std.specs.Option.{option_copied};
 ghost use Rattle.ck_store.specs.Rows.{has_number, with_attributes, with_key_state, NumbersRise};
-ghost use Rattle.ck_store.specs.Rows.{matching_numbers};
+ghost use Rattle.ck_store.specs.Rows.{matching_numbers, kept_row, kept_of};
+ghost use Rattle.ck_journal.specs.declared.bases.KeptObject.{KeptObject};
 ghost use Rattle.ck_store.specs.Rows.{is_of_session, is_session_row, is_private_session_row};
 
 use crate::stored_objects::StoredObject;
-use ck_journal::View;
+use ck_journal::{KeptObject, View};
 use ck_types::{KeyState, NoMemory, Record, Template};
 use std::alloc::Global;
 
@@ -44,6 +45,38 @@ pub(crate) fn find_matching(
         }
     }
     Ok(numbers)
+}
+
+/// What a base keeps of these objects.
+pub(crate) fn kept_objects(
+    alloc: Global,
+    rows: &[StoredObject],
+) -> Result<Vec<KeptObject>, NoMemory>
+    ensures { IfOk result (λ kept. kept.items ≡ map kept_of rows.now) }
+{
+    let mut kept = Vec::with_capacity(alloc, rows.len())?;
+    for row in rows {
+        let attributes = row.attributes().duplicate(alloc)?;
+        let number = row.number();
+        kept.push(KeptObject { number, attributes })?;
+    }
+    Ok(kept)
+}
+
+/// The objects that a base has, whose numbers are in range.
+pub(crate) fn stored_objects(
+    alloc: Global,
+    objects: &[KeptObject],
+) -> Result<Vec<StoredObject>, NoMemory>
+    requires { All (λ (kept : KeptObject). kept.number < 2 ^ 32) objects.now }
+    ensures { IfOk result (λ rows. rows.items ≡ map kept_row objects.now) }
+{
+    let mut rows = Vec::with_capacity(alloc, objects.len())?;
+    for kept in objects {
+        let attributes = kept.attributes.duplicate(alloc)?;
+        rows.push(StoredObject::new(kept.number, 0, attributes))?;
+    }
+    Ok(rows)
 }
 
 /// Gives the object that has the number these attributes, among objects whose numbers rise.

@@ -1,10 +1,11 @@
 use crate::rows::{
-    find_matching, find_numbered, remove_numbered, remove_of_session,
+    find_matching, find_numbered, kept_objects, remove_numbered, remove_of_session,
     remove_private_session_objects, remove_session_objects, set_numbered, set_state_numbered,
+    stored_objects,
 };
 use crate::stored_objects::StoredObject;
-use ck_journal::{View, number_of_handle};
-use ck_types::{KeyState, NoMemory, Record, Template};
+use ck_journal::{Base, KeptObject, View, number_of_handle};
+use ck_types::{KeyState, NoMemory, Record, Sequence, Template};
 use std::alloc::Global;
 use std::marker::Model;
 
@@ -39,7 +40,8 @@ impl Store {
     ghost use Rattle.ck_types.specs.declared.attributes.Attribute.TheVariants as attribute;
     ghost use Rattle.ck_types.specs.declared.pins.Pin.{Pin};
     ghost use Rattle.ck_types.specs.declared.templates.Template.{Template};
-    ghost use Rattle.ck_journal.specs.Bases.{empty_base};
+    ghost use Rattle.ck_journal.specs.Bases.{empty_base, IsSound};
+    ghost use Rattle.ck_journal.specs.Cuts.{kept_objects};
     ghost use Rattle.ck_journal.specs.Histories.{History, start, ◌◁◌, done};
     ghost use Rattle.ck_journal.specs.Objects.{creates, creation_session, creation_attributes};
     ghost use Rattle.ck_journal.specs.Objects.{creations, object_at, view_of};
@@ -60,7 +62,27 @@ impl Store {
         }
     }
 
+    /// The store that starts from a base: a copy of its objects.
+    pub fn from_base(alloc: Global, base: &Base) -> Result<Store, NoMemory>
+        requires { IsSound base.now }
+        ensures { IfOk result (λ store. StoreAgrees (start base.now) store) }
+    {
+        Ok(Store {
+            rows: stored_objects(alloc, base.objects.as_slice())?,
+            creations: base.creations,
+        })
+    }
+
     // ---- readings of every history that the objects agree with
+
+    /// A copy of all objects, with their numbers: what a base keeps where no session is open.
+    pub fn kept(&self, alloc: Global) -> Result<Sequence<KeptObject>, NoMemory>
+        ensures { IfOk result (λ kept. (h : History) → StoreAgrees h self.now
+            → kept ≡ kept_objects h) }
+    {
+        let kept = kept_objects(alloc, self.rows.as_slice())?;
+        Ok(Sequence::from_vec(kept))
+    }
 
     /// How many objects have been created.
     pub fn creations(&self) -> u64

@@ -11,7 +11,7 @@ use Rattle.ck_types.specs.Checks.{error_if, first_error}
 use Rattle.ck_types.specs.Templates.{value_at, value_or, form_error, value_error}
 use Rattle.ck_types.specs.Templates.{permission_error, error_of_permission, class_of}
 use Rattle.ck_types.specs.Templates.{template_error, has_conflict, created_error}
-use Rattle.ck_types.specs.Records.{copied_error, changed_error}
+use Rattle.ck_types.specs.Records.{with_given, copied_error, changed_error}
 use Rattle.ck_types.specs.declared.attributes.Attribute.{Attribute}
 use Rattle.ck_types.specs.declared.attributes.Attribute.TheVariants as attribute
 use Rattle.ck_types.specs.declared.attributes.Class.{Class}
@@ -351,3 +351,8 @@ change-passes c protections items fine =
     let parts = template-passes c purpose.Set items
     (or_else-none (template_error c purpose.Set items) _ fine).0 in
     (parts.0, copies-of-changes c items parts.1)
+
+-- a template without items changes nothing
+pub given_nothing : (items : List Item) → with_given [] items ≡ items
+given_nothing [] = refl
+given_nothing (item ∷ items) = ap (λ rest. item ∷ rest) (given_nothing items)

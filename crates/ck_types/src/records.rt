@@ -221,6 +221,14 @@ impl Record {
         self.with(alloc, template.items.as_slice())
     }
 
+    /// A copy of the attributes.
+    #[tactic(auto, using(crate::proofs::GivenLemmas::given_nothing))]
+    pub fn duplicate(&self, alloc: Global) -> Result<Record, NoMemory>
+        ensures { IfOk result (λ copy. copy ≡ self.now) }
+    {
+        self.with(alloc, &[])
+    }
+
     /// The object with the items' values of the attributes that they give, each of which a copy may
     /// be given.
     fn with(&self, alloc: Global, items: &[Item]) -> Result<Record, NoMemory>
