@@ -2,6 +2,7 @@ pub mod Changes
 pub mod EntryLemmas
 pub mod FrontLemmas
 pub mod HandleLemmas
+pub mod KeyLoginLemmas
 pub mod KeyUseLemmas
 pub mod LegalLemmas
 pub mod LoginMoves
