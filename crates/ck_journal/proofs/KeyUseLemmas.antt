@@ -39,7 +39,7 @@ use Rattle.ck_journal.proofs.NameLemmas.{found-object}
 
 -- ---- an active signing or verifying has a key
 
-key-named : (found : Option (List Item)) (checks : List Item → Option RvError)
+pub key-named : (found : Option (List Item)) (checks : List Item → Option RvError)
     → option_map_or checks
     (option_and_then (λ items. cond (is_key items) (Some items) None) found)
     (Some rv_error.KeyHandleInvalid) ≡ None
@@ -48,7 +48,7 @@ key-named None checks e = cc
 key-named (Some attributes) checks e = (attributes, refl)
 
 -- a start that passes its checks names an object
-init-named : (k : OperationKind) (h : History) (session : ℕ) (mechanism : Mechanism) (key : ℕ)
+pub init-named : (k : OperationKind) (h : History) (session : ℕ) (mechanism : Mechanism) (key : ℕ)
     → hmac_init_error k h session mechanism key ≡ None
     → (n : ℕ) × (object_named h key ≡ Some n)
 init-named k h session mechanism key p =

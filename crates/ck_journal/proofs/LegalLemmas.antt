@@ -406,7 +406,7 @@ wrong_try-about : (wrong : Bool) (u : UserType) (h : History) (c : Call)
 wrong_try-about true u h c a = (refl, a)
 wrong_try-about false u h c a = cc
 
-is_user-some : (u : UserType) (o : Option UserType) → is_user u o ≡ true → o ≡ Some u
+pub is_user-some : (u : UserType) (o : Option UserType) → is_user u o ≡ true → o ≡ Some u
 is_user-some u None e = cc
 is_user-some user.So (Some user.So) e = refl
 is_user-some user.So (Some user.User) e = cc

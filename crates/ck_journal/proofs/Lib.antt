@@ -22,3 +22,4 @@ pub mod Selections
 pub mod SessionMoves
 pub mod SessionObjectLemmas
 pub mod ValueLemmas
+pub mod VisibilityLemmas

@@ -31,14 +31,19 @@ number_case false logins n handle small e =
     let form : handle ≡ 0 * 2 ^ 32 + n = omega arith in
     sym (ap (λ x. x % 2 ^ 32) form ∙ mod-mul-add 0 (2 ^ 32) n small)
 
-pub names_with-number : (view : View) (attributes : List Item) (handle n : ℕ) → n < 2 ^ 32
+pub handle-number : (view : View) (attributes : List Item) (handle n : ℕ) → n < 2 ^ 32
+    → handle_with view attributes n ≡ handle → n ≡ number_of_handle handle
+handle-number view attributes handle n small e =
+    number_case (is_set attributes attribute.Private) view.logins n handle small e
+
+names_with-number : (view : View) (attributes : List Item) (handle n : ℕ) → n < 2 ^ 32
     → names_with view attributes handle n ≡ true → n ≡ number_of_handle handle
 names_with-number view attributes handle n small named =
-    number_case (is_set attributes attribute.Private) view.logins n handle small
+    handle-number view attributes handle n small
     (eqb-true (handle_with view attributes n) handle
     (and_parts (is_visible_with view attributes) (handle_with view attributes n == handle) named).1)
 
-some_passes : (test : List Item → Bool) (object : Option (List Item))
+pub some_passes : (test : List Item → Bool) (object : Option (List Item))
     → is_some_with test object ≡ true
     → (attributes : List Item) × (object ≡ Some attributes) × (test attributes ≡ true)
 some_passes test None t = cc

@@ -1,22 +1,28 @@
 -- What is so in every history that is legal from a sound base: laws of handles, sessions, wrong
 -- tries and of who sees private objects
-use Rattle.std.specs.Prelude.{◌≡◌, ℕ, suc, ◌≤◌, Bool, true, false, List, [], ◌∷◌, Option, Some}
+use Rattle.std.specs.Prelude.{◌≡◌, ℕ, ◌≤◌, Bool, true, false, List, [], ◌∷◌, Option, Some, None}
 use Rattle.std.specs.Prelude.{if◌then◌else◌}
-use Rattle.std.specs.List.{Contains}
+use Rattle.std.specs.List.{slice_get}
 use Rattle.ck_types.specs.Records.{is_set}
 use Rattle.ck_types.specs.TokenLimits.{Ranges, AreInRange}
 use Rattle.ck_types.specs.declared.attributes.Attribute.TheVariants as attribute
 use Rattle.ck_types.specs.declared.items.Item.{Item}
 use Rattle.ck_types.specs.declared.users.UserType.{UserType}
 use Rattle.ck_types.specs.declared.users.UserType.TheVariants as user
+use Rattle.ck_journal.specs.declared.calls.Call.{Call}
+use Rattle.ck_journal.specs.declared.calls.Call.TheVariants as call
 use Rattle.ck_journal.specs.declared.calls.Entry.{Entry}
+use Rattle.ck_journal.specs.declared.operations.OperationKind.{OperationKind}
+use Rattle.ck_journal.specs.declared.replies.Body.{Body}
 use Rattle.ck_journal.specs.declared.replies.Body.TheVariants as body
 use Rattle.ck_journal.specs.Answers.{IsLegal}
 use Rattle.ck_journal.specs.Bases.{IsSound}
 use Rattle.ck_journal.specs.Histories.{History, ◌◁◌, start_of, followed_by, done}
 use Rattle.ck_journal.specs.Objects.{object_at, object_named, session_of, is_session_object}
-use Rattle.ck_journal.specs.Objects.{is_visible}
+use Rattle.ck_journal.specs.Objects.{is_visible, creates, handle_of}
+use Rattle.ck_journal.specs.Operations.{is_active, key_in}
 use Rattle.ck_journal.specs.Pins.{tries}
+use Rattle.ck_journal.specs.Searches.{handles_in}
 use Rattle.ck_journal.specs.Sessions.{opens, is_open, login}
 
 -- the limits are in range, the base is sound and every reply is the answer at its front
@@ -74,3 +80,60 @@ abbrev pub PrivateObjectsAreVisibleToTheUser : Type 0
 PrivateObjectsAreVisibleToTheUser =
     (limits : Ranges) (h : History) → IsSoundHistory limits h → (n : ℕ)
     → IsPrivate h n → is_visible h n ≡ true → login h ≡ Some user.User
+
+-- the handle of the object that a call works on
+abbrev pub named_handle : Option Call → Option ℕ
+named_handle (Some (call.CopyObject session object template)) = Some object
+named_handle (Some (call.GetAttributeValue session object queries)) = Some object
+named_handle (Some (call.SetAttributeValue session object template)) = Some object
+named_handle (Some (call.SetKeyState session key state)) = Some key
+named_handle (Some (call.DestroyObject session object)) = Some object
+named_handle (Some (call.SignInit session mechanism key)) = Some key
+named_handle (Some (call.VerifyInit session mechanism key)) = Some key
+named_handle other = None
+
+-- the handle names an object, and where that is private the normal user is logged in
+pub record NamesObject (h : History) (handle : ℕ) : Type 0 where
+  pub number : ℕ
+  pub named : object_named h handle ≡ Some number
+  pub login : IsPrivate h number → login h ≡ Some user.User
+
+-- the handle of a call that was answered OK names an object just before, and the normal user is
+-- logged in there if the object is private
+abbrev pub PrivateObjectsAreNamedByTheUser : Type 0
+PrivateObjectsAreNamedByTheUser =
+    (limits : Ranges) (e : Entry) (h : History) → IsSoundHistory limits (e ◁ h) → (handle : ℕ)
+    → named_handle (done e) ≡ Some handle → NamesObject h handle
+
+abbrev pub searches : Option Call → Bool
+searches (Some (call.FindObjects session max)) = true
+searches other = false
+
+abbrev pub handle_in : Body → List ℕ
+handle_in (body.Handle handle) = handle ∷ []
+handle_in other = []
+
+-- the handles of objects that an entry returns: that of the object that it creates, or those that
+-- it finds
+abbrev pub returned_objects : Entry → List ℕ
+returned_objects e =
+    if creates (done e) then handle_in e.reply.body
+    else if searches (done e) then handles_in e.reply.body
+    else []
+
+-- a handle of a private object is returned only where the normal user is logged in just before
+abbrev pub PrivateHandlesAreReturnedToTheUser : Type 0
+PrivateHandlesAreReturnedToTheUser =
+    (limits : Ranges) (e : Entry) (h : History) → IsSoundHistory limits (e ◁ h)
+    → (place handle n : ℕ) → slice_get (returned_objects e) place ≡ Some handle
+    → IsPrivate (e ◁ h) n → handle_of (e ◁ h) n ≡ handle → login h ≡ Some user.User
+
+-- an operation whose key was private at a front is active only while the normal user is logged in,
+-- be the key there or not
+abbrev pub PrivateKeysServeTheUser : Type 0
+PrivateKeysServeTheUser =
+    (limits : Ranges) (h : History) (later : List Entry)
+    → IsSoundHistory limits (followed_by h later) → (k : OperationKind) (session n : ℕ)
+    → IsPrivate h n → is_active k (followed_by h later) session ≡ true
+    → key_in k (followed_by h later) session ≡ Some n
+    → login (followed_by h later) ≡ Some user.User

@@ -13,6 +13,7 @@ ghost use Rattle.ck_journal.specs.KeyLaws.{
 };
 ghost use Rattle.ck_journal.specs.Laws.{
   HandlesNameOneObject,
+  PrivateObjectsAreNamedByTheUser,
   PrivateObjectsAreVisibleToTheUser,
   SessionHandlesAreGivenOnce,
   SessionObjectsHaveOpenSessions,
@@ -44,6 +45,12 @@ pub fn private_objects_are_visible_to_the_user()
     ensures { PrivateObjectsAreVisibleToTheUser }
 {}
 
+/// An OK call with the handle of an object names one, and if it is private the normal user is logged
+/// in just before.
+pub fn private_objects_are_named_by_the_user()
+    ensures { PrivateObjectsAreNamedByTheUser }
+{}
+
 /// No reply to C_GetAttributeValue, whatever its code, has the bytes of a CKA_VALUE that may not be
 /// revealed just before it.
 pub fn hidden_values_are_not_given()
@@ -64,35 +71,29 @@ pub fn verifying_keys_may_verify()
 /// A key that is sensitive stays so while it lasts.
 pub fn sensitive_stays()
     ensures { SensitiveStays }
-{
-}
+{}
 
 /// A key that isn't extractable stays so while it lasts.
 pub fn unextractable_stays()
     ensures { UnextractableStays }
-{
-}
+{}
 
 /// A copy of a sensitive key is sensitive at its creation.
 pub fn copies_stay_sensitive()
     ensures { CopiesStaySensitive }
-{
-}
+{}
 
 /// A copy of a key that isn't extractable isn't extractable at its creation.
 pub fn copies_stay_unextractable()
     ensures { CopiesStayUnextractable }
-{
-}
+{}
 
 /// A key with CKA_ALWAYS_SENSITIVE true has been sensitive at every front since its creation.
 pub fn always_sensitive_is_true()
     ensures { AlwaysSensitiveIsTrue }
-{
-}
+{}
 
 /// A key with CKA_NEVER_EXTRACTABLE true has been extractable at no front since its creation.
 pub fn never_extractable_is_true()
     ensures { NeverExtractableIsTrue }
-{
-}
+{}
