@@ -16,6 +16,7 @@ pub mod OpenLemmas
 pub mod OperationMoves
 pub mod ProtectionLaws
 pub mod ProtectionLemmas
+pub mod ReturnedHandleLemmas
 pub mod RisingLemmas
 pub mod SearchMoves
 pub mod Selections

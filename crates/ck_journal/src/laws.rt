@@ -13,6 +13,7 @@ ghost use Rattle.ck_journal.specs.KeyLaws.{
 };
 ghost use Rattle.ck_journal.specs.Laws.{
   HandlesNameOneObject,
+  PrivateHandlesAreReturnedToTheUser,
   PrivateObjectsAreNamedByTheUser,
   PrivateObjectsAreVisibleToTheUser,
   SessionHandlesAreGivenOnce,
@@ -49,6 +50,12 @@ pub fn private_objects_are_visible_to_the_user()
 /// in just before.
 pub fn private_objects_are_named_by_the_user()
     ensures { PrivateObjectsAreNamedByTheUser }
+{}
+
+/// A handle of a private object is returned, by its creation or by a search, only where the normal
+/// user is logged in just before.
+pub fn private_handles_are_returned_to_the_user()
+    ensures { PrivateHandlesAreReturnedToTheUser }
 {}
 
 /// No reply to C_GetAttributeValue, whatever its code, has the bytes of a CKA_VALUE that may not be
