@@ -1,7 +1,7 @@
 -- The keys of active operations
 use Rattle.std.proofs.Common.{◌≡◌, ℕ, Bool, true, false, cond, not, List, Option, Some, None, refl}
 use Rattle.std.proofs.Common.{sym, ap, ◌∙◌, subst}
-use Rattle.std.specs.Prelude.{◌==◌, ◌&&◌, is_none, option_and_then}
+use Rattle.std.specs.Prelude.{◌==◌, ◌&&◌, ◌||◌, is_none, option_and_then, option_map}
 use Rattle.std.specs.Option.{option_map_or}
 use Rattle.std.proofs.lemmas.Bool.{eqb-true, false≢true}
 use Rattle.ck_types.specs.Checks.{error_if}
@@ -32,9 +32,10 @@ use Rattle.ck_journal.specs.Objects.{object_at, object_named, key_named, attribu
 use Rattle.ck_journal.specs.OperationCalls.{OperationStep, Step, operation_step, step_in}
 use Rattle.ck_journal.specs.OperationCalls.{same_kind}
 use Rattle.ck_journal.specs.Operations.{starts, ends, is_active, is_updated, key_in, init_key}
-use Rattle.ck_journal.specs.Operations.{is_initialization}
+use Rattle.ck_journal.specs.Operations.{is_initialization, cancels, finishes}
+use Rattle.ck_journal.specs.Sessions.{closes, ends_operations, is_open}
 use Rattle.ck_journal.proofs.LegalLemmas.{by-done, later-passes, last-passes}
-use Rattle.ck_journal.proofs.LegalLemmas.{object-found}
+use Rattle.ck_journal.proofs.LegalLemmas.{object-found, session-open, stays-open}
 use Rattle.ck_journal.proofs.NameLemmas.{found-object}
 
 -- ---- an active signing or verifying has a key
@@ -78,6 +79,45 @@ starting-kind k s (Some o) t = cases (same_kind o.kind k) (o.session == s) (Some
     cases true true step t = t
     cases true false step t = cc
     cases false here step t = cc
+
+-- the session of a step
+step_session : Option OperationStep → ℕ
+step_session None = 0
+step_session (Some o) = o.session
+
+starting-session : (k : OperationKind) (s : ℕ) (o : Option OperationStep)
+    → is_initialization (step_in o k s) ≡ true
+    → (step_session o ≡ s) × (is_initialization (option_map (λ (p : OperationStep). p.step) o) ≡ true)
+unfolding step_session
+starting-session k s None t = cc
+starting-session k s (Some o) t =
+    cases (same_kind o.kind k) (o.session == s) refl (Some o.step) t
+  where
+    cases : (same here : Bool) → o.session == s ≡ here → (step : Option Step)
+        → is_initialization (cond (same && here) step None) ≡ true
+        → (o.session ≡ s) × (is_initialization step ≡ true)
+    cases true true e step t = (eqb-true o.session s e, t)
+    cases true false e step t = cc
+    cases false here e step t = cc
+
+init-open : (limits : Ranges) (h : History) (c : Call)
+    → is_initialization (option_map (λ (p : OperationStep). p.step) (operation_step c)) ≡ true
+    → call_error limits h c ≡ None → is_open h (step_session (operation_step c)) ≡ true
+unfolding step_session
+init-open limits h (call.DigestInit session mechanism) t p =
+    session-open h session (or_else-none (session_error h session) _ p).0
+init-open limits h (call.SignInit session mechanism key) t p =
+    session-open h session (or_else-none (session_error h session) _ p).0
+init-open limits h (call.VerifyInit session mechanism key) t p =
+    session-open h session (or_else-none (session_error h session) _ p).0
+init-open limits h other t _ = absurd (false≢true t)
+
+-- a start stands in an open session
+starting-open : (limits : Ranges) (h : History) (k : OperationKind) (s : ℕ) (c : Call)
+    → call_error limits h c ≡ None → starts (Some c) k s ≡ true → is_open h s ≡ true
+starting-open limits h k s c p t =
+    let here = starting-session k s (operation_step c) t in
+    subst (λ j. is_open h j ≡ true) here.0 (init-open limits h c here.1 p)
 
 -- a start of a signing or a verifying
 starting-call : (k : OperationKind) (c : Call) → (k ≡ kind.Digest → ⊥)
@@ -123,6 +163,34 @@ active-key limits k keyed (e ◁ h) legal s active =
     → (n : ℕ) × (option_and_then (object_named h) (init_key d) ≡ Some n))
     (λ t. cc) (started-key limits k keyed h s))
     (active-key limits k keyed h legal.1 s) active
+
+-- ---- the session of an active operation is open
+
+closing-operation : (k : OperationKind) (e : Entry) (s : ℕ) → closes (done e) s ≡ true
+    → (starts (done e) k s ≡ false) × (ends k e s ≡ true)
+closing-operation k e s t = (closes-starts (done e) t, ends-all (done e) t)
+  where
+    closes-starts : (d : Option Call) → closes d s ≡ true → starts d k s ≡ false
+    closes-starts (Some (call.CloseSession session)) t = refl
+    closes-starts (Some call.CloseAllSessions) t = refl
+    closes-starts other t = cc
+
+    ends-all : (d : Option Call) → closes d s ≡ true
+        → (ends_operations d s || cancels d k s || finishes e.call k e.reply s) ≡ true
+    ends-all (Some (call.CloseSession session)) t =
+        ap (λ b. b || false || finishes e.call k e.reply s) t
+    ends-all (Some call.CloseAllSessions) t = refl
+    ends-all other t = cc
+
+pub is_active-open : (limits : Ranges) (k : OperationKind) (h : History) → IsLegal limits h
+    → (s : ℕ) → is_active k h s ≡ true → is_open h s ≡ true
+is_active-open limits k (start b) legal s active = cc
+is_active-open limits k (e ◁ h) legal s active =
+    stays-open (done e) h s (starts (done e) k s) (ends k e s) (is_active k h s)
+    (closing-operation k e s)
+    (by-done limits e h legal (λ d. starts d k s ≡ true → is_open h s ≡ true) (λ t. cc)
+    (starting-open limits h k s))
+    (is_active-open limits k h legal.1 s) active
 
 -- ---- its key serves where the call is answered OK
 
