@@ -1,17 +1,14 @@
 -- Fronts of a history: what a later front keeps
-use Rattle.std.proofs.Common.{◌≡◌, ℕ, suc, ◌≤◌, Bool, true, false, cond, ◌&&◌, List, [], ◌∷◌}
-use Rattle.std.proofs.Common.{Option, Some, None, refl, sym, ap, ◌∙◌, subst, arith}
+use Rattle.std.proofs.Common.{◌≡◌, ℕ, suc, ◌≤◌, Bool, true, false, cond, List, [], ◌∷◌}
+use Rattle.std.proofs.Common.{Option, Some, None, refl, arith}
 use Rattle.std.specs.Prelude.{◌==◌, option_and_then}
 use Rattle.std.proofs.lemmas.Bool.{ne_eqb}
 use Rattle.ck_types.specs.TokenLimits.{Ranges}
 use Rattle.ck_types.specs.declared.items.Item.{Item}
 use Rattle.ck_journal.specs.declared.calls.Entry.{Entry}
-use Rattle.ck_journal.specs.Answers.{IsLegal}
-use Rattle.ck_journal.specs.Bases.{IsSound}
-use Rattle.ck_journal.specs.Histories.{History, start, ◌◁◌, start_of, followed_by, done}
+use Rattle.ck_journal.specs.Histories.{History, ◌◁◌, followed_by, done}
 use Rattle.ck_journal.specs.Laws.{IsSoundHistory}
 use Rattle.ck_journal.specs.Objects.{creates, creations, object_at, object_after, view_of, session_of}
-use Rattle.ck_journal.specs.Objects.{creation_attributes, attributes_named}
 use Rattle.ck_journal.specs.Sessions.{opens, openings}
 use Rattle.ck_journal.proofs.LegalLemmas.{not-created}
 

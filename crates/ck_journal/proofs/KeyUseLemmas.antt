@@ -28,7 +28,7 @@ use Rattle.ck_journal.specs.Answers.{hmac_init_error, final_error}
 use Rattle.ck_journal.specs.Histories.{History, start, ◌◁◌, done}
 use Rattle.ck_journal.specs.KeyLaws.{HasKey, signs, verifies, SigningKeysMaySign}
 use Rattle.ck_journal.specs.KeyLaws.{VerifyingKeysMayVerify}
-use Rattle.ck_journal.specs.Objects.{object_at, object_named, key_named, attributes_named}
+use Rattle.ck_journal.specs.Objects.{object_at, object_named, attributes_named}
 use Rattle.ck_journal.specs.OperationCalls.{OperationStep, Step, operation_step, step_in}
 use Rattle.ck_journal.specs.OperationCalls.{same_kind}
 use Rattle.ck_journal.specs.Operations.{starts, ends, is_active, is_updated, key_in, init_key}

@@ -6,6 +6,7 @@ pub mod CutLaws
 pub mod EntryLemmas
 pub mod FrontLemmas
 pub mod HandleLemmas
+pub mod KeyLoginLemmas
 pub mod KeyUseLemmas
 pub mod LegalLemmas
 pub mod LoginMoves

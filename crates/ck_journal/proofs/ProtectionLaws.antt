@@ -1,5 +1,5 @@
 -- What protects a key, over the fronts of a history and in copies
-use Rattle.std.proofs.Common.{◌≡◌, ℕ, suc, ◌≤◌, true, false, List, [], ◌∷◌, Option, Some, refl, sym}
+use Rattle.std.proofs.Common.{◌≡◌, ℕ, List, [], ◌∷◌, Some, sym}
 use Rattle.std.proofs.Common.{ap, ◌∙◌, subst, arith}
 use Rattle.std.specs.Prelude.{unwrap_or}
 use Rattle.std.proofs.lemmas.Option.{same_Some}
@@ -7,15 +7,14 @@ use Rattle.ck_types.specs.Records.{with_given}
 use Rattle.ck_types.specs.TokenLimits.{Ranges}
 use Rattle.ck_types.specs.declared.items.Item.{Item}
 use Rattle.ck_types.proofs.ChangeLemmas.{KeepsProtection}
-use Rattle.ck_journal.specs.declared.calls.Call.{Call}
 use Rattle.ck_journal.specs.declared.calls.Call.TheVariants as call
 use Rattle.ck_journal.specs.declared.calls.Entry.{Entry}
-use Rattle.ck_journal.specs.Histories.{History, ◌◁◌, followed_by, done}
+use Rattle.ck_journal.specs.Histories.{History, ◌◁◌, followed_by}
 use Rattle.ck_journal.specs.KeyLaws.{SensitiveStays, UnextractableStays, Copies}
 use Rattle.ck_journal.specs.KeyLaws.{CopiesStaySensitive, CopiesStayUnextractable}
 use Rattle.ck_journal.specs.KeyLaws.{AlwaysSensitiveIsTrue, NeverExtractableIsTrue}
 use Rattle.ck_journal.specs.Laws.{IsSoundHistory}
-use Rattle.ck_journal.specs.Objects.{creates, creations, creation_attributes, object_at}
+use Rattle.ck_journal.specs.Objects.{creates, creation_attributes, object_at}
 use Rattle.ck_journal.specs.Objects.{attributes_named}
 use Rattle.ck_journal.proofs.FrontLemmas.{just_before, before_all, creations-rise, was_there}
 use Rattle.ck_journal.proofs.LegalLemmas.{passed-done}

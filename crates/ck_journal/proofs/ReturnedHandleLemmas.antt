@@ -1,7 +1,7 @@
 -- The handles of private objects that replies return
-use Rattle.std.proofs.Common.{◌≡◌, ℕ, zero, suc, ◌<◌, ◌≤◌, ◌^◌, Bool, true, false, cond, not, ◌&&◌}
+use Rattle.std.proofs.Common.{◌≡◌, ℕ, zero, suc, Bool, true, false, cond, not, ◌&&◌}
 use Rattle.std.proofs.Common.{List, [], ◌∷◌, Option, Some, None, refl, sym, ap, ◌∙◌, subst, arith}
-use Rattle.std.specs.Prelude.{◌==◌, filter, map, take, option_map, unwrap_or}
+use Rattle.std.specs.Prelude.{filter, map, take, option_map, unwrap_or}
 use Rattle.std.specs.List.{slice_get}
 use Rattle.std.specs.Option.{option_map_or}
 use Rattle.std.proofs.lemmas.Bool.{false≢true}
@@ -13,7 +13,6 @@ use Rattle.ck_types.specs.Mechanisms.{is_key_generator}
 use Rattle.ck_types.specs.Templates.{class_of, created_error, generated_error}
 use Rattle.ck_types.specs.TokenLimits.{Ranges}
 use Rattle.ck_types.specs.declared.attributes.Attribute.TheVariants as attribute
-use Rattle.ck_types.specs.declared.errors.RvError.{RvError}
 use Rattle.ck_types.specs.declared.errors.RvError.TheVariants as rv_error
 use Rattle.ck_types.specs.declared.items.Item.{Item}
 use Rattle.ck_types.specs.declared.users.UserType.TheVariants as user
@@ -25,16 +24,16 @@ use Rattle.ck_journal.specs.declared.replies.Body.{Body}
 use Rattle.ck_journal.specs.declared.replies.Body.TheVariants as body
 use Rattle.ck_journal.specs.declared.replies.Reply.{Reply}
 use Rattle.ck_journal.specs.declared.views.View.{View}
-use Rattle.ck_journal.specs.Answers.{IsLegal, call_error, allowed_reply, ok, new_handle}
+use Rattle.ck_journal.specs.Answers.{call_error, allowed_reply, ok, new_handle}
 use Rattle.ck_journal.specs.Answers.{session_error, object_error, placement_error}
-use Rattle.ck_journal.specs.Answers.{read_only_session_error, creations_error, prohibited_error}
+use Rattle.ck_journal.specs.Answers.{read_only_session_error, prohibited_error}
 use Rattle.ck_journal.specs.Answers.{parameter_error}
 use Rattle.ck_journal.specs.Histories.{History, ◌◁◌, done, effects_of}
 use Rattle.ck_journal.specs.Laws.{IsSoundHistory, IsPrivate, searches, handle_in}
 use Rattle.ck_journal.specs.Laws.{PrivateHandlesAreReturnedToTheUser}
 use Rattle.ck_journal.specs.Objects.{creates, creations, creation_attributes, object_at}
 use Rattle.ck_journal.specs.Objects.{attributes_named, view_of, is_user_in, is_visible}
-use Rattle.ck_journal.specs.Objects.{is_visible_with, handle_with, handle_of, is_some_with}
+use Rattle.ck_journal.specs.Objects.{is_visible_with, handle_with, handle_of}
 use Rattle.ck_journal.specs.Searches.{handles_in, search_rest, remaining_objects}
 use Rattle.ck_journal.specs.Searches.{number_of_handle}
 use Rattle.ck_journal.specs.Sessions.{login}

@@ -1,20 +1,18 @@
 -- The sessions of session objects are open
 use Rattle.std.proofs.Common.{◌≡◌, ℕ, suc, Bool, true, false, cond, not, ◌&&◌, List, Option, Some}
-use Rattle.std.proofs.Common.{None, refl, sym, ap, ◌∙◌, subst}
+use Rattle.std.proofs.Common.{None, refl, sym, ap, ◌∙◌}
 use Rattle.std.specs.Prelude.{◌==◌, option_and_then}
 use Rattle.std.proofs.lemmas.Bool.{false≢true}
-use Rattle.std.proofs.lemmas.Option.{same_Some}
 use Rattle.ck_types.specs.Records.{is_set}
 use Rattle.ck_types.specs.TokenLimits.{Ranges}
 use Rattle.ck_types.specs.declared.attributes.Attribute.TheVariants as attribute
 use Rattle.ck_types.specs.declared.items.Item.{Item}
 use Rattle.ck_journal.specs.declared.calls.Call.{Call}
 use Rattle.ck_journal.specs.declared.calls.Call.TheVariants as call
-use Rattle.ck_journal.specs.declared.calls.Entry.{Entry}
 use Rattle.ck_journal.specs.declared.views.View.{View}
 use Rattle.ck_journal.specs.Answers.{call_error, session_error}
 use Rattle.ck_journal.specs.Histories.{History, start, ◌◁◌, done}
-use Rattle.ck_journal.specs.Laws.{IsSoundHistory, SessionObjectsHaveOpenSessions}
+use Rattle.ck_journal.specs.Laws.{SessionObjectsHaveOpenSessions}
 use Rattle.ck_journal.specs.Objects.{creates, creations, creation_session, creation_attributes}
 use Rattle.ck_journal.specs.Objects.{session_of, object_after, object_at, attributes_named, view_of}
 use Rattle.ck_journal.specs.Objects.{is_session_object}

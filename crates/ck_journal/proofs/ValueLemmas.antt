@@ -1,28 +1,23 @@
 -- What the replies to C_GetAttributeValue give
-use Rattle.std.proofs.Common.{◌≡◌, ℕ, Bool, true, false, cond, not, ◌&&◌, List, Option, Some, None}
+use Rattle.std.proofs.Common.{◌≡◌, ℕ, Bool, true, false, cond, not, List, Option, Some, None}
 use Rattle.std.proofs.Common.{[], length, refl, sym, ap, ◌∙◌}
-use Rattle.std.specs.Prelude.{◌==◌, map, nat_lt, option_map}
+use Rattle.std.specs.Prelude.{map, nat_lt, option_map}
 use Rattle.std.specs.List.{slice_get}
 use Rattle.std.proofs.lemmas.Option.{slice_get-map}
 use Rattle.ck_types.specs.Attributes.{type_of}
-use Rattle.ck_types.specs.Records.{is_hidden, is_revealable, readable_value}
+use Rattle.ck_types.specs.Records.{is_revealable, readable_value}
 use Rattle.ck_types.specs.Templates.{value_at}
-use Rattle.ck_types.specs.TokenLimits.{Ranges}
 use Rattle.ck_types.specs.declared.attributes.Attribute.TheVariants as attribute
 use Rattle.ck_types.specs.declared.errors.RvError.{RvError}
 use Rattle.ck_types.specs.declared.items.Item.{Item}
 use Rattle.ck_journal.specs.declared.calls.AttributeQuery.{AttributeQuery}
-use Rattle.ck_journal.specs.declared.calls.Call.TheVariants as call
-use Rattle.ck_journal.specs.declared.calls.Entry.{Entry}
 use Rattle.ck_journal.specs.declared.replies.Answer.{Answer}
 use Rattle.ck_journal.specs.declared.replies.Answer.TheVariants as answer
-use Rattle.ck_journal.specs.declared.replies.Body.{Body}
 use Rattle.ck_journal.specs.declared.replies.Body.TheVariants as body
 use Rattle.ck_journal.specs.declared.replies.Reply.{Reply}
 use Rattle.ck_journal.specs.Answers.{answer, unless, get_attribute_value_error}
-use Rattle.ck_journal.specs.Histories.{History, ◌◁◌}
-use Rattle.ck_journal.specs.KeyLaws.{HiddenValuesAreNotGiven, GivesValue}
-use Rattle.ck_journal.specs.Objects.{attributes_named, named_attributes}
+use Rattle.ck_journal.specs.KeyLaws.{HiddenValuesAreNotGiven}
+use Rattle.ck_journal.specs.Objects.{named_attributes}
 use Rattle.ck_journal.specs.Queries.{value_answer, query_answer, queries_reply}
 use Rattle.std.specs.Prelude.{unwrap_or}
 

@@ -1,52 +1,34 @@
 -- Who sees private objects
-use Rattle.std.proofs.Common.{◌≡◌, ℕ, zero, suc, ◌<◌, ◌^◌, Bool, true, false, cond, not, ◌&&◌, ◌||◌}
-use Rattle.std.proofs.Common.{List, [], ◌∷◌, Option, Some, None, refl, sym, ap, ◌∙◌, subst, arith}
-use Rattle.std.specs.Prelude.{◌==◌, filter, map, take, option_and_then, option_map, unwrap_or}
-use Rattle.std.specs.List.{slice_get}
-use Rattle.std.specs.Option.{option_map_or}
+use Rattle.std.proofs.Common.{◌≡◌, ℕ, Bool, true, false, not, ◌||◌}
+use Rattle.std.proofs.Common.{List, Option, Some, None, sym, ◌∙◌, subst}
+use Rattle.std.specs.Prelude.{◌==◌}
 use Rattle.std.proofs.lemmas.Bool.{and_parts}
-use Rattle.std.proofs.lemmas.Option.{same_Some, slice_get-map}
-use Rattle.ck_types.specs.Checks.{error_if}
-use Rattle.ck_types.specs.Records.{created_items, generated_items, with_given, is_set, is_key}
-use Rattle.ck_types.specs.Records.{placement_of, copied_error, protections_of}
-use Rattle.ck_types.specs.Mechanisms.{is_key_generator}
-use Rattle.ck_types.specs.Templates.{class_of, created_error, generated_error}
+use Rattle.std.proofs.lemmas.Option.{same_Some}
+use Rattle.ck_types.specs.Records.{is_set}
 use Rattle.ck_types.specs.TokenLimits.{Ranges}
 use Rattle.ck_types.specs.declared.attributes.Attribute.TheVariants as attribute
 use Rattle.ck_types.specs.declared.errors.RvError.{RvError}
 use Rattle.ck_types.specs.declared.errors.RvError.TheVariants as rv_error
 use Rattle.ck_types.specs.declared.items.Item.{Item}
-use Rattle.ck_types.specs.declared.object_flags.Placement.{Placement}
 use Rattle.ck_types.specs.declared.users.UserType.TheVariants as user
-use Rattle.ck_types.proofs.CheckLemmas.{or_else-none, error_if-none}
-use Rattle.ck_types.proofs.GivenLemmas.{form_holds}
 use Rattle.ck_journal.specs.declared.calls.Call.{Call}
 use Rattle.ck_journal.specs.declared.calls.Call.TheVariants as call
-use Rattle.ck_journal.specs.declared.calls.Entry.{Entry}
 use Rattle.ck_journal.specs.declared.operations.OperationKind.TheVariants as kind
-use Rattle.ck_journal.specs.declared.replies.Body.{Body}
-use Rattle.ck_journal.specs.declared.replies.Body.TheVariants as body
-use Rattle.ck_journal.specs.declared.replies.Reply.{Reply}
-use Rattle.ck_journal.specs.declared.views.View.{View}
-use Rattle.ck_journal.specs.Answers.{IsLegal, call_error, allowed_reply, ok, new_handle}
-use Rattle.ck_journal.specs.Answers.{session_error, object_error, key_error, placement_error}
-use Rattle.ck_journal.specs.Answers.{read_only_session_error, creations_error, prohibited_error}
-use Rattle.ck_journal.specs.Answers.{parameter_error}
-use Rattle.ck_journal.specs.Histories.{History, ◌◁◌, done, effects}
-use Rattle.ck_journal.specs.Laws.{IsSoundHistory, IsPrivate, NamesObject, named_handle, searches}
-use Rattle.ck_journal.specs.Laws.{returned_objects, handle_in, PrivateObjectsAreVisibleToTheUser}
+use Rattle.ck_journal.specs.Answers.{call_error}
+use Rattle.ck_journal.specs.Answers.{session_error, object_error, key_error}
+use Rattle.ck_journal.specs.Histories.{History}
+use Rattle.ck_journal.specs.Laws.{IsPrivate, named_handle}
+use Rattle.ck_journal.specs.Laws.{PrivateObjectsAreVisibleToTheUser}
 use Rattle.ck_journal.specs.Laws.{PrivateObjectsAreNamedByTheUser}
-use Rattle.ck_journal.specs.Objects.{creates, creations, creation_attributes, object_at, object_named}
-use Rattle.ck_journal.specs.Objects.{attributes_named, named_attributes, view_of, is_user_in}
-use Rattle.ck_journal.specs.Objects.{is_visible, is_visible_with, handle_with, handle_of}
-use Rattle.ck_journal.specs.Objects.{names_with, is_some_with, key_named}
-use Rattle.ck_journal.specs.Searches.{handles_in, search_rest, remaining_objects}
+use Rattle.ck_journal.specs.Objects.{object_at, object_named}
+use Rattle.ck_journal.specs.Objects.{attributes_named, view_of, is_user_in}
+use Rattle.ck_journal.specs.Objects.{is_visible_with, handle_with}
+use Rattle.ck_journal.specs.Objects.{is_some_with}
 use Rattle.ck_journal.specs.Sessions.{login}
-use Rattle.ck_journal.proofs.FrontLemmas.{just_before}
 use Rattle.ck_journal.proofs.KeyUseLemmas.{key-named, init-named}
-use Rattle.ck_journal.proofs.LegalLemmas.{passed-done, by-done, later-passes, last-passes}
+use Rattle.ck_journal.proofs.LegalLemmas.{by-done, later-passes, last-passes}
 use Rattle.ck_journal.proofs.LegalLemmas.{object-found, is_user-some}
-use Rattle.ck_journal.proofs.NameLemmas.{found-object, named-passes, some_passes}
+use Rattle.ck_journal.proofs.NameLemmas.{found-object, named-passes}
 
 -- ---- visible objects
 

@@ -13,6 +13,7 @@ ghost use Rattle.ck_journal.specs.KeyLaws.{
 };
 ghost use Rattle.ck_journal.specs.Laws.{
   HandlesNameOneObject,
+  PrivateKeysServeTheUser,
   PrivateHandlesAreReturnedToTheUser,
   PrivateObjectsAreNamedByTheUser,
   PrivateObjectsAreVisibleToTheUser,
@@ -56,6 +57,11 @@ pub fn private_objects_are_named_by_the_user()
 /// user is logged in just before.
 pub fn private_handles_are_returned_to_the_user()
     ensures { PrivateHandlesAreReturnedToTheUser }
+{}
+
+/// An operation whose key was private at a front is active only while the normal user is logged in.
+pub fn private_keys_serve_the_user()
+    ensures { PrivateKeysServeTheUser }
 {}
 
 /// No reply to C_GetAttributeValue, whatever its code, has the bytes of a CKA_VALUE that may not be
