@@ -37,7 +37,7 @@ use Rattle.ck_journal.proofs.LegalLemmas.{creations-bound, user_logins-bound, is
 use Rattle.ck_journal.proofs.LoginMoves.{login-none}
 use Rattle.ck_journal.proofs.NumberTests.{same_number}
 use Rattle.ck_journal.proofs.ObjectMoves.{object_at-within}
-use Rattle.ck_journal.proofs.OpenLemmas.{is_active-open}
+use Rattle.ck_journal.proofs.KeyUseLemmas.{is_active-open}
 use Rattle.ck_journal.proofs.ProtectionLemmas.{object-protected}
 use Rattle.ck_journal.proofs.Selections.{list_any-member, find-filter_map, find-only}
 use Rattle.ck_journal.proofs.Selections.{AllPairs-filter_map, All-filter_map}
@@ -197,10 +197,10 @@ module _ (limits : Ranges) (h : History) (good : IsSoundHistory limits h) (none 
     searching = fun_ext (closed (is_searching h) (is_searching-open limits h good.legal));
     found = λ s t. absurd (no-open s (is_searching-open limits h good.legal s t));
     last = λ s t. absurd (no-open s (is_searching-open limits h good.legal s t));
-    active = λ k. fun_ext (closed (is_active k h) (is_active-open limits h good.legal k));
-    computation = λ k s t. absurd (no-open s (is_active-open limits h good.legal k s t));
-    key = λ k s t. absurd (no-open s (is_active-open limits h good.legal k s t));
-    pieces = λ k s t. absurd (no-open s (is_active-open limits h good.legal k s t));
+    active = λ k. fun_ext (closed (is_active k h) (is_active-open limits k h good.legal));
+    computation = λ k s t. absurd (no-open s (is_active-open limits k h good.legal s t));
+    key = λ k s t. absurd (no-open s (is_active-open limits k h good.legal s t));
+    pieces = λ k s t. absurd (no-open s (is_active-open limits k h good.legal s t));
   }
 
   pub base-sound : IsSound (base_of h)

@@ -13,7 +13,6 @@ pub mod LoginMoves
 pub mod NameLemmas
 pub mod NumberTests
 pub mod ObjectMoves
-pub mod OpenLemmas
 pub mod OperationMoves
 pub mod ProtectionLaws
 pub mod ProtectionLemmas

@@ -44,8 +44,16 @@ impl Journal {
     pub fn new(alloc: Global) -> Journal
         ensures { result.history ≡ start empty_base }
     {
+        Journal::from_base(alloc, Base::empty(alloc))
+    }
+
+    /// A journal that starts from a base and has no entries. It takes no memory.
+    pub fn from_base(alloc: Global, base: Base) -> Journal
+        requires { IsSound base }
+        ensures { result.history ≡ start base }
+    {
         Journal {
-            base: Base::empty(alloc),
+            base,
             entries: Vec::new(alloc),
         }
     }

@@ -187,6 +187,13 @@ impl Record {
         self.with(alloc, template.items.as_slice())
     }
 
+    /// The same attributes once more.
+    pub fn duplicate(&self, alloc: Global) -> Result<Record, NoMemory>
+        ensures { IfOk result (λ copy. copy ≡ self.now) }
+    {
+        self.with(alloc, &[])
+    }
+
     /// The object with the values that a template of C_SetAttributeValue gives (PKCS #11 Base 3.0,
     /// Object management functions). The template is refused with the error of `check_change`.
     pub fn changed(&self, alloc: Global, template: &Template) -> Result<Record, Refusal>
