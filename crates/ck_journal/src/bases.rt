@@ -1,4 +1,6 @@
-use ck_types::{Pin, Record, Sequence};
+ghost use Rattle.std.specs.Prelude.{◌≡◌, IfOk};
+
+use ck_types::{NoMemory, Pin, Record, Sequence};
 use std::alloc::Global;
 
 /// A token object as a journal starts with it.
@@ -29,8 +31,20 @@ pub struct Base {
     pub objects: Sequence<KeptObject>,
 }
 
+fn duplicate_objects(alloc: Global, objects: &[KeptObject]) -> Result<Vec<KeptObject>, NoMemory>
+    ensures { IfOk result (λ copies. copies.items ≡ objects.now) }
+{
+    let mut copies = Vec::with_capacity(alloc, objects.len())?;
+    for object in objects {
+        let attributes = object.attributes.duplicate(alloc)?;
+        let number = object.number;
+        copies.push(KeptObject { number, attributes })?;
+    }
+    Ok(copies)
+}
+
 impl Base {
-    ghost use Rattle.std.specs.Prelude.{◌≡◌};
+    ghost use Rattle.std.specs.Prelude.{◌≡◌, IfOk};
     ghost use Rattle.ck_journal.specs.Bases.{empty_base};
 
     /// The base of a new token, which takes no memory.
@@ -48,5 +62,23 @@ impl Base {
             logins: 0,
             objects: Sequence::new(alloc),
         }
+    }
+
+    /// A copy of the base.
+    pub fn duplicate(&self, alloc: Global) -> Result<Base, NoMemory>
+        ensures { IfOk result (λ copy. copy ≡ self.now) }
+    {
+        let objects = duplicate_objects(alloc, self.objects.as_slice())?;
+        Ok(Base {
+            initialized: self.initialized,
+            so: self.so,
+            user: self.user,
+            so_tries: self.so_tries,
+            user_tries: self.user_tries,
+            openings: self.openings,
+            creations: self.creations,
+            logins: self.logins,
+            objects: Sequence::from_vec(objects),
+        })
     }
 }

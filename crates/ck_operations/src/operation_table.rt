@@ -29,7 +29,7 @@ impl Model for Operations {
 impl Operations {
     ghost use Rattle.std.specs.Prelude.{◌≡◌, ◌<◌, ℕ, [], false, Option, OnOk, IsOk};
     ghost use Rattle.std.specs.Option.{option_copied};
-    ghost use Rattle.ck_journal.specs.Bases.{empty_base};
+    ghost use Rattle.ck_journal.specs.declared.bases.Base.{Base};
     ghost use Rattle.ck_journal.specs.Histories.{History, start, ◌◁◌};
     ghost use Rattle.ck_journal.specs.Operations.{is_active};
     ghost use Rattle.ck_journal.specs.declared.calls.Entry.{Entry};
@@ -38,9 +38,9 @@ impl Operations {
     ghost use Rattle.ck_operations.specs.Moves.{Start, Add, End, OnlyIn, OnlyInSession, OnlyNamed};
     ghost use Rattle.ck_operations.specs.Moves.{InAll, IsStartOf};
 
-    /// No operations, which takes no memory.
+    /// No operations, as where a journal starts, which takes no memory.
     pub fn new(alloc: Global) -> Operations
-        ensures { OperationsAgree (start empty_base) result }
+        ensures { (b : Base) → OperationsAgree (start b) result }
     {
         Operations {
             rows: Vec::new(alloc),

@@ -6,7 +6,7 @@ ghost use Rattle.ck_parts.specs.Agreement.{PartsAgree, adds, HasRoom};
 use ck_parts::Change;
 use crate::decisions::{Decision, Refused};
 use ck_parts::Parts;
-use ck_journal::{Body, Call, Entry, Journal, OperationKind, Reply};
+use ck_journal::{Base, Body, Call, Entry, Journal, OperationKind, Reply};
 use ck_operations::Operations;
 use ck_sessions::Sessions;
 use ck_store::Store;
@@ -100,7 +100,7 @@ fn prepare(
 impl Token {
     ghost use Rattle.std.specs.Prelude.{◌≡◌, ◌<◌, ◌≤◌, ◌+◌, true, false, IfOk, IfErr, IsOk, OnOk, OnErr};
     ghost use Rattle.ck_journal.specs.Answers.{IsLegal, answer};
-    ghost use Rattle.ck_journal.specs.Bases.{empty_base};
+    ghost use Rattle.ck_journal.specs.Bases.{empty_base, IsSound};
     ghost use Rattle.ck_journal.specs.Histories.{start};
     ghost use Rattle.ck_parts.specs.Changes.{effect};
     ghost use Rattle.ck_token.specs.Decisions.{IsDecision, may_run_out, reply_of};
@@ -120,6 +120,21 @@ impl Token {
             },
             journal: Journal::new(alloc),
         }
+    }
+
+    /// A token that goes on from what the calls of another left: its limits may be others. It has
+    /// answered no call.
+    pub fn from_base(alloc: Global, limits: Limits, base: Base) -> Result<Token, NoMemory>
+        requires { IsSound base }
+        ensures limits { IfOk result (λ token. token.limits ≡ limits) }
+        ensures history { IfOk result (λ token. token.history ≡ start base) }
+    {
+        let parts = Parts::from_base(alloc, &base)?;
+        Ok(Token {
+            limits,
+            parts,
+            journal: Journal::from_base(alloc, base),
+        })
     }
 
     /// All answered calls.

@@ -187,7 +187,8 @@ impl Record {
         self.with(alloc, template.items.as_slice())
     }
 
-    /// The same attributes once more.
+    /// A copy of the attributes.
+    #[tactic(auto, using(crate::proofs::GivenLemmas::given_nothing))]
     pub fn duplicate(&self, alloc: Global) -> Result<Record, NoMemory>
         ensures { IfOk result (λ copy. copy ≡ self.now) }
     {
@@ -226,14 +227,6 @@ impl Record {
         ensures { IfOk result (λ made. made ≡ with_given template.now.items self.now) }
     {
         self.with(alloc, template.items.as_slice())
-    }
-
-    /// A copy of the attributes.
-    #[tactic(auto, using(crate::proofs::GivenLemmas::given_nothing))]
-    pub fn duplicate(&self, alloc: Global) -> Result<Record, NoMemory>
-        ensures { IfOk result (λ copy. copy ≡ self.now) }
-    {
-        self.with(alloc, &[])
     }
 
     /// The object with the items' values of the attributes that they give, each of which a copy may
