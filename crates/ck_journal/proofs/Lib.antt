@@ -1,5 +1,8 @@
+pub mod BoardLemmas
+pub mod CallerLemmas
 pub mod Changes
 pub mod EntryLemmas
+pub mod FrontLemmas
 pub mod LegalLemmas
 pub mod LoginMoves
 pub mod NumberTests

@@ -1,5 +1,8 @@
 pub mod Answers
 pub mod Bases
+pub mod Boards
+pub mod Callers
+pub mod Fronts
 pub mod Histories
 pub mod HistoryCode
 pub mod Lists

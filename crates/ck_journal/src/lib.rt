@@ -3,6 +3,7 @@
 #![tactic(auto)]
 
 mod bases;
+mod boards;
 mod calls;
 mod journals;
 mod operations;
@@ -13,6 +14,7 @@ mod tests;
 mod views;
 
 pub use bases::{Base, KeptObject};
+pub use boards::{LoginStatus, TokenBoard, session_state};
 pub use calls::{AttributeQuery, Call, Entry};
 pub use journals::Journal;
 pub use operations::{OperationKind, is_long_piece};
