@@ -90,7 +90,7 @@ refused limits h c code e = ap (λ error. unless error (allowed_reply limits h c
 
 -- ---- checks that pass
 
-later-passes : (first later : Option RvError) → or_else first later ≡ None → later ≡ None
+pub later-passes : (first later : Option RvError) → or_else first later ≡ None → later ≡ None
 later-passes first later e = (or_else-none first later e).1
 
 last-passes : (last : Option RvError) → first_of (last ∷ []) ≡ None → last ≡ None
@@ -102,7 +102,7 @@ session-open h session e =
     not-false (is_open h session)
     (error_if-none (not (is_open h session)) rv_error.SessionHandleInvalid e)
 
-count-free : (most count : ℕ) (code : RvError) → error_if (nat_le most count) code ≡ None
+pub count-free : (most count : ℕ) (code : RvError) → error_if (nat_le most count) code ≡ None
     → count < most
 count-free most count code e = leb-false most count (error_if-none (nat_le most count) code e)
 

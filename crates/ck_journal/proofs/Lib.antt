@@ -7,6 +7,7 @@ pub mod LegalLemmas
 pub mod LoginMoves
 pub mod NumberTests
 pub mod ObjectMoves
+pub mod OpenLemmas
 pub mod OperationMoves
 pub mod RisingLemmas
 pub mod SearchMoves
