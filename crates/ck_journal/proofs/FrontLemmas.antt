@@ -1,59 +1,74 @@
--- Fronts of a history: what a later front keeps
-use Rattle.std.proofs.Common.{◌≡◌, ℕ, suc, ◌≤◌, Bool, true, false, cond, List, [], ◌∷◌}
-use Rattle.std.proofs.Common.{Option, Some, None, refl, arith}
-use Rattle.std.specs.Prelude.{◌==◌, option_and_then}
-use Rattle.std.proofs.lemmas.Bool.{ne_eqb}
+-- Fronts of histories, and logs that go on
+use Rattle.std.proofs.Common.{◌≡◌, ◌+◌, ◌≤◌, List, [], ◌∷◌, ◌++◌, length, refl, sym, ap, ◌∙◌, subst, arith}
+use mathlib.Core.List.{IsPrefix}
 use Rattle.ck_types.specs.TokenLimits.{Ranges}
-use Rattle.ck_types.specs.declared.items.Item.{Item}
+use Rattle.ck_journal.specs.declared.bases.Base.{Base}
 use Rattle.ck_journal.specs.declared.calls.Entry.{Entry}
-use Rattle.ck_journal.specs.Histories.{History, ◌◁◌, followed_by, done}
-use Rattle.ck_journal.specs.Laws.{IsSoundHistory}
-use Rattle.ck_journal.specs.Objects.{creates, creations, object_at, object_after, view_of, session_of}
-use Rattle.ck_journal.specs.Sessions.{opens, openings}
-use Rattle.ck_journal.proofs.LegalLemmas.{not-created}
+use Rattle.ck_journal.specs.Answers.{IsLegal}
+use Rattle.ck_journal.specs.Fronts.{extended_by, history_of, IsFront}
+use Rattle.ck_journal.specs.Histories.{History, start, ◌◁◌, followed_by, entry_count}
 
--- ---- a front of a sound history is one
+-- ---- fronts
 
-pub just_before : (limits : Ranges) (e : Entry) (h : History) → IsSoundHistory limits (e ◁ h)
-    → IsSoundHistory limits h
-just_before limits e h good =
-    record { in_range = good.in_range; sound = good.sound; legal = good.legal.1 }
+pub front_refl : (h : History) → IsFront h h
+front_refl h = ([], refl)
 
-pub before_all : (limits : Ranges) (h : History) (later : List Entry)
-    → IsSoundHistory limits (followed_by h later) → IsSoundHistory limits h
-before_all limits h [] good = good
-before_all limits h (e ∷ later) good =
-    before_all limits h later (just_before limits e (followed_by h later) good)
+pub front_next : (e : Entry) (g h : History) → IsFront g h → IsFront g (e ◁ h)
+front_next e g h f = (e ∷ f.0, ap (λ before. e ◁ before) f.1)
 
--- ---- counts rise
+followed_by-append : (h : History) (later before : List Entry) → followed_by (followed_by h before) later ≡ followed_by h (later ++ before)
+followed_by-append h [] before = refl
+followed_by-append h (e ∷ later) before = ap (λ g. e ◁ g) (followed_by-append h later before)
 
-count_rises : (more : Bool) (before now : ℕ) → before ≤ now → before ≤ cond more (suc now) now
-count_rises true before now below = omega arith
-count_rises false before now below = below
+pub front_trans : (f g h : History) → IsFront f g → IsFront g h → IsFront f h
+front_trans f g h p q = (q.0 ++ p.0, q.1 ∙ ap (λ x. followed_by x q.0) p.1 ∙ followed_by-append f q.0 p.0)
 
-pub openings-rise : (h : History) (later : List Entry) → openings h ≤ openings (followed_by h later)
-openings-rise h [] = omega arith
-openings-rise h (e ∷ later) =
-    count_rises (opens (done e)) (openings h) (openings (followed_by h later))
-    (openings-rise h later)
+entry_count-later : (g : History) (later : List Entry) → entry_count (followed_by g later) ≡ length later + entry_count g
+entry_count-later g [] = omega arith
+entry_count-later g (e ∷ later) = let below = entry_count-later g later in omega arith
 
-pub creations-rise : (h : History) (later : List Entry)
-    → creations h ≤ creations (followed_by h later)
-creations-rise h [] = omega arith
-creations-rise h (e ∷ later) =
-    count_rises (creates (done e)) (creations h) (creations (followed_by h later))
-    (creations-rise h later)
+pub front_shorter : (g h : History) → IsFront g h → entry_count g ≤ entry_count h
+front_shorter g h f = omega (arith, ap entry_count f.1, entry_count-later g f.0)
 
--- ---- an object that is there was there at each front since its creation
+nothing_later : (g h : History) (later : List Entry) → h ≡ followed_by g later → entry_count h ≤ entry_count g → g ≡ h
+nothing_later g h [] e short = sym e
+nothing_later g h (x ∷ later) e short = absurd (omega (arith, ap entry_count e, entry_count-later g later))
 
-there_before : (after : List Item → Option (List Item)) (was : Option (List Item)) (a : List Item)
-    → option_and_then after was ≡ Some a → (b : List Item) × (was ≡ Some b)
-there_before after None a e = cc
-there_before after (Some b) a e = (b, refl)
+-- a front that isn't shorter is the whole
+pub front_whole : (g h : History) → IsFront g h → entry_count h ≤ entry_count g → g ≡ h
+front_whole g h f short = nothing_later g h f.0 f.1 short
 
-pub was_there : (e : Entry) (h : History) (n : ℕ) (a : List Item) → n ≤ creations h
-    → object_at (e ◁ h) n ≡ Some a → (b : List Item) × (object_at h n ≡ Some b)
-was_there e h n a within now =
-    let older = ne_eqb n (suc (creations h)) (λ same. omega arith) in
-    there_before (object_after (done e) (view_of h) n (session_of h n)) (object_at h n) a
-    (not-created (creates (done e)) (n == suc (creations h)) _ _ a older now)
+-- what is a front just after a legal history's front is legal
+legal_before : (limits : Ranges) (g : History) (later : List Entry) → IsLegal limits (followed_by g later) → IsLegal limits g
+legal_before limits g [] legal = legal
+legal_before limits g (e ∷ later) legal = legal_before limits g later legal.1
+
+pub front_legal : (limits : Ranges) (g h : History) → IsFront g h → IsLegal limits h → IsLegal limits g
+front_legal limits g h f legal = legal_before limits g f.0 (subst (IsLegal limits) f.1 legal)
+
+-- ---- logs
+
+pub front_extended : (h : History) (log : List Entry) → IsFront h (extended_by h log)
+front_extended h [] = front_refl h
+front_extended h (e ∷ log) = front_trans h (e ◁ h) (extended_by (e ◁ h) log) (e ∷ [], refl) (front_extended (e ◁ h) log)
+
+pub extended_by-append : (h : History) (log later : List Entry) → extended_by h (log ++ later) ≡ extended_by (extended_by h log) later
+extended_by-append h [] later = refl
+extended_by-append h (e ∷ log) later = extended_by-append (e ◁ h) log later
+
+entry_count-extended : (h : History) (log : List Entry) → entry_count (extended_by h log) ≡ length log + entry_count h
+entry_count-extended h [] = omega arith
+entry_count-extended h (e ∷ log) = let below = entry_count-extended (e ◁ h) log in omega arith
+
+module _ (b : Base) where
+  pub entry_count-log : (log : List Entry) → entry_count (history_of b log) ≡ length log
+  entry_count-log log = let all = entry_count-extended (start b) log in omega arith
+
+  -- one more entry of the log
+  pub history_of-next : (log : List Entry) (e : Entry) → history_of b (log ++ e ∷ []) ≡ e ◁ history_of b log
+  history_of-next log e = extended_by-append (start b) log (e ∷ [])
+
+  -- the history of a beginning of a log is a front
+  pub front_of_prefix : (log all : List Entry) → IsPrefix log all → IsFront (history_of b log) (history_of b all)
+  front_of_prefix log all p =
+      subst (λ x. IsFront (history_of b log) x) (sym (extended_by-append (start b) log p.0) ∙ ap (history_of b) p.1) (front_extended (history_of b log) p.0)

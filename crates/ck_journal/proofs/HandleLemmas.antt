@@ -11,7 +11,7 @@ use Rattle.ck_journal.specs.Answers.{IsLegal}
 use Rattle.ck_journal.specs.Histories.{History, ◌◁◌, followed_by, done}
 use Rattle.ck_journal.specs.Laws.{HandlesNameOneObject, SessionHandlesAreGivenOnce, GivesSession}
 use Rattle.ck_journal.specs.Sessions.{opens, openings}
-use Rattle.ck_journal.proofs.FrontLemmas.{just_before, before_all, openings-rise}
+use Rattle.ck_journal.proofs.LaterLemmas.{just_before, before_all, openings-rise}
 use Rattle.ck_journal.proofs.LegalLemmas.{allowed-done}
 use Rattle.ck_journal.proofs.NameLemmas.{object_named-number}
 use Rattle.ck_journal.proofs.SessionMoves.{openings-opened}

@@ -30,7 +30,7 @@ use Rattle.ck_journal.specs.Operations.{starts, ends, is_active, key_in, init_ke
 use Rattle.ck_journal.specs.Operations.{cancels, finishes}
 use Rattle.ck_journal.specs.Sessions.{numbers, openings, is_open, open_sessions, login, login_after}
 use Rattle.ck_journal.specs.Sessions.{logs_out, closes}
-use Rattle.ck_journal.proofs.FrontLemmas.{just_before, was_there, creations-rise}
+use Rattle.ck_journal.proofs.LaterLemmas.{just_before, was_there, creations-rise}
 use Rattle.ck_journal.proofs.KeyUseLemmas.{is_active-open}
 use Rattle.ck_journal.proofs.LegalLemmas.{by-done, last-passes, later-passes, private_stays}
 use Rattle.ck_journal.proofs.LoginMoves.{login-open}

@@ -112,7 +112,7 @@ session-open h session e =
     not-false (is_open h session)
     (error_if-none (not (is_open h session)) rv_error.SessionHandleInvalid e)
 
-count-free : (most count : ℕ) (code : RvError) → error_if (nat_le most count) code ≡ None
+pub count-free : (most count : ℕ) (code : RvError) → error_if (nat_le most count) code ≡ None
     → count < most
 count-free most count code e = leb-false most count (error_if-none (nat_le most count) code e)
 

@@ -16,7 +16,7 @@ use Rattle.ck_journal.specs.KeyLaws.{AlwaysSensitiveIsTrue, NeverExtractableIsTr
 use Rattle.ck_journal.specs.Laws.{IsSoundHistory}
 use Rattle.ck_journal.specs.Objects.{creates, creation_attributes, object_at}
 use Rattle.ck_journal.specs.Objects.{attributes_named}
-use Rattle.ck_journal.proofs.FrontLemmas.{just_before, before_all, creations-rise, was_there}
+use Rattle.ck_journal.proofs.LaterLemmas.{just_before, before_all, creations-rise, was_there}
 use Rattle.ck_journal.proofs.LegalLemmas.{passed-done}
 use Rattle.ck_journal.proofs.ObjectMoves.{object_at-within, object_at-created}
 use Rattle.ck_journal.proofs.ProtectionLemmas.{keeps-itself, protection_stays, copy-found}

@@ -37,7 +37,7 @@ use Rattle.ck_journal.specs.Objects.{is_visible_with, handle_with, handle_of}
 use Rattle.ck_journal.specs.Searches.{handles_in, search_rest, remaining_objects}
 use Rattle.ck_journal.specs.Searches.{number_of_handle}
 use Rattle.ck_journal.specs.Sessions.{login}
-use Rattle.ck_journal.proofs.FrontLemmas.{just_before}
+use Rattle.ck_journal.proofs.LaterLemmas.{just_before}
 use Rattle.ck_journal.proofs.LegalLemmas.{passed-done, allowed-done, later-passes, object-found}
 use Rattle.ck_journal.proofs.LegalLemmas.{creations-bound, is_user-some}
 use Rattle.ck_journal.proofs.NameLemmas.{handle-number, some_passes}

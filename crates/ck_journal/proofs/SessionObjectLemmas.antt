@@ -17,7 +17,7 @@ use Rattle.ck_journal.specs.Objects.{creates, creations, creation_session, creat
 use Rattle.ck_journal.specs.Objects.{session_of, object_after, object_at, attributes_named, view_of}
 use Rattle.ck_journal.specs.Objects.{is_session_object}
 use Rattle.ck_journal.specs.Sessions.{opens, openings, closes, is_open}
-use Rattle.ck_journal.proofs.FrontLemmas.{just_before}
+use Rattle.ck_journal.proofs.LaterLemmas.{just_before}
 use Rattle.ck_journal.proofs.LegalLemmas.{by-done, session-open, token_stays}
 use Rattle.ck_journal.proofs.ProtectionLemmas.{kept-all}
 use Rattle.ck_types.proofs.CheckLemmas.{or_else-none}

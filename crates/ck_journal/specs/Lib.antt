@@ -1,6 +1,9 @@
 pub mod Answers
 pub mod Bases
+pub mod Boards
+pub mod Callers
 pub mod Cuts
+pub mod Fronts
 pub mod Histories
 pub mod HistoryCode
 pub mod KeyLaws

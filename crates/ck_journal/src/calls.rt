@@ -163,7 +163,9 @@ pub enum Call {
 }
 
 impl Call {
-    ghost use Rattle.std.specs.Prelude.{◌≡◌, IfOk};
+    ghost use Rattle.std.specs.Prelude.{◌≡◌, not, Some, IfOk, IsTrue};
+    ghost use Rattle.ck_journal.specs.Boards.{LeavesBoard};
+    ghost use Rattle.ck_journal.specs.Histories.{effects_of};
     ghost use Rattle.ck_journal.specs.Operations.{added_bytes};
 
     /// A copy of the call.
@@ -347,6 +349,31 @@ impl Call {
             | Call::VerifyUpdate { bytes, .. } => bytes.as_slice(),
             _ => &[],
         }
+    }
+
+    /// Whether the call, however it is answered, leaves the sessions, the login and the PINs.
+    pub fn leaves_board(&self) -> bool
+        ensures kind { result ≡ not (effects_of (Some self.now)).sessions }
+        ensures leaves { IsTrue result → LeavesBoard self.now }
+    {
+        !self.is_about_sessions()
+    }
+
+    /// Whether the call, where it is answered OK, may change sessions, the login or PINs.
+    fn is_about_sessions(&self) -> bool
+        ensures { result ≡ (effects_of (Some self.now)).sessions }
+    {
+        matches!(
+            self,
+            Call::InitToken { .. }
+                | Call::InitPin { .. }
+                | Call::SetPin { .. }
+                | Call::OpenSession { .. }
+                | Call::CloseSession { .. }
+                | Call::CloseAllSessions
+                | Call::Login { .. }
+                | Call::Logout { .. }
+        )
     }
 }
 

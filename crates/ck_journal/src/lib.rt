@@ -3,6 +3,7 @@
 #![tactic(auto)]
 
 mod bases;
+mod boards;
 mod calls;
 mod cuts;
 mod journals;
@@ -15,6 +16,7 @@ mod tests;
 mod views;
 
 pub use bases::{Base, KeptObject};
+pub use boards::{LoginStatus, TokenBoard, session_state};
 pub use calls::{AttributeQuery, Call, Entry};
 pub use cuts::cut_law;
 pub use journals::Journal;

@@ -1,11 +1,15 @@
 -- Readings of sessions that agree with a history
-use Rattle.std.proofs.Common.{◌≡◌, ℕ, Bool, true, false, not, cond, List, [], ◌∷◌, Option, Some, None, refl, sym, ap, ◌∙◌, subst}
+use Rattle.std.proofs.Common.{◌≡◌, ℕ, Bool, true, false, not, cond, List, [], ◌∷◌, ◌++◌, Option, Some, None, refl, sym, ap, ◌∙◌, subst}
 use Rattle.std.proofs.lemmas.Bool.{eqb-true}
 use Rattle.std.proofs.lemmas.List.{length-map}
 use Rattle.std.proofs.lemmas.Option.{same_Some}
+use Rattle.std.proofs.lemmas.Simd.{map-map}
 use Rattle.std.specs.Prelude.{◌==◌, map, filter, find, length, is_some, nat_lt, option_map}
 use Rattle.std.specs.List.{list_any}
 use Rattle.std.specs.List.Sorted.{IsNonDecreasingBy}
+use Rattle.ck_types.specs.TokenLimits.{Ranges}
+use Rattle.ck_journal.specs.declared.boards.LoginStatus.{LoginStatus}
+use Rattle.ck_journal.specs.Boards.{BoardState, board_of, login_status}
 use Rattle.ck_journal.specs.Histories.{History}
 use Rattle.ck_journal.specs.Sessions.{openings, is_open, open_sessions, is_read_write, rw_sessions}
 use Rattle.ck_journal.proofs.Selections.{list_any-selected, list_any-at, filter-map, find-map, is_some-find, find-passes}
@@ -13,7 +17,7 @@ use Rattle.ck_journal.proofs.SessionMoves.{session_rows, is_open-within}
 use Rattle.ck_journal.specs.Searches.{is_searching, found_objects, last_number}
 use Rattle.ck_journal.proofs.RisingLemmas.{found_objects-rise}
 use Rattle.ck_sessions.specs.Agreement.{SessionsState, SessionsAgree, session_row, session_at, search_of, search_left}
-use Rattle.ck_sessions.specs.Rows.{Search, SessionRow, is_session, is_rw_row, is_read_only_row}
+use Rattle.ck_sessions.specs.Rows.{Search, SessionRow, is_session, is_rw_row, is_read_only_row, board_row}
 
 list_any-map : (test : SessionRow → Bool) (row : ℕ → SessionRow) (ks : List ℕ) → list_any test (map row ks) ≡ list_any (λ k. test (row k)) ks
 list_any-map test row [] = refl
@@ -55,6 +59,28 @@ module _ (h : History) (s : SessionsState) (agree : SessionsAgree h s) where
       ap (find (is_session session)) agree.rows ∙ found
       ∙ at_handle session (find (λ k. k == session) (open_sessions h)) refl
       (ap is_some (sym found) ∙ is_some-find (is_session session) (session_rows session_row h) ∙ list_any-open h session)
+
+-- ---- the board
+
+-- the board with these sessions added
+abbrev pub with_rows : List SessionRow → BoardState → BoardState
+with_rows rows b = record b { sessions = b.sessions ++ map board_row rows }
+
+module _ (limits : Ranges) (h : History) (s : SessionsState) (agree : SessionsAgree h s) where
+  board-rows : (rows : List SessionRow) → rows ≡ s.rows → map board_row rows ≡ (board_of limits h).sessions
+  board-rows rows same =
+      ap (map board_row) (same ∙ agree.rows) ∙ map-map board_row (session_row h) (open_sessions h)
+
+  abbrev board_with : ℕ → LoginStatus → List (ℕ × ℕ) → BoardState
+  board_with limit status sessions = record { limit = limit; sessions = sessions; status = status }
+
+  pub board-agrees : (limit : ℕ) (status : LoginStatus) (rows : List SessionRow) → limit ≡ limits.sessions
+      → status ≡ login_status h → rows ≡ s.rows
+      → board_with limit status (map board_row rows) ≡ board_of limits h
+  board-agrees limit status rows l st same =
+      ap (λ n. board_with n status (map board_row rows)) l
+      ∙ ap (λ x. board_with limits.sessions x (map board_row rows)) st
+      ∙ ap (board_with limits.sessions (login_status h)) (board-rows rows same)
 
 -- ---- a session's search
 

@@ -39,3 +39,7 @@ with_last number search = record search { last = number }
 -- the session whose search, if it has one, has returned the object of this number last
 abbrev pub with_last_found : ℕ → SessionRow → SessionRow
 with_last_found number row = record row { search = option_map (with_last number) row.search }
+
+-- what the board has of a session: its handle and flags
+abbrev pub board_row : SessionRow → ℕ × ℕ
+board_row row = (row.handle, row.flags)

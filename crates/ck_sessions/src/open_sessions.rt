@@ -44,6 +44,12 @@ impl Session {
         self.handle == handle
     }
 
+    pub(crate) fn handle(&self) -> u64
+        ensures { result ≡ self.now.handle }
+    {
+        self.handle
+    }
+
     /// The flags that it was opened with (CK_SESSION_INFO).
     pub fn flags(&self) -> u64
         ensures { result ≡ self.now.flags }

@@ -1,11 +1,12 @@
-ghost use Rattle.std.specs.Prelude.{◌≡◌, not, filter, find, length, map, position, None};
+ghost use Rattle.std.specs.Prelude.{◌≡◌, ◌+◌, ◌≤◌, ◌++◌, not, filter, find, length, map, position, None};
 ghost use Rattle.std.specs.List.{list_any};
 ghost use Rattle.std.specs.Option.{option_copied};
 ghost use Rattle.ck_journal.specs.Lists.{change_first};
-ghost use Rattle.ck_sessions.specs.Rows.{SessionRow, is_session, is_rw_row, is_read_only_row, with_search, with_last_found};
+ghost use Rattle.ck_sessions.specs.Rows.{SessionRow, is_session, is_rw_row, is_read_only_row, board_row, with_search, with_last_found};
 
 use crate::open_sessions::Session;
 use crate::searches::Search;
+use ck_journal::TokenBoard;
 
 pub(crate) fn find_session(rows: &[Session], session: u64) -> Option<&Session>
     ensures { option_copied result ≡ find (is_session session) rows.now }
@@ -68,5 +69,17 @@ pub(crate) fn end_searches(rows: &mut [Session])
 {
     for row in rows.iter_mut() {
         row.set_search(None);
+    }
+}
+
+/// Adds the sessions to a board, which has room for them.
+pub(crate) fn add_to_board(rows: &[Session], board: &mut TokenBoard)
+    requires { length board.old.sessions + length rows.now ≤ 64 }
+    ensures { board.new ≡ record board.old {
+      sessions = board.old.sessions ++ map board_row rows.now;
+    } }
+{
+    for row in rows {
+        board.push(row.handle(), row.flags());
     }
 }

@@ -1,11 +1,11 @@
 use crate::credentials::{Credential, NO_PIN};
 use crate::open_sessions::Session;
 use crate::rows::{
-    count_read_write, end_searches, find_session, has_read_only, remove_session, set_last_found,
-    set_search,
+    add_to_board, count_read_write, end_searches, find_session, has_read_only, remove_session,
+    set_last_found, set_search,
 };
 use crate::searches::Search;
-use ck_journal::{Base, KeptObject};
+use ck_journal::{Base, KeptObject, LoginStatus, TokenBoard};
 use ck_types::{NoMemory, Pin, Sequence, UserType};
 use std::alloc::Global;
 use std::marker::Model;
@@ -43,14 +43,16 @@ impl Model for Sessions {
 }
 
 impl Sessions {
-    ghost use Rattle.std.specs.Prelude.{◌≡◌, ◌+◌, ◌<◌, ◌^◌, ℕ, suc, true, false, not, Some, None, OnOk, IsOk, is_some, length, map};
+    ghost use Rattle.std.specs.Prelude.{◌≡◌, ◌+◌, ◌<◌, ◌≤◌, ◌^◌, ℕ, suc, true, false, not, Some, None, OnOk, IsOk, is_some, length, map};
     ghost use Rattle.std.specs.List.{list_any};
     ghost use Rattle.std.specs.Option.{option_copied};
+    ghost use Rattle.ck_types.specs.TokenLimits.{Ranges};
     ghost use Rattle.ck_types.specs.Users.{user_of};
     ghost use Rattle.ck_types.specs.declared.pins.Pin.{Pin};
     ghost use Rattle.ck_types.specs.declared.templates.Template.{Template};
     ghost use Rattle.ck_types.specs.declared.users.UserType.TheVariants as user;
     ghost use Rattle.ck_journal.specs.Bases.{empty_base, IsSound};
+    ghost use Rattle.ck_journal.specs.Boards.{board_of, login_status};
     ghost use Rattle.ck_journal.specs.Cuts.{base_of, kept_objects};
     ghost use Rattle.ck_journal.specs.Histories.{History, start, ◌◁◌, done, wrong_try};
     ghost use Rattle.ck_journal.specs.Objects.{creations};
@@ -197,6 +199,30 @@ impl Sessions {
             logins: self.logins,
             objects,
         }
+    }
+
+    fn login_status(&self) -> LoginStatus
+        ensures { (h : History) → SessionsAgree h self.now → result ≡ login_status h }
+    {
+        LoginStatus {
+            login: self.login,
+            so_tries: self.so.tries,
+            user_tries: self.user.tries,
+            is_initialized: self.so.pin.is_some(),
+            has_user_pin: self.user.pin.is_some(),
+        }
+    }
+
+    /// What C_GetSessionInfo and C_GetTokenInfo read of the token, where `limit` sessions may be
+    /// open at once. It takes no memory beside the board's own.
+    pub fn board(&self, limit: u64) -> TokenBoard
+        requires { length self.now.rows ≤ 64 }
+        ensures { (limits : Ranges) (h : History) → SessionsAgree h self.now
+            → limit ≡ limits.sessions → result ≡ board_of limits h }
+    {
+        let mut board = TokenBoard::new(limit, self.login_status());
+        add_to_board(self.rows.as_slice(), &mut board);
+        board
     }
 
     // ---- changes, each that of a call that was answered OK or of a wrong try

@@ -1,7 +1,7 @@
 ghost use Rattle.std.specs.Prelude.{◌≡◌};
 
-use ck_parts::Change;
 use ck_journal::Body;
+use ck_parts::Change;
 use ck_types::{NoMemory, Rv, RvError};
 
 /// The reply to a call that passes its checks, and what the call changes. The reply is here in its

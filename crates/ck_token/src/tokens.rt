@@ -6,7 +6,7 @@ ghost use Rattle.ck_parts.specs.Agreement.{PartsAgree, adds, HasRoom};
 use ck_parts::Change;
 use crate::decisions::{Decision, Refused};
 use ck_parts::Parts;
-use ck_journal::{Base, Body, Call, Entry, Journal, OperationKind, Reply};
+use ck_journal::{Base, Body, Call, Entry, Journal, OperationKind, Reply, TokenBoard};
 use ck_operations::Operations;
 use ck_sessions::Sessions;
 use ck_store::Store;
@@ -101,6 +101,7 @@ impl Token {
     ghost use Rattle.std.specs.Prelude.{◌≡◌, ◌<◌, ◌≤◌, ◌+◌, true, false, IfOk, IfErr, IsOk, OnOk, OnErr};
     ghost use Rattle.ck_journal.specs.Answers.{IsLegal, answer};
     ghost use Rattle.ck_journal.specs.Bases.{empty_base, IsSound};
+    ghost use Rattle.ck_journal.specs.Boards.{board_of};
     ghost use Rattle.ck_journal.specs.Histories.{start};
     ghost use Rattle.ck_parts.specs.Changes.{effect};
     ghost use Rattle.ck_token.specs.Decisions.{IsDecision, may_run_out, reply_of};
@@ -143,6 +144,21 @@ impl Token {
         ensures legal { IsLegal self.now.limits self.now.history }
     {
         &self.journal
+    }
+
+    /// The limits that it was made with.
+    pub fn limits(&self) -> Limits
+        ensures { result ≡ self.now.limits }
+    {
+        self.limits
+    }
+
+    /// What C_GetSessionInfo and C_GetTokenInfo read of the token. It takes no memory beside the
+    /// board's own.
+    pub fn board(&self) -> TokenBoard
+        ensures { result ≡ board_of self.now.limits self.now.history }
+    {
+        self.parts.sessions.board(self.limits.sessions())
     }
 
     /// Makes room in the journal for `count` more entries.

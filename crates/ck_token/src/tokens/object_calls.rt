@@ -5,11 +5,10 @@ ghost use Rattle.ck_types.specs.Records.{state_in};
 ghost use Rattle.ck_journal.specs.Answers.{prohibited_error, parameter_error, transition_error};
 
 use super::Token;
-use ck_parts::Boxed;
-use ck_parts::Change;
 use crate::decisions::{Decision, Refused};
 use crate::queries::queries_reply;
 use ck_journal::{AttributeQuery, Body};
+use ck_parts::{Boxed, Change};
 use ck_sessions::Session;
 use ck_types::{
     Attribute, KeyState, Mechanism, Placement, Record, Rv, RvError, Template, error_if,

@@ -9,11 +9,11 @@ ghost use Rattle.ck_token.specs.declared.decisions.Refused.TheVariants as refuse
 
 use super::Token;
 use super::object_calls::check_no_parameter;
-use ck_parts::Change;
 use crate::decisions::{Decision, Refused};
 use ck_journal::{Body, OperationKind, is_long_piece};
 use ck_mac::Tag;
 use ck_operations::Operation;
+use ck_parts::Change;
 use ck_types::{
     Attribute, Bytes, KeyState, Mechanism, NoMemory, Record, Rv, RvError, digest_of, error_if,
     mac_of,

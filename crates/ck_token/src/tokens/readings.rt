@@ -1,26 +1,12 @@
 ghost use Rattle.std.specs.Prelude.{◌≡◌};
-ghost use Rattle.ck_types.specs.Users.{session_state};
 ghost use Rattle.ck_types.specs.declared.users.UserType.TheVariants as user;
 ghost use Rattle.ck_journal.specs.Pins.{is_user};
 
 use super::Token;
-use ck_journal::{OperationKind, View};
+use ck_journal::{OperationKind, View, session_state};
 use ck_operations::Operation;
 use ck_sessions::{Credential, Session};
 use ck_types::{Class, Record, RvError, SessionState, UserType};
-
-/// The state of a session, by who is logged in and whether the session is read/write.
-fn session_state(login: Option<UserType>, is_read_write: bool) -> SessionState
-    ensures { result ≡ session_state login is_read_write }
-{
-    match login {
-        None if is_read_write => SessionState::RwPublic,
-        None => SessionState::RoPublic,
-        Some(UserType::User) if is_read_write => SessionState::RwUser,
-        Some(UserType::User) => SessionState::RoUser,
-        Some(UserType::So) => SessionState::RwSo,
-    }
-}
 
 /// Whether the normal user is logged in.
 fn is_user_in(login: Option<UserType>) -> bool

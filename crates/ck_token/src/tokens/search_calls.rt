@@ -1,7 +1,7 @@
 use super::Token;
-use ck_parts::Change;
 use crate::decisions::{Decision, Refused};
 use ck_journal::{Body, number_of_handle};
+use ck_parts::Change;
 use ck_types::{NoMemory, Rv, RvError, Sequence, Template, error_if};
 use std::alloc::Global;
 

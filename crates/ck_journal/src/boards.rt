@@ -1,0 +1,163 @@
+ghost use Rattle.std.specs.Prelude.{◌≡◌, ◌==◌, length, filter, find};
+ghost use Rattle.std.specs.Option.{option_copied};
+ghost use Rattle.ck_types.specs.Users.{session_state};
+ghost use Rattle.ck_journal.specs.Sessions.{has_rw_flag};
+
+use crate::replies::{Body, Reply};
+use crate::session_flags::is_read_write;
+use ck_types::{Rv, RvError, SessionState, TokenFlags, UserType};
+use std::marker::Model;
+
+/// The most sessions that a token may have open at once.
+const MOST_SESSIONS: usize = 64;
+
+/// Who is logged in, and what of the PINs the calls that read a token's state answer.
+#[derive(Clone, Copy, Debug, PartialEq, Eq)]
+pub struct LoginStatus {
+    pub login: Option<UserType>,
+    /// How many wrong tries of the security officer's PIN were made since they last went back to 0.
+    pub so_tries: u64,
+    /// As `so_tries`, of the normal user's PIN.
+    pub user_tries: u64,
+    pub is_initialized: bool,
+    pub has_user_pin: bool,
+}
+
+/// What C_GetSessionInfo and C_GetTokenInfo read of a token: a copy of it answers them as the token
+/// does. It takes no memory beside its own, which has a place for each session that a token may have
+/// open.
+#[derive(Debug, Drop)]
+pub struct TokenBoard {
+    limit: u64,
+    status: LoginStatus,
+    /// The handles and flags of the open sessions, in the order of their openings, in the first
+    /// `count` places.
+    rows: [(u64, u64); MOST_SESSIONS],
+    count: usize,
+}
+
+impl Model for TokenBoard {
+    ghost use Rattle.std.specs.Prelude.{take, ◌≤◌};
+    ghost use Rattle.ck_journal.specs.Boards.{BoardState};
+
+    ghost Value = { BoardState };
+
+    ghost view = { λ b. record {
+      limit = b.limit;
+      sessions = take b.count b.rows;
+      status = b.status;
+    } };
+
+    ghost invariant = { λ b. b.count ≤ 64 };
+}
+
+/// The state of a session, by who is logged in and whether the session is read/write.
+pub fn session_state(login: Option<UserType>, is_read_write: bool) -> SessionState
+    ensures { result ≡ session_state login is_read_write }
+{
+    match login {
+        None if is_read_write => SessionState::RwPublic,
+        None => SessionState::RoPublic,
+        Some(UserType::User) if is_read_write => SessionState::RwUser,
+        Some(UserType::User) => SessionState::RoUser,
+        Some(UserType::So) => SessionState::RwSo,
+    }
+}
+
+fn find_row(rows: &[(u64, u64)], handle: u64) -> Option<&(u64, u64)>
+    ensures { option_copied result ≡ find (λ row. row.0 == handle) rows.now }
+{
+    rows.iter().find(|row| row.0 == handle)
+}
+
+fn count_read_write(rows: &[(u64, u64)]) -> u64
+    ensures { result ≡ length (filter (λ row. has_rw_flag row.1) rows.now) }
+{
+    rows.iter().filter(|row| is_read_write(row.1)).count() as u64
+}
+
+impl TokenBoard {
+    ghost use Rattle.std.specs.Prelude.{◌≡◌, ◌<◌, ◌++◌, ◌∷◌, [], length};
+    ghost use Rattle.ck_types.specs.TokenLimits.{Ranges};
+    ghost use Rattle.ck_journal.specs.Answers.{answer};
+    ghost use Rattle.ck_journal.specs.Boards.{board_of};
+    ghost use Rattle.ck_journal.specs.Histories.{History};
+    ghost use Rattle.ck_journal.specs.declared.calls.Call.TheVariants as call;
+
+    /// A board without sessions, of a token that may have as many open at once as `limit` says.
+    pub fn new(limit: u64, status: LoginStatus) -> TokenBoard
+        ensures { result ≡ record { limit = limit; sessions = []; status = status } }
+    {
+        TokenBoard {
+            limit,
+            status,
+            rows: [(0, 0); MOST_SESSIONS],
+            count: 0,
+        }
+    }
+
+    /// Adds a session with these flags.
+    pub fn push(&mut self, handle: u64, flags: u64)
+        requires { length self.old.sessions < 64 }
+        ensures { self.new
+            ≡ record self.old { sessions = self.old.sessions ++ (handle, flags) ∷ [] } }
+    {
+        self.rows[self.count] = (handle, flags);
+        self.count += 1;
+    }
+
+    /// A copy.
+    pub fn duplicate(&self) -> TokenBoard
+        ensures { result ≡ self.now }
+    {
+        TokenBoard {
+            limit: self.limit,
+            status: self.status,
+            rows: self.rows,
+            count: self.count,
+        }
+    }
+
+    /// What C_GetSessionInfo answers.
+    pub fn session_info(&self, session: u64) -> Reply
+        ensures { (limits : Ranges) (h : History) → self.now ≡ board_of limits h
+            → result ≡ answer limits h (call.GetSessionInfo session) }
+    {
+        match find_row(&self.rows[..self.count], session) {
+            None => Reply {
+                rv: Rv::Error(RvError::SessionHandleInvalid),
+                body: Body::Empty,
+            },
+            Some((_, flags)) => Reply {
+                rv: Rv::Ok,
+                body: Body::Session {
+                    state: session_state(self.status.login, is_read_write(*flags)),
+                    flags: *flags,
+                },
+            },
+        }
+    }
+
+    /// What C_GetTokenInfo answers.
+    pub fn token_info(&self) -> Reply
+        ensures { (limits : Ranges) (h : History) → self.now ≡ board_of limits h
+            → result ≡ answer limits h call.GetTokenInfo }
+    {
+        let rows = &self.rows[..self.count];
+        let status = self.status;
+        Reply {
+            rv: Rv::Ok,
+            body: Body::Token {
+                flags: TokenFlags::of(
+                    status.is_initialized,
+                    status.has_user_pin,
+                    status.user_tries,
+                    status.so_tries,
+                ),
+                limit: self.limit,
+                sessions: rows.len() as u64,
+                rw_sessions: count_read_write(rows),
+            },
+        }
+    }
+}
