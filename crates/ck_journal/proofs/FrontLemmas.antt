@@ -1,5 +1,7 @@
 -- Fronts of histories, and logs that go on
 use Rattle.std.proofs.Common.{◌≡◌, ◌+◌, ◌≤◌, List, [], ◌∷◌, ◌++◌, length, refl, sym, ap, ◌∙◌, subst, arith}
+use Rattle.std.specs.Prelude.{reverse}
+use Rattle.std.proofs.lemmas.Grind.{reverse_onto}
 use mathlib.Core.List.{IsPrefix}
 use Rattle.ck_types.specs.TokenLimits.{Ranges}
 use Rattle.ck_journal.specs.declared.bases.Base.{Base}
@@ -72,3 +74,12 @@ module _ (b : Base) where
   pub front_of_prefix : (log all : List Entry) → IsPrefix log all → IsFront (history_of b log) (history_of b all)
   front_of_prefix log all p =
       subst (λ x. IsFront (history_of b log) x) (sym (extended_by-append (start b) log p.0) ∙ ap (history_of b) p.1) (front_extended (history_of b log) p.0)
+
+-- a log and the same entries, the newest first
+pub extended_by-reverse : (h : History) (log : List Entry)
+    → extended_by h log ≡ followed_by h (reverse log)
+extended_by-reverse h [] = refl
+extended_by-reverse h (e ∷ log) =
+    extended_by-reverse (e ◁ h) log
+    ∙ followed_by-append h (reverse log) (e ∷ [])
+    ∙ ap (followed_by h) (sym (reverse_onto log e []))

@@ -39,7 +39,7 @@ impl Journal {
     ghost use Rattle.std.specs.Option.{option_copied};
     ghost use Rattle.ck_journal.specs.Bases.{empty_base, IsSound};
     ghost use Rattle.ck_journal.specs.Histories.{start, ◌◁◌, start_of, entry_at, entry_count};
-    ghost use Rattle.ck_journal.specs.Fronts.{newest_entry};
+    ghost use Rattle.ck_journal.specs.Fronts.{history_of, newest_entry};
 
     /// The journal of a new token, which has no entries and takes no memory.
     pub fn new(alloc: Global) -> Journal
@@ -104,6 +104,13 @@ impl Journal {
             return None;
         }
         item_at(self.entries.as_slice(), (number - 1) as usize)
+    }
+
+    /// The entries, the oldest first.
+    pub fn entries(&self) -> &[Entry]
+        ensures { self.now.history ≡ history_of (start_of self.now.history) result.now }
+    {
+        self.entries.as_slice()
     }
 
     /// The newest entry.

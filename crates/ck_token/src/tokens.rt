@@ -3,11 +3,10 @@ ghost use Rattle.ck_journal.specs.Histories.{History};
 ghost use Rattle.ck_journal.specs.Replies.{has_list};
 ghost use Rattle.ck_parts.specs.Agreement.{PartsAgree, adds, HasRoom};
 
-use ck_parts::Change;
 use crate::decisions::{Decision, Refused};
-use ck_parts::Parts;
 use ck_journal::{Base, Body, Call, Entry, Journal, OperationKind, Reply, TokenBoard};
 use ck_operations::Operations;
+use ck_parts::{Change, Parts};
 use ck_sessions::Sessions;
 use ck_store::Store;
 use ck_types::{Limits, NoMemory, Rv};
@@ -131,10 +130,11 @@ impl Token {
         ensures history { IfOk result (λ token. token.history ≡ start base) }
     {
         let parts = Parts::from_base(alloc, &base)?;
+        let journal = Journal::from_base(alloc, base);
         Ok(Token {
             limits,
             parts,
-            journal: Journal::from_base(alloc, base),
+            journal,
         })
     }
 
