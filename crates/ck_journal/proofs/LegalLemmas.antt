@@ -543,7 +543,7 @@ module _ (limits : Ranges) (h : History) (n : ℕ) (a : List Item) (P : List Ite
     call-keeps : (c : Call) → call_error limits h c ≡ None → (creator : ℕ) (b : List Item)
         → object_after (Some c) (view_of h) n creator a ≡ Some b → P b
     call-keeps (call.DestroyObject session object) p creator b e =
-        unless-ends P (names_with (view_of h) a object n) a b same e
+        unless-ends P _ a b same e
     call-keeps (call.SetAttributeValue session object template) p creator b e =
         let found = object-found (attributes_named h object) _ rv_error.ObjectHandleInvalid
         (last-passes (object_error h object _) (later-passes (session_error h session) _ p)) in
@@ -558,11 +558,11 @@ module _ (limits : Ranges) (h : History) (n : ℕ) (a : List Item) (P : List Ite
         (λ named. state-keeps (state_of_number number)) same e
     call-keeps (call.InitToken pin) p creator b e = cc
     call-keeps (call.CloseSession session) p creator b e =
-        unless-ends P (is_session_object a && session == creator) a b same e
+        unless-ends P _ a b same e
     call-keeps call.CloseAllSessions p creator b e =
-        unless-ends P (is_session_object a) a b same e
+        unless-ends P _ a b same e
     call-keeps (call.Logout session) p creator b e =
-        unless-ends P (is_session_object a && is_set a attribute.Private) a b same e
+        unless-ends P _ a b same e
     call-keeps other_call p creator b e = unless-ends P false a b same e
 
     pub object_stays : (e : Entry) → IsSound (start_of h) → IsLegal limits (e ◁ h)

@@ -36,7 +36,7 @@ pub handle-number : (view : View) (attributes : List Item) (handle n : ℕ) → 
 handle-number view attributes handle n small e =
     number_case (is_set attributes attribute.Private) view.logins n handle small e
 
-names_with-number : (view : View) (attributes : List Item) (handle n : ℕ) → n < 2 ^ 32
+pub names_with-number : (view : View) (attributes : List Item) (handle n : ℕ) → n < 2 ^ 32
     → names_with view attributes handle n ≡ true → n ≡ number_of_handle handle
 names_with-number view attributes handle n small named =
     handle-number view attributes handle n small

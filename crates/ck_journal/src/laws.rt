@@ -47,8 +47,8 @@ pub fn private_objects_are_visible_to_the_user()
     ensures { PrivateObjectsAreVisibleToTheUser }
 {}
 
-/// An OK call with the handle of an object names one, and if it is private the normal user is logged
-/// in just before.
+/// An OK call with the handle of an object names one, and if it is private the normal user is
+/// logged in just before.
 pub fn private_objects_are_named_by_the_user()
     ensures { PrivateObjectsAreNamedByTheUser }
 {}
