@@ -13,15 +13,16 @@ use Rattle.ck_journal.specs.Laws.{HandlesNameOneObject, SessionHandlesAreGivenOn
 use Rattle.ck_journal.specs.Sessions.{opens, openings}
 use Rattle.ck_journal.proofs.LaterLemmas.{just_before, before_all, openings-rise}
 use Rattle.ck_journal.proofs.LegalLemmas.{allowed-done}
-use Rattle.ck_journal.proofs.NameLemmas.{object_named-number}
+use Rattle.ck_journal.proofs.NameLemmas.{named-number}
 use Rattle.ck_journal.proofs.SessionMoves.{openings-opened}
 
 pub names-one_object : HandlesNameOneObject
 names-one_object limits h later good handle n m first last =
     let before = before_all limits h later good in
-    object_named-number limits before.in_range h before.sound before.legal handle n first
-    ∙ sym (object_named-number limits good.in_range (followed_by h later) good.sound good.legal
-    handle m last)
+    named-number limits before.in_range h before.sound before.legal handle n first.attributes
+    first.present first.named
+    ∙ sym (named-number limits good.in_range (followed_by h later) good.sound good.legal handle m
+    last.attributes last.present last.named)
 
 opening-call : (d : Option Call) → opens d ≡ true
     → (flags : ℕ) × (d ≡ Some (call.OpenSession flags))

@@ -36,7 +36,7 @@ use Rattle.ck_journal.specs.declared.replies.Reply.{Reply}
 use Rattle.ck_journal.specs.Answers.{unless, refusal, session_error, pin_error, init_token_error, init_pin_error, set_pin_error, known_login_error, user_login_error, logged_in_error, read_only_error, logins_error, object_error, prohibited_error, placement_error, read_only_session_error, creations_error, too_small, ok, bytes_reply, call_error, allowed_reply, answer, IsLegal, is_so, is_so_state, tag_in, parameter_error}
 use Rattle.ck_journal.specs.Bases.{base_tries, IsSound}
 use Rattle.ck_journal.specs.Histories.{History, start, ◌◁◌, start_of, done, wrong_try, is_ok, is_wrong_pin}
-use Rattle.ck_journal.specs.Objects.{creates, creations, object_at, object_after, attributes_named, named_attributes, session_of, view_of, names_with, is_session_object, in_state}
+use Rattle.ck_journal.specs.Objects.{creates, creations, object_at, object_after, attributes_named, named_attributes, session_of, view_of, names_with, in_state}
 use Rattle.ck_journal.specs.Operations.{message_in}
 use Rattle.ck_journal.specs.Pins.{about, is_about, is_user, is_locked, is_initialized, is_pin, pin_owner, present_pin, resets, tries}
 use Rattle.ck_journal.specs.Queries.{is_sensitive, is_missing, lacks_room}

@@ -90,12 +90,6 @@ module _ (limits : Ranges)
       let below = creations-bound limits in_range h sound legal in
       names_with-number (view_of h) attributes handle n (omega arith) named
 
-  pub object_named-number : (handle n : ℕ) → object_named h handle ≡ Some n
-      → n ≡ number_of_handle handle
-  object_named-number handle n e =
-      let there = named-passes h handle n e in
-      named-number handle n there.0 there.1 there.2
-
   -- what a call finds by a handle is the object that the handle names
   pub found-named : (handle n : ℕ) (attributes found : List Item)
       → object_at h n ≡ Some attributes → names_with (view_of h) attributes handle n ≡ true

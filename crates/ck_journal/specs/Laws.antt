@@ -19,7 +19,7 @@ use Rattle.ck_journal.specs.Answers.{IsLegal}
 use Rattle.ck_journal.specs.Bases.{IsSound}
 use Rattle.ck_journal.specs.Histories.{History, ◌◁◌, start_of, followed_by, done}
 use Rattle.ck_journal.specs.Objects.{object_at, object_named, session_of, is_session_object}
-use Rattle.ck_journal.specs.Objects.{is_visible, creates, handle_of}
+use Rattle.ck_journal.specs.Objects.{is_visible, creates, handle_of, names_with, view_of}
 use Rattle.ck_journal.specs.Operations.{is_active, key_in}
 use Rattle.ck_journal.specs.Pins.{tries}
 use Rattle.ck_journal.specs.Searches.{handles_in}
@@ -33,13 +33,18 @@ pub record IsSoundHistory (limits : Ranges) (h : History) : Type 0 where
 
 -- ---- handles and wrong tries
 
--- a handle names at most one object, over all fronts
+-- the handle names the object of this number: that is there and visible, and has the handle
+pub record Names (h : History) (handle n : ℕ) : Type 0 where
+  pub attributes : List Item
+  pub present : object_at h n ≡ Some attributes
+  pub named : names_with (view_of h) attributes handle n ≡ true
+
+-- a handle names at most one object, at one front and over all
 abbrev pub HandlesNameOneObject : Type 0
 HandlesNameOneObject =
     (limits : Ranges) (h : History) (later : List Entry)
     → IsSoundHistory limits (followed_by h later) → (handle n m : ℕ)
-    → object_named h handle ≡ Some n → object_named (followed_by h later) handle ≡ Some m
-    → n ≡ m
+    → Names h handle n → Names (followed_by h later) handle m → n ≡ m
 
 -- the entry opens a session and returns this handle
 pub record GivesSession (e : Entry) (handle : ℕ) : Type 0 where
