@@ -1,4 +1,5 @@
 pub mod Counts
+pub mod CutLemmas
 pub mod DecisionLemmas
 pub mod Entering
 pub mod Inversions

@@ -4,6 +4,7 @@
 
 mod boxed;
 mod changes;
+mod cuts;
 mod decisions;
 mod parts;
 mod queries;
@@ -12,5 +13,6 @@ mod runs;
 mod tests;
 mod tokens;
 
+pub use cuts::Uncut;
 pub use runs::{Stopped, run};
 pub use tokens::Token;
