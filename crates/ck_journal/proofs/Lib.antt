@@ -1,3 +1,4 @@
+pub mod BaseLemmas
 pub mod Changes
 pub mod CutBases
 pub mod CutMoves
