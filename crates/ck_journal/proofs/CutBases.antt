@@ -133,7 +133,7 @@ module _ (h : History) where
         rw (same_number n)
         (ap (λ o. option_map (λ (kept : KeptObject). kept.attributes) (option_map (kept_object n) o)) is)
 
-    kept-object : IsSound (start_of h) → kept_attributes (base_of h) n ≡ object_at h n
+    pub kept-object : IsSound (start_of h) → kept_attributes (base_of h) n ≡ object_at h n
     kept-object sound =
         ap (option_map (λ (kept : KeptObject). kept.attributes))
         (find-filter_map (λ (kept : KeptObject). kept.number == n) row (numbers (creations h))
@@ -164,11 +164,11 @@ module _ (limits : Ranges) (h : History) (good : IsSoundHistory limits h) (none 
       true≢false (sym (list_any-member (is_open h) s (openings h) within.0 within.1 t)
       ∙ empty-none (is_open h) (numbers (openings h)) none)
 
-  closed : (test : ℕ → Bool) → ((s : ℕ) → test s ≡ true → is_open h s ≡ true) → (s : ℕ)
+  pub closed : (test : ℕ → Bool) → ((s : ℕ) → test s ≡ true → is_open h s ≡ true) → (s : ℕ)
       → false ≡ test s
   closed test opens s = sym (false_from_ne_true (test s) (λ t. no-open s (opens s t)))
 
-  token-object : (n : ℕ) (attributes : List Item) → object_at h n ≡ Some attributes
+  pub token-object : (n : ℕ) (attributes : List Item) → object_at h n ≡ Some attributes
       → is_set attributes attribute.Token ≡ true
   token-object n attributes is =
       not-false (is_set attributes attribute.Token)

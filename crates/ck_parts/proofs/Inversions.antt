@@ -26,7 +26,6 @@ use Rattle.ck_journal.specs.declared.calls.Entry.{Entry}
 use Rattle.ck_journal.specs.declared.operations.OperationKind.{OperationKind}
 use Rattle.ck_journal.specs.declared.operations.OperationKind.TheVariants as kind
 use Rattle.ck_journal.specs.declared.replies.Body.{Body}
-use Rattle.ck_journal.specs.declared.replies.Body.TheVariants as body
 use Rattle.ck_journal.specs.Histories.{History, done, is_ok}
 use Rattle.ck_journal.specs.Objects.{creates, creation_session, creation_attributes, attributes_named, object_named, named_attributes}
 use Rattle.ck_journal.specs.Pins.{pin_owner, about}

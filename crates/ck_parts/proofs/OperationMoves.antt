@@ -1,21 +1,12 @@
 -- What the calls do to operations
 use Rattle.std.proofs.Common.{◌≡◌, ℕ, Bool, true, false, cond, not, List, [], ◌∷◌, Option, Some, None}
-use Rattle.std.proofs.Common.{refl, sym, ap, ◌∙◌, subst, length}
-use Rattle.std.specs.Prelude.{◌==◌, ◌&&◌, ◌||◌, option_and_then, unwrap_or, is_none, is_some}
-use Rattle.std.specs.Option.{option_map_or}
-use Rattle.ck_types.specs.Checks.{error_if, or_else}
-use Rattle.ck_types.specs.Mechanisms.{digest_hash, hmac_hash, tag_length}
-use Rattle.ck_types.specs.TokenLimits.{Ranges}
+use Rattle.std.proofs.Common.{refl, sym, ap, ◌∙◌, length}
+use Rattle.std.specs.Prelude.{◌==◌, ◌&&◌, ◌||◌, is_some}
 use Rattle.ck_types.specs.declared.errors.RvError.{RvError}
 use Rattle.ck_types.specs.declared.errors.RvError.TheVariants as rv_error
-use Rattle.ck_types.specs.declared.hashes.Hash.{Hash}
-use Rattle.ck_types.specs.declared.hashes.Hash.TheVariants as hash
-use Rattle.ck_types.specs.declared.mechanisms.Mechanism.{Mechanism}
 use Rattle.ck_types.specs.declared.return_codes.Rv.{Rv}
 use Rattle.ck_types.specs.declared.return_codes.Rv.TheVariants as rv
 use Rattle.ck_types.specs.declared.users.UserType.{UserType}
-use Rattle.ck_types.specs.declared.users.UserType.TheVariants as user
-use Rattle.ck_types.proofs.CheckLemmas.{or_else-none, error_if-none}
 use Rattle.ck_journal.specs.declared.calls.Call.{Call}
 use Rattle.ck_journal.specs.declared.calls.Call.TheVariants as call
 use Rattle.ck_journal.specs.declared.calls.Entry.{Entry}
@@ -24,10 +15,10 @@ use Rattle.ck_journal.specs.declared.operations.OperationKind.TheVariants as kin
 use Rattle.ck_journal.specs.declared.replies.Body.{Body}
 use Rattle.ck_journal.specs.declared.replies.Body.TheVariants as body
 use Rattle.ck_journal.specs.declared.replies.Reply.{Reply}
-use Rattle.ck_journal.specs.Histories.{History, ◌◁◌, done, is_ok, is_wrong_pin, effects_of, effects}
+use Rattle.ck_journal.specs.Histories.{History, ◌◁◌, done, is_ok, effects_of, effects}
 use Rattle.ck_journal.specs.OperationCalls.{Step, initialize, take_whole, add_piece, finish}
 use Rattle.ck_journal.specs.OperationCalls.{OperationStep, operation_step, step_in, same_kind, piece_in}
-use Rattle.ck_journal.specs.Operations.{starts, ends, finishes, cancels, piece_of, ends_by, added_bytes}
+use Rattle.ck_journal.specs.Operations.{starts, ends, finishes, cancels, piece_of, ends_by}
 use Rattle.ck_journal.specs.Operations.{is_initialization, leaves_active, is_data_len_range, names_kind}
 use Rattle.ck_journal.specs.Operations.{is_updated, pieces_in, message_in}
 use Rattle.std.specs.List.{concat}
@@ -39,12 +30,11 @@ use Rattle.ck_journal.specs.Sessions.{ends_operations}
 use Rattle.ck_journal.proofs.OperationMoves.{starts_none, ends_none, adds_none, starts_no_step}
 use Rattle.ck_journal.proofs.OperationMoves.{adds_no_step, finishes_no_step}
 use Rattle.ck_operations.specs.Agreement.{OperationsState, OperationsAgree}
-use Rattle.ck_operations.specs.Moves.{Move, Stay, Start, Add, End, Does, OnlyIn, OnlyInSession}
+use Rattle.ck_operations.specs.Moves.{Stay, Start, Add, End, Does, OnlyIn, OnlyInSession}
 use Rattle.ck_operations.specs.Moves.{OnlyNamed, InAll}
 use Rattle.ck_operations.proofs.Moves.{operations-left}
-use Rattle.ck_parts.specs.Changes.{wrong_try_change, end_if_too_long, finish_change, refused_by}
+use Rattle.ck_parts.specs.Changes.{wrong_try_change, end_if_too_long, refused_by}
 use Rattle.ck_parts.specs.Changes.{refused_step, effect_by, change_of}
-use Rattle.ck_parts.specs.declared.changes.Change.{Change}
 use Rattle.ck_parts.specs.declared.changes.Change.TheVariants as change
 
 -- ---- a call that makes a step on an operation

@@ -3,9 +3,8 @@ use Rattle.std.proofs.Common.{◌≡◌, ℕ, Bool, true, false, cond, not, List
 use Rattle.std.specs.Prelude.{option_and_then, unwrap_or, is_none, if◌then◌else◌}
 use Rattle.std.specs.Option.{option_map_or}
 use Rattle.ck_types.specs.Checks.{error_if, or_else, first_of}
-use Rattle.ck_types.specs.Hashes.{digest_length}
 use Rattle.ck_types.specs.KeyStates.{state_of_number}
-use Rattle.ck_types.specs.Mechanisms.{digest_hash, hmac_hash, tag_length}
+use Rattle.ck_types.specs.Mechanisms.{hmac_hash, tag_length}
 use Rattle.ck_types.specs.Records.{with_given, is_set, is_key, state_in, protections_of, placement_of}
 use Rattle.ck_types.specs.Records.{changed_error}
 use Rattle.ck_types.specs.Templates.{class_of}
@@ -36,8 +35,7 @@ use Rattle.ck_journal.specs.declared.operations.OperationKind.TheVariants as kin
 use Rattle.ck_journal.specs.declared.replies.Body.{Body}
 use Rattle.ck_journal.specs.Answers.{call_error, session_error, object_error, key_error}
 use Rattle.ck_journal.specs.Answers.{read_only_session_error, prohibited_error, known_login_error}
-use Rattle.ck_journal.specs.Answers.{transition_error, set_key_state_error, hmac_init_error}
-use Rattle.ck_journal.specs.Answers.{parameter_error, digest_init_error}
+use Rattle.ck_journal.specs.Answers.{transition_error, hmac_init_error}
 use Rattle.ck_journal.specs.Histories.{History, ◌◁◌, done, wrong_try, is_ok, is_wrong_pin, effects_of}
 use Rattle.ck_journal.specs.Objects.{creates, named_attributes, object_named, object_at}
 use Rattle.ck_journal.specs.Pins.{about, is_about, is_user}

@@ -5,6 +5,7 @@ pub use Rattle.ck_journal.specs.Pins
 pub use Rattle.ck_journal.specs.Queries
 pub use Rattle.ck_journal.specs.Sessions
 pub mod Agreement
+pub mod Cuts
 pub mod Decisions
 pub mod Runs
 pub mod TokenStates

@@ -2,6 +2,7 @@
 //! journal itself.
 #![tactic(auto)]
 
+mod cuts;
 mod decisions;
 mod queries;
 mod runs;
@@ -9,5 +10,6 @@ mod runs;
 mod tests;
 mod tokens;
 
+pub use cuts::Uncut;
 pub use runs::{Stopped, run};
 pub use tokens::Token;

@@ -3,6 +3,7 @@ ghost use Rattle.ck_journal.specs.Histories.{History};
 ghost use Rattle.ck_journal.specs.Replies.{has_list};
 ghost use Rattle.ck_parts.specs.Agreement.{PartsAgree, adds, HasRoom};
 
+use crate::cuts::{Uncut, kept_objects};
 use crate::decisions::{Decision, Refused};
 use ck_journal::{Base, Body, Call, Entry, Journal, OperationKind, Reply, TokenBoard};
 use ck_operations::Operations;
@@ -12,6 +13,7 @@ use ck_store::Store;
 use ck_types::{Limits, NoMemory, Rv};
 use std::alloc::Global;
 use std::marker::Model;
+use std::mem;
 
 mod object_calls;
 mod operation_calls;
@@ -101,8 +103,10 @@ impl Token {
     ghost use Rattle.ck_journal.specs.Answers.{IsLegal, answer};
     ghost use Rattle.ck_journal.specs.Bases.{empty_base, IsSound};
     ghost use Rattle.ck_journal.specs.Boards.{board_of};
+    ghost use Rattle.ck_journal.specs.Cuts.{base_of, IsLeftBy};
     ghost use Rattle.ck_journal.specs.Histories.{start};
     ghost use Rattle.ck_parts.specs.Changes.{effect};
+    ghost use Rattle.ck_token.specs.Cuts.{IsCut};
     ghost use Rattle.ck_token.specs.Decisions.{IsDecision, may_run_out, reply_of};
     ghost use Rattle.ck_token.specs.TokenStates.{IsAnswered, IsUnchanged};
 
@@ -146,13 +150,6 @@ impl Token {
         &self.journal
     }
 
-    /// The limits that it was made with.
-    pub fn limits(&self) -> Limits
-        ensures { result ≡ self.now.limits }
-    {
-        self.limits
-    }
-
     /// What C_GetSessionInfo and C_GetTokenInfo read of the token. It takes no memory beside the
     /// board's own.
     pub fn board(&self) -> TokenBoard
@@ -176,6 +173,35 @@ impl Token {
         ensures { result ≡ self.now.spare }
     {
         self.journal.spare()
+    }
+
+    /// How many sessions may be open, and how many sessions, objects and logins there may be.
+    pub fn limits(&self) -> Limits
+        ensures { result ≡ self.now.limits }
+    {
+        self.limits
+    }
+
+    /// Takes the journal out; the token goes on with a new one, which starts from what is left of
+    /// the calls so far and has no entry. It may have no room. Where a session is open, which is
+    /// looked at first, or there is no memory, nothing has changed. All later calls are answered as
+    /// they would have been.
+    pub fn cut(&mut self, alloc: Global) -> Result<Journal, Uncut>
+        ensures cut { IsCut self.old self.new result }
+        ensures sound { OnOk result (IsSound (base_of self.old.history)) }
+        ensures left { OnOk result
+            (IsLeftBy self.old.limits self.old.history (base_of self.old.history)) }
+    {
+        if self.parts.sessions.count() != 0 {
+            return Err(Uncut::Session);
+        }
+        let objects = kept_objects(&self.parts.objects, alloc)?;
+        let base = self
+            .parts
+            .sessions
+            .base(self.parts.objects.creations(), objects);
+        let journal = Journal::from_base(alloc, base);
+        Ok(mem::replace(&mut self.journal, journal))
     }
 
     /// Answers a call and enters it in the journal. Where there is no memory for it, nothing has

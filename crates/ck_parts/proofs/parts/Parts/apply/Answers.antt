@@ -1,4 +1,4 @@
-use Rattle.std.proofs.Common.{◌≡◌, false, List, [], sym, ap, ◌∙◌, refl, Some, subst}
+use Rattle.std.proofs.Common.{◌≡◌, List, [], sym, ap, ◌∙◌, refl, Some, subst}
 use Rattle.std.specs.Prelude.{option_and_then, unwrap_or}
 use Rattle.ck_types.specs.Records.{is_set, key_value}
 use Rattle.ck_types.specs.declared.attributes.Attribute.TheVariants as attribute

@@ -1,4 +1,4 @@
-use Rattle.std.proofs.Common.{sym, refl, ap, ◌∙◌}
+use Rattle.std.proofs.Common.{sym, ◌∙◌}
 use Rattle.ck_types.proofs.CheckLemmas.{check_of-ok, check_of-err}
 use Rattle.ck_journal.specs.Answers.{verify_error}
 use Rattle.ck_journal.specs.declared.calls.Call.TheVariants as call
