@@ -1,5 +1,5 @@
 -- An object as the store has it
-use Rattle.std.specs.Prelude.{ℕ, ◌<◌, Bool, false, List, Option, Some, None, ◌==◌, ◌&&◌, AllPairs}
+use Rattle.std.specs.Prelude.{ℕ, ◌<◌, Bool, true, false, List, Option, Some, None, ◌==◌, ◌&&◌, AllPairs}
 use Rattle.std.specs.Prelude.{filter, is_some, map, if◌then◌else◌}
 use Rattle.std.specs.Option.{option_map_or}
 use Rattle.ck_types.specs.Records.{is_set, with_state}
@@ -8,8 +8,9 @@ use Rattle.ck_types.specs.declared.items.Item.{Item}
 use Rattle.ck_types.specs.declared.key_states.KeyState.{KeyState}
 use Rattle.ck_journal.specs.Objects.{is_session_object, is_visible_with, handle_with}
 use Rattle.ck_journal.specs.Searches.{is_match_with}
-use Rattle.ck_journal.specs.declared.bases.KeptObject.{KeptObject}
 use Rattle.ck_journal.specs.declared.views.View.{View}
+use Rattle.ck_store.specs.declared.endings.Ending.{Ending}
+use Rattle.ck_store.specs.declared.endings.Ending.TheVariants as ending
 
 -- an object's number, the session that created it, where it is a session object, and its attributes
 pub record ObjectRow : Type 0 where
@@ -40,6 +41,24 @@ is_session_row row = is_some row.session
 
 abbrev pub is_private_session_row : ObjectRow → Bool
 is_private_session_row row = is_session_row row && is_set row.attributes attribute.Private
+
+-- it is a session object that ends
+abbrev pub is_ended_by : Ending → ObjectRow → Bool
+is_ended_by (ending.Session session) row = is_of_session session row
+is_ended_by ending.AllSessions row = is_session_row row
+is_ended_by ending.Logout row = is_private_session_row row
+
+-- a session is closed
+abbrev pub closes : Ending → ℕ → Bool
+closes (ending.Session closed) session = closed == session
+closes ending.AllSessions session = true
+closes ending.Logout session = false
+
+-- objects of the session may end
+abbrev pub concerns : Ending → ℕ → Bool
+concerns (ending.Session closed) session = closed == session
+concerns ending.AllSessions session = true
+concerns ending.Logout session = true
 
 -- it is visible and matches the template
 abbrev pub is_match : View → List Item → ObjectRow → Bool
@@ -77,11 +96,3 @@ NumbersRise rows =
 abbrev pub matching_numbers : View → List Item → List ObjectRow → List ℕ
 matching_numbers view template rows =
     map (λ (row : ObjectRow). row.number) (filter (is_match view template) rows)
-
--- the object that a base has, which no session of now created
-abbrev pub kept_row : KeptObject → ObjectRow
-kept_row kept = object_row kept.number 0 kept.attributes
-
--- what a base keeps of an object
-abbrev pub kept_of : ObjectRow → KeptObject
-kept_of row = record { number = row.number; attributes = row.attributes }

@@ -1,7 +1,9 @@
 //! The objects of a PKCS #11 token: what the journal says of them.
 #![tactic(auto)]
 
-mod rows;
+mod endings;
+mod places;
+mod session_lists;
 mod stored_objects;
 mod stores;
 #[cfg(test)]

@@ -1,3 +1,4 @@
+use crate::endings::Ending;
 use ck_journal::View;
 use ck_types::{Attribute, KeyState, Record, Template};
 use std::marker::Model;
@@ -31,7 +32,7 @@ impl StoredObject {
     ghost use Rattle.ck_types.specs.Records.{with_state};
     ghost use Rattle.ck_journal.specs.Objects.{is_visible_with};
     ghost use Rattle.ck_store.specs.Rows.{is_of_session, is_session_row, is_private_session_row};
-    ghost use Rattle.ck_store.specs.Rows.{object_row, is_match, visible_handle};
+    ghost use Rattle.ck_store.specs.Rows.{object_row, is_match, visible_handle, is_ended_by};
 
     /// An object that the session creates.
     pub(crate) fn new(number: u64, session: u64, attributes: Record) -> StoredObject
@@ -116,5 +117,23 @@ impl StoredObject {
         ensures { result ≡ is_private_session_row self.now }
     {
         self.is_session_object() && self.attributes.is_set(Attribute::Private)
+    }
+
+    /// Whether it is a session object that ends.
+    pub(crate) fn is_ended_by(&self, ending: Ending) -> bool
+        ensures { result ≡ is_ended_by ending self.now }
+    {
+        match ending {
+            Ending::Session(session) => self.is_of_session(session),
+            Ending::AllSessions => self.is_session_object(),
+            Ending::Logout => self.is_private_session_object(),
+        }
+    }
+
+    /// The session that created it, where it is a session object.
+    pub(crate) fn session(&self) -> Option<u64>
+        ensures { result ≡ self.now.session }
+    {
+        self.session
     }
 }

@@ -1,38 +1,55 @@
-use crate::rows::{
-    find_matching, find_numbered, kept_objects, remove_numbered, remove_of_session,
-    remove_private_session_objects, remove_session_objects, set_numbered, set_state_numbered,
-    stored_objects,
+use crate::endings::{Ending, end_listed, end_newest};
+use crate::places::{
+    Place, compact, find_matching, find_numbered, remove_numbered, set_numbered, set_state_numbered,
 };
+use crate::session_lists::{SessionList, list_newest};
 use crate::stored_objects::StoredObject;
-use ck_journal::{Base, KeptObject, View, number_of_handle};
-use ck_types::{KeyState, NoMemory, Record, Sequence, Template};
+use ck_journal::{View, number_of_handle};
+use ck_types::{KeyState, NoMemory, Record, Template};
+use slab::Slab;
 use std::alloc::Global;
 use std::marker::Model;
 
-/// The token's objects, in the order of their creations.
+/// The token's objects.
 #[derive(Debug, Drop)]
 pub struct Store {
-    rows: Vec<StoredObject>,
+    objects: Slab<StoredObject>,
+    /// The places of all objects, in rising numbers. A place stays in it for a while after its
+    /// object has ended.
+    index: Vec<Place>,
+    lists: Vec<SessionList>,
+    /// The newest object, until its session's list takes it.
+    unlisted: Option<Place>,
     creations: u64,
 }
 
 impl Model for Store {
-    ghost use Rattle.std.specs.Prelude.{◌-◌, ◌<◌, ◌^◌, vec_len, vec_capacity};
+    ghost use Rattle.std.specs.Prelude.{◌-◌, ◌<◌, ◌^◌, min, is_some, if◌then◌else◌};
+    ghost use Rattle.std.specs.Prelude.{vec_len, vec_capacity};
+    ghost use Rattle.slab.specs.Slab.{slab_len};
     ghost use Rattle.ck_store.specs.Agreement.{StoreState};
+    ghost use Rattle.ck_store.specs.Index.{IsSound, objects_at};
 
     ghost Value = { StoreState };
 
     ghost view = { λ s. record {
-      rows = s.rows.items;
+      rows = objects_at s.objects s.index.items;
       creations = s.creations;
-      spare = vec_capacity s.rows - vec_len s.rows;
+      spare = if is_some s.unlisted
+          then 0
+          else min (vec_capacity s.index - vec_len s.index)
+          (s.objects.capacity - slab_len s.objects);
     } };
 
-    ghost invariant = { λ s. s.creations < 2 ^ 32 };
+    ghost invariant = { λ s.
+        IsSound s.objects s.index.items s.lists.items s.unlisted s.creations
+        × (s.creations < 2 ^ 32) };
 }
 
 impl Store {
     ghost use Rattle.std.specs.Prelude.{◌≡◌, ◌+◌, ◌<◌, ◌^◌, ℕ, true, None, Some};
+    ghost use Rattle.std.specs.Prelude.{filter, not};
+    ghost use Rattle.ck_store.specs.Rows.{is_ended_by};
     ghost use Rattle.std.specs.Prelude.{IfNone, IfOk, IfSome, OnOk};
     ghost use Rattle.std.specs.Option.{option_copied};
     ghost use Rattle.ck_types.specs.KeyStates.{state_of_number};
@@ -40,8 +57,7 @@ impl Store {
     ghost use Rattle.ck_types.specs.declared.attributes.Attribute.TheVariants as attribute;
     ghost use Rattle.ck_types.specs.declared.pins.Pin.{Pin};
     ghost use Rattle.ck_types.specs.declared.templates.Template.{Template};
-    ghost use Rattle.ck_journal.specs.Bases.{empty_base, IsSound};
-    ghost use Rattle.ck_journal.specs.Cuts.{kept_objects};
+    ghost use Rattle.ck_journal.specs.Bases.{empty_base};
     ghost use Rattle.ck_journal.specs.Histories.{History, start, ◌◁◌, done};
     ghost use Rattle.ck_journal.specs.Objects.{creates, creation_session, creation_attributes};
     ghost use Rattle.ck_journal.specs.Objects.{creations, object_at, view_of};
@@ -57,32 +73,15 @@ impl Store {
         ensures { StoreAgrees (start empty_base) result }
     {
         Store {
-            rows: Vec::new(alloc),
+            objects: Slab::new(alloc),
+            index: Vec::new(alloc),
+            lists: Vec::new(alloc),
+            unlisted: None,
             creations: 0,
         }
     }
 
-    /// The store that starts from a base: a copy of its objects.
-    pub fn from_base(alloc: Global, base: &Base) -> Result<Store, NoMemory>
-        requires { IsSound base.now }
-        ensures { IfOk result (λ store. StoreAgrees (start base.now) store) }
-    {
-        Ok(Store {
-            rows: stored_objects(alloc, base.objects.as_slice())?,
-            creations: base.creations,
-        })
-    }
-
     // ---- readings of every history that the objects agree with
-
-    /// A copy of all objects, with their numbers: what a base keeps where no session is open.
-    pub fn kept(&self, alloc: Global) -> Result<Sequence<KeptObject>, NoMemory>
-        ensures { IfOk result (λ kept. (h : History) → StoreAgrees h self.now
-            → kept ≡ kept_objects h) }
-    {
-        let kept = kept_objects(alloc, self.rows.as_slice())?;
-        Ok(Sequence::from_vec(kept))
-    }
 
     /// How many objects have been created.
     pub fn creations(&self) -> u64
@@ -103,7 +102,7 @@ impl Store {
             → IfSome result (λ found. attributes_named h handle ≡ Some found.1.now) }
     {
         let number = number_of_handle(handle);
-        let object = find_numbered(self.rows.as_slice(), number)?;
+        let object = find_numbered(&self.objects, self.index.as_slice(), number)?;
         if object.handle(view) == Some(handle) {
             Some((number, object.attributes()))
         } else {
@@ -116,7 +115,7 @@ impl Store {
         ensures { (h : History) → StoreAgrees h self.now
             → option_copied result ≡ object_at h number }
     {
-        let object = find_numbered(self.rows.as_slice(), number)?;
+        let object = find_numbered(&self.objects, self.index.as_slice(), number)?;
         Some(object.attributes())
     }
 
@@ -126,7 +125,7 @@ impl Store {
         ensures { (h : History) → StoreAgrees h self.now → view ≡ view_of h
             → result ≡ handle_at h number }
     {
-        find_numbered(self.rows.as_slice(), number)?.handle(view)
+        find_numbered(&self.objects, self.index.as_slice(), number)?.handle(view)
     }
 
     /// The numbers, which rise, of the objects that are visible and match the template.
@@ -134,20 +133,22 @@ impl Store {
         ensures { IfOk result (λ numbers. (h : History) → StoreAgrees h self.now
             → view ≡ view_of h → numbers.items ≡ matching_objects h template.now.items) }
     {
-        find_matching(alloc, self.rows.as_slice(), view, template)
+        find_matching(alloc, &self.objects, self.index.as_slice(), view, template)
     }
 
     // ---- changes, each that of a call that is answered OK
 
-    /// Makes room for one more object that the session creates. One list has the objects of all
-    /// sessions, so the room is the same for each; a store in which each session has a list of its
-    /// own objects makes room in that one too.
+    /// Makes room for one more object, which any session may create. The newest object gets its
+    /// place in its session's list here, since this may ask for memory and a creation may not.
     pub fn reserve(&mut self, _session: u64) -> Result<(), NoMemory>
         ensures agree { (h : History) → StoreAgrees h self.old → StoreAgrees h self.new }
         ensures creations { self.new.creations ≡ self.old.creations }
         ensures room { OnOk result (0 < self.new.spare) }
     {
-        self.rows.reserve(1)?;
+        let alloc = *self.index.allocator();
+        list_newest(alloc, &mut self.lists, &mut self.unlisted, &self.objects)?;
+        self.objects.reserve(1)?;
+        self.index.reserve(1)?;
         Ok(())
     }
 
@@ -162,7 +163,13 @@ impl Store {
     {
         self.creations += 1;
         let object = StoredObject::new(self.creations, session, attributes);
-        self.rows.push(object).unwrap();
+        let key = self.objects.insert_reserved(object);
+        let place = Place {
+            number: self.creations,
+            key,
+        };
+        self.index.push(place).unwrap();
+        self.unlisted = Some(place);
     }
 
     /// Gives the object that has the number these attributes. An object keeps its CKA_TOKEN.
@@ -174,7 +181,7 @@ impl Store {
             → is_set attributes attribute.Token ≡ is_set (named_attributes h object) attribute.Token
             → StoreAgrees h self.old → StoreAgrees (e ◁ h) self.new }
     {
-        set_numbered(&mut self.rows, number, attributes);
+        set_numbered(&mut self.objects, self.index.as_slice(), number, attributes);
     }
 
     /// Gives the key that has the number this state.
@@ -185,7 +192,7 @@ impl Store {
             → object_named h key ≡ Some number
             → StoreAgrees h self.old → StoreAgrees (e ◁ h) self.new }
     {
-        set_state_numbered(&mut self.rows, number, state);
+        set_state_numbered(&mut self.objects, self.index.as_slice(), number, state);
     }
 
     /// Ends the object that has the number.
@@ -195,7 +202,8 @@ impl Store {
             → object_named h object ≡ Some number
             → StoreAgrees h self.old → StoreAgrees (e ◁ h) self.new }
     {
-        remove_numbered(&mut self.rows, number);
+        remove_numbered(&mut self.objects, self.index.as_slice(), number);
+        compact(&self.objects, &mut self.index);
     }
 
     /// Ends all objects.
@@ -203,7 +211,10 @@ impl Store {
         ensures agree { (h : History) (e : Entry) (pin : Pin) → done e ≡ Some (call.InitToken pin)
             → StoreAgrees h self.old → StoreAgrees (e ◁ h) self.new }
     {
-        self.rows.clear();
+        self.objects.clear();
+        self.index.clear();
+        self.lists.clear();
+        self.unlisted = None;
     }
 
     /// Ends the session objects that the session created.
@@ -211,7 +222,7 @@ impl Store {
         ensures agree { (h : History) (e : Entry) → done e ≡ Some (call.CloseSession session)
             → StoreAgrees h self.old → StoreAgrees (e ◁ h) self.new }
     {
-        remove_of_session(&mut self.rows, session);
+        self.end(Ending::Session(session));
     }
 
     /// Ends all session objects.
@@ -219,7 +230,7 @@ impl Store {
         ensures agree { (h : History) (e : Entry) → done e ≡ Some call.CloseAllSessions
             → StoreAgrees h self.old → StoreAgrees (e ◁ h) self.new }
     {
-        remove_session_objects(&mut self.rows);
+        self.end(Ending::AllSessions);
     }
 
     /// Ends the private session objects.
@@ -228,6 +239,18 @@ impl Store {
             → done e ≡ Some (call.Logout session)
             → StoreAgrees h self.old → StoreAgrees (e ◁ h) self.new }
     {
-        remove_private_session_objects(&mut self.rows);
+        self.end(Ending::Logout);
+    }
+
+    /// Ends session objects, and drops the lists of the sessions that are closed.
+    fn end(&mut self, ending: Ending)
+        ensures rows { self.new.rows
+            ≡ filter (λ row. not (is_ended_by ending row)) self.old.rows }
+        ensures creations { self.new.creations ≡ self.old.creations }
+    {
+        end_listed(&mut self.objects, self.lists.as_slice(), ending);
+        end_newest(&mut self.objects, self.unlisted, ending);
+        self.lists.retain(|list| !ending.closes(list.session()));
+        compact(&self.objects, &mut self.index);
     }
 }

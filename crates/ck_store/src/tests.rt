@@ -223,3 +223,76 @@ fn searches(rt: HostRuntime) -> Result<(), Fail> {
     }
     Ok(())
 }
+
+/// Creates a session object; where memory is refused, it is asked for again.
+fn add(rt: &impl Abort, alloc: Global, store: &mut Store, session: u64) -> Result<u64, Refusal> {
+    let items: &[(u64, &[u8])] = &[(0, DATA)];
+    let attributes = match record_of(alloc, items) {
+        Ok(attributes) => attributes,
+        Err(_) => record_of(alloc, items)?,
+    };
+    assert!(rt; store.creations() < 0xffff_fffe);
+    match store.reserve(session) {
+        Ok(()) => {}
+        Err(NoMemory) => store.reserve(session)?,
+    }
+    store.create(session, attributes);
+    Ok(store.creations())
+}
+
+/// Whether the objects of these numbers are there, all or none.
+fn check_all(rt: &impl Abort, store: &Store, first: u64, past: u64, are_there: bool) {
+    for number in first..past {
+        let handle = if are_there { Some(number) } else { None };
+        assert_eq!(rt; store.handle(public(), number), handle, "{number}");
+    }
+}
+
+#[test]
+fn objects_of_four_sessions(rt: HostRuntime) -> Result<(), Fail> {
+    let alloc = rt.alloc();
+    let mut store = Store::new(alloc);
+    for number in 1..1001 {
+        let created = add(&rt, alloc, &mut store, number % 4)?;
+        assert_eq!(rt; created, number);
+    }
+    for number in 1..1001 {
+        if number % 3 == 0 {
+            store.destroy(number);
+        }
+    }
+    store.end_session(1);
+    store.end_session(3);
+    for number in 0..1002 {
+        let is_there = number % 2 == 0 && number % 3 != 0;
+        check_all(&rt, &store, number, number + 1, is_there);
+        assert_eq!(rt; store.at(number).is_some(), is_there, "{number}");
+    }
+    Ok(())
+}
+
+/// New objects lie where ended ones lay, and no old handle names one.
+#[test]
+fn places_used_again(rt: HostRuntime) -> Result<(), Fail> {
+    let alloc = rt.alloc();
+    let mut store = Store::new(alloc);
+    for number in 1..9 {
+        let created = add(&rt, alloc, &mut store, 1)?;
+        assert_eq!(rt; created, number);
+    }
+    for number in 1..8 {
+        store.destroy(number);
+    }
+    for number in 9..17 {
+        let created = add(&rt, alloc, &mut store, 2)?;
+        assert_eq!(rt; created, number);
+    }
+    check_all(&rt, &store, 1, 8, false);
+    check_all(&rt, &store, 8, 17, true);
+    store.end_session(1);
+    check_all(&rt, &store, 1, 9, false);
+    check_all(&rt, &store, 9, 17, true);
+    store.end_session(2);
+    check_all(&rt, &store, 1, 17, false);
+    Ok(())
+}

@@ -5,7 +5,7 @@ ghost use Rattle.ck_parts.specs.Agreement.{PartsAgree, adds, HasRoom};
 
 use crate::cuts::{Uncut, kept_objects};
 use crate::decisions::{Decision, Refused};
-use ck_journal::{Base, Body, Call, Entry, Journal, OperationKind, Reply, TokenBoard};
+use ck_journal::{Body, Call, Entry, Journal, OperationKind, Reply, TokenBoard};
 use ck_operations::Operations;
 use ck_parts::{Change, Parts};
 use ck_sessions::Sessions;
@@ -124,22 +124,6 @@ impl Token {
             },
             journal: Journal::new(alloc),
         }
-    }
-
-    /// A token that goes on from what the calls of another left: its limits may be others. It has
-    /// answered no call.
-    pub fn from_base(alloc: Global, limits: Limits, base: Base) -> Result<Token, NoMemory>
-        requires { IsSound base }
-        ensures limits { IfOk result (λ token. token.limits ≡ limits) }
-        ensures history { IfOk result (λ token. token.history ≡ start base) }
-    {
-        let parts = Parts::from_base(alloc, &base)?;
-        let journal = Journal::from_base(alloc, base);
-        Ok(Token {
-            limits,
-            parts,
-            journal,
-        })
     }
 
     /// All answered calls.

@@ -1,12 +1,33 @@
-use Rattle.std.proofs.Common.{refl}
+use Rattle.std.proofs.Common.{refl, ◌∙◌}
+use Rattle.ck_store.specs.Rows.{has_number}
 use Rattle.ck_store.proofs.Moves.{StoreAgrees-destroyed}
-use Rattle.ck_store.proofs.Readings.{numbers_rise}
+use Rattle.ck_store.proofs.PlaceLemmas.{IsLeft-was, objects_at-left}
+use Rattle.ck_store.proofs.SoundLemmas.{IsSound-fewer, IsSound-reindexed}
 use Rattle.ck_store.proofs.stores.Store.destroy.Goals as goal
+
+pub invariant_of-self : goal.invariant_of-self
+invariant_of-self c =
+    let left = (rw c.as_slice.ensures.value at c.remove_numbered.ensures.left) c.self.invariant.0.indexed in (
+      IsSound-reindexed c.remove_numbered.new.objects c.self.inside.index.items
+          c.compact.new.index.items c.self.inside.lists.items c.self.inside.unlisted
+          c.self.inside.creations
+          (IsSound-fewer c.self.inside.objects c.remove_numbered.new.objects c.self.inside.index.items
+          c.self.inside.lists.items c.self.inside.unlisted c.self.inside.creations c.self.invariant.0
+          (IsLeft-was (has_number c.args.number) c.self.inside.objects c.remove_numbered.new.objects left))
+          c.compact.ensures.is_index c.compact.ensures.only,
+      c.self.invariant.1,
+    )
 
 pub returns : goal.returns
 returns c = record {
   agree = λ h e session object d named agree.
       let here = rw (← c.self.view_is) at agree in
-      StoreAgrees-destroyed h _ here e _ refl session object c.args.number named c.self.invariant d
-      (c.remove_numbered.ensures (numbers_rise h _ here));
+      let left =
+      (rw c.as_slice.ensures.value at c.remove_numbered.ensures.left) c.self.invariant.0.indexed in
+      let ended =
+      (rw c.as_slice.ensures.value at c.remove_numbered.ensures.ended) c.self.invariant.0.indexed in
+      StoreAgrees-destroyed h _ here e _ refl session object c.args.number named c.self.invariant.1 d
+      (c.compact.ensures.objects
+      ∙ objects_at-left (has_number c.args.number) c.self.inside.objects
+      c.remove_numbered.new.objects left ended c.self.inside.index.items);
 }

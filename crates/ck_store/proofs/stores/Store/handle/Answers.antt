@@ -2,7 +2,7 @@ use Rattle.std.proofs.Common.{◌∙◌, ap}
 use Rattle.std.specs.Prelude.{option_and_then}
 use Rattle.ck_journal.specs.Objects.{view_of}
 use Rattle.ck_store.specs.Rows.{visible_handle}
-use Rattle.ck_store.proofs.Readings.{numbers_rise, find-numbered, row_at-handle}
+use Rattle.ck_store.proofs.Readings.{find-numbered, row_at-handle}
 use Rattle.ck_store.proofs.stores.Store.handle.Goals as goal
 
 pub returns-in_err-find_numbered : goal.returns-in_err-find_numbered
@@ -11,7 +11,7 @@ returns-in_err-find_numbered c = λ h agree view.
     let missing = rw c.as_slice.ensures.value at c.in_err-find_numbered.ensures in
     c.from_residual.ensures
     ∙ ap (option_and_then (visible_handle (view_of h)))
-    (missing (numbers_rise h _ here) ∙ find-numbered h _ here c.args.number)
+    (missing c.self.invariant.0.indexed ∙ find-numbered h _ here c.args.number)
     ∙ row_at-handle h c.args.number
 
 pub returns : goal.returns
@@ -20,5 +20,5 @@ returns c = λ h agree view.
     let found = rw c.as_slice.ensures.value at c.in_ok-find_numbered.ensures in
     (rw view at c.handle.ensures)
     ∙ ap (option_and_then (visible_handle (view_of h)))
-    (found (numbers_rise h _ here) ∙ find-numbered h _ here c.args.number)
+    (found c.self.invariant.0.indexed ∙ find-numbered h _ here c.args.number)
     ∙ row_at-handle h c.args.number

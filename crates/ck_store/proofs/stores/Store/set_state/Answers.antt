@@ -1,12 +1,30 @@
 use Rattle.std.proofs.Common.{refl}
+use Rattle.ck_store.specs.Rows.{with_key_state}
 use Rattle.ck_store.proofs.Moves.{StoreAgrees-state_set}
-use Rattle.ck_store.proofs.Readings.{numbers_rise}
+use Rattle.ck_store.proofs.SoundLemmas.{IsSound-was, changed-was, objects_at-changed}
+use Rattle.ck_store.proofs.SoundLemmas.{with_key_state-number, with_key_state-session}
 use Rattle.ck_store.proofs.stores.Store.set_state.Goals as goal
+
+pub invariant_of-self : goal.invariant_of-self
+invariant_of-self c =
+    let changed = (rw c.as_slice.ensures.value at c.set_state_numbered.ensures) c.self.invariant.0.indexed in (
+      IsSound-was c.self.inside.objects c.set_state_numbered.new.objects c.self.inside.index.items
+          c.self.inside.lists.items c.self.inside.unlisted c.self.inside.creations c.self.invariant.0
+          (changed-was (with_key_state c.args.number c.args.state) c.self.inside.objects
+          c.set_state_numbered.new.objects changed (with_key_state-number c.args.number c.args.state)
+          (with_key_state-session c.args.number c.args.state)),
+      c.self.invariant.1,
+    )
 
 pub returns : goal.returns
 returns c = record {
   agree = λ h e session key n d is_state named agree.
       let here = rw (← c.self.view_is) at agree in
-      StoreAgrees-state_set h _ here e _ refl session key c.args.number named c.self.invariant n
-      c.args.state is_state d (c.set_state_numbered.ensures (numbers_rise h _ here));
+      let changed =
+      (rw c.as_slice.ensures.value at c.set_state_numbered.ensures) c.self.invariant.0.indexed in
+      StoreAgrees-state_set h _ here e _ refl session key c.args.number named c.self.invariant.1 n
+      c.args.state is_state d
+      (objects_at-changed (with_key_state c.args.number c.args.state) c.self.inside.objects
+      c.set_state_numbered.new.objects changed (with_key_state-number c.args.number c.args.state)
+      c.self.inside.index.items);
 }

@@ -1,0 +1,425 @@
+-- How the index and the lists stay sound
+use Rattle.std.proofs.Common.{◌≡◌, ◌⊎◌, ℕ, ◌+◌, ◌<◌, ◌≤◌, Bool, true, false, cond, not, List, []}
+use Rattle.std.proofs.Common.{◌∷◌, ◌++◌, Option, Some, None, Contains, refl, sym, ap, ◌∙◌, subst}
+use Rattle.std.proofs.Common.{inl, inr, arith, get_or, ◌&&◌}
+use Rattle.std.specs.Prelude.{◌==◌, is_some, filter, map, option_map, option_and_then}
+use Rattle.std.specs.List.{cons_option}
+use Rattle.std.specs.Option.{option_map_or}
+use Rattle.std.proofs.lemmas.Bool.{cases_eq, ne_eqb, eq-eqb}
+use Rattle.std.proofs.lemmas.List.Elements.{Contains-push, Contains-push_cases, Contains-append_left}
+use Rattle.std.proofs.lemmas.List.Elements.{Contains-get_or, filter_map-append}
+use Rattle.std.proofs.lemmas.List.Kept.{AllPairs-filter}
+use Rattle.std.proofs.lemmas.List.Quantifiers.{all_pairs_push}
+use Rattle.std.proofs.lemmas.Option.{same_Some}
+use Rattle.slab.specs.Slab.{Slab, get, Updates}
+use Rattle.ck_types.specs.Records.{is_set, with_state}
+use Rattle.ck_types.specs.declared.items.Item.{Item}
+use Rattle.ck_types.specs.declared.key_states.KeyState.{KeyState}
+use Rattle.ck_types.specs.declared.attributes.Attribute.TheVariants as attribute
+use Rattle.ck_store.specs.Index.{place, numbered, object_at, objects_at, is_there, IsIndex, IsListed}
+use Rattle.ck_store.specs.Index.{IsSound, IsChanged, IsLeft, EndsAll, HasNone}
+use Rattle.ck_store.specs.Rows.{ObjectRow, has_number, is_ended_by, concerns, closes}
+use Rattle.ck_store.specs.Rows.{with_attributes, with_key_state}
+use Rattle.ck_store.specs.declared.endings.Ending.{Ending}
+use Rattle.ck_store.specs.declared.endings.Ending.TheVariants as ending
+use Rattle.ck_store.specs.declared.places.Place.{Place}
+use Rattle.ck_store.specs.declared.session_lists.SessionList.{SessionList}
+use Rattle.ck_store.proofs.PlaceLemmas.{object_at-Some, object_at-here, IsLeft-was, Contains-passing}
+use Rattle.ck_store.proofs.PlaceLemmas.{Contains-unfiltered, filter_map-mapped, filter_map-agree}
+use Rattle.ck_store.proofs.PlaceLemmas.{filter_map-there}
+
+-- ---- the index
+
+module _ (objects : Slab ObjectRow) (index : List Place) where
+  pub compacted-objects : objects_at objects (filter (is_there objects) index)
+      ≡ objects_at objects index
+  compacted-objects = filter_map-there (object_at objects) index
+
+  pub compacted-is_index : IsIndex objects index → IsIndex objects (filter (is_there objects) index)
+  compacted-is_index is_index = record {
+    rises = AllPairs-filter (λ (p : Place) (later : Place). p.number < later.number)
+        (is_there objects) index is_index.rises;
+    named = λ key row is.
+        Contains-passing (is_there objects) index (place row.number key) (is_index.named key row is)
+        (ap is_some (object_at-here objects key row is));
+  }
+
+-- ---- other objects under the keys
+
+module _ (old new : Slab ObjectRow) (index : List Place) (lists : List SessionList)
+    (unlisted : Option Place) (creations : ℕ) (sound : IsSound old index lists unlisted creations)
+  where
+    -- each object was there, perhaps with other attributes
+    module _ (was : (key : ℕ) (row : ObjectRow) → get new key ≡ Some row
+        → (before : ObjectRow) × (get old key ≡ Some before) × (before.number ≡ row.number)
+        × (before.session ≡ row.session)) where
+      pub IsSound-was : IsSound new index lists unlisted creations
+      IsSound-was = record {
+        indexed = record {
+          rises = sound.indexed.rises;
+          named = λ key row is.
+              let w = was key row is in
+              subst (λ n. Contains index (place n key)) w.2 (sound.indexed.named key w.0 w.1);
+        };
+        listed = λ key row session is of_session.
+            let w = was key row is in
+            subst (λ n. IsListed lists session (place n key) ⊎ (unlisted ≡ Some (place n key))) w.2
+            (sound.listed key w.0 session w.1 (w.3 ∙ of_session));
+        own = λ session p row listed is.
+            let at = object_at-Some new p row is in
+            let w = was p.key row at.0 in
+            sym w.3
+            ∙ sound.own session p w.0 listed
+            (ap (λ n. object_at old (place n p.key)) (sym (w.2 ∙ at.1))
+            ∙ object_at-here old p.key w.0 w.1);
+        index_created = sound.index_created;
+        unlisted_created = sound.unlisted_created;
+        lists_created = sound.lists_created;
+      }
+
+    pub IsSound-fewer : ((key : ℕ) (row : ObjectRow) → get new key ≡ Some row
+        → get old key ≡ Some row) → IsSound new index lists unlisted creations
+    IsSound-fewer was = IsSound-was (λ key row is. (row, was key row is, refl, refl))
+
+module _ (change : ObjectRow → ObjectRow) (old new : Slab ObjectRow)
+    (changed : IsChanged change old new)
+    (number : (row : ObjectRow) → (change row).number ≡ row.number) where
+  pub objects_at-changed : (ps : List Place) → objects_at new ps ≡ map change (objects_at old ps)
+  objects_at-changed ps = filter_map-mapped (object_at old) (object_at new) change ps at
+    where
+      number_step : (n : ℕ) (row : ObjectRow)
+          → option_and_then (numbered n) (Some (change row))
+          ≡ option_map change (option_and_then (numbered n) (Some row))
+      number_step n row =
+          ap (λ k. cond (k == n) (Some (change row)) None) (number row)
+          ∙ tested (row.number == n)
+        where
+          tested : (t : Bool) → cond t (Some (change row)) None
+              ≡ option_map change (cond t (Some row) None)
+          tested true = refl
+          tested false = refl
+
+      step : (n : ℕ) (o : Option ObjectRow)
+          → option_and_then (numbered n) (option_map change o)
+          ≡ option_map change (option_and_then (numbered n) o)
+      step n None = refl
+      step n (Some row) = number_step n row
+
+      at : (p : Place) → object_at new p ≡ option_map change (object_at old p)
+      at p =
+          ap (option_and_then (numbered p.number)) (changed p.key)
+          ∙ step p.number (get old p.key)
+
+  pub changed-was : ((row : ObjectRow) → (change row).session ≡ row.session)
+      → (key : ℕ) (row : ObjectRow) → get new key ≡ Some row
+      → (before : ObjectRow) × (get old key ≡ Some before) × (before.number ≡ row.number)
+      × (before.session ≡ row.session)
+  changed-was session key row is = by_case (get old key) refl (sym (changed key) ∙ is)
+    where
+      by_case : (o : Option ObjectRow) → get old key ≡ o → option_map change o ≡ Some row
+          → (before : ObjectRow) × (get old key ≡ Some before) × (before.number ≡ row.number)
+          × (before.session ≡ row.session)
+      by_case None e m = absurd (cc)
+      by_case (Some before) e m =
+          let same : change before ≡ row = same_Some (change before) row m in (
+            before,
+            e,
+            sym (number before) ∙ ap (λ (r : ObjectRow). r.number) same,
+            sym (session before) ∙ ap (λ (r : ObjectRow). r.session) same,
+          )
+
+-- ---- other lists
+
+module _ (objects : Slab ObjectRow) (index : List Place) (lists lists' : List SessionList)
+    (unlisted unlisted' : Option Place) (creations : ℕ)
+    (sound : IsSound objects index lists unlisted creations)
+    (kept : (session : ℕ) (p : Place) (row : ObjectRow) → IsListed lists session p
+    → object_at objects p ≡ Some row → IsListed lists' session p)
+    (newest : (key : ℕ) (row : ObjectRow) (session : ℕ) → get objects key ≡ Some row
+    → row.session ≡ Some session → unlisted ≡ Some (place row.number key)
+    → IsListed lists' session (place row.number key)
+    ⊎ (unlisted' ≡ Some (place row.number key)))
+    (only : (session : ℕ) (p : Place) → IsListed lists' session p → IsListed lists session p
+    ⊎ ((p.number ≤ creations)
+    × ((row : ObjectRow) → object_at objects p ≡ Some row → row.session ≡ Some session)))
+    (unlisted_was : (p : Place) → unlisted' ≡ Some p → unlisted ≡ Some p) where
+  pub IsSound-relisted : IsSound objects index lists' unlisted' creations
+  IsSound-relisted = record {
+    indexed = sound.indexed;
+    listed = λ key row session is of_session. elim (sound.listed key row session is of_session) [
+      | inl before ↦
+          inl (kept session (place row.number key) row before (object_at-here objects key row is))
+      | inr last ↦ newest key row session is of_session last
+    ];
+    own = λ session p row listed is. elim (only session p listed) [
+      | inl before ↦ sound.own session p row before is
+      | inr added ↦ added.1 row is
+    ];
+    index_created = sound.index_created;
+    unlisted_created = λ p is. sound.unlisted_created p (unlisted_was p is);
+    lists_created = λ session p listed. elim (only session p listed) [
+      | inl before ↦ sound.lists_created session p before
+      | inr added ↦ added.0
+    ];
+  }
+
+-- ---- a new object
+
+module _ (old new : Slab ObjectRow) (index : List Place) (lists : List SessionList)
+    (creations key : ℕ) (row : ObjectRow) (sound : IsSound old index lists None creations)
+    (number : row.number ≡ creations + 1) (vacant : get old key ≡ None)
+    (updates : Updates old new key (Some row)) where
+  abbrev newest : Place
+  newest = place (creations + 1) key
+
+  same_at : (p : Place) → p.number ≤ creations → object_at new p ≡ object_at old p
+  same_at p before = elim (cases_eq p.key key) [
+    | inl same ↦
+        ap (option_and_then (numbered p.number)) (ap (get new) same ∙ updates.changed)
+        ∙ ap (λ t. cond t (Some row) None) (ne_eqb row.number p.number (λ e. omega arith))
+        ∙ sym (ap (option_and_then (numbered p.number)) (ap (get old) same ∙ vacant))
+    | inr other ↦ ap (option_and_then (numbered p.number)) (updates.others p.key other)
+  ]
+
+  at_newest : object_at new newest ≡ Some row
+  at_newest =
+      ap (option_and_then (numbered (creations + 1))) updates.changed
+      ∙ ap (λ t. cond t (Some row) None) (eq-eqb row.number (creations + 1) number)
+
+  pub objects_at-created : objects_at new (index ++ newest ∷ [])
+      ≡ objects_at old index ++ row ∷ []
+  objects_at-created =
+      filter_map-append (object_at new) index (newest ∷ [])
+      ∙ ap (λ rows. rows ++ cons_option (object_at new newest) [])
+      (filter_map-agree (object_at old) (object_at new) index
+      (λ p there. same_at p (sound.index_created p there)))
+      ∙ ap (λ o. objects_at old index ++ cons_option o []) at_newest
+
+  was_or_newest : (k : ℕ) (r : ObjectRow) → get new k ≡ Some r
+      → (get old k ≡ Some r) ⊎ ((k ≡ key) × (r ≡ row))
+  was_or_newest k r is = elim (cases_eq k key) [
+    | inl same ↦
+        inr (same, same_Some r row (sym is ∙ ap (get new) same ∙ updates.changed))
+    | inr other ↦ inl (sym (updates.others k other) ∙ is)
+  ]
+
+  pub IsSound-created : IsSound new (index ++ newest ∷ []) lists (Some newest) (creations + 1)
+  IsSound-created = record {
+    indexed = record {
+      rises = all_pairs_push (λ (p : Place) (later : Place). p.number < later.number) index newest
+          sound.indexed.rises
+          (λ k d within.
+          let below = sound.index_created (get_or index k d) (Contains-get_or index k d within) in
+          omega arith);
+      named = λ k r is. elim (was_or_newest k r is) [
+        | inl before ↦
+            Contains-append_left index (newest ∷ []) (place r.number k)
+            (sound.indexed.named k r before)
+        | inr this ↦
+            subst (Contains (index ++ newest ∷ [])) (named_newest k r this.0 this.1)
+            (Contains-push index newest)
+      ];
+    };
+    listed = λ k r session is of_session. elim (was_or_newest k r is) [
+      | inl before ↦ elim (sound.listed k r session before of_session) [
+        | inl listed ↦ inl listed
+        | inr last ↦ absurd (cc)
+      ]
+      | inr this ↦ inr (ap Some (named_newest k r this.0 this.1))
+    ];
+    own = λ session p r listed is.
+        sound.own session p r listed (sym (same_at p (sound.lists_created session p listed)) ∙ is);
+    index_created = λ p there. elim (Contains-push_cases index newest p there) [
+      | inl before ↦
+          let below = sound.index_created p before in
+          omega arith
+      | inr this ↦ subst (λ (q : Place). q.number ≤ creations + 1) this (omega arith)
+    ];
+    unlisted_created = λ p is.
+        subst (λ (q : Place). q.number ≤ creations + 1) (same_Some newest p is) (omega arith);
+    lists_created = λ session p listed.
+        let below = sound.lists_created session p listed in
+        omega arith;
+  }
+    where
+      named_newest : (k : ℕ) (r : ObjectRow) → k ≡ key → r ≡ row → newest ≡ place r.number k
+      named_newest k r same this =
+          ap (λ n. place n key) (sym number)
+          ∙ ap (λ (x : ObjectRow). place x.number key) (sym this)
+          ∙ ap (place r.number) (sym same)
+
+-- ---- sessions that are closed
+
+ended_case : (e : Ending) (row : ObjectRow) (o : Option ℕ) → row.session ≡ o
+    → is_ended_by e row ≡ true
+    → (session : ℕ) × (o ≡ Some session) × (concerns e session ≡ true)
+ended_case (ending.Session closed) row None is t =
+    let wrong : false ≡ true =
+    sym (ap (λ x. option_map_or (λ owner. closed == owner) x false) is) ∙ t in
+    absurd (cc)
+ended_case (ending.Session closed) row (Some session) is t =
+    (session, refl, sym (ap (λ x. option_map_or (λ owner. closed == owner) x false) is) ∙ t)
+ended_case ending.AllSessions row None is t =
+    let wrong : false ≡ true = sym (ap is_some is) ∙ t in
+    absurd (cc)
+ended_case ending.AllSessions row (Some session) is t = (session, refl, refl)
+ended_case ending.Logout row None is t =
+    let wrong : false ≡ true =
+    sym (ap (λ x. is_some x && is_set row.attributes attribute.Private) is) ∙ t in
+    absurd (cc)
+ended_case ending.Logout row (Some session) is t = (session, refl, refl)
+
+stays_case : (e : Ending) (row : ObjectRow) (session : ℕ) → row.session ≡ Some session
+    → is_ended_by e row ≡ false → closes e session ≡ false
+stays_case (ending.Session closed) row session is f =
+    sym (ap (λ x. option_map_or (λ owner. closed == owner) x false) is) ∙ f
+stays_case ending.AllSessions row session is f =
+    let wrong : true ≡ false = sym (ap is_some is) ∙ f in
+    absurd (cc)
+stays_case ending.Logout row session is f = refl
+
+module _ (e : Ending) (old new : Slab ObjectRow) (index : List Place) (lists : List SessionList)
+    (unlisted : Option Place) (creations : ℕ) (sound : IsSound old index lists unlisted creations)
+    (left : IsLeft (is_ended_by e) old new)
+    (lists_end : (session : ℕ) (p : Place) → IsListed lists session p
+    → concerns e session ≡ true → HasNone (is_ended_by e) new p)
+    (unlisted_ends : (p : Place) → unlisted ≡ Some p → HasNone (is_ended_by e) new p) where
+  pub EndsAll-walked : EndsAll (is_ended_by e) new
+  EndsAll-walked key row is = by_case (is_ended_by e row) refl
+    where
+      at : object_at new (place row.number key) ≡ Some row
+      at = object_at-here new key row is
+
+      by_case : (t : Bool) → is_ended_by e row ≡ t → is_ended_by e row ≡ false
+      by_case false f = f
+      by_case true t =
+          let of = ended_case e row row.session refl t in
+          elim (sound.listed key row of.0 (IsLeft-was (is_ended_by e) old new left key row is) of.1) [
+            | inl listed ↦ lists_end of.0 (place row.number key) listed of.2 row at
+            | inr last ↦ unlisted_ends (place row.number key) last row at
+          ]
+
+  pub IsSound-closed : (lists' : List SessionList)
+      → lists' ≡ filter (λ (l : SessionList). not (closes e l.session)) lists
+      → IsSound new index lists' unlisted creations
+  IsSound-closed lists' are =
+      let fewer =
+      IsSound-fewer old new index lists unlisted creations sound
+      (IsLeft-was (is_ended_by e) old new left) in
+      IsSound-relisted new index lists lists' unlisted unlisted creations fewer
+      (λ session p row listed is.
+      let at = object_at-Some new p row is in
+      let stays =
+      stays_case e row session (fewer.own session p row listed is)
+      (EndsAll-walked p.key row at.0) in
+      record {
+        list = listed.list;
+        among = subst (λ ls. Contains ls listed.list) (sym are)
+            (Contains-passing (λ (l : SessionList). not (closes e l.session)) lists listed.list
+            listed.among (ap (λ s. not (closes e s)) listed.own ∙ ap not stays));
+        own = listed.own;
+        holds = listed.holds;
+      })
+      (λ key row session is of_session last. inr last)
+      (λ session p listed. inl (record {
+        list = listed.list;
+        among = Contains-unfiltered (λ (l : SessionList). not (closes e l.session)) lists listed.list
+            (subst (λ ls. Contains ls listed.list) are listed.among);
+        own = listed.own;
+        holds = listed.holds;
+      }))
+      (λ p is. is)
+
+-- ---- what the methods of a store need
+
+-- an index without places of ended objects
+pub IsSound-reindexed : (objects : Slab ObjectRow) (index index' : List Place)
+    (lists : List SessionList) (unlisted : Option Place) (creations : ℕ)
+    → IsSound objects index lists unlisted creations
+    → (IsIndex objects index → IsIndex objects index')
+    → ((p : Place) → Contains index' p → Contains index p)
+    → IsSound objects index' lists unlisted creations
+IsSound-reindexed objects index index' lists unlisted creations sound is_index only = record {
+  indexed = is_index sound.indexed;
+  listed = sound.listed;
+  own = sound.own;
+  index_created = λ p there. sound.index_created p (only p there);
+  unlisted_created = sound.unlisted_created;
+  lists_created = sound.lists_created;
+}
+
+-- where there is room, no object is unlisted
+pub unlisted_none : (unlisted : Option Place) (room : ℕ) → 0 < cond (is_some unlisted) 0 room
+    → unlisted ≡ None
+unlisted_none None room has = refl
+unlisted_none (Some p) room has = absurd (omega arith)
+
+changed_case : (t : Bool) (row : ObjectRow) (attributes : List Item)
+    → ((cond t (record row { attributes = attributes }) row).number ≡ row.number)
+    × ((cond t (record row { attributes = attributes }) row).session ≡ row.session)
+changed_case true row attributes = (refl, refl)
+changed_case false row attributes = (refl, refl)
+
+pub with_attributes-number : (number : ℕ) (attributes : List Item) (row : ObjectRow)
+    → (with_attributes number attributes row).number ≡ row.number
+with_attributes-number number attributes row =
+    (changed_case (has_number number row) row attributes).0
+
+pub with_attributes-session : (number : ℕ) (attributes : List Item) (row : ObjectRow)
+    → (with_attributes number attributes row).session ≡ row.session
+with_attributes-session number attributes row =
+    (changed_case (has_number number row) row attributes).1
+
+pub with_key_state-number : (number : ℕ) (state : KeyState) (row : ObjectRow)
+    → (with_key_state number state row).number ≡ row.number
+with_key_state-number number state row =
+    (changed_case (has_number number row) row (with_state state row.attributes)).0
+
+pub with_key_state-session : (number : ℕ) (state : KeyState) (row : ObjectRow)
+    → (with_key_state number state row).session ≡ row.session
+with_key_state-session number state row =
+    (changed_case (has_number number row) row (with_state state row.attributes)).1
+
+-- ---- the newest object gets into its session's list
+
+module _ (objects : Slab ObjectRow) (index : List Place) (lists lists' : List SessionList)
+    (creations : ℕ) (p : Place) (session : ℕ)
+    (of_session : Some session
+    ≡ option_and_then (λ (row : ObjectRow). row.session) (object_at objects p))
+    (sound : IsSound objects index lists (Some p) creations)
+    (kept : (s : ℕ) (q : Place) (row : ObjectRow) → IsListed lists s q
+    → object_at objects q ≡ Some row → IsListed lists' s q)
+    (only : (s : ℕ) (q : Place) → IsListed lists' s q
+    → IsListed lists s q ⊎ ((s ≡ session) × (q ≡ p))) where
+  of_row : (row : ObjectRow) → object_at objects p ≡ Some row → row.session ≡ Some session
+  of_row row is =
+      sym (of_session ∙ ap (option_and_then (λ (r : ObjectRow). r.session)) is)
+
+  only_own : (s : ℕ) (q : Place) → IsListed lists' s q → IsListed lists s q
+      ⊎ ((q.number ≤ creations)
+      × ((row : ObjectRow) → object_at objects q ≡ Some row → row.session ≡ Some s))
+  only_own s q listed = elim (only s q listed) [
+    | inl before ↦ inl before
+    | inr added ↦
+        inr (
+          subst (λ (x : Place). x.number ≤ creations) (sym added.1) (sound.unlisted_created p refl),
+          λ row is. of_row row (ap (object_at objects) (sym added.1) ∙ is) ∙ ap Some (sym added.0),
+        )
+  ]
+
+  pub IsSound-tried : IsSound objects index lists' (Some p) creations
+  IsSound-tried =
+      IsSound-relisted objects index lists lists' (Some p) (Some p) creations sound kept
+      (λ key row s is of_s last. inr last) only_own (λ q is. is)
+
+  pub IsSound-listed : IsListed lists' session p → IsSound objects index lists' None creations
+  IsSound-listed listed =
+      IsSound-relisted objects index lists lists' (Some p) None creations sound kept
+      (λ key row s is of_s last.
+      let this : p ≡ place row.number key = same_Some p (place row.number key) last in
+      let same : session ≡ s =
+      same_Some session s
+      (sym (of_row row (ap (object_at objects) this ∙ object_at-here objects key row is)) ∙ of_s) in
+      inl (subst (λ x. IsListed lists' x (place row.number key)) same
+      (subst (IsListed lists' session) this listed)))
+      only_own (λ q is. absurd (cc))

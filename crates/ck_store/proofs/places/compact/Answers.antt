@@ -1,0 +1,20 @@
+use Rattle.std.proofs.Common.{ap, ◌∙◌, subst, sym, Contains}
+use Rattle.ck_store.specs.Index.{is_there, objects_at, IsIndex}
+use Rattle.ck_store.proofs.PlaceLemmas.{Contains-unfiltered}
+use Rattle.ck_store.proofs.SoundLemmas.{compacted-objects, compacted-is_index}
+use Rattle.ck_store.proofs.places.compact.Goals as goal
+
+pub returns-then-len-clause-objects : goal.returns-then-len-clause-objects
+returns-then-len-clause-objects c =
+    ap (objects_at c.args.objects.now) c.drop_ended.ensures
+    ∙ compacted-objects c.args.objects.now c.args.index.now.items
+
+pub returns-then-len-clause-is_index : goal.returns-then-len-clause-is_index
+returns-then-len-clause-is_index c = λ is_index.
+    subst (IsIndex c.args.objects.now) (sym c.drop_ended.ensures)
+    (compacted-is_index c.args.objects.now c.args.index.now.items is_index)
+
+pub returns-then-len-clause-only : goal.returns-then-len-clause-only
+returns-then-len-clause-only c = λ p there.
+    Contains-unfiltered (is_there c.args.objects.now) c.args.index.now.items p
+    (subst (λ ps. Contains ps p) c.drop_ended.ensures there)

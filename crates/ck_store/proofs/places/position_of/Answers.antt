@@ -1,0 +1,14 @@
+use Rattle.std.proofs.Common.{◌∙◌, rules}
+use Rattle.std.proofs.lemmas.List.Sorted.{answers_always}
+use Rattle.ck_store.specs.declared.places.Place.{Place}
+use Rattle.ck_store.proofs.Searched.{place-searched}
+use Rattle.ck_store.proofs.places.position_of.Goals as goal
+
+pub returns-clause-place : goal.returns-clause-place
+returns-clause-place c = λ rise.
+    let searched =
+    c.binary_search_by_key.ensures.position (λ (p : Place). p.number)
+    (answers_always _ _ _ (λ f a r g called. search rules)) in
+    c.ok.ensures.value
+    ∙ place-searched (λ (p : Place). p.number) c.args.index.now rise c.args.number
+    c.binary_search_by_key.result c.binary_search_by_key.ensures.bound searched

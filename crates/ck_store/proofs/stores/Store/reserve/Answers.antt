@@ -1,0 +1,46 @@
+use Rattle.std.proofs.Common.{ap, sym, ◌∙◌, subst}
+use Rattle.slab.specs.Slab.{get}
+use Rattle.ck_store.specs.Index.{IsSound}
+use Rattle.ck_store.proofs.SoundLemmas.{IsSound-fewer}
+use Rattle.ck_store.proofs.stores.Store.reserve.Goals as goal
+
+pub invariant_of-self : goal.invariant_of-self
+invariant_of-self c = (
+  c.list_newest.ensures.sound c.self.inside.index.items c.self.inside.creations
+      c.self.invariant.0,
+  c.self.invariant.1,
+)
+
+pub invariant_of-self-in_err-reserve : goal.invariant_of-self-in_err-reserve
+invariant_of-self-in_err-reserve c = (
+  IsSound-fewer c.self.inside.objects c.reserve.new.self c.self.inside.index.items
+      c.list_newest.new.lists.items c.list_newest.new.unlisted c.self.inside.creations
+      (c.list_newest.ensures.sound c.self.inside.index.items c.self.inside.creations
+      c.self.invariant.0)
+      (λ key row is. sym (ap (λ s. get s key) c.reserve.ensures.rest_kept) ∙ is),
+  c.self.invariant.1,
+)
+
+pub invariant_of-self-in_err-reserve-2 : goal.invariant_of-self-in_err-reserve-2
+invariant_of-self-in_err-reserve-2 c = (
+  subst (λ ps. IsSound c.reserve.new.self ps c.list_newest.new.lists.items
+      c.list_newest.new.unlisted c.self.inside.creations) (sym c.reserve-2.ensures.items)
+      (IsSound-fewer c.self.inside.objects c.reserve.new.self c.self.inside.index.items
+      c.list_newest.new.lists.items c.list_newest.new.unlisted c.self.inside.creations
+      (c.list_newest.ensures.sound c.self.inside.index.items c.self.inside.creations
+      c.self.invariant.0)
+      (λ key row is. sym (ap (λ s. get s key) c.reserve.ensures.rest_kept) ∙ is)),
+  c.self.invariant.1,
+)
+
+pub invariant_of-self-2 : goal.invariant_of-self-2
+invariant_of-self-2 c = (
+  subst (λ ps. IsSound c.reserve.new.self ps c.list_newest.new.lists.items
+      c.list_newest.new.unlisted c.self.inside.creations) (sym c.reserve-2.ensures.items)
+      (IsSound-fewer c.self.inside.objects c.reserve.new.self c.self.inside.index.items
+      c.list_newest.new.lists.items c.list_newest.new.unlisted c.self.inside.creations
+      (c.list_newest.ensures.sound c.self.inside.index.items c.self.inside.creations
+      c.self.invariant.0)
+      (λ key row is. sym (ap (λ s. get s key) c.reserve.ensures.rest_kept) ∙ is)),
+  c.self.invariant.1,
+)

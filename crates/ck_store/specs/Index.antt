@@ -1,0 +1,90 @@
+-- Objects in a slab, and the places that name them
+use Rattle.std.specs.Prelude.{◌≡◌, ◌⊎◌, ℕ, ◌<◌, ◌≤◌, Bool, true, false, ◌==◌, List, Option, Some, None}
+use Rattle.std.specs.Prelude.{is_some, filter_map, option_map, option_and_then, AllPairs, Contains}
+use Rattle.std.specs.Prelude.{if◌then◌else◌}
+use Rattle.slab.specs.Slab.{Slab, get}
+use Rattle.ck_store.specs.Rows.{ObjectRow, has_number}
+use Rattle.ck_store.specs.declared.places.Place.{Place}
+use Rattle.ck_store.specs.declared.session_lists.SessionList.{SessionList}
+
+abbrev pub place : ℕ → ℕ → Place
+place number key = record { number = number; key = key }
+
+abbrev pub is_at : ℕ → Place → Bool
+is_at number place = place.number == number
+
+abbrev pub numbered : ℕ → ObjectRow → Option ObjectRow
+numbered number row = if has_number number row then Some row else None
+
+-- the object of a place, where it hasn't ended; its key may have another object since
+abbrev pub object_at : Slab ObjectRow → Place → Option ObjectRow
+object_at objects place = option_and_then (numbered place.number) (get objects place.key)
+
+abbrev pub is_there : Slab ObjectRow → Place → Bool
+is_there objects place = is_some (object_at objects place)
+
+-- the objects of these places that haven't ended
+abbrev pub objects_at : Slab ObjectRow → List Place → List ObjectRow
+objects_at objects places = filter_map (object_at objects) places
+
+-- each number is below all later ones
+abbrev pub PlacesRise : List Place → Type 0
+PlacesRise index = AllPairs (λ (p : Place) (later : Place). p.number < later.number) index
+
+-- the index rises, and names each object
+pub record IsIndex (objects : Slab ObjectRow) (index : List Place) : Type 0 where
+  pub rises : PlacesRise index
+  pub named : (key : ℕ) (row : ObjectRow) → get objects key ≡ Some row
+      → Contains index (place row.number key)
+
+abbrev pub has_session : ℕ → SessionList → Bool
+has_session session list = list.session == session
+
+-- the place is in a list of the session
+pub record IsListed (lists : List SessionList) (session : ℕ) (p : Place) : Type 0 where
+  pub list : SessionList
+  pub among : Contains lists list
+  pub own : list.session ≡ session
+  pub holds : Contains list.places.items p
+
+-- what the fields of a store keep: the index rises and names each object; each session object is in
+-- a list of its session, and a list's places have no other objects; no number is above the count of
+-- creations
+pub record IsSound (objects : Slab ObjectRow) (index : List Place) (lists : List SessionList)
+    (unlisted : Option Place) (creations : ℕ) : Type 0 where
+  pub indexed : IsIndex objects index
+  pub listed : (key : ℕ) (row : ObjectRow) (session : ℕ) → get objects key ≡ Some row
+      → row.session ≡ Some session
+      → IsListed lists session (place row.number key) ⊎ (unlisted ≡ Some (place row.number key))
+  pub own : (session : ℕ) (p : Place) (row : ObjectRow) → IsListed lists session p
+      → object_at objects p ≡ Some row → row.session ≡ Some session
+  pub index_created : (p : Place) → Contains index p → p.number ≤ creations
+  pub unlisted_created : (p : Place) → unlisted ≡ Some p → p.number ≤ creations
+  pub lists_created : (session : ℕ) (p : Place) → IsListed lists session p → p.number ≤ creations
+
+-- ---- what becomes of the objects
+
+-- the key of the object that has the number
+pub record IsKeyOf (objects : Slab ObjectRow) (number : ℕ) (found : Option ℕ) : Type 0 where
+  pub has : (key : ℕ) → found ≡ Some key
+      → (row : ObjectRow) × (get objects key ≡ Some row) × (has_number number row ≡ true)
+  pub only : (key : ℕ) (row : ObjectRow) → get objects key ≡ Some row
+      → has_number number row ≡ true → found ≡ Some key
+
+-- each object is changed so, and stays under its key
+abbrev pub IsChanged : (ObjectRow → ObjectRow) → Slab ObjectRow → Slab ObjectRow → Type 0
+IsChanged change old new = (key : ℕ) → get new key ≡ option_map change (get old key)
+
+-- some of the objects of the test are there no more; the others are, each under its key
+abbrev pub IsLeft : (ObjectRow → Bool) → Slab ObjectRow → Slab ObjectRow → Type 0
+IsLeft test old new = (key : ℕ) → (get new key ≡ get old key)
+    ⊎ ((get new key ≡ None) × ((row : ObjectRow) → get old key ≡ Some row → test row ≡ true))
+
+-- the place has no object of the test
+abbrev pub HasNone : (ObjectRow → Bool) → Slab ObjectRow → Place → Type 0
+HasNone test objects p = (row : ObjectRow) → object_at objects p ≡ Some row → test row ≡ false
+
+-- no object of the test is there
+abbrev pub EndsAll : (ObjectRow → Bool) → Slab ObjectRow → Type 0
+EndsAll test objects =
+    (key : ℕ) (row : ObjectRow) → get objects key ≡ Some row → test row ≡ false

@@ -1,0 +1,87 @@
+ghost use Rattle.std.specs.Prelude.{◌≡◌, ℕ, ◌==◌, Contains, Some, true};
+ghost use Rattle.ck_store.specs.Rows.{ObjectRow, is_ended_by, concerns, closes};
+ghost use Rattle.ck_store.specs.Index.{IsLeft, HasNone, IsListed};
+ghost use Rattle.ck_store.specs.declared.places.Place.{Place};
+
+use crate::places::{Place, object_at};
+use crate::session_lists::SessionList;
+use crate::stored_objects::StoredObject;
+use slab::Slab;
+
+/// What ends session objects.
+#[derive(Clone, Copy, Debug, PartialEq, Eq)]
+pub(crate) enum Ending {
+    /// The session is closed.
+    Session(u64),
+    /// All sessions are closed.
+    AllSessions,
+    /// The user logs out, which ends the private ones.
+    Logout,
+}
+
+impl Ending {
+    /// Whether it may end objects of the session.
+    fn concerns(self, session: u64) -> bool
+        ensures { result ≡ concerns self session }
+    {
+        self.closes(session) || matches!(self, Ending::Logout)
+    }
+
+    /// Whether it closes the session.
+    pub(crate) fn closes(self, session: u64) -> bool
+        ensures { result ≡ closes self session }
+    {
+        match self {
+            Ending::Session(closed) => closed == session,
+            Ending::AllSessions => true,
+            Ending::Logout => false,
+        }
+    }
+}
+
+/// Ends the object of the place, where it is one of those that end.
+fn end_object(objects: &mut Slab<StoredObject>, place: Place, ending: Ending)
+    ensures left { IsLeft (is_ended_by ending) objects.old objects.new }
+    ensures ended { HasNone (is_ended_by ending) objects.new place }
+{
+    let Some(object) = object_at(objects, place) else {
+        return;
+    };
+    if object.is_ended_by(ending) {
+        objects.try_remove(place.key);
+    }
+}
+
+fn end_objects(objects: &mut Slab<StoredObject>, places: &[Place], ending: Ending)
+    ensures left { IsLeft (is_ended_by ending) objects.old objects.new }
+    ensures ended { (p : Place) → Contains places.now p
+        → HasNone (is_ended_by ending) objects.new p }
+{
+    for place in places {
+        end_object(objects, *place, ending);
+    }
+}
+
+/// Ends those of the objects in the lists that end.
+pub(crate) fn end_listed(objects: &mut Slab<StoredObject>, lists: &[SessionList], ending: Ending)
+    ensures left { IsLeft (is_ended_by ending) objects.old objects.new }
+    ensures ended { (session : ℕ) (p : Place) → IsListed lists.now session p
+        → concerns ending session ≡ true → HasNone (is_ended_by ending) objects.new p }
+{
+    for list in lists {
+        if ending.concerns(list.session()) {
+            end_objects(objects, list.places(), ending);
+        }
+    }
+}
+
+/// Ends the newest object, where it is in no list yet and is one of those that end.
+pub(crate) fn end_newest(objects: &mut Slab<StoredObject>, unlisted: Option<Place>, ending: Ending)
+    ensures left { IsLeft (is_ended_by ending) objects.old objects.new }
+    ensures ended { (p : Place) → unlisted ≡ Some p
+        → HasNone (is_ended_by ending) objects.new p }
+{
+    if let Some(place) = unlisted {
+        end_object(objects, place, ending);
+    }
+}

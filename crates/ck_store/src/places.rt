@@ -1,0 +1,171 @@
+ghost use Rattle.std.specs.Prelude.{◌≡◌, ◌+◌, ◌^◌, ◌<◌, ℕ, not, map, length, find, filter, position};
+ghost use Rattle.std.specs.Prelude.{IfOk, IfSome, option_and_then, Contains};
+ghost use Rattle.std.specs.Option.{option_copied};
+ghost use Rattle.slab.specs.Slab.{get};
+ghost use Rattle.ck_store.specs.Rows.{ObjectRow, has_number, matching_numbers};
+ghost use Rattle.ck_store.specs.Rows.{with_attributes, with_key_state};
+ghost use Rattle.ck_store.specs.Index.{is_at, object_at, objects_at, is_there, IsIndex, PlacesRise};
+ghost use Rattle.ck_store.specs.Index.{IsChanged, IsKeyOf, IsLeft, EndsAll};
+ghost use Rattle.ck_store.specs.declared.places.Place.{Place};
+
+use crate::stored_objects::StoredObject;
+use ck_journal::View;
+use ck_types::{KeyState, NoMemory, Record, Template};
+use slab::Slab;
+use std::alloc::Global;
+
+/// Where the object of a number lies. Once the object has ended, its key may have another object.
+#[derive(Clone, Copy, Debug)]
+pub(crate) struct Place {
+    pub(crate) number: u64,
+    pub(crate) key: usize,
+}
+
+/// The object of a place, where it hasn't ended.
+pub(crate) fn object_at(objects: &Slab<StoredObject>, place: Place) -> Option<&StoredObject>
+    ensures { option_copied result ≡ object_at objects.now place }
+{
+    let object = objects.get(place.key)?;
+    if object.number() == place.number {
+        Some(object)
+    } else {
+        None
+    }
+}
+
+fn is_there(objects: &Slab<StoredObject>, place: Place) -> bool
+    ensures { result ≡ is_there objects.now place }
+{
+    object_at(objects, place).is_some()
+}
+
+/// The place of a number in an index whose numbers rise.
+fn position_of(index: &[Place], number: u64) -> Option<usize>
+    ensures within { IfSome result (λ place. place < length index.now) }
+    ensures place { PlacesRise index.now → result ≡ position (is_at number) index.now }
+{
+    index
+        .binary_search_by_key(&number, |place| place.number)
+        .ok()
+}
+
+/// The key of the object that has the number.
+pub(crate) fn key_of(objects: &Slab<StoredObject>, index: &[Place], number: u64) -> Option<usize>
+    ensures { IsIndex objects.now index.now → IsKeyOf objects.now number result }
+{
+    let place = index[position_of(index, number)?];
+    if is_there(objects, place) {
+        Some(place.key)
+    } else {
+        None
+    }
+}
+
+/// The object that has the number.
+pub(crate) fn find_numbered<'a>(
+    objects: &'a Slab<StoredObject>,
+    index: &[Place],
+    number: u64,
+) -> Option<&'a StoredObject>
+    ensures { IsIndex objects.now index.now
+        → option_copied result ≡ find (has_number number) (objects_at objects.now index.now) }
+{
+    objects.get(key_of(objects, index, number)?)
+}
+
+/// The numbers of the objects that are visible and match the template. Most searches find few
+/// objects, so room is made as they are found.
+pub(crate) fn find_matching(
+    alloc: Global,
+    objects: &Slab<StoredObject>,
+    index: &[Place],
+    view: View,
+    template: &Template,
+) -> Result<Vec<u64>, NoMemory>
+    ensures { IfOk result (λ numbers. numbers.items
+        ≡ matching_numbers view template.now.items (objects_at objects.now index.now)) }
+{
+    let mut numbers = Vec::new(alloc);
+    for place in index {
+        if let Some(object) = object_at(objects, *place) {
+            if object.is_match(view, template) {
+                numbers.push(object.number())?;
+            }
+        }
+    }
+    Ok(numbers)
+}
+
+/// Gives the object that has the number these attributes.
+pub(crate) fn set_numbered(
+    objects: &mut Slab<StoredObject>,
+    index: &[Place],
+    number: u64,
+    attributes: Record,
+)
+    ensures { IsIndex objects.old index.now
+        → IsChanged (with_attributes number attributes) objects.old objects.new }
+{
+    let Some(key) = key_of(objects, index, number) else {
+        return;
+    };
+    if let Some(object) = objects.get_mut(key) {
+        object.set_attributes(attributes);
+    }
+}
+
+/// Gives the key that has the number this state.
+pub(crate) fn set_state_numbered(
+    objects: &mut Slab<StoredObject>,
+    index: &[Place],
+    number: u64,
+    state: KeyState,
+)
+    ensures { IsIndex objects.old index.now
+        → IsChanged (with_key_state number state) objects.old objects.new }
+{
+    let Some(key) = key_of(objects, index, number) else {
+        return;
+    };
+    if let Some(object) = objects.get_mut(key) {
+        object.set_state(state);
+    }
+}
+
+/// Drops the places whose objects have ended.
+pub(crate) fn drop_ended(objects: &Slab<StoredObject>, places: &mut Vec<Place>)
+    ensures { places.new.items ≡ filter (is_there objects.now) places.old.items }
+{
+    places.retain(|place| is_there(objects, *place));
+}
+
+/// The session of the place's object, where that is a session object.
+pub(crate) fn session_at(objects: &Slab<StoredObject>, place: Place) -> Option<u64>
+    ensures { result ≡ option_and_then (λ (row : ObjectRow). row.session)
+        (object_at objects.now place) }
+{
+    object_at(objects, place)?.session()
+}
+
+/// Ends the object that has the number.
+pub(crate) fn remove_numbered(objects: &mut Slab<StoredObject>, index: &[Place], number: u64)
+    ensures left { IsIndex objects.old index.now
+        → IsLeft (has_number number) objects.old objects.new }
+    ensures ended { IsIndex objects.old index.now → EndsAll (has_number number) objects.new }
+{
+    if let Some(key) = key_of(objects, index, number) {
+        objects.try_remove(key);
+    }
+}
+
+/// Drops the places of ended objects, where they are more than half of the index.
+pub(crate) fn compact(objects: &Slab<StoredObject>, index: &mut Vec<Place>)
+    ensures objects { objects_at objects.now index.new.items
+        ≡ objects_at objects.now index.old.items }
+    ensures is_index { IsIndex objects.now index.old.items → IsIndex objects.now index.new.items }
+    ensures only { (p : Place) → Contains index.new.items p → Contains index.old.items p }
+{
+    if index.len() / 2 > objects.len() {
+        drop_ended(objects, index);
+    }
+}
