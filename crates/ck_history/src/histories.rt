@@ -50,7 +50,7 @@ impl NewHistory {
         }
     }
 
-    /// The history under its name: the length that threads share, and the front that has no entries.
+    /// The history under its name: the length that threads share, and the front without entries.
     pub fn named<K: HistoryId>(self) -> (Head<K>, Front<K>)
         requires { self.seen.book ≡ K.book }
         ensures { result.1 ≡ start K.base }
@@ -78,8 +78,8 @@ pub struct Head<K: HistoryId> {
     ghost head_is: { head ≡ head_of K.book },
 }
 
-/// A front of the one history, of which what runs has the length alone. Of two fronts the shorter is
-/// a front of the longer.
+/// A front of the one history, of which what runs has the length alone. Of two fronts the shorter
+/// is a front of the longer.
 #[derive(Drop)]
 pub struct Front<K: HistoryId> {
     count: u64,

@@ -3,10 +3,8 @@ use Rattle.std.proofs.Common.{◌≡◌, ◌+◌, ◌≤◌, List, [], ◌∷◌
 use Rattle.std.specs.Prelude.{reverse}
 use Rattle.std.proofs.lemmas.Grind.{reverse_onto}
 use mathlib.Core.List.{IsPrefix}
-use Rattle.ck_types.specs.TokenLimits.{Ranges}
 use Rattle.ck_journal.specs.declared.bases.Base.{Base}
 use Rattle.ck_journal.specs.declared.calls.Entry.{Entry}
-use Rattle.ck_journal.specs.Answers.{IsLegal}
 use Rattle.ck_journal.specs.Fronts.{extended_by, history_of, IsFront}
 use Rattle.ck_journal.specs.Histories.{History, start, ◌◁◌, followed_by, entry_count}
 
@@ -14,9 +12,6 @@ use Rattle.ck_journal.specs.Histories.{History, start, ◌◁◌, followed_by, e
 
 pub front_refl : (h : History) → IsFront h h
 front_refl h = ([], refl)
-
-pub front_next : (e : Entry) (g h : History) → IsFront g h → IsFront g (e ◁ h)
-front_next e g h f = (e ∷ f.0, ap (λ before. e ◁ before) f.1)
 
 followed_by-append : (h : History) (later before : List Entry) → followed_by (followed_by h before) later ≡ followed_by h (later ++ before)
 followed_by-append h [] before = refl
@@ -29,24 +24,17 @@ entry_count-later : (g : History) (later : List Entry) → entry_count (followed
 entry_count-later g [] = omega arith
 entry_count-later g (e ∷ later) = let below = entry_count-later g later in omega arith
 
-pub front_shorter : (g h : History) → IsFront g h → entry_count g ≤ entry_count h
-front_shorter g h f = omega (arith, ap entry_count f.1, entry_count-later g f.0)
-
 nothing_later : (g h : History) (later : List Entry) → h ≡ followed_by g later → entry_count h ≤ entry_count g → g ≡ h
 nothing_later g h [] e short = sym e
 nothing_later g h (x ∷ later) e short = absurd (omega (arith, ap entry_count e, entry_count-later g later))
 
--- a front that isn't shorter is the whole
-pub front_whole : (g h : History) → IsFront g h → entry_count h ≤ entry_count g → g ≡ h
-front_whole g h f short = nothing_later g h f.0 f.1 short
+before_later : (e : Entry) (g h : History) (later : List Entry) → e ◁ h ≡ followed_by g later → entry_count g ≡ entry_count h → g ≡ h
+before_later e g h [] is counts = let longer = ap entry_count is in absurd (omega arith)
+before_later e g h (x ∷ later) is counts = let rest : h ≡ followed_by g later = cc is in nothing_later g h later rest (omega arith)
 
--- what is a front just after a legal history's front is legal
-legal_before : (limits : Ranges) (g : History) (later : List Entry) → IsLegal limits (followed_by g later) → IsLegal limits g
-legal_before limits g [] legal = legal
-legal_before limits g (e ∷ later) legal = legal_before limits g later legal.1
-
-pub front_legal : (limits : Ranges) (g h : History) → IsFront g h → IsLegal limits h → IsLegal limits g
-front_legal limits g h f legal = legal_before limits g f.0 (subst (IsLegal limits) f.1 legal)
+-- a front that lacks one entry is all before it
+pub front_before : (e : Entry) (g h : History) → IsFront g (e ◁ h) → entry_count g ≡ entry_count h → g ≡ h
+front_before e g h f counts = before_later e g h f.0 f.1 counts
 
 -- ---- logs
 

@@ -1,5 +1,5 @@
 -- No more sessions are open than the limit allows
-use Rattle.std.proofs.Common.{◌≡◌, ℕ, suc, ◌+◌, ◌<◌, ◌≤◌, Bool, true, false, not, cond, List, [], ◌∷◌, ◌++◌, Option, Some, None, length, length-append, refl, sym, ap, ◌∙◌, subst, arith}
+use Rattle.std.proofs.Common.{◌≡◌, ℕ, suc, ◌+◌, ◌<◌, ◌≤◌, Bool, true, false, not, cond, List, [], ◌∷◌, Option, Some, None, length, length-append, refl, sym, ap, ◌∙◌, arith}
 use Rattle.std.specs.Prelude.{◌==◌, ◌&&◌, bit_and, nat_le, filter}
 use Rattle.ck_types.specs.Checks.{error_if}
 use Rattle.ck_types.specs.TokenLimits.{Ranges}
@@ -8,7 +8,7 @@ use Rattle.ck_types.proofs.CheckLemmas.{or_else-none}
 use Rattle.ck_journal.specs.declared.calls.Call.{Call}
 use Rattle.ck_journal.specs.declared.calls.Call.TheVariants as call
 use Rattle.ck_journal.specs.declared.calls.Entry.{Entry}
-use Rattle.ck_journal.specs.Answers.{IsLegal, open_session_error, call_error, is_so}
+use Rattle.ck_journal.specs.Answers.{IsLegal, open_session_error, is_so}
 use Rattle.ck_journal.specs.Histories.{History, start, ◌◁◌, done}
 use Rattle.ck_journal.specs.Pins.{is_initialized}
 use Rattle.ck_journal.specs.Sessions.{opens, openings, closes, is_open, open_sessions, has_rw_flag, login}

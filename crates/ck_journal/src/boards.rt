@@ -24,8 +24,8 @@ pub struct LoginStatus {
 }
 
 /// What C_GetSessionInfo and C_GetTokenInfo read of a token: a copy of it answers them as the token
-/// does. It takes no memory beside its own, which has a place for each session that a token may have
-/// open.
+/// does. It takes no memory beside its own, which has a place for each session that a token may
+/// have open.
 #[derive(Debug, Drop)]
 pub struct TokenBoard {
     limit: u64,

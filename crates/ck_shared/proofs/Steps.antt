@@ -1,0 +1,55 @@
+-- One call of a caller under the lock
+use Rattle.std.proofs.Common.{◌≡◌, ℕ, ◌+◌, ◌-◌, ◌<◌, ◌≤◌, ◌^◌, List, [], ◌∷◌, length, slice_index, slice_set, refl, sym, ap, ◌∙◌, subst, arith}
+use Rattle.ck_types.specs.TokenLimits.{Ranges}
+use Rattle.ck_journal.specs.Boards.{board_of}
+use Rattle.ck_journal.specs.Callers.{entries_by, call_count, call_counts}
+use Rattle.ck_journal.specs.Fronts.{IsFront}
+use Rattle.ck_journal.specs.Histories.{History, ◌◁◌, entry_count}
+use Rattle.ck_journal.specs.declared.calls.Call.{Call}
+use Rattle.ck_journal.specs.declared.replies.Reply.{Reply}
+use Rattle.ck_journal.proofs.CallerLemmas.{entries_by-own, entries_by-front, call_count-within, call_counts-at, call_counts-next}
+use Rattle.ck_journal.proofs.FrontLemmas.{front_trans}
+use Rattle.ck_shared.specs.Callers.{entry_by}
+use Rattle.ck_shared.specs.News.{board_after, HasNews}
+use Rattle.ck_shared.specs.declared.slots.Change.{Change}
+
+module _ (h after : History) (number : ℕ) (call : Call) (reply : Reply) (entered : after ≡ entry_by number call reply ◁ h)
+    (low : 1 ≤ number) (high : number ≤ 8) where
+  -- the caller's entries are those from before and this one
+  pub own_next : entries_by number after ≡ entry_by number call reply ∷ entries_by number h
+  own_next = ap (entries_by number) entered ∙ entries_by-own (entry_by number call reply) h
+
+  pub news : (limits own_limits : Ranges) (c : Change) (front : History) → own_limits ≡ limits → front ≡ after
+      → entry_count after < 2 ^ 64 → board_after c (board_of own_limits h) ≡ board_of own_limits after → HasNews limits number c front
+  news limits own_limits c front same is room board = record {
+    before = h;
+    entry = entry_by number call reply;
+    next = is ∙ entered;
+    caller = refl;
+    range = (low, high);
+    room = omega (arith, ap entry_count is, room);
+    board = subst (λ l. board_after c (board_of l h) ≡ board_of l after) same board ∙ ap (board_of limits) (sym is);
+  }
+
+  module _ (counts : List ℕ) (books : counts ≡ call_counts h) where
+    known_count : slice_index counts (number - 1) ≡ call_count number h
+    known_count = ap (λ xs. slice_index xs (number - 1)) books ∙ call_counts-at number h low high
+
+    pub count_fits : entry_count after < 2 ^ 64 → slice_index counts (number - 1) + 1 < 2 ^ 64
+    count_fits room = omega (arith, known_count, call_count-within number h, ap entry_count entered, room)
+
+    module _ (count : ℕ) (audited : count ≡ slice_index counts (number - 1)) where
+      pub count_next : call_count number after ≡ count + 1
+      count_next =
+          let more = ap length own_next in omega (arith, more, audited, known_count)
+
+      pub own_before : (last seen : History) → IsFront last seen → IsFront seen h → call_count number last ≡ count → entries_by number h ≡ entries_by number last
+      own_before last seen p q made =
+          entries_by-front number last h (front_trans last seen h p q) (sym known_count ∙ sym audited ∙ sym made)
+
+      pub books_next : slice_set counts (number - 1) (count + 1) ≡ call_counts after
+      books_next =
+          ap (λ xs. slice_set xs (number - 1) (count + 1)) books
+          ∙ ap (λ n. slice_set (call_counts h) (number - 1) (n + 1)) (audited ∙ known_count)
+          ∙ sym (call_counts-next number (entry_by number call reply) h refl low high)
+          ∙ ap call_counts (sym entered)

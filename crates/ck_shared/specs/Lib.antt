@@ -1,0 +1,5 @@
+pub mod Accounts
+pub mod Callers
+pub mod Locked
+pub mod News
+pub mod Shares
