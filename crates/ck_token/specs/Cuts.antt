@@ -3,7 +3,7 @@ use Rattle.std.specs.Prelude.{◌≡◌, ◌<◌, [], Result, Ok, Err, length}
 use Rattle.ck_journal.specs.Cuts.{base_of}
 use Rattle.ck_journal.specs.Histories.{JournalState, start}
 use Rattle.ck_journal.specs.Sessions.{open_sessions}
-use Rattle.ck_token.specs.TokenStates.{TokenState, IsUnchanged}
+use Rattle.ck_token.specs.TokenStates.{TokenState}
 use Rattle.ck_token.specs.declared.cuts.Uncut.{Uncut}
 use Rattle.ck_token.specs.declared.cuts.Uncut.TheVariants as uncut
 
@@ -13,6 +13,5 @@ abbrev pub IsCut : TokenState → TokenState → Result JournalState Uncut → T
 IsCut old new (Ok journal) =
     (open_sessions old.history ≡ []) × (journal.history ≡ old.history)
     × (new.limits ≡ old.limits) × (new.history ≡ start (base_of old.history))
-IsCut old new (Err uncut.Session) =
-    (0 < length (open_sessions old.history)) × IsUnchanged old new
-IsCut old new (Err uncut.Memory) = (open_sessions old.history ≡ []) × IsUnchanged old new
+IsCut old new (Err uncut.Session) = (0 < length (open_sessions old.history)) × (new ≡ old)
+IsCut old new (Err uncut.Memory) = (open_sessions old.history ≡ []) × (new ≡ old)

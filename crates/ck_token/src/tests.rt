@@ -8,8 +8,6 @@ use std::alloc::Global;
 use std::process::Abort;
 use std::test::Fail;
 
-mod cuts;
-
 /// A call, its caller and the code of its reply.
 type Step = (u32, Call, Rv);
 
