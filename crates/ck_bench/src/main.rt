@@ -3,9 +3,11 @@
 //! call: processor time, the best of many short runs.
 #![tactic(auto)]
 
+mod crowds;
 mod long_digests;
 mod rounds;
 
+use crowds::{PHASES, times_among};
 use long_digests::best_times;
 use rounds::{KINDS, Kind, calls_in, prepared, round};
 use std::env::Env;
@@ -20,6 +22,9 @@ const RUNS: u64 = 400;
 
 /// How often a long digest is made.
 const LONG_RUNS: u64 = 60;
+
+/// How often calls are made among many objects.
+const CROWDS: u64 = 7;
 
 /// The processor time of one run of rounds on a token of its own, or `None` where one was refused.
 fn run_time<R: CpuClock + AllocGlobal>(
@@ -68,6 +73,30 @@ fn measure_long<R: CpuClock + Print + AllocGlobal>(rt: &R, measures: bool) -> io
     Ok(true)
 }
 
+/// Makes calls among so many objects, and writes what each takes at best where that is asked for.
+fn measure_among<R: CpuClock + Print + AllocGlobal>(
+    rt: &R,
+    objects: u32,
+    measures: bool,
+) -> io::Result<bool> {
+    let tries = if measures { CROWDS } else { 1 };
+    let mut best = [u128::MAX; 9];
+    for _ in 0..tries {
+        let Some(times) = times_among(rt, objects)? else {
+            return Ok(false);
+        };
+        for (best, time) in best.iter_mut().zip(times) {
+            *best = (*best).min(time);
+        }
+    }
+    if measures {
+        for (time, phase) in best.iter().zip(PHASES) {
+            println!(rt; "{} among {objects} objects: {time} ns", phase.name())?;
+        }
+    }
+    Ok(true)
+}
+
 /// Makes each kind of round, and measures it where that is asked for.
 fn run<R: Env + CpuClock + Print + AllocGlobal>(rt: &R) -> io::Result<bool> {
     let measures = env::args(rt)?
@@ -83,7 +112,11 @@ fn run<R: Env + CpuClock + Print + AllocGlobal>(rt: &R) -> io::Result<bool> {
             return Ok(false);
         }
     }
-    measure_long(rt, measures)
+    let is_good = measure_long(rt, measures)? && measure_among(rt, 1_000, measures)?;
+    if !measures || !is_good {
+        return Ok(is_good);
+    }
+    Ok(measure_among(rt, 50_000, true)? && measure_among(rt, 100_000, true)?)
 }
 
 fn main(rt: HostRuntime) -> ExitCode {

@@ -98,7 +98,7 @@ impl From<NoMemory> for Failed {
 
 /// Makes a call that must be answered OK, and gives its handle, 0 where it has none.
 #[inline(always)]
-fn call(token: &mut Token, alloc: Global, call: Call) -> Result<u64, Failed> {
+pub(crate) fn call(token: &mut Token, alloc: Global, call: Call) -> Result<u64, Failed> {
     let reply = token.call(alloc, 1, call)?;
     match (&reply.rv, &reply.body) {
         (Rv::Ok, Body::Handle(handle)) => Ok(*handle),
@@ -112,20 +112,33 @@ fn item(alloc: Global, kind: u64, value: &[u8]) -> Result<Item, NoMemory> {
     Ok(Item { kind, value })
 }
 
-/// A data object with a label of 8 bytes.
-fn labelled(alloc: Global) -> Result<Call, NoMemory> {
+/// The template of a data object with this label.
+pub(crate) fn labelled_of(alloc: Global, label: &[u8]) -> Result<Template, NoMemory> {
     let mut items = Vec::with_capacity(alloc, 2)?;
     items.push(item(alloc, CLASS, DATA)?)?;
-    items.push(item(alloc, LABEL, b"a label ")?)?;
+    items.push(item(alloc, LABEL, label)?)?;
     let items = Sequence::from_vec(items);
-    let template = Template { items };
+    Ok(Template { items })
+}
+
+/// A template that has a label alone.
+pub(crate) fn label_alone(alloc: Global, label: &[u8]) -> Result<Template, NoMemory> {
+    let mut items = Vec::with_capacity(alloc, 1)?;
+    items.push(item(alloc, LABEL, label)?)?;
+    let items = Sequence::from_vec(items);
+    Ok(Template { items })
+}
+
+/// A data object with a label of 8 bytes.
+fn labelled(alloc: Global) -> Result<Call, NoMemory> {
+    let template = labelled_of(alloc, b"a label ")?;
     Ok(Call::CreateObject {
         session: 1,
         template,
     })
 }
 
-fn read_label(alloc: Global, object: u64) -> Result<Call, NoMemory> {
+pub(crate) fn read_label(alloc: Global, object: u64) -> Result<Call, NoMemory> {
     let mut queries = Vec::with_capacity(alloc, 1)?;
     let room = Some(8);
     queries.push(AttributeQuery { kind: LABEL, room })?;

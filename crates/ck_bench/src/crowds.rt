@@ -1,0 +1,201 @@
+//! Calls of one session among many objects of another.
+ghost use Rattle.std.specs.Prelude.{◌<◌, ◌^◌};
+
+use crate::rounds::{Failed, call, label_alone, labelled_of, prepared, read_label};
+use ck_journal::Call;
+use ck_token::Token;
+use ck_types::Pin;
+use std::alloc::Global;
+use std::io;
+use std::time::CpuClock;
+
+/// How often the rounds of a phase are made, but for the last phase.
+const ROUNDS: u64 = 1_000;
+
+/// The measured phases, in the order in which they are made on a token.
+#[derive(Clone, Copy, Debug, PartialEq, Eq)]
+pub(crate) enum Phase {
+    Create,
+    ReadLabel,
+    Change,
+    Destroy,
+    OpenAndClose,
+    /// A session that is opened, creates ten objects and is closed.
+    TenObjects,
+    LogInAndOut,
+    /// A search by a label that one object has, with its start and its end.
+    Search,
+    /// All objects of the other session, one by one.
+    DestroyAll,
+}
+
+pub(crate) const PHASES: [Phase; 9] = [
+    Phase::Create,
+    Phase::ReadLabel,
+    Phase::Change,
+    Phase::Destroy,
+    Phase::OpenAndClose,
+    Phase::TenObjects,
+    Phase::LogInAndOut,
+    Phase::Search,
+    Phase::DestroyAll,
+];
+
+impl Phase {
+    pub(crate) fn name(self) -> &'static str {
+        match self {
+            Phase::Create => "create",
+            Phase::ReadLabel => "get label",
+            Phase::Change => "change",
+            Phase::Destroy => "destroy",
+            Phase::OpenAndClose => "open and close (both together)",
+            Phase::TenObjects => "open, create ten objects and close (all together)",
+            Phase::LogInAndOut => "login and logout (both together)",
+            Phase::Search => "a search by label (its three calls together)",
+            Phase::DestroyAll => "destroy all, each",
+        }
+    }
+
+    /// How many rounds it has among so many objects.
+    fn rounds(self, objects: u32) -> u64
+        ensures { result < 2 ^ 32 }
+    {
+        match self {
+            Phase::DestroyAll => u64::from(objects),
+            Phase::Search => 20,
+            _ => ROUNDS,
+        }
+    }
+}
+
+/// A token with a user PIN and so many session objects of session 2, beside what `prepared` makes.
+/// Their numbers begin with 3, and each has its number as its label.
+fn crowded(alloc: Global, objects: u32) -> Result<Token, Failed> {
+    let mut token = prepared(alloc)?;
+    let pin = Pin::of(b"1234");
+    let user = 0;
+    let session = 1;
+    call(&mut token, alloc, Call::Login { session, user, pin })?;
+    let pin = Pin::of(b"1234");
+    call(&mut token, alloc, Call::InitPin { session, pin })?;
+    call(&mut token, alloc, Call::Logout { session })?;
+    call(&mut token, alloc, Call::OpenSession { flags: 6 })?;
+    for object in 0..u64::from(objects) {
+        create(&mut token, alloc, 2, object)?;
+    }
+    Ok(token)
+}
+
+fn create(token: &mut Token, alloc: Global, session: u64, number: u64) -> Result<(), Failed> {
+    let template = labelled_of(alloc, &number.to_le_bytes())?;
+    call(token, alloc, Call::CreateObject { session, template })?;
+    Ok(())
+}
+
+fn change(token: &mut Token, alloc: Global, object: u64, round: u64) -> Result<(), Failed> {
+    let template = label_alone(alloc, &round.to_le_bytes())?;
+    let call_of = Call::SetAttributeValue {
+        session: 1,
+        object,
+        template,
+    };
+    call(token, alloc, call_of)?;
+    Ok(())
+}
+
+fn ten_objects(token: &mut Token, alloc: Global) -> Result<(), Failed> {
+    let session = call(token, alloc, Call::OpenSession { flags: 6 })?;
+    for number in 0..10 {
+        create(token, alloc, session, number)?;
+    }
+    call(token, alloc, Call::CloseSession { session })?;
+    Ok(())
+}
+
+fn log_in_and_out(token: &mut Token, alloc: Global) -> Result<(), Failed> {
+    let pin = Pin::of(b"1234");
+    let (session, user) = (1, 1);
+    call(token, alloc, Call::Login { session, user, pin })?;
+    call(token, alloc, Call::Logout { session })?;
+    Ok(())
+}
+
+fn search(token: &mut Token, alloc: Global, number: u64) -> Result<(), Failed> {
+    let session = 1;
+    let template = label_alone(alloc, &number.to_le_bytes())?;
+    call(token, alloc, Call::FindObjectsInit { session, template })?;
+    call(token, alloc, Call::FindObjects { session, max: 9 })?;
+    call(token, alloc, Call::FindObjectsFinal { session })?;
+    Ok(())
+}
+
+/// One round of the phase among so many objects.
+fn round(
+    token: &mut Token,
+    alloc: Global,
+    phase: Phase,
+    objects: u32,
+    round: u64,
+) -> Result<(), Failed>
+    requires { round < 2 ^ 32 }
+{
+    let past = u64::from(objects) + 3;
+    let spread = 3 + round * 7919 % u64::from(objects).max(1);
+    match phase {
+        Phase::Create => create(token, alloc, 1, round),
+        Phase::ReadLabel => {
+            call(token, alloc, read_label(alloc, spread)?)?;
+            Ok(())
+        }
+        Phase::Change => change(token, alloc, spread, round),
+        Phase::Destroy => destroy(token, alloc, past + round),
+        Phase::OpenAndClose => {
+            let session = call(token, alloc, Call::OpenSession { flags: 6 })?;
+            call(token, alloc, Call::CloseSession { session })?;
+            Ok(())
+        }
+        Phase::TenObjects => ten_objects(token, alloc),
+        Phase::LogInAndOut => log_in_and_out(token, alloc),
+        Phase::Search => search(token, alloc, spread),
+        Phase::DestroyAll => destroy(token, alloc, 3 + round),
+    }
+}
+
+fn destroy(token: &mut Token, alloc: Global, object: u64) -> Result<(), Failed> {
+    call(token, alloc, Call::DestroyObject { session: 1, object })?;
+    Ok(())
+}
+
+/// The nanoseconds of a round of each phase on a new token, or `None` where one failed.
+pub(crate) fn times_among<R: CpuClock + AllocGlobal>(
+    rt: &R,
+    objects: u32,
+) -> io::Result<Option<[u128; 9]>> {
+    let alloc = rt.alloc();
+    let Ok(mut token) = crowded(alloc, objects) else {
+        return Ok(None);
+    };
+    let mut times = [0; 9];
+    for (time, phase) in times.iter_mut().zip(PHASES) {
+        let rounds = phase.rounds(objects);
+        let before = rt.process_cpu_time()?;
+        if !all_rounds(&mut token, alloc, phase, objects) {
+            return Ok(None);
+        }
+        let after = rt.process_cpu_time()?;
+        let Some(spent) = after.checked_sub(before) else {
+            return Ok(None);
+        };
+        *time = spent.as_nanos() / u128::from(rounds.max(1));
+    }
+    Ok(Some(times))
+}
+
+fn all_rounds(token: &mut Token, alloc: Global, phase: Phase, objects: u32) -> bool {
+    for number in 0..phase.rounds(objects) {
+        if round(token, alloc, phase, objects, number).is_err() {
+            return false;
+        }
+    }
+    true
+}
