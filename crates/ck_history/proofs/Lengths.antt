@@ -32,7 +32,9 @@ module _ (b : Base) where
     same_seen = prefix_whole one seen p (omega arith)
 
     pub added_next : history_of b log ≡ e ◁ g
-    added_next = ap (history_of b) added ∙ history_of-next b seen e ∙ ap (λ xs. e ◁ history_of b xs) (sym same_seen) ∙ ap (λ x. e ◁ x) is
+    added_next =
+        ap (history_of b) added ∙ history_of-next b seen e ∙ ap (λ xs. e ◁ history_of b xs) (sym same_seen)
+        ∙ ap (λ x. e ◁ x) is
 
     pub added_other : IsFront h g
     added_other =
@@ -42,6 +44,7 @@ module _ (b : Base) where
     pub added_count : entry_count (history_of b log) ≡ length log
     added_count = entry_count-log b log
 
-    pub added_legal : (limits : Ranges) → IsLegal limits (history_of b one) → e.reply ≡ answer limits g e.call → IsLegal limits (history_of b log)
+    pub added_legal : (limits : Ranges) → IsLegal limits (history_of b one) → e.reply ≡ answer limits g e.call
+        → IsLegal limits (history_of b log)
     added_legal limits legal answered =
         subst (IsLegal limits) (sym added_next) (answered, subst (IsLegal limits) is legal)

@@ -42,7 +42,11 @@ pub struct NewHistory {
 }
 
 impl NewHistory {
-    pub fn new() -> NewHistory {
+    /// A history without entries, with a book of its own.
+    pub fn new() -> NewHistory
+        ensures entries { result.seen.log ≡ [] }
+        ensures head { result.head ≡ head_of result.seen.book }
+    {
         let (seen, mut first, _second) = Seen::open(Start::alone(), 0, 0);
         NewHistory {
             head: Word::tracked(0, &mut first),

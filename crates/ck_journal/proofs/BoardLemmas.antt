@@ -106,7 +106,8 @@ pub info-of_token : (limits : Ranges) (h : History) (b : BoardState) → b ≡ b
     → info_of b flags writable ≡ answer limits h call.GetTokenInfo
 info-of_token limits h b is flags writable f r =
     let same_flags : flags ≡ flags_of_token h = ap bits_as_flags (f ∙ ap (λ x. flags_on x.status) is) in
-    let same_rw : writable ≡ length (rw_sessions h) = r ∙ ap (λ x. length (filter (λ (row : ℕ × ℕ). has_rw_flag row.1) x.sessions)) is ∙ rw-rows h in
+    let same_rw : writable ≡ length (rw_sessions h) = r
+    ∙ ap (λ x. length (filter (λ (row : ℕ × ℕ). has_rw_flag row.1) x.sessions)) is ∙ rw-rows h in
     ap (λ x. info_of x flags writable) is
     ∙ ap (λ n. ok (body.Token flags limits.sessions n writable)) (length-rows h)
     ∙ ap (λ x. ok (body.Token x limits.sessions (length (open_sessions h)) writable)) same_flags
@@ -121,11 +122,13 @@ about-left h (call.SetPin session old new) l = cc
 about-left h (call.Login session user pin) l = cc
 about-left h other l = refl
 
-if_done : (t : Bool) (c : Call) → (effects_of (Some c)).sessions ≡ false → (effects_of (cond t (Some c) None)).sessions ≡ false
+if_done : (t : Bool) (c : Call) → (effects_of (Some c)).sessions ≡ false
+    → (effects_of (cond t (Some c) None)).sessions ≡ false
 if_done true c l = l
 if_done false c l = refl
 
-if_wrong : (u : UserType) (h : History) (t : Bool) (c : Call) → (effects_of (Some c)).sessions ≡ false → is_about u h (cond t (Some c) None) ≡ false
+if_wrong : (u : UserType) (h : History) (t : Bool) (c : Call) → (effects_of (Some c)).sessions ≡ false
+    → is_about u h (cond t (Some c) None) ≡ false
 if_wrong u h true c l = ap (is_user u) (about-left h c l)
 if_wrong u h false c l = refl
 

@@ -15,7 +15,8 @@ module _ {X : Type 0} (test : X → Bool) (change : X → X) where
   change_first-append_step true x xs ys e later = refl
   change_first-append_step false x xs ys e later = ap (λ rest. x ∷ rest) later
 
-  change_first-append : (xs ys : List X) → change_first test change (xs ++ ys) ≡ change_first test change xs ++ cond (list_any test xs) ys (change_first test change ys)
+  change_first-append : (xs ys : List X)
+      → change_first test change (xs ++ ys) ≡ change_first test change xs ++ cond (list_any test xs) ys (change_first test change ys)
   change_first-append [] ys = refl
   change_first-append (x ∷ xs) ys = change_first-append_step (test x) x xs ys refl (change_first-append xs ys)
 
@@ -23,7 +24,8 @@ module _ {X : Type 0} (test : X → Bool) (change : X → X) where
   list_any-last_row true x fails = ap (λ t. t || false) fails
   list_any-last_row false x fails = refl
 
-  list_any-none : (passes : ℕ → Bool) (row : ℕ → X) (n : ℕ) → ((k : ℕ) → k ≤ n → test (row k) ≡ false) → list_any test (selected passes row n) ≡ false
+  list_any-none : (passes : ℕ → Bool) (row : ℕ → X) (n : ℕ) → ((k : ℕ) → k ≤ n → test (row k) ≡ false)
+      → list_any test (selected passes row n) ≡ false
   list_any-none passes row zero fails = refl
   list_any-none passes row (suc n) fails =
       ap (list_any test) (selected-suc passes row n)
@@ -31,15 +33,19 @@ module _ {X : Type 0} (test : X → Bool) (change : X → X) where
       ∙ rw (list_any-none passes row n (λ k h. fails k (omega arith))) (list_any-last_row (passes (suc n)) (row (suc n)) (fails (suc n) (omega arith)))
 
   module _ (passes : ℕ → Bool) (row row' : ℕ → X) where
-    last_step : (p t any : Bool) (k : ℕ) → test (row k) ≡ t → (any ≡ true → t ≡ false) → (p ≡ true → t ≡ true → row' k ≡ change (row k)) → (t ≡ false → row' k ≡ row k)
+    last_step : (p t any : Bool) (k : ℕ) → test (row k) ≡ t → (any ≡ true → t ≡ false)
+        → (p ≡ true → t ≡ true → row' k ≡ change (row k)) → (t ≡ false → row' k ≡ row k)
         → cond any (last_row p (row k)) (change_first test change (last_row p (row k))) ≡ last_row p (row' k)
     last_step false t true k e unique replaced same = refl
     last_step false t false k e unique replaced same = refl
     last_step true t true k e unique replaced same = ap (λ r. r ∷ []) (sym (same (unique refl)))
-    last_step true true false k e unique replaced same = ap (λ b. cond b (change (row k) ∷ []) (row k ∷ [])) e ∙ ap (λ r. r ∷ []) (sym (replaced refl refl))
-    last_step true false false k e unique replaced same = ap (λ b. cond b (change (row k) ∷ []) (row k ∷ [])) e ∙ ap (λ r. r ∷ []) (sym (same refl))
+    last_step true true false k e unique replaced same =
+        ap (λ b. cond b (change (row k) ∷ []) (row k ∷ [])) e ∙ ap (λ r. r ∷ []) (sym (replaced refl refl))
+    last_step true false false k e unique replaced same =
+        ap (λ b. cond b (change (row k) ∷ []) (row k ∷ [])) e ∙ ap (λ r. r ∷ []) (sym (same refl))
 
-    below_fails : (n k : ℕ) (t : Bool) → test (row k) ≡ t → ((j k : ℕ) → j ≤ suc n → k ≤ suc n → test (row j) ≡ true → test (row k) ≡ true → j ≡ k)
+    below_fails : (n k : ℕ) (t : Bool) → test (row k) ≡ t
+        → ((j k : ℕ) → j ≤ suc n → k ≤ suc n → test (row j) ≡ true → test (row k) ≡ true → j ≡ k)
         → test (row (suc n)) ≡ true → k ≤ n → test (row k) ≡ false
     below_fails n k false e unique last below = e
     below_fails n k true e unique last below =
@@ -47,7 +53,8 @@ module _ {X : Type 0} (test : X → Bool) (change : X → X) where
         absurd (omega arith)
 
     -- where a row below passes, the last one doesn't
-    fails_after : (n : ℕ) (t : Bool) → ((j k : ℕ) → j ≤ suc n → k ≤ suc n → test (row j) ≡ true → test (row k) ≡ true → j ≡ k)
+    fails_after : (n : ℕ) (t : Bool)
+        → ((j k : ℕ) → j ≤ suc n → k ≤ suc n → test (row j) ≡ true → test (row k) ≡ true → j ≡ k)
         → test (row (suc n)) ≡ t → list_any test (selected passes row n) ≡ true → t ≡ false
     fails_after n false unique e any = refl
     fails_after n true unique e any =
@@ -55,7 +62,8 @@ module _ {X : Type 0} (test : X → Bool) (change : X → X) where
 
     -- where at most one row passes, and the new rows are the old ones but for that one
     pub selected-replaced : (n : ℕ) → ((j k : ℕ) → j ≤ n → k ≤ n → test (row j) ≡ true → test (row k) ≡ true → j ≡ k)
-        → ((k : ℕ) → k ≤ n → passes k ≡ true → test (row k) ≡ true → row' k ≡ change (row k)) → ((k : ℕ) → k ≤ n → test (row k) ≡ false → row' k ≡ row k)
+        → ((k : ℕ) → k ≤ n → passes k ≡ true → test (row k) ≡ true → row' k ≡ change (row k))
+        → ((k : ℕ) → k ≤ n → test (row k) ≡ false → row' k ≡ row k)
         → change_first test change (selected passes row n) ≡ selected passes row' n
     selected-replaced zero unique replaced same = refl
     selected-replaced (suc n) unique replaced same =
@@ -79,7 +87,8 @@ module _ {X : Type 0} (test : X → Bool) (change : X → X) where
   at_step true x xs d later within = refl
   at_step false x xs d later within = ap (λ rest. x ∷ rest) (later (omega arith))
 
-  place-cons : (x : X) (xs : List X) → position_or_len test (x ∷ xs) ≡ cond (not (test x)) (suc (position_or_len test xs)) 0
+  place-cons : (x : X) (xs : List X)
+      → position_or_len test (x ∷ xs) ≡ cond (not (test x)) (suc (position_or_len test xs)) 0
   place-cons x xs = let e : 1 + position_or_len test xs ≡ suc (position_or_len test xs) = omega arith in ap (λ n. cond (not (test x)) n 0) e
 
   change_first-at : (xs : List X) (d : X) → position_or_len test xs < length xs
@@ -89,14 +98,17 @@ module _ {X : Type 0} (test : X → Bool) (change : X → X) where
       ap (λ n. set (x ∷ xs) n (change (get_or (x ∷ xs) n d))) (place-cons x xs)
       ∙ at_step (test x) x xs d (change_first-at xs d) (subst (λ n. n < suc (length xs)) (place-cons x xs) within)
 
-  past_step : (t : Bool) (x : X) (xs : List X) → (length xs ≤ position_or_len test xs → xs ≡ change_first test change xs)
-      → suc (length xs) ≤ cond (not t) (suc (position_or_len test xs)) 0 → x ∷ xs ≡ cond t (change x ∷ xs) (x ∷ change_first test change xs)
+  past_step : (t : Bool) (x : X) (xs : List X)
+      → (length xs ≤ position_or_len test xs → xs ≡ change_first test change xs)
+      → suc (length xs) ≤ cond (not t) (suc (position_or_len test xs)) 0
+      → x ∷ xs ≡ cond t (change x ∷ xs) (x ∷ change_first test change xs)
   past_step true x xs later past = absurd (omega arith)
   past_step false x xs later past = ap (λ rest. x ∷ rest) (later (omega arith))
 
   change_first-past : (xs : List X) → length xs ≤ position_or_len test xs → xs ≡ change_first test change xs
   change_first-past [] past = refl
-  change_first-past (x ∷ xs) past = past_step (test x) x xs (change_first-past xs) (subst (λ n. suc (length xs) ≤ n) (place-cons x xs) past)
+  change_first-past (x ∷ xs) past =
+      past_step (test x) x xs (change_first-past xs) (subst (λ n. suc (length xs) ≤ n) (place-cons x xs) past)
 
   place_cases : (t : Bool) (place found : ℕ) → cond t (Some found) None ≡ Some place → (t ≡ true) × (found ≡ place)
   place_cases true place found e = (refl, same_Some found place e)
@@ -107,11 +119,13 @@ module _ {X : Type 0} (test : X → Bool) (change : X → X) where
   none_cases false found e = refl
 
   -- the item at the place of the first that passes
-  pub change_first-place : (xs : List X) (place : ℕ) (x : X) → Some place ≡ position test xs → x ≡ get_or xs place x → set xs place (change x) ≡ change_first test change xs
+  pub change_first-place : (xs : List X) (place : ℕ) (x : X) → Some place ≡ position test xs → x ≡ get_or xs place x
+      → set xs place (change x) ≡ change_first test change xs
   change_first-place xs place x found item =
       let p = place_cases (ltb (position_or_len test xs) (length xs)) place (position_or_len test xs) (sym found) in
       let within : position_or_len test xs < length xs = ltb-true _ _ p.0 in
-      ap (λ y. set xs place (change y)) item ∙ ap (λ n. set xs n (change (get_or xs n x))) (sym p.1) ∙ change_first-at xs x within
+      ap (λ y. set xs place (change y)) item ∙ ap (λ n. set xs n (change (get_or xs n x))) (sym p.1)
+      ∙ change_first-at xs x within
 
   -- none passes
   pub change_first-no_place : (xs : List X) → None ≡ position test xs → xs ≡ change_first test change xs

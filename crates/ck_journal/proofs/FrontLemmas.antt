@@ -13,14 +13,16 @@ use Rattle.ck_journal.specs.Histories.{History, start, ◌◁◌, followed_by, e
 pub front_refl : (h : History) → IsFront h h
 front_refl h = ([], refl)
 
-followed_by-append : (h : History) (later before : List Entry) → followed_by (followed_by h before) later ≡ followed_by h (later ++ before)
+followed_by-append : (h : History) (later before : List Entry)
+    → followed_by (followed_by h before) later ≡ followed_by h (later ++ before)
 followed_by-append h [] before = refl
 followed_by-append h (e ∷ later) before = ap (λ g. e ◁ g) (followed_by-append h later before)
 
 pub front_trans : (f g h : History) → IsFront f g → IsFront g h → IsFront f h
 front_trans f g h p q = (q.0 ++ p.0, q.1 ∙ ap (λ x. followed_by x q.0) p.1 ∙ followed_by-append f q.0 p.0)
 
-entry_count-later : (g : History) (later : List Entry) → entry_count (followed_by g later) ≡ length later + entry_count g
+entry_count-later : (g : History) (later : List Entry)
+    → entry_count (followed_by g later) ≡ length later + entry_count g
 entry_count-later g [] = omega arith
 entry_count-later g (e ∷ later) = let below = entry_count-later g later in omega arith
 
@@ -28,7 +30,8 @@ nothing_later : (g h : History) (later : List Entry) → h ≡ followed_by g lat
 nothing_later g h [] e short = sym e
 nothing_later g h (x ∷ later) e short = absurd (omega (arith, ap entry_count e, entry_count-later g later))
 
-before_later : (e : Entry) (g h : History) (later : List Entry) → e ◁ h ≡ followed_by g later → entry_count g ≡ entry_count h → g ≡ h
+before_later : (e : Entry) (g h : History) (later : List Entry) → e ◁ h ≡ followed_by g later
+    → entry_count g ≡ entry_count h → g ≡ h
 before_later e g h [] is counts = let longer = ap entry_count is in absurd (omega arith)
 before_later e g h (x ∷ later) is counts = let rest : h ≡ followed_by g later = cc is in nothing_later g h later rest (omega arith)
 
@@ -42,7 +45,8 @@ pub front_extended : (h : History) (log : List Entry) → IsFront h (extended_by
 front_extended h [] = front_refl h
 front_extended h (e ∷ log) = front_trans h (e ◁ h) (extended_by (e ◁ h) log) (e ∷ [], refl) (front_extended (e ◁ h) log)
 
-pub extended_by-append : (h : History) (log later : List Entry) → extended_by h (log ++ later) ≡ extended_by (extended_by h log) later
+pub extended_by-append : (h : History) (log later : List Entry)
+    → extended_by h (log ++ later) ≡ extended_by (extended_by h log) later
 extended_by-append h [] later = refl
 extended_by-append h (e ∷ log) later = extended_by-append (e ◁ h) log later
 

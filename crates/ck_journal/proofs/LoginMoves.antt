@@ -25,7 +25,8 @@ is_ok-some false c d e = cc
 
 -- what was answered OK is no wrong try
 pub wrong_try-done : (e : Entry) (c : Call) → done e ≡ Some c → wrong_try e ≡ None
-wrong_try-done e c d = ap (λ t. cond t (Some e.call) None) (ok_wrong e.reply.rv (is_ok-some (is_ok e.reply.rv) e.call c d))
+wrong_try-done e c d =
+    ap (λ t. cond t (Some e.call) None) (ok_wrong e.reply.rv (is_ok-some (is_ok e.reply.rv) e.call c d))
 
 -- ---- the login
 
@@ -40,15 +41,18 @@ none_twice false = refl
 
 module _ (e : Entry) (h : History) where
   -- where a session is open, the call decides
-  pub login-open : (o : Option Call) → done e ≡ o → length (open_sessions (e ◁ h)) == 0 ≡ false → login (e ◁ h) ≡ login_after o (login h)
-  login-open o d some = ap (λ t. cond t None (login_after (done e) (login h))) some ∙ ap (λ x. login_after x (login h)) d
+  pub login-open : (o : Option Call) → done e ≡ o → length (open_sessions (e ◁ h)) == 0 ≡ false
+      → login (e ◁ h) ≡ login_after o (login h)
+  login-open o d some =
+      ap (λ t. cond t None (login_after (done e) (login h))) some ∙ ap (λ x. login_after x (login h)) d
 
   login_test : (none : Bool) (before : Option UserType) → (none ≡ true → before ≡ None) → cond none None before ≡ before
   login_test true before h = sym (h refl)
   login_test false before h = refl
 
   -- where the open sessions stay and the call leaves the login, it stays
-  pub login-same : open_sessions (e ◁ h) ≡ open_sessions h → login_after (done e) (login h) ≡ login h → login (e ◁ h) ≡ login h
+  pub login-same : open_sessions (e ◁ h) ≡ open_sessions h → login_after (done e) (login h) ≡ login h
+      → login (e ◁ h) ≡ login h
   login-same sessions after =
       ap (λ s. cond (length s == 0) None (login_after (done e) (login h))) sessions
       ∙ ap (cond (length (open_sessions h) == 0) None) after
@@ -57,9 +61,11 @@ module _ (e : Entry) (h : History) where
   -- a logout logs out whatever sessions are open
   pub login-logged_out : (session : ℕ) → done e ≡ Some (call.Logout session) → login (e ◁ h) ≡ None
   login-logged_out session d =
-      ap (λ o. cond (length (open_sessions (e ◁ h)) == 0) None (login_after o (login h))) d ∙ none_twice (length (open_sessions (e ◁ h)) == 0)
+      ap (λ o. cond (length (open_sessions (e ◁ h)) == 0) None (login_after o (login h))) d
+      ∙ none_twice (length (open_sessions (e ◁ h)) == 0)
 
-  pub user_logins-step : (o : Option Call) → done e ≡ o → user_logins (e ◁ h) ≡ cond (logs_user_in o) (suc (user_logins h)) (user_logins h)
+  pub user_logins-step : (o : Option Call) → done e ≡ o
+      → user_logins (e ◁ h) ≡ cond (logs_user_in o) (suc (user_logins h)) (user_logins h)
   user_logins-step o d = ap (λ x. cond (logs_user_in x) (suc (user_logins h)) (user_logins h)) d
 
   -- ---- PINs
@@ -67,7 +73,8 @@ module _ (e : Entry) (h : History) where
   pub so_pin-step : (o : Option Call) → done e ≡ o → so_pin (e ◁ h) ≡ so_pin_after o (named_owner h o) (so_pin h)
   so_pin-step o d = ap (λ x. so_pin_after x (named_owner h x) (so_pin h)) d
 
-  pub user_pin-step : (o : Option Call) → done e ≡ o → user_pin (e ◁ h) ≡ user_pin_after o (named_owner h o) (user_pin h)
+  pub user_pin-step : (o : Option Call) → done e ≡ o
+      → user_pin (e ◁ h) ≡ user_pin_after o (named_owner h o) (user_pin h)
   user_pin-step o d = ap (λ x. user_pin_after x (named_owner h x) (user_pin h)) d
 
   -- ---- tries
@@ -79,7 +86,8 @@ module _ (e : Entry) (h : History) where
       ∙ ap (λ w. cond (resets u h o) 0 (cond (is_about u h w) (suc (tries u h)) (tries u h))) x
 
   -- after a call that was answered OK
-  pub tries-done : (u : UserType) (c : Call) → done e ≡ Some c → tries u (e ◁ h) ≡ cond (resets u h (Some c)) 0 (tries u h)
+  pub tries-done : (u : UserType) (c : Call) → done e ≡ Some c
+      → tries u (e ◁ h) ≡ cond (resets u h (Some c)) 0 (tries u h)
   tries-done u c d = tries-step u (Some c) None d (wrong_try-done e c d)
 
 -- ---- an entry that leaves sessions, the login and PINs as they are
@@ -93,7 +101,8 @@ closes-left (Some (call.CloseSession session)) s l = cc
 closes-left (Some call.CloseAllSessions) s l = cc
 closes-left other s l = refl
 
-login_after-left : (c : Option Call) (before : Option UserType) → (effects_of c).sessions ≡ false → login_after c before ≡ before
+login_after-left : (c : Option Call) (before : Option UserType) → (effects_of c).sessions ≡ false
+    → login_after c before ≡ before
 login_after-left (Some (call.Login session user pin)) before l = cc
 login_after-left (Some (call.Logout session)) before l = cc
 login_after-left other before l = refl
@@ -102,12 +111,14 @@ logs_user_in-left : (c : Option Call) → (effects_of c).sessions ≡ false → 
 logs_user_in-left (Some (call.Login session user pin)) l = cc
 logs_user_in-left other l = refl
 
-so_pin_after-left : (c : Option Call) (owner : UserType) (before : Option Pin) → (effects_of c).sessions ≡ false → so_pin_after c owner before ≡ before
+so_pin_after-left : (c : Option Call) (owner : UserType) (before : Option Pin) → (effects_of c).sessions ≡ false
+    → so_pin_after c owner before ≡ before
 so_pin_after-left (Some (call.InitToken pin)) owner before l = cc
 so_pin_after-left (Some (call.SetPin session old new)) owner before l = cc
 so_pin_after-left other owner before l = refl
 
-user_pin_after-left : (c : Option Call) (owner : UserType) (before : Option Pin) → (effects_of c).sessions ≡ false → user_pin_after c owner before ≡ before
+user_pin_after-left : (c : Option Call) (owner : UserType) (before : Option Pin) → (effects_of c).sessions ≡ false
+    → user_pin_after c owner before ≡ before
 user_pin_after-left (Some (call.InitToken pin)) owner before l = cc
 user_pin_after-left (Some (call.InitPin session pin)) owner before l = cc
 user_pin_after-left (Some (call.SetPin session old new)) owner before l = cc
@@ -128,11 +139,13 @@ module _ (e : Entry) (h : History) (l : (effects e).sessions ≡ false) where
   pub openings-left : openings (e ◁ h) ≡ openings h
   openings-left = openings-later e h (opens-left (done e) l)
 
-  pub session_rows-left : {X : Type 0} (row : History → ℕ → X) → ((k : ℕ) → row (e ◁ h) k ≡ row h k) → session_rows row (e ◁ h) ≡ session_rows row h
+  pub session_rows-left : {X : Type 0} (row : History → ℕ → X) → ((k : ℕ) → row (e ◁ h) k ≡ row h k)
+      → session_rows row (e ◁ h) ≡ session_rows row h
   session_rows-left row same = session_rows-same e h (opens-left (done e) l) row same (λ s. closes-left (done e) s l)
 
   open_sessions-left : open_sessions (e ◁ h) ≡ open_sessions h
-  open_sessions-left = sym (open_sessions-rows (e ◁ h)) ∙ session_rows-left (λ h s. s) (λ k. refl) ∙ open_sessions-rows h
+  open_sessions-left =
+      sym (open_sessions-rows (e ◁ h)) ∙ session_rows-left (λ h s. s) (λ k. refl) ∙ open_sessions-rows h
 
   pub login-left : login (e ◁ h) ≡ login h
   login-left = login-same e h open_sessions-left (login_after-left (done e) (login h) l)

@@ -20,7 +20,8 @@ use Rattle.ck_journal.proofs.Selections.{filter_map-suc, filter_map-same, filter
 -- ---- what a call does to one object
 
 -- a creation leaves all objects as they are
-object_after-creation : (c : Option Call) (view : View) (n creator : ℕ) (attributes : List Item) → creates c ≡ true → object_after c view n creator attributes ≡ Some attributes
+object_after-creation : (c : Option Call) (view : View) (n creator : ℕ) (attributes : List Item) → creates c ≡ true
+    → object_after c view n creator attributes ≡ Some attributes
 object_after-creation (Some (call.CreateObject session template)) view n creator attributes t = refl
 object_after-creation (Some (call.GenerateKey session mechanism template random)) view n creator attributes t = refl
 object_after-creation (Some (call.CopyObject session object template)) view n creator attributes t = refl
@@ -32,7 +33,8 @@ creates-left (Some (call.GenerateKey session mechanism template random)) l = cc
 creates-left (Some (call.CopyObject session object template)) l = cc
 creates-left other l = refl
 
-object_after-left : (c : Option Call) (view : View) (n creator : ℕ) (attributes : List Item) → (effects_of c).objects ≡ false
+object_after-left : (c : Option Call) (view : View) (n creator : ℕ) (attributes : List Item)
+    → (effects_of c).objects ≡ false
     → object_after c view n creator attributes ≡ Some attributes
 object_after-left (Some (call.InitToken pin)) view n creator attributes l = cc
 object_after-left (Some (call.CloseSession session)) view n creator attributes l = cc
@@ -43,7 +45,8 @@ object_after-left (Some (call.SetKeyState session key state)) view n creator att
 object_after-left (Some (call.DestroyObject session object)) view n creator attributes l = cc
 object_after-left other view n creator attributes l = refl
 
-and_then-same : (after : List Item → Option (List Item)) → ((attributes : List Item) → after attributes ≡ Some attributes) → (object : Option (List Item))
+and_then-same : (after : List Item → Option (List Item))
+    → ((attributes : List Item) → after attributes ≡ Some attributes) → (object : Option (List Item))
     → option_and_then after object ≡ object
 and_then-same after same None = refl
 and_then-same after same (Some attributes) = same attributes
@@ -61,7 +64,8 @@ module _ (e : Entry) (h : History) where
   abbrev after : ℕ → List Item → Option (List Item)
   after n = object_after (done e) (view_of h) n (session_of h n)
 
-  row_at-same : {X : Type 0} (row : ℕ → ℕ → List Item → X) (n : ℕ) (object : Option (List Item)) → session_of (e ◁ h) n ≡ session_of h n → object_at (e ◁ h) n ≡ object
+  row_at-same : {X : Type 0} (row : ℕ → ℕ → List Item → X) (n : ℕ) (object : Option (List Item))
+      → session_of (e ◁ h) n ≡ session_of h n → object_at (e ◁ h) n ≡ object
       → object_row_at row (e ◁ h) n ≡ option_map (row n (session_of h n)) object
   row_at-same row n object by is =
       ap (λ s. option_map (row n s) (object_at (e ◁ h) n)) by ∙ ap (option_map (row n (session_of h n))) is
@@ -114,7 +118,8 @@ module _ (e : Entry) (h : History) where
     creations-same = ap (λ t. cond t (suc (creations h)) (creations h)) no_creation
 
     session_of-later : (k : ℕ) → session_of (e ◁ h) k ≡ session_of h k
-    session_of-later k = ap (λ t. cond (t && k == suc (creations h)) (creation_session (done e)) (session_of h k)) no_creation
+    session_of-later k =
+        ap (λ t. cond (t && k == suc (creations h)) (creation_session (done e)) (session_of h k)) no_creation
 
     pub object_at-later : (k : ℕ) → object_at (e ◁ h) k ≡ option_and_then (after k) (object_at h k)
     object_at-later k =
@@ -157,9 +162,11 @@ module _ (e : Entry) (h : History) where
 
 -- ---- an object that is there is one of those created
 
-kept_step : (creations n : ℕ) (kept : KeptObject) (rest : Option KeptObject) (attributes : List Item) (same : Bool) → kept.number == n ≡ same → IsCreated creations kept
+kept_step : (creations n : ℕ) (kept : KeptObject) (rest : Option KeptObject) (attributes : List Item) (same : Bool)
+    → kept.number == n ≡ same → IsCreated creations kept
     → (option_map (λ (object : KeptObject). object.attributes) rest ≡ Some attributes → (1 ≤ n) × (n ≤ creations))
-    → option_map (λ (object : KeptObject). object.attributes) (cond same (Some kept) rest) ≡ Some attributes → (1 ≤ n) × (n ≤ creations)
+    → option_map (λ (object : KeptObject). object.attributes) (cond same (Some kept) rest) ≡ Some attributes
+    → (1 ≤ n) × (n ≤ creations)
 kept_step creations n kept rest attributes true e created later is =
     let here = eqb-true kept.number n e in
     (omega (arith, created.0), omega (arith, created.1))
@@ -174,14 +181,16 @@ kept-within creations n attributes (kept ∷ objects) created is =
 
 within_step : (created same : Bool) (n count : ℕ) (fresh attributes : List Item) (after : List Item → Option (List Item)) (before : Option (List Item)) → n == suc count ≡ same
     → ((attributes : List Item) → before ≡ Some attributes → (1 ≤ n) × (n ≤ count))
-    → cond (created && same) (Some fresh) (option_and_then after before) ≡ Some attributes → (1 ≤ n) × (n ≤ cond created (suc count) count)
+    → cond (created && same) (Some fresh) (option_and_then after before) ≡ Some attributes
+    → (1 ≤ n) × (n ≤ cond created (suc count) count)
 within_step true true n count fresh attributes after before e below is = let s : n ≡ suc count = eqb-true n (suc count) e in (omega arith, omega arith)
 within_step true false n count fresh attributes after (Some old) e below is = let b = below old refl in (omega arith, omega arith)
 within_step true false n count fresh attributes after None e below is = cc
 within_step false same n count fresh attributes after (Some old) e below is = below old refl
 within_step false same n count fresh attributes after None e below is = cc
 
-pub object_at-within : (h : History) → IsSound (start_of h) → (n : ℕ) (attributes : List Item) → object_at h n ≡ Some attributes → (1 ≤ n) × (n ≤ creations h)
+pub object_at-within : (h : History) → IsSound (start_of h) → (n : ℕ) (attributes : List Item)
+    → object_at h n ≡ Some attributes → (1 ≤ n) × (n ≤ creations h)
 object_at-within (start b) sound n attributes is = kept-within b.creations n attributes b.objects sound.numbers is
 object_at-within (e ◁ h) sound n attributes is =
     within_step (creates (done e)) (n == suc (creations h)) n (creations h) (creation_attributes (done e) (attributes_named h)) attributes

@@ -16,7 +16,8 @@ use Rattle.ck_journal.proofs.LegalLemmas.{later-passes, count-free, passed-done}
 use Rattle.ck_journal.proofs.Selections.{selected-none, filter-selected}
 use Rattle.ck_journal.proofs.SessionMoves.{session_rows, session_rows-opened, session_rows-later, open_sessions-rows}
 
-filter_step : (t : Bool) (k : ℕ) (ks rest : List ℕ) → length ks ≤ length rest → length (cond t (k ∷ ks) ks) ≤ suc (length rest)
+filter_step : (t : Bool) (k : ℕ) (ks rest : List ℕ) → length ks ≤ length rest
+    → length (cond t (k ∷ ks) ks) ≤ suc (length rest)
 filter_step true k ks rest below = omega arith
 filter_step false k ks rest below = omega arith
 
@@ -29,7 +30,8 @@ opening-call (Some (call.OpenSession flags)) o = (flags, refl)
 opening-call other o = cc
 
 module _ (limits : Ranges) where
-  opening-room : (h : History) (flags : ℕ) → open_session_error limits h flags ≡ None → length (open_sessions h) < limits.sessions
+  opening-room : (h : History) (flags : ℕ) → open_session_error limits h flags ≡ None
+      → length (open_sessions h) < limits.sessions
   opening-room h flags p =
       count-free limits.sessions (length (open_sessions h)) rv_error.SessionCount
       (or_else-none (error_if (nat_le limits.sessions (length (open_sessions h))) rv_error.SessionCount) _
@@ -50,12 +52,14 @@ module _ (limits : Ranges) where
   later-bound : (e : Entry) (h : History) → opens (done e) ≡ false
       → length (open_sessions h) ≤ limits.sessions → length (open_sessions (e ◁ h)) ≤ limits.sessions
   later-bound e h no_opening below =
-      let rows = sym (open_sessions-rows (e ◁ h)) ∙ session_rows-later e h no_opening (λ h s. s) (λ k below passes. refl)
+      let rows = sym (open_sessions-rows (e ◁ h))
+      ∙ session_rows-later e h no_opening (λ h s. s) (λ k below passes. refl)
       ∙ sym (filter-selected (λ k. not (closes (done e) k)) (is_open h) (λ s. s) (openings h)) in
       let less = filter-shorter (λ k. not (closes (done e) k)) (session_rows (λ h s. s) h) in
       omega (arith, ap length rows, ap length (open_sessions-rows h))
 
-  by_opening : (t : Bool) (e : Entry) (h : History) → IsLegal limits (e ◁ h) → length (open_sessions h) ≤ limits.sessions
+  by_opening : (t : Bool) (e : Entry) (h : History) → IsLegal limits (e ◁ h)
+      → length (open_sessions h) ≤ limits.sessions
       → opens (done e) ≡ t → length (open_sessions (e ◁ h)) ≤ limits.sessions
   by_opening true e h legal below o =
       let c = opening-call (done e) o in
@@ -64,6 +68,7 @@ module _ (limits : Ranges) where
 
   pub open-bound : (h : History) → IsLegal limits h → length (open_sessions h) ≤ limits.sessions
   open-bound (start b) legal =
-      let none = sym (open_sessions-rows (start b)) ∙ selected-none (is_open (start b)) (λ s. s) (openings (start b)) (λ k below. refl) in
+      let none = sym (open_sessions-rows (start b))
+      ∙ selected-none (is_open (start b)) (λ s. s) (openings (start b)) (λ k below. refl) in
       omega (arith, ap length none)
   open-bound (e ◁ h) legal = by_opening (opens (done e)) e h legal (open-bound h legal.1) refl

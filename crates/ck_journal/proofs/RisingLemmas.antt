@@ -15,7 +15,8 @@ use Rattle.ck_journal.specs.Sessions.{numbers}
 
 numbers-below : (n : ℕ) → All (λ k. k < suc n) (numbers n)
 numbers-below zero = λ k d within. absurd (omega arith)
-numbers-below (suc n) = All-push (λ k. k < suc (suc n)) (numbers n) (suc n) (λ k d within. omega (arith, numbers-below n k d within)) (omega arith)
+numbers-below (suc n) =
+    All-push (λ k. k < suc (suc n)) (numbers n) (suc n) (λ k d within. omega (arith, numbers-below n k d within)) (omega arith)
 
 -- each number is below all later ones
 pub AllPairs-numbers : (n : ℕ) → AllPairs (λ j k. j < k) (numbers n)
@@ -35,7 +36,8 @@ rises ks below i j d le within = place_case (nat_lt i j) refl
 numbers-rise : (n : ℕ) → IsNonDecreasingBy (λ k. k) (numbers n)
 numbers-rise n = rises (numbers n) (AllPairs-numbers n)
 
-found_step : (t : Bool) (fresh before : List ℕ) → IsNonDecreasingBy (λ k. k) fresh → IsNonDecreasingBy (λ k. k) before → IsNonDecreasingBy (λ k. k) (cond t fresh before)
+found_step : (t : Bool) (fresh before : List ℕ) → IsNonDecreasingBy (λ k. k) fresh → IsNonDecreasingBy (λ k. k) before
+    → IsNonDecreasingBy (λ k. k) (cond t fresh before)
 found_step true fresh before f b = f
 found_step false fresh before f b = b
 
@@ -50,7 +52,8 @@ found_objects-rise (e ◁ h) s =
 -- ---- what stands after a place
 
 module _ (last : ℕ) where
-  all_after : (ks : List ℕ) → AllWithin (λ k. nat_le k last ≡ false) ks 0 (length ks) → filter (λ k. nat_lt last k) ks ≡ ks
+  all_after : (ks : List ℕ) → AllWithin (λ k. nat_le k last ≡ false) ks 0 (length ks)
+      → filter (λ k. nat_lt last k) ks ≡ ks
   all_after [] after = refl
   all_after (k ∷ ks) after =
       ap (λ t. cond t (k ∷ filter (λ j. nat_lt last j) ks) (filter (λ j. nat_lt last j) ks)) (lt-ltb last k (leb-false k last (after 0 0 (omega arith) (omega arith))))
@@ -60,7 +63,8 @@ module _ (last : ℕ) where
   not_above k e = let below = leb-true k last e in le-ltb last k (omega arith)
 
   -- the numbers after the place up to which none is above the last are those above it
-  pub drop-filter : (ks : List ℕ) (place : ℕ) → IsPartitionPoint (λ k. nat_le k last ≡ true) (λ k. nat_le k last ≡ false) ks place
+  pub drop-filter : (ks : List ℕ) (place : ℕ)
+      → IsPartitionPoint (λ k. nat_le k last ≡ true) (λ k. nat_le k last ≡ false) ks place
       → drop place ks ≡ filter (λ k. nat_lt last k) ks
   drop-filter [] zero parted = refl
   drop-filter [] (suc place) parted = refl

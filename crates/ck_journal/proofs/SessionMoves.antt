@@ -35,11 +35,13 @@ module _ (e : Entry) (h : History) where
 
     is_open-below : (k : ℕ) → k ≤ openings h → is_open (e ◁ h) k ≡ is_open h k
     is_open-below k below =
-        ap (λ o. is_open_step o (openings h) k (is_open h k)) d ∙ ap (λ t. cond t true (is_open h k)) (below_suc k (openings h) below)
+        ap (λ o. is_open_step o (openings h) k (is_open h k)) d
+        ∙ ap (λ t. cond t true (is_open h k)) (below_suc k (openings h) below)
 
     pub flags_of-below : (k : ℕ) → k ≤ openings h → flags_of (e ◁ h) k ≡ flags_of h k
     flags_of-below k below =
-        ap (λ o. flags_step o (openings h) k (flags_of h k)) d ∙ ap (λ t. cond t flags (flags_of h k)) (below_suc k (openings h) below)
+        ap (λ o. flags_step o (openings h) k (flags_of h k)) d
+        ∙ ap (λ t. cond t flags (flags_of h k)) (below_suc k (openings h) below)
 
     is_open-opened : is_open (e ◁ h) (suc (openings h)) ≡ true
     is_open-opened =
@@ -52,7 +54,8 @@ module _ (e : Entry) (h : History) where
         ∙ ap (λ t. cond t flags (flags_of h (suc (openings h)))) (same_number (suc (openings h)))
 
     -- the new session's row stands last
-    pub session_rows-opened : {X : Type 0} (row : History → ℕ → X) → ((k : ℕ) → k ≤ openings h → row (e ◁ h) k ≡ row h k)
+    pub session_rows-opened : {X : Type 0} (row : History → ℕ → X)
+        → ((k : ℕ) → k ≤ openings h → row (e ◁ h) k ≡ row h k)
         → session_rows row (e ◁ h) ≡ session_rows row h ++ row (e ◁ h) (suc (openings h)) ∷ []
     session_rows-opened row same =
         ap (λ n. selected (is_open (e ◁ h)) (row (e ◁ h)) n) openings-opened
@@ -75,7 +78,8 @@ module _ (e : Entry) (h : History) where
     flags_of-later k = ap (λ t. cond (t && k == suc (openings h)) (opening_flags (done e)) (flags_of h k)) no_opening
 
     -- the rows of the sessions that it doesn't close stay
-    pub session_rows-later : {X : Type 0} (row : History → ℕ → X) → ((k : ℕ) → k ≤ openings h → (is_open h k && not (closes (done e) k)) ≡ true → row (e ◁ h) k ≡ row h k)
+    pub session_rows-later : {X : Type 0} (row : History → ℕ → X)
+        → ((k : ℕ) → k ≤ openings h → (is_open h k && not (closes (done e) k)) ≡ true → row (e ◁ h) k ≡ row h k)
         → session_rows row (e ◁ h) ≡ selected (λ k. is_open h k && not (closes (done e) k)) (row h) (openings h)
     session_rows-later row same =
         ap (λ n. selected (is_open (e ◁ h)) (row (e ◁ h)) n) openings-later
@@ -90,16 +94,19 @@ module _ (e : Entry) (h : History) where
         ∙ selected-same (is_open (e ◁ h)) (is_open h) (row (e ◁ h)) (row (e ◁ h)) (openings h)
         (λ k below. is_open-later k ∙ ap (λ t. is_open h k && not t) (no_closing k) ∙ and-true (is_open h k)) (λ k below. refl)
 
-    pub session_rows-same : {X : Type 0} (row : History → ℕ → X) → ((k : ℕ) → row (e ◁ h) k ≡ row h k) → ((s : ℕ) → closes (done e) s ≡ false)
+    pub session_rows-same : {X : Type 0} (row : History → ℕ → X) → ((k : ℕ) → row (e ◁ h) k ≡ row h k)
+        → ((s : ℕ) → closes (done e) s ≡ false)
         → session_rows row (e ◁ h) ≡ session_rows row h
     session_rows-same row same no_closing =
-        session_rows-changed row no_closing ∙ selected-rows_same (is_open h) (row (e ◁ h)) (row h) (openings h) (λ k below passes. same k)
+        session_rows-changed row no_closing
+        ∙ selected-rows_same (is_open h) (row (e ◁ h)) (row h) (openings h) (λ k below passes. same k)
 
 -- ---- an open session is one of those opened
 
 within_step : (e : Entry) (h : History) (s : ℕ) → (is_open h s ≡ true → (1 ≤ s) × (s ≤ openings h))
     → (opened closed : Bool) (same : Bool) → opens (done e) ≡ opened → s == suc (openings h) ≡ same
-    → cond (opened && same) true (cond closed false (is_open h s)) ≡ true → (1 ≤ s) × (s ≤ cond opened (suc (openings h)) (openings h))
+    → cond (opened && same) true (cond closed false (is_open h s)) ≡ true
+    → (1 ≤ s) × (s ≤ cond opened (suc (openings h)) (openings h))
 within_step e h s below true closed true o same is_so = let e : s ≡ suc (openings h) = eqb-true s (suc (openings h)) same in (omega arith, omega arith)
 within_step e h s below true true false o same is_so = cc
 within_step e h s below true false false o same is_so = let b = below is_so in (omega arith, omega arith)
@@ -122,5 +129,6 @@ pub open_sessions-rows : (h : History) → session_rows (λ h s. s) h ≡ open_s
 open_sessions-rows h = map-same (open_sessions h)
 
 -- as many rows as open sessions
-pub length-session_rows : {X : Type 0} (row : History → ℕ → X) (h : History) → length (session_rows row h) ≡ length (open_sessions h)
+pub length-session_rows : {X : Type 0} (row : History → ℕ → X) (h : History)
+    → length (session_rows row h) ≡ length (open_sessions h)
 length-session_rows row h = length-selected (is_open h) (row h) (openings h)

@@ -121,7 +121,8 @@ module _ (h : History) (old : OperationsState) (agree : OperationsAgree h old) (
       → ((k : OperationKind) (s : ℕ) → OptionAgrees (find (is_operation k s) new.rows) (after (move k s) k s))
       → OperationsAgree (e ◁ h) new
   moves new move does same = record {
-    each = λ k s. subst (OptionAgrees (find (is_operation k s) new.rows)) (sym (operation_at-moved k e h s (move k s) (does k s)))
+    each =
+        λ k s. subst (OptionAgrees (find (is_operation k s) new.rows)) (sym (operation_at-moved k e h s (move k s) (does k s)))
         (same k s);
   }
 
@@ -229,6 +230,7 @@ module _ (h : History) (old : OperationsState) (agree : OperationsAgree h old) (
       started k s false there =
           let p = is_operation k s in
           let before : find p new.rows ≡ find p old.rows =
-          ap (find p) rows ∙ find-append p old.rows (o ∷ []) ∙ ap (λ t. option_or (find p old.rows) (cond t (Some o) None)) there
+          ap (find p) rows ∙ find-append p old.rows (o ∷ [])
+          ∙ ap (λ t. option_or (find p old.rows) (cond t (Some o) None)) there
           ∙ or-none (find p old.rows) in
           subst (λ found. OptionAgrees found (operation_at k h s)) (sym before) (agree.each k s)

@@ -136,7 +136,8 @@ has-added bytes old new a b x y is = rw (x, y) is
 
 module _ (k : OperationKind) (session : ℕ) (bytes : List ℕ) (rows : List Operation) where
   pub added-at : (place : ℕ) (old new : Operation) → Some place ≡ position (is_operation k session) rows
-      → old ≡ get_or rows place old → IsUpdateOf bytes old new → IsUpdateOfRows k session bytes rows (set rows place new)
+      → old ≡ get_or rows place old → IsUpdateOf bytes old new
+      → IsUpdateOfRows k session bytes rows (set rows place new)
   added-at place old new found item is =
       let at = position-Some (is_operation k session) rows place old (sym found) in
       let p = place-cases _ place (position_or_len (is_operation k session) rows) (sym found) in

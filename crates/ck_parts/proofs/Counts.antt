@@ -30,12 +30,14 @@ use Rattle.ck_parts.specs.declared.parts.Parts.{Parts}
 use Rattle.ck_parts.proofs.Inversions.{done-of_call, of-SetPin, of-CreateObject, of-StartHmac}
 use Rattle.ck_parts.proofs.PartMoves.{hmac-passed}
 
-credential-agrees : (u : UserType) (h : History) (s : SessionsState) → SessionsAgree h s → CredentialAgrees u h (credential_of u s)
+credential-agrees : (u : UserType) (h : History) (s : SessionsState) → SessionsAgree h s
+    → CredentialAgrees u h (credential_of u s)
 credential-agrees user.So h s agree = agree.so
 credential-agrees user.User h s agree = agree.user
 
 -- a PIN that is changed is there
-some_pin : (none : Bool) (later : Option RvError) → or_else (error_if none rv_error.UserPinNotInitialized) later ≡ None → none ≡ false
+some_pin : (none : Bool) (later : Option RvError)
+    → or_else (error_if none rv_error.UserPinNotInitialized) later ≡ None → none ≡ false
 some_pin true later e = cc
 some_pin false later e = refl
 
@@ -43,7 +45,8 @@ is_some-pin : (pin : Option Pin) → is_none pin ≡ false → is_some pin ≡ t
 is_some-pin None e = cc
 is_some-pin (Some pin) e = refl
 
-set_pin-passed : (limits : Ranges) (h : History) (session : ℕ) (old new : Pin) → call_error limits h (call.SetPin session old new) ≡ None
+set_pin-passed : (limits : Ranges) (h : History) (session : ℕ) (old new : Pin)
+    → call_error limits h (call.SetPin session old new) ≡ None
     → is_some (present_pin (pin_owner (state_of h session)) h) ≡ true
 set_pin-passed limits h session old new e =
     let owner = pin_owner (state_of h session) in

@@ -128,7 +128,8 @@ module _ (h : History) (b : Body) where
   of-OpenSession (call.OpenSession other) flags e = cc
   of-OpenSession other flags e = cc
 
-  pub of-CloseSession : (c : Call) (session : ℕ) → change.CloseSession session ≡ change_of h c b → c ≡ call.CloseSession session
+  pub of-CloseSession : (c : Call) (session : ℕ) → change.CloseSession session ≡ change_of h c b
+      → c ≡ call.CloseSession session
   of-CloseSession (call.CloseSession other) session e = cc
   of-CloseSession other session e = cc
 
@@ -145,17 +146,20 @@ module _ (h : History) (b : Body) where
   of-LogOut (call.Logout session) e = (session, refl)
   of-LogOut other e = cc
 
-  pub of-CreateObject : (c : Call) (session : ℕ) (attributes : List Item) → change.CreateObject session attributes ≡ change_of h c b
+  pub of-CreateObject : (c : Call) (session : ℕ) (attributes : List Item)
+      → change.CreateObject session attributes ≡ change_of h c b
       → (creates (Some c) ≡ true) × (session ≡ creation_session (Some c)) × (attributes ≡ creation_attributes (Some c) (attributes_named h))
   of-CreateObject (call.CreateObject other template) session attributes e = (refl, cc, cc)
   of-CreateObject (call.GenerateKey other mechanism template random) session attributes e = (refl, cc, cc)
   of-CreateObject (call.CopyObject other object template) session attributes e = (refl, cc, cc)
   of-CreateObject other session attributes e = cc
 
-  pub of-SetAttributes : (c : Call) (number : ℕ) (attributes : List Item) → change.SetAttributes number attributes ≡ change_of h c b
+  pub of-SetAttributes : (c : Call) (number : ℕ) (attributes : List Item)
+      → change.SetAttributes number attributes ≡ change_of h c b
       → (session object : ℕ) × (template : Template) × (c ≡ call.SetAttributeValue session object template)
       × (number ≡ unwrap_or (object_named h object) 0) × (attributes ≡ with_given template.items (named_attributes h object))
-  of-SetAttributes (call.SetAttributeValue session object template) number attributes e = (session, object, template, refl, cc, cc)
+  of-SetAttributes (call.SetAttributeValue session object template) number attributes e =
+      (session, object, template, refl, cc, cc)
   of-SetAttributes other number attributes e = cc
 
   pub of-DestroyObject : (c : Call) (number : ℕ) → change.DestroyObject number ≡ change_of h c b
@@ -179,7 +183,8 @@ module _ (h : History) (b : Body) where
   of-AdvanceSearch (call.FindObjects other max) session number e = (max, cc, cc)
   of-AdvanceSearch other session number e = cc
 
-  pub of-EndSearch : (c : Call) (session : ℕ) → change.EndSearch session ≡ change_of h c b → c ≡ call.FindObjectsFinal session
+  pub of-EndSearch : (c : Call) (session : ℕ) → change.EndSearch session ≡ change_of h c b
+      → c ≡ call.FindObjectsFinal session
   of-EndSearch (call.FindObjectsFinal other) session e = cc
   of-EndSearch other session e = cc
 
@@ -237,17 +242,20 @@ module _ (h : History) (b : Body) where
 -- ---- the call of an entry, by its change
 
 module _ (h : History) (e : Entry) where
-  pub called-InitToken : (pin : Pin) → change.InitToken pin ≡ effect h e.call e.reply → done e ≡ Some (call.InitToken pin)
+  pub called-InitToken : (pin : Pin) → change.InitToken pin ≡ effect h e.call e.reply
+      → done e ≡ Some (call.InitToken pin)
   called-InitToken pin is =
       let d = done-of_call h e (change.InitToken pin) is refl in
       d.0 ∙ ap Some (of-InitToken h e.reply.body e.call pin d.1)
 
-  pub called-OpenSession : (flags : ℕ) → change.OpenSession flags ≡ effect h e.call e.reply → done e ≡ Some (call.OpenSession flags)
+  pub called-OpenSession : (flags : ℕ) → change.OpenSession flags ≡ effect h e.call e.reply
+      → done e ≡ Some (call.OpenSession flags)
   called-OpenSession flags is =
       let d = done-of_call h e (change.OpenSession flags) is refl in
       d.0 ∙ ap Some (of-OpenSession h e.reply.body e.call flags d.1)
 
-  pub called-CloseSession : (session : ℕ) → change.CloseSession session ≡ effect h e.call e.reply → done e ≡ Some (call.CloseSession session)
+  pub called-CloseSession : (session : ℕ) → change.CloseSession session ≡ effect h e.call e.reply
+      → done e ≡ Some (call.CloseSession session)
   called-CloseSession session is =
       let d = done-of_call h e (change.CloseSession session) is refl in
       d.0 ∙ ap Some (of-CloseSession h e.reply.body e.call session d.1)
@@ -257,7 +265,8 @@ module _ (h : History) (e : Entry) where
       let d = done-of_call h e change.CloseAllSessions is refl in
       d.0 ∙ ap Some (of-CloseAllSessions h e.reply.body e.call d.1)
 
-  pub called-EndSearch : (session : ℕ) → change.EndSearch session ≡ effect h e.call e.reply → done e ≡ Some (call.FindObjectsFinal session)
+  pub called-EndSearch : (session : ℕ) → change.EndSearch session ≡ effect h e.call e.reply
+      → done e ≡ Some (call.FindObjectsFinal session)
   called-EndSearch session is =
       let d = done-of_call h e (change.EndSearch session) is refl in
       d.0 ∙ ap Some (of-EndSearch h e.reply.body e.call session d.1)

@@ -55,7 +55,8 @@ use Rattle.ck_parts.specs.declared.changes.Change.TheVariants as change
 -- ---- the part that a call leaves as it is
 
 module _ (h : History) (e : Entry) (c : Call) (d : done e ≡ Some c) where
-  pub sessions-kept : (s : SessionsState) → (effects_of (Some c)).sessions ≡ false → (effects_of (Some c)).searches ≡ false
+  pub sessions-kept : (s : SessionsState) → (effects_of (Some c)).sessions ≡ false
+      → (effects_of (Some c)).searches ≡ false
       → SessionsAgree h s → SessionsAgree (e ◁ h) s
   sessions-kept s fixed idle agree =
       sessions-left h s agree e (ap (λ o. (effects_of o).sessions) d ∙ fixed) (ap (λ o. (effects_of o).searches) d ∙ idle)
@@ -64,7 +65,8 @@ module _ (h : History) (e : Entry) (c : Call) (d : done e ≡ Some c) where
   pub objects-kept : (o : StoreState) → (effects_of (Some c)).objects ≡ false → StoreAgrees h o → StoreAgrees (e ◁ h) o
   objects-kept o fixed agree = objects-left h o agree e (ap (λ o. (effects_of o).objects) d ∙ fixed)
 
-  creation-kept : (c : Call) → creates (Some c) ≡ true → ((effects_of (Some c)).sessions ≡ false) × ((effects_of (Some c)).searches ≡ false)
+  creation-kept : (c : Call) → creates (Some c) ≡ true
+      → ((effects_of (Some c)).sessions ≡ false) × ((effects_of (Some c)).searches ≡ false)
   creation-kept (call.CreateObject session template) t = (refl, refl)
   creation-kept (call.GenerateKey session mechanism template random) t = (refl, refl)
   creation-kept (call.CopyObject session object template) t = (refl, refl)
@@ -91,7 +93,8 @@ module _ (h : History) where
       → is_about u h (cond (is_wrong_pin (rv.Error code)) (Some c) None) ≡ false
   nothing_tried rv_error.PinIncorrect c u is = tried (about h (Some c)) is
     where
-      tried : (who : Option UserType) → change.Nothing ≡ wrong_try_change rv_error.PinIncorrect who → is_user u who ≡ false
+      tried : (who : Option UserType) → change.Nothing ≡ wrong_try_change rv_error.PinIncorrect who
+          → is_user u who ≡ false
       tried None is = refl
       tried (Some other) is = cc
   nothing_tried other c u is = refl
@@ -109,12 +112,14 @@ module _ (h : History) where
   nothing_step c rv.Ok b is = let n = nothing_done c b is in (n.0, n.1, n.2, λ u. refl)
   nothing_step c (rv.Error code) b is = (refl, refl, refl, λ u. nothing_refused code c u (operation_step c) refl is)
 
-pub sessions-unchanged : (h : History) (e : Entry) (s : SessionsState) → change.Nothing ≡ effect h e.call e.reply → SessionsAgree h s → SessionsAgree (e ◁ h) s
+pub sessions-unchanged : (h : History) (e : Entry) (s : SessionsState) → change.Nothing ≡ effect h e.call e.reply
+    → SessionsAgree h s → SessionsAgree (e ◁ h) s
 sessions-unchanged h e s is agree =
     let n = nothing_step h e.call e.reply.rv e.reply.body is in
     sessions-left h s agree e n.0 n.1 n.3
 
-pub objects-unchanged : (h : History) (e : Entry) (o : StoreState) → change.Nothing ≡ effect h e.call e.reply → StoreAgrees h o → StoreAgrees (e ◁ h) o
+pub objects-unchanged : (h : History) (e : Entry) (o : StoreState) → change.Nothing ≡ effect h e.call e.reply
+    → StoreAgrees h o → StoreAgrees (e ◁ h) o
 objects-unchanged h e o is agree =
     let n = nothing_step h e.call e.reply.rv e.reply.body is in
     objects-left h o agree e n.2
@@ -126,7 +131,8 @@ module _ (h : History) where
   tried_done (call.GetSessionInfo session) b u is = cc
   tried_done other b u is = cc
 
-  tried_refusal : (code : RvError) (c : Call) (u : UserType) → change.WrongTry u ≡ wrong_try_change code (about h (Some c))
+  tried_refusal : (code : RvError) (c : Call) (u : UserType)
+      → change.WrongTry u ≡ wrong_try_change code (about h (Some c))
       → about h (cond (is_wrong_pin (rv.Error code)) (Some c) None) ≡ Some u
   tried_refusal rv_error.PinIncorrect c u is = tried (about h (Some c)) is
     where
@@ -159,23 +165,27 @@ objects-tried h e o none agree = objects-left h o agree e (ap (λ d. (effects_of
 later-passes : (first later : Option RvError) → or_else first later ≡ None → later ≡ None
 later-passes first later e = (or_else-none first later e).1
 
-passes-open : (session_open : Bool) (later : Option RvError) → or_else (error_if (not session_open) rv_error.SessionHandleInvalid) later ≡ None → session_open ≡ true
+passes-open : (session_open : Bool) (later : Option RvError)
+    → or_else (error_if (not session_open) rv_error.SessionHandleInvalid) later ≡ None → session_open ≡ true
 passes-open true later e = refl
 passes-open false later e = cc
 
 -- a login that passes its checks names an open session and a user
-pub login-passed : (limits : Ranges) (h : History) (session number : ℕ) (pin : Pin) → call_error limits h (call.Login session number pin) ≡ None
+pub login-passed : (limits : Ranges) (h : History) (session number : ℕ) (pin : Pin)
+    → call_error limits h (call.Login session number pin) ≡ None
     → (is_open h session ≡ true) × (user_of number ≡ Some (unwrap_or (user_of number) user.User))
 login-passed limits h session number pin e = (
   passes-open (is_open h session) _ e,
   known (user_of number) (later-passes (session_error h session) _ e),
 )
   where
-    known : (who : Option UserType) → or_else (known_login_error limits h who pin) None ≡ None → who ≡ Some (unwrap_or who user.User)
+    known : (who : Option UserType) → or_else (known_login_error limits h who pin) None ≡ None
+        → who ≡ Some (unwrap_or who user.User)
     known None e = cc
     known (Some u) e = refl
 
-found : (o : Option ℕ) (object : ℕ → Option (List Item)) (attributes : List Item) → option_and_then object o ≡ Some attributes → o ≡ Some (unwrap_or o 0)
+found : (o : Option ℕ) (object : ℕ → Option (List Item)) (attributes : List Item)
+    → option_and_then object o ≡ Some attributes → o ≡ Some (unwrap_or o 0)
 found None object attributes e = cc
 found (Some n) object attributes e = refl
 
@@ -185,7 +195,8 @@ object_case : (o : Option ℕ) (object : ℕ → Option (List Item)) (checks : L
 object_case None object checks e = cc
 object_case (Some n) object checks e = (refl, named (object n) e)
   where
-    named : (a : Option (List Item)) → option_map_or checks a (Some rv_error.ObjectHandleInvalid) ≡ None → checks (unwrap_or a []) ≡ None
+    named : (a : Option (List Item)) → option_map_or checks a (Some rv_error.ObjectHandleInvalid) ≡ None
+        → checks (unwrap_or a []) ≡ None
     named None e = cc
     named (Some attributes) e = e
 
@@ -198,7 +209,8 @@ object-passed h session object checks e =
     (or_else-none (object_error h object checks) None (later-passes (session_error h session) _ e)).0
 
 -- an object keeps CKA_TOKEN in a change
-pub change-passed : (limits : Ranges) (h : History) (session object : ℕ) (template : Template) → call_error limits h (call.SetAttributeValue session object template) ≡ None
+pub change-passed : (limits : Ranges) (h : History) (session object : ℕ) (template : Template)
+    → call_error limits h (call.SetAttributeValue session object template) ≡ None
     → (object_named h object ≡ Some (unwrap_or (object_named h object) 0))
     × (is_set (with_given template.items (named_attributes h object)) attribute.Token ≡ is_set (named_attributes h object) attribute.Token)
 change-passed limits h session object template e =
@@ -210,7 +222,8 @@ change-passed limits h session object template e =
           (later-passes (prohibited_error attribute.Modifiable a) _ (later-passes (read_only_session_error h session (placement_of a)) _ p.1))).0,
     )
 
-pub destruction-passed : (limits : Ranges) (h : History) (session object : ℕ) → call_error limits h (call.DestroyObject session object) ≡ None
+pub destruction-passed : (limits : Ranges) (h : History) (session object : ℕ)
+    → call_error limits h (call.DestroyObject session object) ≡ None
     → object_named h object ≡ Some (unwrap_or (object_named h object) 0)
 destruction-passed limits h session object e = (object-passed h session object _ e).0
 

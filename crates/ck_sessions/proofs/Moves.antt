@@ -32,12 +32,14 @@ abbrev so_pin_of : History → Option Pin
 so_pin_of h = so_pin h
 
 -- the first initialization sets the PIN of the security officer
-pub Some-unwrap_or : (pin : Pin) (before : Option Pin) → Some (unwrap_or before pin) ≡ so_pin_after (Some (call.InitToken pin)) user.User before
+pub Some-unwrap_or : (pin : Pin) (before : Option Pin)
+    → Some (unwrap_or before pin) ≡ so_pin_after (Some (call.InitToken pin)) user.User before
 Some-unwrap_or pin None = refl
 Some-unwrap_or pin (Some before) = refl
 
 -- an initialized token has a PIN of the security officer
-some_after : (pin : Pin) (before : Option Pin) → is_some (so_pin_after (Some (call.InitToken pin)) user.User before) ≡ true
+some_after : (pin : Pin) (before : Option Pin)
+    → is_some (so_pin_after (Some (call.InitToken pin)) user.User before) ≡ true
 some_after pin None = refl
 some_after pin (Some before) = refl
 
@@ -91,29 +93,39 @@ module _ (h : History) (old : SessionsState) (agree : SessionsAgree h old) (e : 
     no_closing s = ap (λ x. closes x s) d ∙ cl s
 
     rows-stay : old.rows ≡ session_rows session_row (e ◁ h)
-    rows-stay = agree.rows ∙ sym (session_rows-same e h no_opening session_row (row-left e h no_opening (ap (λ o. (effects_of o).searches) d ∙ ls)) no_closing)
+    rows-stay =
+        agree.rows
+        ∙ sym (session_rows-same e h no_opening session_row (row-left e h no_opening (ap (λ o. (effects_of o).searches) d ∙ ls)) no_closing)
 
     sessions-stay : open_sessions (e ◁ h) ≡ open_sessions h
-    sessions-stay = sym (open_sessions-rows (e ◁ h)) ∙ session_rows-same e h no_opening (λ h s. s) (λ k. refl) no_closing ∙ open_sessions-rows h
+    sessions-stay =
+        sym (open_sessions-rows (e ◁ h)) ∙ session_rows-same e h no_opening (λ h s. s) (λ k. refl) no_closing
+        ∙ open_sessions-rows h
 
     login-stays : ((before : Option UserType) → login_after (Some c) before ≡ before) → old.login ≡ login (e ◁ h)
-    login-stays left = agree.login ∙ sym (login-same e h sessions-stay (ap (λ x. login_after x (login h)) d ∙ left (login h)))
+    login-stays left =
+        agree.login ∙ sym (login-same e h sessions-stay (ap (λ x. login_after x (login h)) d ∙ left (login h)))
 
   logins-stay : (c : Call) → done e ≡ Some c → logs_user_in (Some c) ≡ false → old.logins ≡ user_logins (e ◁ h)
-  logins-stay c d n = agree.logins ∙ sym (user_logins-step e h (Some c) d ∙ ap (λ t. cond t (suc (user_logins h)) (user_logins h)) n)
+  logins-stay c d n =
+      agree.logins ∙ sym (user_logins-step e h (Some c) d ∙ ap (λ t. cond t (suc (user_logins h)) (user_logins h)) n)
 
-  initialized-stays : (c : Call) → done e ≡ Some c → initializes (Some c) ≡ false → is_some old.so.pin ≡ is_initialized (e ◁ h)
-  initialized-stays c d n = agree.initialized ∙ sym (ap (λ x. initializes x || is_initialized h) d ∙ ap (λ t. t || is_initialized h) n)
+  initialized-stays : (c : Call) → done e ≡ Some c → initializes (Some c) ≡ false
+      → is_some old.so.pin ≡ is_initialized (e ◁ h)
+  initialized-stays c d n = agree.initialized
+      ∙ sym (ap (λ x. initializes x || is_initialized h) d ∙ ap (λ t. t || is_initialized h) n)
 
   -- a credential that a call leaves
-  so-stays : (c : Call) → done e ≡ Some c → ((owner : UserType) (before : Option Pin) → so_pin_after (Some c) (named_owner h (Some c)) before ≡ before)
+  so-stays : (c : Call) → done e ≡ Some c
+      → ((owner : UserType) (before : Option Pin) → so_pin_after (Some c) (named_owner h (Some c)) before ≡ before)
       → resets user.So h (Some c) ≡ false → CredentialAgrees user.So (e ◁ h) old.so
   so-stays c d pin r = record {
     pin = agree.so.pin ∙ sym (so_pin-step e h (Some c) d ∙ pin user.So (so_pin h));
     tries = agree.so.tries ∙ sym (tries-done e h user.So c d ∙ ap (λ t. cond t 0 (tries user.So h)) r);
   }
 
-  user-stays : (c : Call) → done e ≡ Some c → ((owner : UserType) (before : Option Pin) → user_pin_after (Some c) (named_owner h (Some c)) before ≡ before)
+  user-stays : (c : Call) → done e ≡ Some c
+      → ((owner : UserType) (before : Option Pin) → user_pin_after (Some c) (named_owner h (Some c)) before ≡ before)
       → resets user.User h (Some c) ≡ false → CredentialAgrees user.User (e ◁ h) old.user
   user-stays c d pin r = record {
     pin = agree.user.pin ∙ sym (user_pin-step e h (Some c) d ∙ pin user.User (user_pin h));
@@ -123,28 +135,36 @@ module _ (h : History) (old : SessionsState) (agree : SessionsAgree h old) (e : 
   -- ---- an entry that leaves all of it as it is
 
   -- the list of sessions, the login and PINs stay
-  pub SessionsAgree-same : (effects e).sessions ≡ false → ((u : UserType) → is_about u h (wrong_try e) ≡ false) → (new : SessionsState)
-      → new.rows ≡ session_rows session_row (e ◁ h) → new.openings ≡ old.openings → new.login ≡ old.login → new.logins ≡ old.logins → new.so ≡ old.so → new.user ≡ old.user
+  pub SessionsAgree-same : (effects e).sessions ≡ false → ((u : UserType) → is_about u h (wrong_try e) ≡ false)
+      → (new : SessionsState)
+      → new.rows ≡ session_rows session_row (e ◁ h) → new.openings ≡ old.openings → new.login ≡ old.login
+      → new.logins ≡ old.logins → new.so ≡ old.so → new.user ≡ old.user
       → SessionsAgree (e ◁ h) new
   SessionsAgree-same l w new rows count log logs so us = record {
     rows = rows;
     openings = count ∙ agree.openings ∙ sym (openings-left e h l);
     login = log ∙ agree.login ∙ sym (login-left e h l);
     logins = logs ∙ agree.logins ∙ sym (user_logins-left e h l);
-    so = rw so (record { pin = agree.so.pin ∙ sym (so_pin-left e h l); tries = agree.so.tries ∙ sym (tries-left e h l user.So (w user.So)) });
-    user = rw us (record { pin = agree.user.pin ∙ sym (user_pin-left e h l); tries = agree.user.tries ∙ sym (tries-left e h l user.User (w user.User)) });
+    so =
+        rw so (record { pin = agree.so.pin ∙ sym (so_pin-left e h l); tries = agree.so.tries ∙ sym (tries-left e h l user.So (w user.So)) });
+    user =
+        rw us (record { pin = agree.user.pin ∙ sym (user_pin-left e h l); tries = agree.user.tries ∙ sym (tries-left e h l user.User (w user.User)) });
     initialized = ap (λ (c : Credential). is_some c.pin) so ∙ agree.initialized ∙ sym (is_initialized-left e h l);
   }
 
-  rows-left : (effects e).sessions ≡ false → (effects e).searches ≡ false → session_rows session_row (e ◁ h) ≡ session_rows session_row h
+  rows-left : (effects e).sessions ≡ false → (effects e).searches ≡ false
+      → session_rows session_row (e ◁ h) ≡ session_rows session_row h
   rows-left l ls = session_rows-left e h l session_row (row-left e h (opens-left (done e) l) ls)
 
-  pub sessions-left : (effects e).sessions ≡ false → (effects e).searches ≡ false → ((u : UserType) → is_about u h (wrong_try e) ≡ false) → SessionsAgree (e ◁ h) old
+  pub sessions-left : (effects e).sessions ≡ false → (effects e).searches ≡ false
+      → ((u : UserType) → is_about u h (wrong_try e) ≡ false) → SessionsAgree (e ◁ h) old
   sessions-left l ls w = SessionsAgree-same l w old (agree.rows ∙ sym (rows-left l ls)) refl refl refl refl refl
 
   -- a call about searches, which is answered OK
-  SessionsAgree-searched : (c : Call) → done e ≡ Some c → (effects_of (Some c)).sessions ≡ false → (new : SessionsState) → new.rows ≡ session_rows session_row (e ◁ h)
-      → new.openings ≡ old.openings → new.login ≡ old.login → new.logins ≡ old.logins → new.so ≡ old.so → new.user ≡ old.user → SessionsAgree (e ◁ h) new
+  SessionsAgree-searched : (c : Call) → done e ≡ Some c → (effects_of (Some c)).sessions ≡ false
+      → (new : SessionsState) → new.rows ≡ session_rows session_row (e ◁ h)
+      → new.openings ≡ old.openings → new.login ≡ old.login → new.logins ≡ old.logins → new.so ≡ old.so
+      → new.user ≡ old.user → SessionsAgree (e ◁ h) new
   SessionsAgree-searched c d l new rows count log logs so us =
       SessionsAgree-same (ap (λ o. (effects_of o).sessions) d ∙ l) (λ u. ap (is_about u h) (wrong_try-done e c d)) new rows count log logs so us
 
@@ -153,13 +173,17 @@ module _ (h : History) (old : SessionsState) (agree : SessionsAgree h old) (e : 
   other_user : (u v : UserType) (a : Option UserType) → a ≡ Some u → is_user v a ≡ same_user v u
   other_user u v a x = ap (is_user v) x
 
-  tries-wrong : (u v : UserType) → done e ≡ None → about h (wrong_try e) ≡ Some u → tries v (e ◁ h) ≡ cond (same_user v u) (suc (tries v h)) (tries v h)
+  tries-wrong : (u v : UserType) → done e ≡ None → about h (wrong_try e) ≡ Some u
+      → tries v (e ◁ h) ≡ cond (same_user v u) (suc (tries v h)) (tries v h)
   tries-wrong u v d a =
-      tries-step e h v None (wrong_try e) d refl ∙ ap (λ t. cond t (suc (tries v h)) (tries v h)) (other_user u v (about h (wrong_try e)) a)
+      tries-step e h v None (wrong_try e) d refl
+      ∙ ap (λ t. cond t (suc (tries v h)) (tries v h)) (other_user u v (about h (wrong_try e)) a)
 
   pub SessionsAgree-wrong : (u : UserType) (new : SessionsState) → done e ≡ None → about h (wrong_try e) ≡ Some u
-      → new.rows ≡ old.rows → new.openings ≡ old.openings → new.login ≡ old.login → new.logins ≡ old.logins → new.so.pin ≡ old.so.pin → new.user.pin ≡ old.user.pin
-      → new.so.tries ≡ cond (same_user user.So u) (suc old.so.tries) old.so.tries → new.user.tries ≡ cond (same_user user.User u) (suc old.user.tries) old.user.tries
+      → new.rows ≡ old.rows → new.openings ≡ old.openings → new.login ≡ old.login → new.logins ≡ old.logins
+      → new.so.pin ≡ old.so.pin → new.user.pin ≡ old.user.pin
+      → new.so.tries ≡ cond (same_user user.So u) (suc old.so.tries) old.so.tries
+      → new.user.tries ≡ cond (same_user user.User u) (suc old.user.tries) old.user.tries
       → SessionsAgree (e ◁ h) new
   SessionsAgree-wrong u new d a rows count login logins so_pin user_pin so_tries user_tries =
       let l : (effects e).sessions ≡ false = ap (λ o. (effects_of o).sessions) d in
@@ -168,20 +192,25 @@ module _ (h : History) (old : SessionsState) (agree : SessionsAgree h old) (e : 
         openings = count ∙ agree.openings ∙ sym (openings-left e h l);
         login = login ∙ agree.login ∙ sym (login-left e h l);
         logins = logins ∙ agree.logins ∙ sym (user_logins-left e h l);
-        so = record { pin = so_pin ∙ agree.so.pin ∙ sym (so_pin-left e h l); tries = so_tries ∙ rw agree.so.tries (sym (tries-wrong u user.So d a)) };
-        user = record { pin = user_pin ∙ agree.user.pin ∙ sym (user_pin-left e h l); tries = user_tries ∙ rw agree.user.tries (sym (tries-wrong u user.User d a)) };
+        so =
+            record { pin = so_pin ∙ agree.so.pin ∙ sym (so_pin-left e h l); tries = so_tries ∙ rw agree.so.tries (sym (tries-wrong u user.So d a)) };
+        user =
+            record { pin = user_pin ∙ agree.user.pin ∙ sym (user_pin-left e h l); tries = user_tries ∙ rw agree.user.tries (sym (tries-wrong u user.User d a)) };
         initialized = ap is_some so_pin ∙ agree.initialized ∙ sym (is_initialized-left e h l);
       }
 
   -- ---- openings and closings
 
-  pub SessionsAgree-opened : (flags : ℕ) (new : SessionsState) → done e ≡ Some (call.OpenSession flags) → is_searching h (suc (openings h)) ≡ false
+  pub SessionsAgree-opened : (flags : ℕ) (new : SessionsState) → done e ≡ Some (call.OpenSession flags)
+      → is_searching h (suc (openings h)) ≡ false
       → new.rows ≡ old.rows ++ record { handle = old.openings + 1; flags = flags; search = None } ∷ []
-      → new.openings ≡ old.openings + 1 → new.login ≡ old.login → new.logins ≡ old.logins → new.so ≡ old.so → new.user ≡ old.user → SessionsAgree (e ◁ h) new
+      → new.openings ≡ old.openings + 1 → new.login ≡ old.login → new.logins ≡ old.logins → new.so ≡ old.so
+      → new.user ≡ old.user → SessionsAgree (e ◁ h) new
   SessionsAgree-opened flags new d none rows count log logs so us =
       let c = call.OpenSession flags in
       let all : session_rows session_row (e ◁ h) ≡ session_rows session_row h ++ record { handle = suc (openings h); flags = flags; search = None } ∷ [] =
-      session_rows-opened e h flags d session_row (row-below e h flags d) ∙ ap (λ r. session_rows session_row h ++ r ∷ []) (row-opened e h flags d none) in
+      session_rows-opened e h flags d session_row (row-below e h flags d)
+      ∙ ap (λ r. session_rows session_row h ++ r ∷ []) (row-opened e h flags d none) in
       let some : length (open_sessions (e ◁ h)) == 0 ≡ false =
       ne_eqb (length (open_sessions (e ◁ h))) 0 (λ z. more (session_rows session_row h) (record { handle = suc (openings h); flags = flags; search = None })
       (sym (ap length all) ∙ length-session_rows session_row (e ◁ h) ∙ z)) in
@@ -196,8 +225,10 @@ module _ (h : History) (old : SessionsState) (agree : SessionsAgree h old) (e : 
       }
 
   -- a call that opens nothing, closes some sessions and leaves the rest
-  closed : (c : Call) (new : SessionsState) → done e ≡ Some c → opens (Some c) ≡ false → ((before : Option UserType) → login_after (Some c) before ≡ before)
-      → new.rows ≡ session_rows session_row (e ◁ h) → new.openings ≡ old.openings → new.login ≡ cond (length new.rows == 0) None old.login
+  closed : (c : Call) (new : SessionsState) → done e ≡ Some c → opens (Some c) ≡ false
+      → ((before : Option UserType) → login_after (Some c) before ≡ before)
+      → new.rows ≡ session_rows session_row (e ◁ h) → new.openings ≡ old.openings
+      → new.login ≡ cond (length new.rows == 0) None old.login
       → new.login ≡ login (e ◁ h)
   closed c new d o left rows count log =
       log ∙ ap (λ rs. cond (length rs == 0) None old.login) rows
@@ -225,7 +256,8 @@ module _ (h : History) (old : SessionsState) (agree : SessionsAgree h old) (e : 
         initialized = ap (λ (c : Credential). is_some c.pin) so ∙ initialized-stays c d refl;
       }
 
-  pub SessionsAgree-all_closed : (new : SessionsState) → done e ≡ Some call.CloseAllSessions → new.rows ≡ [] → new.openings ≡ old.openings → new.login ≡ None
+  pub SessionsAgree-all_closed : (new : SessionsState) → done e ≡ Some call.CloseAllSessions → new.rows ≡ []
+      → new.openings ≡ old.openings → new.login ≡ None
       → new.logins ≡ old.logins → new.so ≡ old.so → new.user ≡ old.user → SessionsAgree (e ◁ h) new
   SessionsAgree-all_closed new d rows count log logs so us =
       let c = call.CloseAllSessions in
@@ -247,15 +279,20 @@ module _ (h : History) (old : SessionsState) (agree : SessionsAgree h old) (e : 
 
   -- ---- a login
 
-  pub SessionsAgree-logged_in : (session number : ℕ) (pin : Pin) (u : UserType) (new : SessionsState) → done e ≡ Some (call.Login session number pin)
-      → is_open h session ≡ true → user_of number ≡ Some u → new.rows ≡ old.rows → new.openings ≡ old.openings → new.login ≡ Some u
-      → new.logins ≡ cond (same_user user.User u) (suc old.logins) old.logins → new.so.pin ≡ old.so.pin → new.user.pin ≡ old.user.pin
-      → new.so.tries ≡ cond (same_user user.So u || false) 0 old.so.tries → new.user.tries ≡ cond (same_user user.User u || false) 0 old.user.tries
+  pub SessionsAgree-logged_in : (session number : ℕ) (pin : Pin) (u : UserType) (new : SessionsState)
+      → done e ≡ Some (call.Login session number pin)
+      → is_open h session ≡ true → user_of number ≡ Some u → new.rows ≡ old.rows → new.openings ≡ old.openings
+      → new.login ≡ Some u
+      → new.logins ≡ cond (same_user user.User u) (suc old.logins) old.logins → new.so.pin ≡ old.so.pin
+      → new.user.pin ≡ old.user.pin
+      → new.so.tries ≡ cond (same_user user.So u || false) 0 old.so.tries
+      → new.user.tries ≡ cond (same_user user.User u || false) 0 old.user.tries
       → SessionsAgree (e ◁ h) new
   SessionsAgree-logged_in session number pin u new d opened known rows count log logs so_pin user_pin so_tries user_tries =
       let c = call.Login session number pin in
       let same = sessions-stay c d refl (λ s. refl) refl in
-      let some : length (open_sessions (e ◁ h)) == 0 ≡ false = ap (λ ss. length ss == 0) same ∙ some_open h session opened in
+      let some : length (open_sessions (e ◁ h)) == 0 ≡ false = ap (λ ss. length ss == 0) same
+      ∙ some_open h session opened in
       record {
         rows = rows ∙ rows-stay c d refl (λ s. refl) refl;
         openings = count ∙ openings-stay c d refl;
@@ -278,8 +315,10 @@ module _ (h : History) (old : SessionsState) (agree : SessionsAgree h old) (e : 
 
   -- ---- PINs
 
-  pub SessionsAgree-initialized : (pin : Pin) (new : SessionsState) → done e ≡ Some (call.InitToken pin) → new.rows ≡ old.rows → new.openings ≡ old.openings
-      → new.login ≡ old.login → new.logins ≡ old.logins → new.so.pin ≡ so_pin_after (Some (call.InitToken pin)) user.User old.so.pin → new.so.tries ≡ 0
+  pub SessionsAgree-initialized : (pin : Pin) (new : SessionsState) → done e ≡ Some (call.InitToken pin)
+      → new.rows ≡ old.rows → new.openings ≡ old.openings
+      → new.login ≡ old.login → new.logins ≡ old.logins
+      → new.so.pin ≡ so_pin_after (Some (call.InitToken pin)) user.User old.so.pin → new.so.tries ≡ 0
       → new.user.pin ≡ None → new.user.tries ≡ 0 → SessionsAgree (e ◁ h) new
   SessionsAgree-initialized pin new d rows count log logs so_pin so_tries user_pin user_tries =
       let c = call.InitToken pin in
@@ -288,13 +327,18 @@ module _ (h : History) (old : SessionsState) (agree : SessionsAgree h old) (e : 
         openings = count ∙ openings-stay c d refl;
         login = log ∙ login-stays c d refl (λ s. refl) refl (λ before. refl);
         logins = logs ∙ logins-stay c d refl;
-        so = record { pin = so_pin ∙ rw agree.so.pin (sym (so_pin-step e h (Some c) d)); tries = so_tries ∙ sym (tries-done e h user.So c d) };
-        user = record { pin = user_pin ∙ sym (user_pin-step e h (Some c) d); tries = user_tries ∙ sym (tries-done e h user.User c d) };
-        initialized = ap is_some so_pin ∙ some_after pin old.so.pin ∙ sym (ap (λ x. initializes x || is_initialized h) d);
+        so =
+            record { pin = so_pin ∙ rw agree.so.pin (sym (so_pin-step e h (Some c) d)); tries = so_tries ∙ sym (tries-done e h user.So c d) };
+        user =
+            record { pin = user_pin ∙ sym (user_pin-step e h (Some c) d); tries = user_tries ∙ sym (tries-done e h user.User c d) };
+        initialized = ap is_some so_pin ∙ some_after pin old.so.pin
+            ∙ sym (ap (λ x. initializes x || is_initialized h) d);
       }
 
-  pub SessionsAgree-pin_initialized : (session : ℕ) (pin : Pin) (new : SessionsState) → done e ≡ Some (call.InitPin session pin) → new.rows ≡ old.rows
-      → new.openings ≡ old.openings → new.login ≡ old.login → new.logins ≡ old.logins → new.so ≡ old.so → new.user.pin ≡ Some pin → new.user.tries ≡ 0 → SessionsAgree (e ◁ h) new
+  pub SessionsAgree-pin_initialized : (session : ℕ) (pin : Pin) (new : SessionsState)
+      → done e ≡ Some (call.InitPin session pin) → new.rows ≡ old.rows
+      → new.openings ≡ old.openings → new.login ≡ old.login → new.logins ≡ old.logins → new.so ≡ old.so
+      → new.user.pin ≡ Some pin → new.user.tries ≡ 0 → SessionsAgree (e ◁ h) new
   SessionsAgree-pin_initialized session pin new d rows count log logs so user_pin user_tries =
       let c = call.InitPin session pin in
       record {
@@ -303,7 +347,8 @@ module _ (h : History) (old : SessionsState) (agree : SessionsAgree h old) (e : 
         login = log ∙ login-stays c d refl (λ s. refl) refl (λ before. refl);
         logins = logs ∙ logins-stay c d refl;
         so = rw so (so-stays c d (λ owner before. refl) refl);
-        user = record { pin = user_pin ∙ sym (user_pin-step e h (Some c) d); tries = user_tries ∙ sym (tries-done e h user.User c d) };
+        user =
+            record { pin = user_pin ∙ sym (user_pin-step e h (Some c) d); tries = user_tries ∙ sym (tries-done e h user.User c d) };
         initialized = ap (λ (c : Credential). is_some c.pin) so ∙ initialized-stays c d refl;
       }
 
@@ -313,7 +358,8 @@ module _ (h : History) (old : SessionsState) (agree : SessionsAgree h old) (e : 
     abbrev c : Call
     c = call.SetPin session before pin
 
-    pub SessionsAgree-so_pin_set : pin_owner (state_of h session) ≡ user.So → is_some old.so.pin ≡ true → new.so.pin ≡ Some pin → new.so.tries ≡ 0 → new.user ≡ old.user
+    pub SessionsAgree-so_pin_set : pin_owner (state_of h session) ≡ user.So → is_some old.so.pin ≡ true
+        → new.so.pin ≡ Some pin → new.so.tries ≡ 0 → new.user ≡ old.user
         → SessionsAgree (e ◁ h) new
     SessionsAgree-so_pin_set owner had so_pin so_tries us = record {
       rows = rows ∙ rows-stay c d refl (λ s. refl) refl;
@@ -322,16 +368,21 @@ module _ (h : History) (old : SessionsState) (agree : SessionsAgree h old) (e : 
       logins = logs ∙ logins-stay c d refl;
       so = record {
         pin = so_pin ∙ sym (so_pin-step e h (Some c) d ∙ ap (λ o. so_pin_after (Some c) o (so_pin_of h)) owner);
-        tries = so_tries ∙ sym (tries-done e h user.So c d ∙ ap (λ o. cond (is_user user.So (Some o) || false) 0 (tries user.So h)) owner);
+        tries = so_tries
+            ∙ sym (tries-done e h user.So c d ∙ ap (λ o. cond (is_user user.So (Some o) || false) 0 (tries user.So h)) owner);
       };
       user = rw us (record {
-        pin = agree.user.pin ∙ sym (user_pin-step e h (Some c) d ∙ ap (λ o. user_pin_after (Some c) o (user_pin h)) owner);
-        tries = agree.user.tries ∙ sym (tries-done e h user.User c d ∙ ap (λ o. cond (is_user user.User (Some o) || false) 0 (tries user.User h)) owner);
+        pin =
+            agree.user.pin
+            ∙ sym (user_pin-step e h (Some c) d ∙ ap (λ o. user_pin_after (Some c) o (user_pin h)) owner);
+        tries = agree.user.tries
+            ∙ sym (tries-done e h user.User c d ∙ ap (λ o. cond (is_user user.User (Some o) || false) 0 (tries user.User h)) owner);
       });
       initialized = ap is_some so_pin ∙ sym had ∙ initialized-stays c d refl;
     }
 
-    pub SessionsAgree-user_pin_set : pin_owner (state_of h session) ≡ user.User → new.so ≡ old.so → new.user.pin ≡ Some pin → new.user.tries ≡ 0 → SessionsAgree (e ◁ h) new
+    pub SessionsAgree-user_pin_set : pin_owner (state_of h session) ≡ user.User → new.so ≡ old.so
+        → new.user.pin ≡ Some pin → new.user.tries ≡ 0 → SessionsAgree (e ◁ h) new
     SessionsAgree-user_pin_set owner so us_pin us_tries = record {
       rows = rows ∙ rows-stay c d refl (λ s. refl) refl;
       openings = count ∙ openings-stay c d refl;
@@ -339,11 +390,13 @@ module _ (h : History) (old : SessionsState) (agree : SessionsAgree h old) (e : 
       logins = logs ∙ logins-stay c d refl;
       so = rw so (record {
         pin = agree.so.pin ∙ sym (so_pin-step e h (Some c) d ∙ ap (λ o. so_pin_after (Some c) o (so_pin_of h)) owner);
-        tries = agree.so.tries ∙ sym (tries-done e h user.So c d ∙ ap (λ o. cond (is_user user.So (Some o) || false) 0 (tries user.So h)) owner);
+        tries = agree.so.tries
+            ∙ sym (tries-done e h user.So c d ∙ ap (λ o. cond (is_user user.So (Some o) || false) 0 (tries user.So h)) owner);
       });
       user = record {
         pin = us_pin ∙ sym (user_pin-step e h (Some c) d ∙ ap (λ o. user_pin_after (Some c) o (user_pin h)) owner);
-        tries = us_tries ∙ sym (tries-done e h user.User c d ∙ ap (λ o. cond (is_user user.User (Some o) || false) 0 (tries user.User h)) owner);
+        tries = us_tries
+            ∙ sym (tries-done e h user.User c d ∙ ap (λ o. cond (is_user user.User (Some o) || false) 0 (tries user.User h)) owner);
       };
       initialized = ap (λ (c : Credential). is_some c.pin) so ∙ initialized-stays c d refl;
     }
@@ -352,7 +405,8 @@ module _ (h : History) (old : SessionsState) (agree : SessionsAgree h old) (e : 
 
   module _ (new : SessionsState) (count : new.openings ≡ old.openings) (log : new.login ≡ old.login) (logs : new.logins ≡ old.logins) (so : new.so ≡ old.so)
       (us : new.user ≡ old.user) where
-    pub SessionsAgree-started : (session : ℕ) (template : Template) (found : List ℕ) → done e ≡ Some (call.FindObjectsInit session template)
+    pub SessionsAgree-started : (session : ℕ) (template : Template) (found : List ℕ)
+        → done e ≡ Some (call.FindObjectsInit session template)
         → found ≡ matching_objects h template.items
         → new.rows ≡ change_first (is_session session) (with_search (Some (record { found = found; last = 0 }))) old.rows → SessionsAgree (e ◁ h) new
     SessionsAgree-started session template found d matching rows =
@@ -368,15 +422,18 @@ module _ (h : History) (old : SessionsState) (agree : SessionsAgree h old) (e : 
         (rows ∙ ap (change_first (is_session session) (with_last_found number)) agree.rows
         ∙ session_rows-found e h session max d number last) count log logs so us
 
-    pub SessionsAgree-search_ended : (session : ℕ) → done e ≡ Some (call.FindObjectsFinal session) → new.rows ≡ change_first (is_session session) (with_search None) old.rows
+    pub SessionsAgree-search_ended : (session : ℕ) → done e ≡ Some (call.FindObjectsFinal session)
+        → new.rows ≡ change_first (is_session session) (with_search None) old.rows
         → SessionsAgree (e ◁ h) new
     SessionsAgree-search_ended session d rows =
         SessionsAgree-searched (call.FindObjectsFinal session) d refl new
         (rows ∙ ap (change_first (is_session session) (with_search None)) agree.rows ∙ session_rows-ended e h session d) count log logs so us
 
   -- a logout ends the login and all searches
-  pub SessionsAgree-logged_out : (session : ℕ) (new : SessionsState) → done e ≡ Some (call.Logout session) → new.rows ≡ map (with_search None) old.rows
-      → new.openings ≡ old.openings → new.login ≡ None → new.logins ≡ old.logins → new.so ≡ old.so → new.user ≡ old.user → SessionsAgree (e ◁ h) new
+  pub SessionsAgree-logged_out : (session : ℕ) (new : SessionsState) → done e ≡ Some (call.Logout session)
+      → new.rows ≡ map (with_search None) old.rows
+      → new.openings ≡ old.openings → new.login ≡ None → new.logins ≡ old.logins → new.so ≡ old.so
+      → new.user ≡ old.user → SessionsAgree (e ◁ h) new
   SessionsAgree-logged_out session new d rows count log logs so us =
       let c = call.Logout session in
       record {

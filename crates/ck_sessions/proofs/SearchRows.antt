@@ -49,27 +49,33 @@ module _ (e : Entry) (h : History) where
 
   -- ---- one session's row
 
-  row-moved : (k : ℕ) (search : Option Search) → opens (done e) ≡ false → search_of (e ◁ h) k ≡ search → session_row (e ◁ h) k ≡ row k (flags_of h k) search
-  row-moved k search o s = ap (λ f. row k f (search_of (e ◁ h) k)) (flags_of-later e h o k) ∙ ap (row k (flags_of h k)) s
+  row-moved : (k : ℕ) (search : Option Search) → opens (done e) ≡ false → search_of (e ◁ h) k ≡ search
+      → session_row (e ◁ h) k ≡ row k (flags_of h k) search
+  row-moved k search o s =
+      ap (λ f. row k f (search_of (e ◁ h) k)) (flags_of-later e h o k) ∙ ap (row k (flags_of h k)) s
 
   -- a call that opens nothing and leaves searches
-  pub row-left : opens (done e) ≡ false → (effects e).searches ≡ false → (k : ℕ) → session_row (e ◁ h) k ≡ session_row h k
+  pub row-left : opens (done e) ≡ false → (effects e).searches ≡ false → (k : ℕ)
+      → session_row (e ◁ h) k ≡ session_row h k
   row-left o l k = row-moved k (search_of h k) o (search_of-left l k)
 
   -- an opening: the sessions before it, and the new one
   module _ (flags : ℕ) (d : done e ≡ Some (call.OpenSession flags)) where
     pub row-below : (k : ℕ) → k ≤ openings h → session_row (e ◁ h) k ≡ session_row h k
     row-below k below =
-        ap (λ f. row k f (search_of (e ◁ h) k)) (flags_of-below e h flags d k below) ∙ ap (row k (flags_of h k)) (search_of-left (ap (λ o. (effects_of o).searches) d) k)
+        ap (λ f. row k f (search_of (e ◁ h) k)) (flags_of-below e h flags d k below)
+        ∙ ap (row k (flags_of h k)) (search_of-left (ap (λ o. (effects_of o).searches) d) k)
 
-    pub row-opened : is_searching h (suc (openings h)) ≡ false → session_row (e ◁ h) (suc (openings h)) ≡ row (suc (openings h)) flags None
+    pub row-opened : is_searching h (suc (openings h)) ≡ false
+        → session_row (e ◁ h) (suc (openings h)) ≡ row (suc (openings h)) flags None
     row-opened none =
         let n = suc (openings h) in
         ap (λ f. row n f (search_of (e ◁ h) n)) (flags_of-opened e h flags d)
         ∙ ap (row n flags) (search_of-left (ap (λ o. (effects_of o).searches) d) n ∙ ap (λ t. active_search t (found_objects h n) (last_number h n)) none)
 
   -- the closing of another session
-  pub row-other : (session : ℕ) → done e ≡ Some (call.CloseSession session) → (k : ℕ) → (is_open h k && not (closes (done e) k)) ≡ true → session_row (e ◁ h) k ≡ session_row h k
+  pub row-other : (session : ℕ) → done e ≡ Some (call.CloseSession session) → (k : ℕ)
+      → (is_open h k && not (closes (done e) k)) ≡ true → session_row (e ◁ h) k ≡ session_row h k
   row-other session d k passes =
       let other : session == k ≡ false = not-true (session == k) ((and_parts (is_open h k) _ (subst (λ o. (is_open h k && not (closes o k)) ≡ true) d passes)).1) in
       row-moved k (search_of h k) (ap opens d)
@@ -77,7 +83,8 @@ module _ (e : Entry) (h : History) where
       ∙ ap (λ t. active_search (cond t false (is_searching h k)) (found_objects h k) (last_number h k)) other)
 
   -- a logout
-  pub row-logged_out : (session : ℕ) → done e ≡ Some (call.Logout session) → (k : ℕ) → session_row (e ◁ h) k ≡ with_search None (session_row h k)
+  pub row-logged_out : (session : ℕ) → done e ≡ Some (call.Logout session) → (k : ℕ)
+      → session_row (e ◁ h) k ≡ with_search None (session_row h k)
   row-logged_out session d k = row-moved k None (ap opens d) (search_of-step k (Some (call.Logout session)) d)
 
   -- ---- the rows after a call about the search of one session
@@ -119,7 +126,8 @@ module _ (e : Entry) (h : History) where
 
   module _ (session max : ℕ) (d : done e ≡ Some (call.FindObjects session max)) where
     abbrev found_search : Bool → Bool → List ℕ → List ℕ → ℕ → Option Search
-    found_search t active handles found last = active_search active found (last_or last (map number_of_handle (cond t handles [])))
+    found_search t active handles found last =
+        active_search active found (last_or last (map number_of_handle (cond t handles [])))
 
     found-there : (k : ℕ) → session == k ≡ false → session_row (e ◁ h) k ≡ session_row h k
     found-there k other =
@@ -132,7 +140,8 @@ module _ (e : Entry) (h : History) where
     last_step true found last n after same = ap (λ l. Some (record { found = found; last = l })) same
     last_step false found last n after same = refl
 
-    found-here : (n : ℕ) → n ≡ last_or (last_number h session) (map number_of_handle (handles_in e.reply.body)) → (k : ℕ) → session == k ≡ true
+    found-here : (n : ℕ) → n ≡ last_or (last_number h session) (map number_of_handle (handles_in e.reply.body))
+        → (k : ℕ) → session == k ≡ true
         → session_row (e ◁ h) k ≡ with_last_found n (session_row h k)
     found-here n last k same =
         row-moved k (option_map (with_last n) (search_of h k)) (ap opens d)
@@ -141,7 +150,8 @@ module _ (e : Entry) (h : History) where
         ∙ last_step (is_searching h k) (found_objects h k) (last_number h k) n (last_or (last_number h k) (map number_of_handle (handles_in e.reply.body)))
         (ap (λ s. last_or (last_number h s) (map number_of_handle (handles_in e.reply.body))) (sym (eqb-true session k same)) ∙ sym last))
 
-    pub session_rows-found : (n : ℕ) → n ≡ last_or (last_number h session) (map number_of_handle (handles_in e.reply.body))
+    pub session_rows-found : (n : ℕ)
+        → n ≡ last_or (last_number h session) (map number_of_handle (handles_in e.reply.body))
         → change_first (is_session session) (with_last_found n) (session_rows session_row h) ≡ session_rows session_row (e ◁ h)
     session_rows-found n last =
         session_rows-searched (call.FindObjects session max) d refl (λ s. refl) session (with_last_found n) (found-here n last) found-there
@@ -155,7 +165,8 @@ module _ (e : Entry) (h : History) where
         ∙ ap (λ t. active_search (cond t false (is_searching h k)) (found_objects h k) (last_number h k)) same
         ∙ ended_case t
       where
-        ended_case : (t : Bool) → active_search (cond t false (is_searching h k)) (found_objects h k) (last_number h k) ≡ cond t None (search_of h k)
+        ended_case : (t : Bool)
+            → active_search (cond t false (is_searching h k)) (found_objects h k) (last_number h k) ≡ cond t None (search_of h k)
         ended_case true = refl
         ended_case false = refl
 
@@ -165,7 +176,8 @@ module _ (e : Entry) (h : History) where
         (λ k same. row-moved k None (ap opens d) (ended_step k true same)) (λ k other. row-moved k (search_of h k) (ap opens d) (ended_step k false other))
 
 -- all rows written over
-pub written_over : (change : SessionRow → SessionRow) (n : ℕ) (new old items : List SessionRow) → new ≡ map change old → old ≡ items → length old ≡ n
+pub written_over : (change : SessionRow → SessionRow) (n : ℕ) (new old items : List SessionRow) → new ≡ map change old
+    → old ≡ items → length old ≡ n
     → take n (new ++ drop (length new) items) ≡ map change items
 written_over change n new old items is same count =
     let all : length new ≡ length items = ap length is ∙ length-map old change ∙ ap length same in

@@ -141,6 +141,7 @@ impl<K: TokenId, O: Slot<K>, T: Absorb<O> + ReadBoard<K> + Drop, R: Wait + Drop>
             show(rt, &mut self.writer, &self.front);
             return Err(NoMemory);
         };
+        // Tells the prover that one more entry can be counted.
         let _bound = self.token.journal().len();
         self.books.count(&mut caller.account);
         extend(rt, &mut self.front, &self.head, &caller.seen, &self.token);

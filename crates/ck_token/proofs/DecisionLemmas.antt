@@ -112,7 +112,8 @@ by_room h c k session of stays (Some room) bytes = cases (nat_lt room (length by
     cases false = refl
 
 -- the change of a call that passes its checks is that of its entry
-pub allowed-effect : (limits : Ranges) (h : History) (c : Call) → change_of h c (allowed_reply limits h c).body ≡ effect h c (allowed_reply limits h c)
+pub allowed-effect : (limits : Ranges) (h : History) (c : Call)
+    → change_of h c (allowed_reply limits h c).body ≡ effect h c (allowed_reply limits h c)
 allowed-effect limits h (call.GetAttributeValue session object queries) =
     by_code (list_any (is_sensitive (named_attributes h object)) queries)
     (list_any (is_missing (named_attributes h object)) queries)
@@ -143,10 +144,13 @@ allowed-effect limits h other = refl
 -- ---- what takes no memory
 
 -- a call that takes no memory beside its entry's gives no list
-pub no_list : (limits : Ranges) (h : History) (c : Call) (r : Reply) → r ≡ answer limits h c → may_run_out limits h c ≡ false → has_list r.body ≡ false
-no_list limits h c r answered free = ap (λ (r : Reply). has_list r.body) answered ∙ by_error (call_error limits h c) free
+pub no_list : (limits : Ranges) (h : History) (c : Call) (r : Reply) → r ≡ answer limits h c
+    → may_run_out limits h c ≡ false → has_list r.body ≡ false
+no_list limits h c r answered free =
+    ap (λ (r : Reply). has_list r.body) answered ∙ by_error (call_error limits h c) free
   where
-    by_error : (error : Option RvError) → (is_none error && takes_memory c) ≡ false → has_list (unless error (allowed_reply limits h c)).body ≡ false
+    by_error : (error : Option RvError) → (is_none error && takes_memory c) ≡ false
+        → has_list (unless error (allowed_reply limits h c)).body ≡ false
     by_error (Some code) free = refl
     by_error None free = by_call c free
       where
@@ -165,7 +169,8 @@ no_list limits h c r answered free = ap (λ (r : Reply). has_list r.body) answer
         by_call other free = refl
 
 -- and adds nothing
-pub adds_nothing : (limits : Ranges) (h : History) (c : Call) (r : Reply) (made : Change) → r ≡ answer limits h c → made ≡ effect h c r
+pub adds_nothing : (limits : Ranges) (h : History) (c : Call) (r : Reply) (made : Change) → r ≡ answer limits h c
+    → made ≡ effect h c r
     → may_run_out limits h c ≡ false → adds made ≡ false
 adds_nothing limits h c r made answered is free =
     ap adds is ∙ ap (λ (r : Reply). adds (effect h c r)) answered ∙ by_error (call_error limits h c) free
@@ -175,18 +180,21 @@ adds_nothing limits h c r made answered is free =
     by_pin rv_error.PinIncorrect (Some u) = refl
     by_pin other who = refl
 
-    by_step : (k : OperationKind) (session : ℕ) (x : Step) (code : RvError) → adds (refused_step k session x code) ≡ false
+    by_step : (k : OperationKind) (session : ℕ) (x : Step) (code : RvError)
+        → adds (refused_step k session x code) ≡ false
     by_step k session initialize code = refl
     by_step k session (add_piece bytes) rv_error.DataLenRange = refl
     by_step k session (add_piece bytes) other = refl
     by_step k session (take_whole bytes) code = refl
     by_step k session finish code = refl
 
-    by_refusal : (o : Option OperationStep) (code : RvError) (who : Option UserType) → adds (refused_by o code who) ≡ false
+    by_refusal : (o : Option OperationStep) (code : RvError) (who : Option UserType)
+        → adds (refused_by o code who) ≡ false
     by_refusal (Some o) code who = by_step o.kind o.session o.step code
     by_refusal None code who = by_pin code who
 
-    by_error : (error : Option RvError) → (is_none error && takes_memory c) ≡ false → adds (effect h c (unless error (allowed_reply limits h c))) ≡ false
+    by_error : (error : Option RvError) → (is_none error && takes_memory c) ≡ false
+        → adds (effect h c (unless error (allowed_reply limits h c))) ≡ false
     by_error (Some code) free = by_refusal (operation_step c) code (about h (Some c))
     by_error None free = ap adds (sym (allowed-effect limits h c)) ∙ by_call c (allowed_reply limits h c).body free
       where
@@ -210,7 +218,8 @@ skip first later passes = rw passes refl
 pub hit : (first later : Option RvError) (code : RvError) → first ≡ Some code → or_else first later ≡ Some code
 hit first later code fails = rw fails refl
 
-pub second-fails : (a b later : Option RvError) (code : RvError) → a ≡ None → b ≡ Some code → or_else a (or_else b later) ≡ Some code
+pub second-fails : (a b later : Option RvError) (code : RvError) → a ≡ None → b ≡ Some code
+    → or_else a (or_else b later) ≡ Some code
 second-fails a b later code first fails = rw (first, fails)
 
 pub third-fails : (a b d later : Option RvError) (code : RvError) → a ≡ None → b ≡ None → d ≡ Some code
@@ -224,10 +233,12 @@ fourth-fails a b d e later code first second third fails = rw (first, second, th
 pub two-pass : (a b : Option RvError) → a ≡ None → b ≡ None → or_else a (or_else b None) ≡ None
 two-pass a b first second = rw (first, second)
 
-pub three-pass : (a b d : Option RvError) → a ≡ None → b ≡ None → d ≡ None → or_else a (or_else b (or_else d None)) ≡ None
+pub three-pass : (a b d : Option RvError) → a ≡ None → b ≡ None → d ≡ None
+    → or_else a (or_else b (or_else d None)) ≡ None
 three-pass a b d first second third = rw (first, second, third)
 
-pub four-pass : (a b d e : Option RvError) → a ≡ None → b ≡ None → d ≡ None → e ≡ None → or_else a (or_else b (or_else d (or_else e None))) ≡ None
+pub four-pass : (a b d e : Option RvError) → a ≡ None → b ≡ None → d ≡ None → e ≡ None
+    → or_else a (or_else b (or_else d (or_else e None))) ≡ None
 four-pass a b d e first second third fourth = rw (first, second, third, fourth)
 
 pub session-passes : (h : History) (session : ℕ) → is_open h session ≡ true → session_error h session ≡ None
@@ -239,7 +250,8 @@ pub object-checks : (h : History) (session object : ℕ) (checks : List Item →
     → or_else (session_error h session) (or_else (object_error h object checks) None) ≡ error
 object-checks h session object checks attributes error is_so named is =
     ap (λ first. or_else first (or_else (object_error h object checks) None)) (session-passes h session is_so)
-    ∙ ap (λ found. or_else (option_map_or checks found (Some rv_error.ObjectHandleInvalid)) None) named ∙ last (checks attributes) ∙ is
+    ∙ ap (λ found. or_else (option_map_or checks found (Some rv_error.ObjectHandleInvalid)) None) named
+    ∙ last (checks attributes) ∙ is
   where
     last : (error : Option RvError) → or_else error None ≡ error
     last None = refl
@@ -248,7 +260,8 @@ object-checks h session object checks attributes error is_so named is =
 -- ---- a reply that gives bytes
 
 -- it was given room
-pub room-given : (room : Option ℕ) (bytes : List ℕ) → bytes_reply room bytes ≡ ok (body.Bytes bytes) → is_some room ≡ true
+pub room-given : (room : Option ℕ) (bytes : List ℕ) → bytes_reply room bytes ≡ ok (body.Bytes bytes)
+    → is_some room ≡ true
 room-given None bytes e = absurd (no_bytes (length bytes) bytes (ap (λ (r : Reply). r.body) e))
   where
     no_bytes : (n : ℕ) (bytes : List ℕ) → body.Length n ≡ body.Bytes bytes → ⊥

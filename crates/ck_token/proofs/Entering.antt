@@ -12,8 +12,10 @@ use Rattle.ck_parts.specs.Changes.{effect}
 use Rattle.ck_parts.specs.declared.changes.Change.{Change}
 use Rattle.ck_parts.specs.declared.parts.Parts.{Parts}
 
-pub entered-agrees : (limits : Ranges) (h : History) (p : Parts) → TokenAgrees limits h p → (caller : ℕ) (c : Call) (reply entered : Reply)
-    (made : Change) (p' : Parts) (after : History) → reply ≡ answer limits h c → entered ≡ reply → made ≡ effect h c reply
+pub entered-agrees : (limits : Ranges) (h : History) (p : Parts) → TokenAgrees limits h p
+    → (caller : ℕ) (c : Call) (reply entered : Reply)
+    (made : Change) (p' : Parts) (after : History) → reply ≡ answer limits h c → entered ≡ reply
+    → made ≡ effect h c reply
     → after ≡ record { caller = caller; call = c; reply = entered } ◁ h
     → ((e : Entry) → IsLegal limits (e ◁ h) → made ≡ effect h e.call e.reply → c ≡ e.call → PartsAgree (e ◁ h) p')
     → TokenAgrees limits after p'

@@ -10,7 +10,8 @@ use Rattle.ck_journal.specs.declared.calls.Call.{Call}
 use Rattle.ck_token.specs.Decisions.{takes_memory}
 use Rattle.ck_token.specs.TokenStates.{TokenState, entry_of, after, HasAnswered, IsAnswered}
 
-get_or-here : (before : List (ℕ × Call)) (c : ℕ × Call) (later : List (ℕ × Call)) → get_or (before ++ c ∷ later) (length before) c ≡ c
+get_or-here : (before : List (ℕ × Call)) (c : ℕ × Call) (later : List (ℕ × Call))
+    → get_or (before ++ c ∷ later) (length before) c ≡ c
 get_or-here [] c later = refl
 get_or-here (d ∷ before) c later = get_or-here before c later
 
@@ -29,7 +30,8 @@ after-last limits h [] c = refl
 after-last limits h (d ∷ calls) c = after-last limits (entry_of limits h d.0 d.1 ◁ h) calls c
 
 module _ (old : TokenState) (calls : List (ℕ × Call)) where
-  pub Answers-none : (left : List (ℕ × Call)) → left ≡ reverse calls → IsLegal old.limits old.history → Answers old calls 0 left old
+  pub Answers-none : (left : List (ℕ × Call)) → left ≡ reverse calls → IsLegal old.limits old.history
+      → Answers old calls 0 left old
   Answers-none left r legal = record {
     answered = [];
     parts = sym (ap reverse r ∙ reverse-reverse calls);
@@ -39,11 +41,14 @@ module _ (old : TokenState) (calls : List (ℕ × Call)) where
   }
 
   pub Answers-more : (count : ℕ) (rest : List (ℕ × Call)) (c : ℕ × Call) (left : List (ℕ × Call)) (token new : TokenState) (reply : _)
-      → left ≡ rest ++ c ∷ [] → Answers old calls count left token → IsAnswered token new c.0 c.1 reply → IsLegal new.limits new.history
+      → left ≡ rest ++ c ∷ [] → Answers old calls count left token → IsAnswered token new c.0 c.1 reply
+      → IsLegal new.limits new.history
       → token.spare ≤ new.spare + 1 → Answers old calls (count + 1) rest new
   Answers-more count rest c left token new reply l a step legal room = record {
     answered = a.answered ++ c ∷ [];
-    parts = a.parts ∙ ap (λ r. a.answered ++ r) (ap reverse l ∙ reverse-append rest (c ∷ [])) ∙ sym (append_assoc a.answered (c ∷ []) (reverse rest));
+    parts =
+        a.parts ∙ ap (λ r. a.answered ++ r) (ap reverse l ∙ reverse-append rest (c ∷ []))
+        ∙ sym (append_assoc a.answered (c ∷ []) (reverse rest));
     counted = length-append a.answered (c ∷ []) ∙ ap (λ n. n + 1) a.counted;
     has = record {
       limits = step.limits ∙ a.has.limits;

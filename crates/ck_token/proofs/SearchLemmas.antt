@@ -21,10 +21,12 @@ module _ (h : History) where
   pub next-no_room : (numbers : List ℕ) → next h 0 numbers ≡ []
   next-no_room numbers = refl
 
-  pub next-visible : (room n handle : ℕ) (numbers : List ℕ) → 0 < room → Some handle ≡ handle_at h n → next h room (n ∷ numbers) ≡ handle ∷ next h (room - 1) numbers
+  pub next-visible : (room n handle : ℕ) (numbers : List ℕ) → 0 < room → Some handle ≡ handle_at h n
+      → next h room (n ∷ numbers) ≡ handle ∷ next h (room - 1) numbers
   next-visible room n handle numbers some found = visible_case room some (is_visible h n) refl
     where
-      visible_case : (room : ℕ) → 0 < room → (visible : Bool) → is_visible h n ≡ visible → next h room (n ∷ numbers) ≡ handle ∷ next h (room - 1) numbers
+      visible_case : (room : ℕ) → 0 < room → (visible : Bool) → is_visible h n ≡ visible
+          → next h room (n ∷ numbers) ≡ handle ∷ next h (room - 1) numbers
       visible_case zero some visible v = absurd (omega arith)
       visible_case (suc room) some true v =
           let same : Some handle ≡ Some (handle_of h n) = rw v at found in
@@ -35,7 +37,8 @@ module _ (h : History) where
           let wrong : Some handle ≡ None = rw v at found in
           cc
 
-  pub next-hidden : (room n : ℕ) (numbers : List ℕ) → None ≡ handle_at h n → next h room (n ∷ numbers) ≡ next h room numbers
+  pub next-hidden : (room n : ℕ) (numbers : List ℕ) → None ≡ handle_at h n
+      → next h room (n ∷ numbers) ≡ next h room numbers
   next-hidden room n numbers none = hidden_case (is_visible h n) refl
     where
       hidden_case : (visible : Bool) → is_visible h n ≡ visible → next h room (n ∷ numbers) ≡ next h room numbers
@@ -48,10 +51,12 @@ module _ (h : History) where
 
   module _ (total handles numbers : List ℕ) (i room : ℕ) (is : total ≡ handles ++ next h room (drop i numbers)) (below : i < length numbers) where
     one_more : total ≡ handles ++ next h room (get_or numbers i 0 ∷ drop (i + 1) numbers)
-    one_more = is ∙ ap (λ ns. handles ++ next h room ns) (drop-cons numbers i 0 below ∙ ap (λ k. get_or numbers i 0 ∷ drop k numbers) (sym (add-one i)))
+    one_more =
+        is ∙ ap (λ ns. handles ++ next h room ns) (drop-cons numbers i 0 below ∙ ap (λ k. get_or numbers i 0 ∷ drop k numbers) (sym (add-one i)))
 
     -- it is visible and is given
-    pub given-next : (handles' : List ℕ) (room' handle : ℕ) → (room ≡ 0 → ⊥) → Some handle ≡ handle_at h (get_or numbers i 0) → handles' ≡ handles ++ handle ∷ []
+    pub given-next : (handles' : List ℕ) (room' handle : ℕ) → (room ≡ 0 → ⊥)
+        → Some handle ≡ handle_at h (get_or numbers i 0) → handles' ≡ handles ++ handle ∷ []
         → room' ≡ room - 1 → total ≡ handles' ++ next h room' (drop (i + 1) numbers)
     given-next handles' room' handle some found more less =
         one_more
@@ -61,7 +66,8 @@ module _ (h : History) where
         ∙ ap (λ hs. hs ++ next h room' (drop (i + 1) numbers)) (sym more)
 
     -- it isn't
-    pub passed-next : (handles' : List ℕ) (room' : ℕ) → None ≡ handle_at h (get_or numbers i 0) → handles' ≡ handles → room' ≡ room → total ≡ handles' ++ next h room' (drop (i + 1) numbers)
+    pub passed-next : (handles' : List ℕ) (room' : ℕ) → None ≡ handle_at h (get_or numbers i 0) → handles' ≡ handles
+        → room' ≡ room → total ≡ handles' ++ next h room' (drop (i + 1) numbers)
     passed-next handles' room' hidden same same_room =
         one_more
         ∙ ap (λ hs. handles ++ hs) (next-hidden room (get_or numbers i 0) (drop (i + 1) numbers) hidden)
@@ -70,7 +76,8 @@ module _ (h : History) where
 -- ---- where a search stands
 
 -- a session's search that has something left is active
-pub left-found : (searching : Bool) (numbers rest : List ℕ) → Some numbers ≡ cond searching (Some rest) None → (searching ≡ true) × (numbers ≡ rest)
+pub left-found : (searching : Bool) (numbers rest : List ℕ) → Some numbers ≡ cond searching (Some rest) None
+    → (searching ≡ true) × (numbers ≡ rest)
 left-found true numbers rest e = (refl, same_Some numbers rest e)
 left-found false numbers rest e = cc
 
@@ -84,7 +91,8 @@ last_or-some (first ∷ next ∷ handles) handle before e =
     last_or-some (next ∷ handles) handle (number_of_handle first) (e ∙ ap (slice_get (first ∷ next ∷ handles)) step)
 
 -- where none is given it stays
-pub last_or-none : (handles : List ℕ) (before : ℕ) → None ≡ slice_get handles (length handles - 1) → last_or before (map number_of_handle handles) ≡ before
+pub last_or-none : (handles : List ℕ) (before : ℕ) → None ≡ slice_get handles (length handles - 1)
+    → last_or before (map number_of_handle handles) ≡ before
 last_or-none [] before e = refl
 last_or-none (only ∷ []) before e = cc
 last_or-none (first ∷ next ∷ handles) before e =

@@ -44,7 +44,8 @@ invariant_of-self g c =
     found.0 ∙ ap (λ (e : Entry). c.learn.new.self.log ++ e ∷ []) c.plain-offer.ensures.1 in
     let len : length c.learn.new.self.log ≡ length c.self.inside.seen.log = found.1 ∙ c.self.invariant.0 in (
       omega (arith, c.self.invariant.0, found.1, ap length added, length-append c.learn.new.self.log (c.args.entry.now ∷ [])),
-      c.compare_exchange-found.ensures.0 ∙ c.learn.ensures.0 ∙ ap (λ s. s.book) c.again-both.ensures ∙ c.self.invariant.1,
+      c.compare_exchange-found.ensures.0 ∙ c.learn.ensures.0 ∙ ap (λ s. s.book) c.again-both.ensures
+          ∙ c.self.invariant.1,
       added_legal _ c.self.inside.seen.log c.other.inside.seen.log c.learn.new.self.log c.compare_exchange-found.new.seen.log c.args.entry.now _ _ p q c.self.view_is c.other.view_is len added
           _ c.self.invariant.2 c.requires.legal,
     )

@@ -36,7 +36,8 @@ returns-in-Nothing c = record {
       record {
         sessions = sessions-unchanged h e _ is agree.sessions;
         objects = objects-unchanged h e _ is agree.objects;
-        operations = operations-left h _ agree.operations e (nothing-stays h e.caller e.call e.reply.rv e.reply.body is);
+        operations =
+            operations-left h _ agree.operations e (nothing-stays h e.caller e.call e.reply.rv e.reply.body is);
       };
 }
 
@@ -107,7 +108,8 @@ returns-in-CloseSession c = record {
       record {
         sessions = c.close.ensures.agree h e d agree.sessions;
         objects = c.end_session.ensures.agree h e d agree.objects;
-        operations = c.end_session-in-CloseSession.ensures.agree h e (closed-one e c.in-CloseSession.session d) agree.operations;
+        operations =
+            c.end_session-in-CloseSession.ensures.agree h e (closed-one e c.in-CloseSession.session d) agree.operations;
       };
 }
 
@@ -171,7 +173,8 @@ returns-in-SetAttributes c = record {
       let new = c.into_inner-in-SetAttributes.ensures ∙ of.5 in
       record {
         sessions = sessions-kept h e _ d _ refl refl agree.sessions;
-        objects = c.set.ensures.agree h e of.0 of.1 of.2 d (p.0 ∙ ap Some (sym of.4)) new (ap (λ (a : List Item). is_set a attribute.Token) new ∙ p.1) agree.objects;
+        objects =
+            c.set.ensures.agree h e of.0 of.1 of.2 d (p.0 ∙ ap Some (sym of.4)) new (ap (λ (a : List Item). is_set a attribute.Token) new ∙ p.1) agree.objects;
         operations = operations-kept e _ d h _ refl refl agree.operations;
       };
 }
@@ -187,7 +190,8 @@ returns-in-SetKeyState c = record {
       let p = state-passed limits h of.0 of.1 of.2 (passed-done limits e h legal _ d) in
       record {
         sessions = sessions-kept h e _ d _ refl refl agree.sessions;
-        objects = c.set_state.ensures.agree h e of.0 of.1 of.2 d (p.1 ∙ ap Some (sym of.5)) (p.0 ∙ ap Some (sym of.4)) agree.objects;
+        objects =
+            c.set_state.ensures.agree h e of.0 of.1 of.2 d (p.1 ∙ ap Some (sym of.5)) (p.0 ∙ ap Some (sym of.4)) agree.objects;
         operations = operations-kept e _ d h _ refl refl agree.operations;
       };
 }
@@ -289,7 +293,9 @@ returns-in-StartHmac c = record {
         objects = step-objects h e _ starts.step _ agree.objects;
         operations = c.start-in-StartHmac.ensures.agree h e (hmac_by hash key len) c.general-mac.ensures
             (record {
-              computation = ap (started_computation h) made.0 ∙ starts.computation ∙ sym (hmac-is hash key len of.0 _ same.0 value same.2);
+              computation =
+                  ap (started_computation h) made.0 ∙ starts.computation
+                  ∙ sym (hmac-is hash key len of.0 _ same.0 value same.2);
               key = ap (λ d. option_and_then (object_named h) (init_key d)) made.0
                   ∙ ap (option_and_then (object_named h)) starts.key ∙ named;
             })

@@ -28,7 +28,8 @@ apply-requires-clause-counted c =
     counted c.self.inside.limits agree.ranges h c.prepare.new.parts agree.legal (c.prepare.ensures.agree h agree.parts)
     c.args.call (reply_of d) answered d.change is
 
-whole : (c : goal.After-reply_with-2) → TokenAgrees c.self.inside.limits c.push_reserved.new.self.history c.apply.new.self
+whole : (c : goal.After-reply_with-2)
+    → TokenAgrees c.self.inside.limits c.push_reserved.new.self.history c.apply.new.self
 whole c =
     let agree = c.self.invariant in
     let h = c.self.inside.journal.history in

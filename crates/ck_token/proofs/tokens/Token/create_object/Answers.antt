@@ -49,6 +49,8 @@ returns c =
     (sym (c.check_placement.ensures c.args.session c.in_ok-row.ensures.row) ∙ c.in_ok-check_placement.was) in (
       four-pass _ _ _ _ (session-passes h c.args.session c.in_ok-row.ensures.open) made
           (ap (λ (p : Placement). placement_error h c.args.session p) (sym c.creation_placement.ensures) ∙ placed) c.in_ok-number.ensures.free,
-      c.creation.ensures.reply ∙ ap (λ (a : List Item). ok (body.Handle (new_handle h a))) (c.in_ok-attributes.ensures ∙ c.in_ok-made.ensures),
-      c.creation.ensures.change ∙ ap (λ (a : List Item). change.CreateObject c.args.session a) (c.in_ok-attributes.ensures ∙ c.in_ok-made.ensures),
+      c.creation.ensures.reply
+          ∙ ap (λ (a : List Item). ok (body.Handle (new_handle h a))) (c.in_ok-attributes.ensures ∙ c.in_ok-made.ensures),
+      c.creation.ensures.change
+          ∙ ap (λ (a : List Item). change.CreateObject c.args.session a) (c.in_ok-attributes.ensures ∙ c.in_ok-made.ensures),
     )
