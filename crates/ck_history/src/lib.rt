@@ -4,7 +4,5 @@
 
 mod histories;
 mod rules;
-#[cfg(test)]
-mod tests;
 
 pub use histories::{Front, Head, HistoryId, NewHistory};

@@ -11,8 +11,6 @@ pub mod laws;
 mod operations;
 mod replies;
 mod session_flags;
-#[cfg(test)]
-mod tests;
 mod views;
 
 pub use bases::{Base, KeptObject};

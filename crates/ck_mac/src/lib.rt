@@ -11,6 +11,3 @@ pub use digests::{Running, digest};
 pub use macs::Mac;
 pub use running_tags::RunningTag;
 pub use tags::Tag;
-
-#[cfg(test)]
-mod tests;

@@ -5,8 +5,6 @@
 mod active_operations;
 mod operation_table;
 mod rows;
-#[cfg(test)]
-mod tests;
 
 pub use active_operations::Operation;
 pub use operation_table::Operations;

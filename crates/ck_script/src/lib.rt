@@ -5,15 +5,9 @@ mod arguments;
 mod call_names;
 mod calls;
 mod line_errors;
-#[cfg(test)]
-mod line_tables;
-#[cfg(test)]
-mod line_tests;
 mod lines;
 mod parts;
 mod replies;
-#[cfg(test)]
-mod reply_tests;
 mod similar_names;
 
 pub use call_names::{Arity, CallName};

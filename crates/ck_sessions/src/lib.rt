@@ -6,8 +6,6 @@ mod open_sessions;
 mod rows;
 mod searches;
 mod session_table;
-#[cfg(test)]
-mod tests;
 
 pub use credentials::Credential;
 pub use open_sessions::Session;

@@ -6,7 +6,5 @@ mod places;
 mod session_lists;
 mod stored_objects;
 mod stores;
-#[cfg(test)]
-mod tests;
 
 pub use stores::Store;

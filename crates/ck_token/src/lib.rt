@@ -6,8 +6,6 @@ mod cuts;
 mod decisions;
 mod queries;
 mod runs;
-#[cfg(test)]
-mod tests;
 mod tokens;
 
 pub use cuts::Uncut;

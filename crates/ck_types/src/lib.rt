@@ -44,6 +44,3 @@ pub use templates::Template;
 pub use token_flags::TokenFlags;
 pub use token_limits::Limits;
 pub use users::{SessionState, UserType};
-
-#[cfg(test)]
-mod tests;

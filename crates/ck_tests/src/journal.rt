@@ -1,4 +1,4 @@
-use crate::{Answer, Body, Call, Entry, Journal, Reply, is_long_piece};
+use ck_journal::{Answer, Body, Call, Entry, Journal, Reply, is_long_piece};
 use ck_types::{Bytes, Rv, RvError, Sequence, SessionState, TokenFlags};
 use std::test::Fail;
 

@@ -1,5 +1,5 @@
-use crate::replies::push_reply;
 use ck_journal::{Answer, Body, Reply};
+use ck_script::push_reply;
 use ck_types::{Bytes, Rv, RvError, Sequence, SessionState, TokenFlags};
 use std::alloc::Global;
 use std::process::Abort;

@@ -1,5 +1,5 @@
 use Rattle.ck_journal.specs.Bases.{empty_base}
-use Rattle.ck_history.proofs.tests.fronts_of_one_history.Given as goal
+use Rattle.ck_tests.proofs.history.fronts_of_one_history.Given as goal
 
 -- the history that was just made
 abbrev pub ghosts-grown : goal.ghosts-grown

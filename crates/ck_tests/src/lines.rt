@@ -1,5 +1,5 @@
 use crate::line_tables::{BAD_LINES, MEANINGS};
-use crate::{BadLine, Line, LineError, cut_line};
+use ck_script::{BadLine, Line, LineError, cut_line};
 use std::alloc::Global;
 use std::process::Abort;
 use std::test::Fail;

@@ -1,8 +1,8 @@
 //! Lists of calls, made one after the other and by a run, also where growths are refused. Replies
 //! are compared with the journal here; their values are those of the cases that a program of the
 //! gate plays.
-use crate::{Stopped, Token, run};
 use ck_journal::{AttributeQuery, Body, Call, Journal};
+use ck_token::{Stopped, Token, run};
 use ck_types::{Bytes, Item, Limits, Mechanism, NoMemory, Pin, Rv, RvError, Sequence, Template};
 use std::alloc::Global;
 use std::process::Abort;

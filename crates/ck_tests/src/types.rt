@@ -1,4 +1,4 @@
-use crate::{
+use ck_types::{
     Attribute, Bytes, Class, Item, Limits, NoMemory, Pin, Placement, Record, Refusal, Rv, RvError,
     Sequence, Template, error_if,
 };

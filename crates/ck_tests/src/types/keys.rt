@@ -1,5 +1,5 @@
 use super::{bytes_of, check_attribute, number_of, template_of};
-use crate::{
+use ck_types::{
     Bytes, Item, KeyState, Mechanism, Record, RvError, Sequence, Template, is_key_generator,
     mechanism_types,
 };

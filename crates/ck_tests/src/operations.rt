@@ -1,6 +1,6 @@
-use crate::Operations;
 use ck_journal::OperationKind;
 use ck_mac::{Mac, Running, RunningTag};
+use ck_operations::Operations;
 use ck_types::Hash;
 use std::test::Fail;
 

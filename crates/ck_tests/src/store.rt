@@ -1,7 +1,7 @@
 ghost use Rattle.std.specs.Prelude.{◌≡◌, true, false};
 
-use crate::Store;
 use ck_journal::View;
+use ck_store::Store;
 use ck_types::{Bytes, Item, NoMemory, Record, Refusal, Sequence, Template};
 use std::alloc::Global;
 use std::process::Abort;

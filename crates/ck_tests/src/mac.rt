@@ -1,5 +1,4 @@
-use crate::digests::digest;
-use crate::{Mac, Running, RunningTag, Tag};
+use ck_mac::{Mac, Running, RunningTag, Tag, digest};
 use ck_types::{Hash, RvError};
 use std::alloc::{AllocError, Global};
 use std::process::Abort;

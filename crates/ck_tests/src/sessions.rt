@@ -1,4 +1,4 @@
-use crate::Sessions;
+use ck_sessions::Sessions;
 use ck_types::{NoMemory, Pin, UserType};
 use std::alloc::Global;
 use std::process::Abort;
