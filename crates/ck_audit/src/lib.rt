@@ -1,4 +1,5 @@
-//! Auditors of journals: each call of a journal is made again, and its reply compared.
+//! Auditors of journals: the calls of a journal are made again, and each reply is compared.
 #![tactic(auto)]
 
+mod audits;
 mod comparisons;
