@@ -1,6 +1,7 @@
 -- At most one verdict is so, and how the entries of a log lead to one
-use Rattle.std.proofs.Common.{◌≡◌, ◌≢◌, ◌⊎◌, inl, inr, ℕ, suc, ◌+◌, List, [], ◌∷◌, ◌++◌, length, refl, sym, ap, ◌∙◌, subst, arith, append_assoc}
+use Rattle.std.proofs.Common.{◌≡◌, ◌≢◌, ◌⊎◌, inl, inr, ℕ, suc, ◌+◌, ◌<◌, List, [], ◌∷◌, ◌++◌, length, take, drop, get_or, refl, sym, ap, ◌∙◌, subst, arith}
 use Rattle.std.specs.Prelude.{reverse}
+use Rattle.std.proofs.lemmas.List.{take_more, take-append-drop, length-take-le}
 use Rattle.ck_types.specs.TokenLimits.{Ranges}
 use Rattle.ck_journal.specs.declared.bases.Base.{Base}
 use Rattle.ck_journal.specs.declared.calls.Entry.{Entry}
@@ -81,17 +82,37 @@ module _ (limits : Ranges) where
     (λ wrong. ap verdict.Wrong (first_wrong h m n so wrong)),
   )
 
-  -- the entry after those of a legal log is wrong
-  pub wrong-next : (b : Base) (log : List Entry) (e : Entry) (later : List Entry)
-      → IsLegal limits (history_of b log) → (e.reply ≢ answer limits (history_of b log) e.call)
-      → IsFirstWrong limits (history_of b (log ++ e ∷ later)) (length log + 1)
-  wrong-next b log e later legal wrong = record {
-    front = history_of b log;
+-- the entry that comes next in a log
+module _ (b : Base) (log : List Entry) (i : ℕ) (e : Entry) (h : History) (within : i < length log)
+    (is : e ≡ get_or log i e) (before : h ≡ history_of b (take i log)) where
+  pub entered-next : e ◁ h ≡ history_of b (take (i + 1) log)
+  entered-next =
+      ap (λ g. e ◁ g) before
+      ∙ sym (history_of-next b (take i log) e)
+      ∙ ap (λ x. history_of b (take i log ++ x ∷ [])) is
+      ∙ ap (history_of b) (sym (take_more log i e within))
+
+  parts-next : history_of b log ≡ followed_by (e ◁ h) (reverse (drop (i + 1) log))
+  parts-next =
+      ap (history_of b) (sym (take-append-drop (i + 1) log))
+      ∙ extended_by-append (start b) (take (i + 1) log) (drop (i + 1) log)
+      ∙ ap (λ g. extended_by g (drop (i + 1) log)) (sym entered-next)
+      ∙ extended_by-reverse (e ◁ h) (drop (i + 1) log)
+
+  count-next : i + 1 ≡ entry_count (e ◁ h)
+  count-next =
+      let count : entry_count h ≡ i =
+      ap entry_count before ∙ entry_count-log b (take i log) ∙ length-take-le i log (omega arith) in
+      omega arith
+
+  pub wrong-next : (limits : Ranges) → IsLegal limits h → (e.reply ≢ answer limits h e.call)
+      → IsFirstWrong limits (history_of b log) (i + 1)
+  wrong-next limits legal wrong = record {
+    front = h;
     entry = e;
-    later = reverse later;
-    parts = extended_by-append (start b) log (e ∷ later)
-        ∙ extended_by-reverse (e ◁ history_of b log) later;
-    is_number = let count = entry_count-log b log in omega arith;
+    later = reverse (drop (i + 1) log);
+    parts = parts-next;
+    is_number = count-next;
     legal = legal;
     wrong = wrong;
   }
