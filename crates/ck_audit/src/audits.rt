@@ -1,6 +1,5 @@
 ghost use Rattle.std.specs.Prelude.{◌≡◌, ◌↔◌, ℕ, IsTrue, IfOk, OnOk};
 ghost use Rattle.ck_journal.specs.Answers.{answer, IsLegal};
-ghost use Rattle.ck_journal.specs.Fronts.{history_of};
 ghost use Rattle.ck_journal.specs.Histories.{◌◁◌, start, start_of};
 ghost use Rattle.ck_audit.specs.Verdicts.{IsFirstWrong, IsVerdict};
 ghost use Rattle.ck_audit.specs.declared.audits.Verdict.TheVariants as verdict;
@@ -20,6 +19,26 @@ pub enum Verdict {
     Wrong(u64),
 }
 
+/// Audits a journal: starts a token of these limits from its base, makes the calls again and
+/// compares each reply. It takes memory for that token and its journal, and time for each entry.
+pub fn audit(alloc: Global, journal: &Journal, limits: Limits) -> Result<Verdict, NoMemory>
+    ensures legal { IfOk result (λ found.
+        (found ≡ verdict.Legal) ↔ IsLegal limits journal.now.history) }
+    ensures wrong { IfOk result (λ found. (number : ℕ)
+        → (found ≡ verdict.Wrong number) ↔ IsFirstWrong limits journal.now.history number) }
+{
+    let base = journal.base().duplicate(alloc)?;
+    let token = Token::from_base(alloc, limits, base)?;
+    replay(alloc, token, journal)
+}
+
+/// Audits the journal of a token, which is legal: every token keeps that.
+pub fn audit_token(alloc: Global, token: &Token) -> Result<Verdict, NoMemory>
+    ensures { IfOk result (λ found. found ≡ verdict.Legal) }
+{
+    audit(alloc, token.journal(), token.limits())
+}
+
 /// Makes the call of an entry, and says whether it is answered as the entry has it.
 fn repeat_call(token: &mut Token, alloc: Global, entry: &Entry) -> Result<bool, NoMemory>
     ensures same { IfOk result (λ same. IsTrue same
@@ -34,13 +53,13 @@ fn repeat_call(token: &mut Token, alloc: Global, entry: &Entry) -> Result<bool, 
     Ok(are_same_replies(&reply, &entry.reply))
 }
 
-/// Makes the calls of these entries on a token that has answered none, up to the first that is
+/// Makes the calls of a journal on a token that starts from its base, up to the first that is
 /// answered otherwise.
-fn replay(alloc: Global, mut token: Token, entries: &[Entry]) -> Result<Verdict, NoMemory>
-    requires { token.history ≡ start (start_of token.history) }
-    ensures { IfOk result (λ found.
-        IsVerdict token.limits (history_of (start_of token.history) entries.now) found) }
+fn replay(alloc: Global, mut token: Token, journal: &Journal) -> Result<Verdict, NoMemory>
+    requires { token.history ≡ start (start_of journal.now.history) }
+    ensures { IfOk result (λ found. IsVerdict token.limits journal.now.history found) }
 {
+    let entries = journal.entries();
     for (index, entry) in entries.iter().enumerate() {
         if !repeat_call(&mut token, alloc, entry)? {
             return Ok(Verdict::Wrong(index as u64 + 1));

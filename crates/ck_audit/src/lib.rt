@@ -3,3 +3,5 @@
 
 mod audits;
 mod comparisons;
+
+pub use audits::{Verdict, audit, audit_token};

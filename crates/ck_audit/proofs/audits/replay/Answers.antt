@@ -7,8 +7,8 @@ pub returns-then-not-branch : goal.returns-then-not-branch
 returns-then-not-branch c =
     let so_far = c.loop-index.invariant in
     let same = c.in_ok-repeat_call.ensures.same in
-    rw (← so_far.limits)
-    (wrong-next (start_of c.args.token.history) c.args.entries.now c.loop-index.index
+    rw (c.entries-entries.ensures, ← so_far.limits)
+    (wrong-next (start_of c.args.journal.now.history) c.entries-entries.result.now c.loop-index.index
     c.index-entries-index.result c.loop-index.token.history c.loop-index-test.true
     c.index-entries-index.is so_far.history c.loop-index.token.limits so_far.legal
     (λ answered. let is = same.1 answered in let not = c.if-not-branch.true in cc))
@@ -20,8 +20,8 @@ loop-index-preserved c =
     record {
       limits = repeated.limits ∙ so_far.limits;
       history = repeated.entered c.if-not-branch.false
-          ∙ entered-next (start_of c.args.token.history) c.args.entries.now c.loop-index.index
-          c.index-entries-index.result c.loop-index.token.history c.loop-index-test.true
-          c.index-entries-index.is so_far.history;
+          ∙ entered-next (start_of c.args.journal.now.history) c.entries-entries.result.now
+          c.loop-index.index c.index-entries-index.result c.loop-index.token.history
+          c.loop-index-test.true c.index-entries-index.is so_far.history;
       legal = repeated.legal;
     }
