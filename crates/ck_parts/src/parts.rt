@@ -1,10 +1,11 @@
 use crate::changes::Change;
-use ck_journal::{Call, OperationKind};
+use ck_journal::{Base, Call, OperationKind};
 use ck_mac::{Mac, Running, RunningTag};
 use ck_operations::Operations;
 use ck_sessions::Sessions;
 use ck_store::Store;
 use ck_types::NoMemory;
+use std::alloc::Global;
 
 /// The sessions, the objects and the operations of a token. While a call is carried out they are
 /// ahead of the journal, so what ties them to a history stands in the contracts.
@@ -16,15 +17,40 @@ pub struct Parts {
 }
 
 impl Parts {
-    ghost use Rattle.std.specs.Prelude.{◌≡◌, [], IsOk, OnOk, false, unwrap_or};
+    ghost use Rattle.std.specs.Prelude.{◌≡◌, [], IfOk, IsOk, OnOk, false, unwrap_or};
     ghost use Rattle.ck_types.specs.Records.{key_value};
     ghost use Rattle.ck_types.specs.TokenLimits.{Ranges};
     ghost use Rattle.ck_journal.specs.Answers.{IsLegal};
-    ghost use Rattle.ck_journal.specs.Histories.{History, ◌◁◌};
+    ghost use Rattle.ck_journal.specs.Bases.{empty_base, IsSound};
+    ghost use Rattle.ck_journal.specs.Histories.{History, start, ◌◁◌};
     ghost use Rattle.ck_journal.specs.Objects.{object_at};
     ghost use Rattle.ck_journal.specs.declared.calls.Entry.{Entry};
     ghost use Rattle.ck_parts.specs.Agreement.{PartsAgree, adds, HasRoom, IsCounted};
     ghost use Rattle.ck_parts.specs.Changes.{effect};
+
+    /// The parts of a new token, which take no memory.
+    pub fn new(alloc: Global) -> Parts
+        ensures { PartsAgree (start empty_base) result }
+    {
+        Parts {
+            sessions: Sessions::new(alloc),
+            objects: Store::new(alloc),
+            operations: Operations::new(alloc),
+        }
+    }
+
+    /// The parts that start from a base: its PINs, counts and objects, no session and no operation.
+    pub fn from_base(alloc: Global, base: &Base) -> Result<Parts, NoMemory>
+        requires { IsSound base.now }
+        ensures { IfOk result (λ parts. PartsAgree (start base.now) parts) }
+    {
+        let objects = Store::from_base(alloc, base)?;
+        Ok(Parts {
+            sessions: Sessions::from_base(alloc, base),
+            objects,
+            operations: Operations::new(alloc),
+        })
+    }
 
     /// Makes room for what a change adds.
     pub fn reserve(&mut self, change: &Change) -> Result<(), NoMemory>

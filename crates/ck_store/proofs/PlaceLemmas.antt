@@ -87,20 +87,20 @@ module _ (at at' : Place → Option ObjectRow) where
       ∙ ap (cons_option (without test (at p))) (filter_map-left test ps left)
       ∙ without_step test (at p) (filter_map at ps)
 
-  changed_step : (change : ObjectRow → ObjectRow) (o : Option ObjectRow) (rows : List ObjectRow)
-      → cons_option (option_map change o) (map change rows) ≡ map change (cons_option o rows)
-  changed_step change None rows = refl
-  changed_step change (Some row) rows = refl
+module _ {P X Y : Type 0} (at : P → Option X) (at' : P → Option Y) (change : X → Y) where
+  changed_step : (o : Option X) (xs : List X)
+      → cons_option (option_map change o) (map change xs) ≡ map change (cons_option o xs)
+  changed_step None xs = refl
+  changed_step (Some x) xs = refl
 
   -- each changed
-  pub filter_map-mapped : (change : ObjectRow → ObjectRow) (ps : List Place)
-      → ((p : Place) → at' p ≡ option_map change (at p))
+  pub filter_map-mapped : (ps : List P) → ((p : P) → at' p ≡ option_map change (at p))
       → filter_map at' ps ≡ map change (filter_map at ps)
-  filter_map-mapped change [] changed = refl
-  filter_map-mapped change (p ∷ ps) changed =
+  filter_map-mapped [] changed = refl
+  filter_map-mapped (p ∷ ps) changed =
       ap (λ o. cons_option o (filter_map at' ps)) (changed p)
-      ∙ ap (cons_option (option_map change (at p))) (filter_map-mapped change ps changed)
-      ∙ changed_step change (at p) (filter_map at ps)
+      ∙ ap (cons_option (option_map change (at p))) (filter_map-mapped ps changed)
+      ∙ changed_step (at p) (filter_map at ps)
 
 module _ (at : Place → Option ObjectRow) where
   -- places with no object don't count

@@ -1,5 +1,5 @@
 -- How the index and the lists stay sound
-use Rattle.std.proofs.Common.{◌≡◌, ◌⊎◌, ℕ, ◌+◌, ◌<◌, ◌≤◌, Bool, true, false, cond, not, List, []}
+use Rattle.std.proofs.Common.{◌≡◌, ◌⊎◌, ℕ, ◌<◌, ◌≤◌, Bool, true, false, cond, not, List, []}
 use Rattle.std.proofs.Common.{◌∷◌, ◌++◌, Option, Some, None, Contains, refl, sym, ap, ◌∙◌, subst}
 use Rattle.std.proofs.Common.{inl, inr, arith, get_or, ◌&&◌}
 use Rattle.std.specs.Prelude.{◌==◌, is_some, filter, map, option_map, option_and_then}
@@ -163,14 +163,14 @@ module _ (objects : Slab ObjectRow) (index : List Place) (lists lists' : List Se
     ];
   }
 
--- ---- a new object
+-- ---- a new object, whose number is above all others
 
 module _ (old new : Slab ObjectRow) (index : List Place) (lists : List SessionList)
-    (creations key : ℕ) (row : ObjectRow) (sound : IsSound old index lists None creations)
-    (number : row.number ≡ creations + 1) (vacant : get old key ≡ None)
+    (creations number key : ℕ) (row : ObjectRow) (sound : IsSound old index lists None creations)
+    (above : creations < number) (is_number : row.number ≡ number) (vacant : get old key ≡ None)
     (updates : Updates old new key (Some row)) where
   abbrev newest : Place
-  newest = place (creations + 1) key
+  newest = place number key
 
   same_at : (p : Place) → p.number ≤ creations → object_at new p ≡ object_at old p
   same_at p before = elim (cases_eq p.key key) [
@@ -183,8 +183,8 @@ module _ (old new : Slab ObjectRow) (index : List Place) (lists : List SessionLi
 
   at_newest : object_at new newest ≡ Some row
   at_newest =
-      ap (option_and_then (numbered (creations + 1))) updates.changed
-      ∙ ap (λ t. cond t (Some row) None) (eq-eqb row.number (creations + 1) number)
+      ap (option_and_then (numbered number)) updates.changed
+      ∙ ap (λ t. cond t (Some row) None) (eq-eqb row.number number is_number)
 
   pub objects_at-created : objects_at new (index ++ newest ∷ [])
       ≡ objects_at old index ++ row ∷ []
@@ -203,7 +203,7 @@ module _ (old new : Slab ObjectRow) (index : List Place) (lists : List SessionLi
     | inr other ↦ inl (sym (updates.others k other) ∙ is)
   ]
 
-  pub IsSound-created : IsSound new (index ++ newest ∷ []) lists (Some newest) (creations + 1)
+  pub IsSound-created : IsSound new (index ++ newest ∷ []) lists (Some newest) number
   IsSound-created = record {
     indexed = record {
       rises = all_pairs_push (λ (p : Place) (later : Place). p.number < later.number) index newest
@@ -233,10 +233,10 @@ module _ (old new : Slab ObjectRow) (index : List Place) (lists : List SessionLi
       | inl before ↦
           let below = sound.index_created p before in
           omega arith
-      | inr this ↦ subst (λ (q : Place). q.number ≤ creations + 1) this (omega arith)
+      | inr this ↦ subst (λ (q : Place). q.number ≤ number) this (omega arith)
     ];
     unlisted_created = λ p is.
-        subst (λ (q : Place). q.number ≤ creations + 1) (same_Some newest p is) (omega arith);
+        subst (λ (q : Place). q.number ≤ number) (same_Some newest p is) (omega arith);
     lists_created = λ session p listed.
         let below = sound.lists_created session p listed in
         omega arith;
@@ -244,9 +244,29 @@ module _ (old new : Slab ObjectRow) (index : List Place) (lists : List SessionLi
     where
       named_newest : (k : ℕ) (r : ObjectRow) → k ≡ key → r ≡ row → newest ≡ place r.number k
       named_newest k r same this =
-          ap (λ n. place n key) (sym number)
+          ap (λ n. place n key) (sym is_number)
           ∙ ap (λ (x : ObjectRow). place x.number key) (sym this)
           ∙ ap (place r.number) (sym same)
+
+-- ---- a higher count of creations
+
+pub IsSound-later : (objects : Slab ObjectRow) (index : List Place) (lists : List SessionList)
+    (unlisted : Option Place) (creations later : ℕ) → creations ≤ later
+    → IsSound objects index lists unlisted creations → IsSound objects index lists unlisted later
+IsSound-later objects index lists unlisted creations later below sound = record {
+  indexed = sound.indexed;
+  listed = sound.listed;
+  own = sound.own;
+  index_created = λ p there.
+      let within = sound.index_created p there in
+      omega arith;
+  unlisted_created = λ p is.
+      let within = sound.unlisted_created p is in
+      omega arith;
+  lists_created = λ session p listed.
+      let within = sound.lists_created session p listed in
+      omega arith;
+}
 
 -- ---- sessions that are closed
 

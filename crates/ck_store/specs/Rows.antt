@@ -6,8 +6,10 @@ use Rattle.ck_types.specs.Records.{is_set, with_state}
 use Rattle.ck_types.specs.declared.attributes.Attribute.TheVariants as attribute
 use Rattle.ck_types.specs.declared.items.Item.{Item}
 use Rattle.ck_types.specs.declared.key_states.KeyState.{KeyState}
+use Rattle.ck_journal.specs.Cuts.{kept_object}
 use Rattle.ck_journal.specs.Objects.{is_session_object, is_visible_with, handle_with}
 use Rattle.ck_journal.specs.Searches.{is_match_with}
+use Rattle.ck_journal.specs.declared.bases.KeptObject.{KeptObject}
 use Rattle.ck_journal.specs.declared.views.View.{View}
 use Rattle.ck_store.specs.declared.endings.Ending.{Ending}
 use Rattle.ck_store.specs.declared.endings.Ending.TheVariants as ending
@@ -72,6 +74,10 @@ visible_handle view row =
     if is_visible_with view row.attributes
     then Some (handle_with view row.attributes row.number)
     else None
+
+-- the object as a base has it
+abbrev pub kept_of : ObjectRow → KeptObject
+kept_of row = kept_object row.number row.attributes
 
 -- the object of this number with other attributes; another object as it is
 abbrev pub with_attributes : ℕ → List Item → ObjectRow → ObjectRow

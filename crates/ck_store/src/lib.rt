@@ -1,6 +1,7 @@
 //! The objects of a PKCS #11 token: what the journal says of them.
 #![tactic(auto)]
 
+mod bases;
 mod endings;
 mod places;
 mod session_lists;

@@ -1,6 +1,7 @@
 use crate::endings::Ending;
-use ck_journal::View;
-use ck_types::{Attribute, KeyState, Record, Template};
+use ck_journal::{KeptObject, View};
+use ck_types::{Attribute, KeyState, NoMemory, Record, Template};
+use std::alloc::Global;
 use std::marker::Model;
 
 /// An object that hasn't ended.
@@ -28,11 +29,11 @@ impl Model for StoredObject {
 }
 
 impl StoredObject {
-    ghost use Rattle.std.specs.Prelude.{◌≡◌, ◌<◌, ◌^◌};
+    ghost use Rattle.std.specs.Prelude.{◌≡◌, ◌<◌, ◌^◌, IfOk};
     ghost use Rattle.ck_types.specs.Records.{with_state};
     ghost use Rattle.ck_journal.specs.Objects.{is_visible_with};
     ghost use Rattle.ck_store.specs.Rows.{is_of_session, is_session_row, is_private_session_row};
-    ghost use Rattle.ck_store.specs.Rows.{object_row, is_match, visible_handle, is_ended_by};
+    ghost use Rattle.ck_store.specs.Rows.{object_row, is_match, visible_handle, is_ended_by, kept_of};
 
     /// An object that the session creates.
     pub(crate) fn new(number: u64, session: u64, attributes: Record) -> StoredObject
@@ -135,5 +136,16 @@ impl StoredObject {
         ensures { result ≡ self.now.session }
     {
         self.session
+    }
+
+    /// A copy of the object as a base has it.
+    pub(crate) fn kept(&self, alloc: Global) -> Result<KeptObject, NoMemory>
+        ensures { IfOk result (λ kept. kept ≡ kept_of self.now) }
+    {
+        let attributes = self.attributes.duplicate(alloc)?;
+        Ok(KeptObject {
+            number: self.number,
+            attributes,
+        })
     }
 }

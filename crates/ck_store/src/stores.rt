@@ -1,11 +1,12 @@
+use crate::bases::copy_objects;
 use crate::endings::{Ending, end_listed, end_newest};
 use crate::places::{
     Place, compact, find_matching, find_numbered, remove_numbered, set_numbered, set_state_numbered,
 };
 use crate::session_lists::{SessionList, list_newest};
 use crate::stored_objects::StoredObject;
-use ck_journal::{View, number_of_handle};
-use ck_types::{KeyState, NoMemory, Record, Template};
+use ck_journal::{Base, KeptObject, View, number_of_handle};
+use ck_types::{KeyState, NoMemory, Record, Sequence, Template};
 use slab::Slab;
 use std::alloc::Global;
 use std::marker::Model;
@@ -48,8 +49,8 @@ impl Model for Store {
 
 impl Store {
     ghost use Rattle.std.specs.Prelude.{◌≡◌, ◌+◌, ◌<◌, ◌^◌, ℕ, true, None, Some};
-    ghost use Rattle.std.specs.Prelude.{filter, not};
-    ghost use Rattle.ck_store.specs.Rows.{is_ended_by};
+    ghost use Rattle.std.specs.Prelude.{filter, not, [], ◌∷◌, ◌++◌};
+    ghost use Rattle.ck_store.specs.Rows.{is_ended_by, object_row};
     ghost use Rattle.std.specs.Prelude.{IfNone, IfOk, IfSome, OnOk};
     ghost use Rattle.std.specs.Option.{option_copied};
     ghost use Rattle.ck_types.specs.KeyStates.{state_of_number};
@@ -57,7 +58,8 @@ impl Store {
     ghost use Rattle.ck_types.specs.declared.attributes.Attribute.TheVariants as attribute;
     ghost use Rattle.ck_types.specs.declared.pins.Pin.{Pin};
     ghost use Rattle.ck_types.specs.declared.templates.Template.{Template};
-    ghost use Rattle.ck_journal.specs.Bases.{empty_base};
+    ghost use Rattle.ck_journal.specs.Bases.{empty_base, IsSound};
+    ghost use Rattle.ck_journal.specs.Cuts.{kept_objects};
     ghost use Rattle.ck_journal.specs.Histories.{History, start, ◌◁◌, done};
     ghost use Rattle.ck_journal.specs.Objects.{creates, creation_session, creation_attributes};
     ghost use Rattle.ck_journal.specs.Objects.{creations, object_at, view_of};
@@ -79,6 +81,22 @@ impl Store {
             unlisted: None,
             creations: 0,
         }
+    }
+
+    /// The store that starts from a base: its objects, which are token objects and so no session's,
+    /// and its count of creations.
+    pub fn from_base(alloc: Global, base: &Base) -> Result<Store, NoMemory>
+        requires { IsSound base.now }
+        ensures { IfOk result (λ store. StoreAgrees (start base.now) store) }
+    {
+        let mut store = Store::new(alloc);
+        for object in base.objects.as_slice() {
+            let attributes = object.attributes.duplicate(alloc)?;
+            store.reserve(0)?;
+            store.add(object.number, 0, attributes);
+        }
+        store.creations = base.creations;
+        Ok(store)
     }
 
     // ---- readings of every history that the objects agree with
@@ -136,12 +154,22 @@ impl Store {
         find_matching(alloc, &self.objects, self.index.as_slice(), view, template)
     }
 
+    /// Copies of the objects, in the order of their creations.
+    pub fn kept(&self, alloc: Global) -> Result<Sequence<KeptObject>, NoMemory>
+        ensures { IfOk result (λ kept. (h : History) → StoreAgrees h self.now
+            → kept ≡ kept_objects h) }
+    {
+        let kept = copy_objects(alloc, &self.objects, self.index.as_slice())?;
+        Ok(Sequence::from_vec(kept))
+    }
+
     // ---- changes, each that of a call that is answered OK
 
     /// Makes room for one more object, which any session may create. The newest object gets its
     /// place in its session's list here, since this may ask for memory and a creation may not.
     pub fn reserve(&mut self, _session: u64) -> Result<(), NoMemory>
         ensures agree { (h : History) → StoreAgrees h self.old → StoreAgrees h self.new }
+        ensures rows { self.new.rows ≡ self.old.rows }
         ensures creations { self.new.creations ≡ self.old.creations }
         ensures room { OnOk result (0 < self.new.spare) }
     {
@@ -161,15 +189,23 @@ impl Store {
             → attributes ≡ creation_attributes (Some c) (attributes_named h)
             → StoreAgrees h self.old → StoreAgrees (e ◁ h) self.new }
     {
-        self.creations += 1;
-        let object = StoredObject::new(self.creations, session, attributes);
+        self.add(self.creations + 1, session, attributes);
+    }
+
+    /// Adds an object whose number is above those of all objects so far.
+    fn add(&mut self, number: u64, session: u64, attributes: Record)
+        requires room { 0 < self.old.spare }
+        requires later { self.old.creations < number }
+        requires small { number < 2 ^ 32 }
+        ensures rows { self.new.rows ≡ self.old.rows ++ object_row number session attributes ∷ [] }
+        ensures creations { self.new.creations ≡ number }
+    {
+        let object = StoredObject::new(number, session, attributes);
         let key = self.objects.insert_reserved(object);
-        let place = Place {
-            number: self.creations,
-            key,
-        };
+        let place = Place { number, key };
         self.index.push(place).unwrap();
         self.unlisted = Some(place);
+        self.creations = number;
     }
 
     /// Gives the object that has the number these attributes. An object keeps its CKA_TOKEN.

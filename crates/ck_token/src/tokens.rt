@@ -5,11 +5,8 @@ ghost use Rattle.ck_parts.specs.Agreement.{PartsAgree, adds, HasRoom};
 
 use crate::cuts::{Uncut, kept_objects};
 use crate::decisions::{Decision, Refused};
-use ck_journal::{Body, Call, Entry, Journal, OperationKind, Reply, TokenBoard};
-use ck_operations::Operations;
+use ck_journal::{Base, Body, Call, Entry, Journal, OperationKind, Reply, TokenBoard};
 use ck_parts::{Change, Parts};
-use ck_sessions::Sessions;
-use ck_store::Store;
 use ck_types::{Limits, NoMemory, Rv};
 use std::alloc::Global;
 use std::marker::Model;
@@ -104,7 +101,7 @@ impl Token {
     ghost use Rattle.ck_journal.specs.Bases.{empty_base, IsSound};
     ghost use Rattle.ck_journal.specs.Boards.{board_of};
     ghost use Rattle.ck_journal.specs.Cuts.{base_of, IsLeftBy};
-    ghost use Rattle.ck_journal.specs.Histories.{start};
+    ghost use Rattle.ck_journal.specs.Histories.{start, start_of};
     ghost use Rattle.ck_parts.specs.Changes.{effect};
     ghost use Rattle.ck_token.specs.Cuts.{IsCut};
     ghost use Rattle.ck_token.specs.Decisions.{IsDecision, may_run_out, reply_of};
@@ -115,14 +112,30 @@ impl Token {
         ensures limits { result.limits ≡ limits }
         ensures history { result.history ≡ start empty_base }
     {
+        Token::of(limits, Parts::new(alloc), Journal::new(alloc))
+    }
+
+    /// A token that starts from a base, such as that of a journal, and has answered no call since.
+    pub fn from_base(alloc: Global, limits: Limits, base: Base) -> Result<Token, NoMemory>
+        requires { IsSound base }
+        ensures limits { IfOk result (λ token. token.limits ≡ limits) }
+        ensures history { IfOk result (λ token. token.history ≡ start base) }
+    {
+        let parts = Parts::from_base(alloc, &base)?;
+        Ok(Token::of(limits, parts, Journal::from_base(alloc, base)))
+    }
+
+    /// A token of a journal without entries, and of the parts that it starts with.
+    fn of(limits: Limits, parts: Parts, journal: Journal) -> Token
+        requires empty { journal.history ≡ start (start_of journal.history) }
+        requires agree { PartsAgree journal.history parts }
+        ensures limits { result.limits ≡ limits }
+        ensures history { result.history ≡ journal.history }
+    {
         Token {
             limits,
-            parts: Parts {
-                sessions: Sessions::new(alloc),
-                objects: Store::new(alloc),
-                operations: Operations::new(alloc),
-            },
-            journal: Journal::new(alloc),
+            parts,
+            journal,
         }
     }
 

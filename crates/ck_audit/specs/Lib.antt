@@ -1,0 +1,3 @@
+pub use Rattle.ck_journal.specs.Answers
+pub use Rattle.ck_journal.specs.Histories
+pub mod Verdicts

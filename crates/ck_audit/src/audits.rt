@@ -1,0 +1,69 @@
+ghost use Rattle.std.specs.Prelude.{◌≡◌, ◌↔◌, ℕ, IsTrue, IfOk, OnOk};
+ghost use Rattle.ck_journal.specs.Answers.{answer, IsLegal};
+ghost use Rattle.ck_journal.specs.Histories.{◌◁◌, start, start_of};
+ghost use Rattle.ck_audit.specs.Verdicts.{IsFirstWrong, IsVerdict};
+ghost use Rattle.ck_audit.specs.declared.audits.Verdict.TheVariants as verdict;
+
+use crate::comparisons::are_same_replies;
+use ck_journal::{Entry, Journal};
+use ck_token::Token;
+use ck_types::{Limits, NoMemory};
+use std::alloc::Global;
+
+/// What an audit finds of a journal.
+#[derive(Clone, Copy, Debug, PartialEq, Eq)]
+pub enum Verdict {
+    /// Every reply is what the definitions answer to its call after the calls before it.
+    Legal,
+    /// The reply of the entry of this number, from 1, is another, and those before it are not.
+    Wrong(u64),
+}
+
+/// Audits a journal: starts a token of these limits from its base, makes the calls again and
+/// compares each reply. It takes memory for that token and its journal, and time for each entry.
+pub fn audit(alloc: Global, journal: &Journal, limits: Limits) -> Result<Verdict, NoMemory>
+    ensures legal { IfOk result (λ found.
+        (found ≡ verdict.Legal) ↔ IsLegal limits journal.now.history) }
+    ensures wrong { IfOk result (λ found. (number : ℕ)
+        → (found ≡ verdict.Wrong number) ↔ IsFirstWrong limits journal.now.history number) }
+{
+    let base = journal.base().duplicate(alloc)?;
+    let token = Token::from_base(alloc, limits, base)?;
+    replay(alloc, token, journal)
+}
+
+/// Audits the journal of a token, which is legal: every token keeps that.
+pub fn audit_token(alloc: Global, token: &Token) -> Result<Verdict, NoMemory>
+    ensures { IfOk result (λ found. found ≡ verdict.Legal) }
+{
+    audit(alloc, token.journal(), token.limits())
+}
+
+/// Makes the call of an entry, and says whether it is answered as the entry has it.
+fn repeat_call(token: &mut Token, alloc: Global, entry: &Entry) -> Result<bool, NoMemory>
+    ensures same { IfOk result (λ same. IsTrue same
+        ↔ (entry.now.reply ≡ answer token.old.limits token.old.history entry.now.call)) }
+    ensures entered { IfOk result (λ same. IsTrue same
+        → token.new.history ≡ entry.now ◁ token.old.history) }
+    ensures limits { OnOk result (token.new.limits ≡ token.old.limits) }
+    ensures legal { OnOk result (IsLegal token.new.limits token.new.history) }
+{
+    let call = entry.call.duplicate(alloc)?;
+    let reply = token.call(alloc, entry.caller, call)?;
+    Ok(are_same_replies(&reply, &entry.reply))
+}
+
+/// Makes the calls of a journal on a token that starts from its base, up to the first that is
+/// answered otherwise.
+fn replay(alloc: Global, mut token: Token, journal: &Journal) -> Result<Verdict, NoMemory>
+    requires { token.history ≡ start (start_of journal.now.history) }
+    ensures { IfOk result (λ found. IsVerdict token.limits journal.now.history found) }
+{
+    let entries = journal.entries();
+    for (index, entry) in entries.iter().enumerate() {
+        if !repeat_call(&mut token, alloc, entry)? {
+            return Ok(Verdict::Wrong(index as u64 + 1));
+        }
+    }
+    Ok(Verdict::Legal)
+}

@@ -1,0 +1,78 @@
+ghost use Rattle.std.specs.Prelude.{◌≡◌, ◌↔◌, IsTrue};
+
+use ck_journal::{Answer, Body, Reply};
+
+/// Whether two replies have the same code and the same body.
+pub(crate) fn are_same_replies(one: &Reply, other: &Reply) -> bool
+    ensures { IsTrue result ↔ (one.now ≡ other.now) }
+{
+    one.rv == other.rv && are_same_bodies(&one.body, &other.body)
+}
+
+fn are_same_bodies(one: &Body, other: &Body) -> bool
+    ensures { IsTrue result ↔ (one.now ≡ other.now) }
+{
+    match (one, other) {
+        (Body::Empty, Body::Empty) => true,
+        (Body::Handle(one), Body::Handle(other)) => one == other,
+        (
+            Body::Session { state, flags },
+            Body::Session {
+                state: other_state,
+                flags: other_flags,
+            },
+        ) => state == other_state && flags == other_flags,
+        (
+            Body::Token {
+                flags,
+                limit,
+                sessions,
+                rw_sessions,
+            },
+            Body::Token {
+                flags: other_flags,
+                limit: other_limit,
+                sessions: other_sessions,
+                rw_sessions: other_rw_sessions,
+            },
+        ) => {
+            flags == other_flags
+                && limit == other_limit
+                && sessions == other_sessions
+                && rw_sessions == other_rw_sessions
+        }
+        (Body::Mechanisms(one), Body::Mechanisms(other)) => one.as_slice() == other.as_slice(),
+        (Body::Attributes(one), Body::Attributes(other)) => {
+            are_same_answers(one.as_slice(), other.as_slice())
+        }
+        (Body::Handles(one), Body::Handles(other)) => one.as_slice() == other.as_slice(),
+        (Body::Length(one), Body::Length(other)) => one == other,
+        (Body::Bytes(one), Body::Bytes(other)) => one.as_slice() == other.as_slice(),
+        _ => false,
+    }
+}
+
+fn are_same_answers(one: &[Answer], other: &[Answer]) -> bool
+    ensures { IsTrue result ↔ (one.now ≡ other.now) }
+{
+    if one.len() != other.len() {
+        return false;
+    }
+    for (answer, other) in one.iter().zip(other) {
+        if !is_same_answer(answer, other) {
+            return false;
+        }
+    }
+    true
+}
+
+fn is_same_answer(one: &Answer, other: &Answer) -> bool
+    ensures { IsTrue result ↔ (one.now ≡ other.now) }
+{
+    match (one, other) {
+        (Answer::Value(one), Answer::Value(other)) => one.as_slice() == other.as_slice(),
+        (Answer::Length(one), Answer::Length(other)) => one == other,
+        (Answer::Unavailable, Answer::Unavailable) => true,
+        _ => false,
+    }
+}

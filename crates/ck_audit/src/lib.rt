@@ -1,0 +1,7 @@
+//! Auditors of journals: the calls of a journal are made again, and each reply is compared.
+#![tactic(auto)]
+
+mod audits;
+mod comparisons;
+
+pub use audits::{Verdict, audit, audit_token};

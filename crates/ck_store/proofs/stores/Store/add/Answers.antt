@@ -1,0 +1,42 @@
+use Rattle.std.proofs.Common.{◌++◌, ◌∷◌, [], Some, ap, sym, ◌∙◌, subst}
+use Rattle.ck_store.specs.Index.{place, objects_at, IsSound}
+use Rattle.ck_store.specs.Rows.{object_row}
+use Rattle.ck_store.proofs.SoundLemmas.{IsSound-created, objects_at-created, unlisted_none}
+use Rattle.ck_store.proofs.stores.Store.add.Goals as goal
+
+pub invariant_of-self : goal.invariant_of-self
+invariant_of-self c =
+    let none = unlisted_none c.self.inside.unlisted _ (rw (← c.self.view_is) at c.requires.room) in
+    let sound =
+    subst (λ u. IsSound c.self.inside.objects c.self.inside.index.items c.self.inside.lists.items u
+    c.self.inside.creations) none c.self.invariant.0 in
+    let items = rw c.unwrap.ensures at c.push.ensures.items in (
+      subst (λ ps. IsSound c.insert_reserved-key.new.self ps c.self.inside.lists.items
+          (Some (place c.args.number c.insert_reserved-key.result)) c.args.number) (sym items)
+          (IsSound-created c.self.inside.objects c.insert_reserved-key.new.self
+          c.self.inside.index.items c.self.inside.lists.items c.self.inside.creations c.args.number
+          c.insert_reserved-key.result c.new-object.result sound
+          (rw (← c.self.view_is) at c.requires.later)
+          (ap (λ row. row.number) c.new-object.ensures) c.insert_reserved-key.ensures.was_vacant
+          c.insert_reserved-key.ensures.updates),
+      c.requires.small,
+    )
+
+pub returns-clause-rows : goal.returns-clause-rows
+returns-clause-rows c =
+    let none = unlisted_none c.self.inside.unlisted _ (rw (← c.self.view_is) at c.requires.room) in
+    let sound =
+    subst (λ u. IsSound c.self.inside.objects c.self.inside.index.items c.self.inside.lists.items u
+    c.self.inside.creations) none c.self.invariant.0 in
+    let pushed = rw c.unwrap.ensures at c.push.ensures.items in
+    ap (objects_at c.insert_reserved-key.new.self) pushed
+    ∙ objects_at-created c.self.inside.objects c.insert_reserved-key.new.self
+    c.self.inside.index.items c.self.inside.lists.items c.self.inside.creations c.args.number
+    c.insert_reserved-key.result c.new-object.result sound
+    (rw (← c.self.view_is) at c.requires.later)
+    (ap (λ row. row.number) c.new-object.ensures) c.insert_reserved-key.ensures.was_vacant
+    c.insert_reserved-key.ensures.updates
+    ∙ ap (λ row. objects_at c.self.inside.objects c.self.inside.index.items ++ row ∷ [])
+    c.new-object.ensures
+    ∙ ap (λ s. s.rows ++ object_row c.args.number c.args.session c.args.attributes ∷ [])
+    c.self.view_is
