@@ -1,8 +1,11 @@
-ghost use Rattle.std.specs.Prelude.{◌≡◌, true, false};
+ghost use Rattle.std.specs.Prelude.{◌≡◌, ◌∷◌, [], true, false, IfOk};
+ghost use Rattle.ck_types.specs.Records.{is_set};
+ghost use Rattle.ck_types.specs.declared.attributes.Attribute.TheVariants as attribute;
+ghost use Rattle.ck_journal.specs.Bases.{IsProtected, IsSound};
 
-use ck_journal::View;
+use ck_journal::{Base, KeptObject, View};
 use ck_store::Store;
-use ck_types::{Bytes, Item, NoMemory, Record, Refusal, Sequence, Template};
+use ck_types::{Attribute, Bytes, Item, NoMemory, Record, Refusal, Sequence, Template};
 use std::alloc::Global;
 use std::process::Abort;
 use std::test::Fail;
@@ -294,5 +297,93 @@ fn places_used_again(rt: HostRuntime) -> Result<(), Fail> {
     check_all(&rt, &store, 9, 17, true);
     store.end_session(2);
     check_all(&rt, &store, 1, 17, false);
+    Ok(())
+}
+
+/// A token object, with this label.
+fn kept_object(
+    rt: &impl Abort,
+    alloc: Global,
+    number: u64,
+    label: &[u8],
+) -> Result<KeptObject, Refusal>
+    ensures number { IfOk result (λ kept. kept.number ≡ number) }
+    ensures token { IfOk result (λ kept. is_set kept.attributes attribute.Token ≡ true) }
+    ensures protected { IfOk result (λ kept. IsProtected kept.attributes) }
+{
+    let attributes = record_of(alloc, &[(0, DATA), (0x1, &[1]), (0x3, label)])?;
+    assert!(rt; attributes.is_set(Attribute::Token));
+    assert!(rt; !attributes.is_set(Attribute::AlwaysSensitive));
+    assert!(rt; !attributes.is_set(Attribute::NeverExtractable));
+    Ok(KeptObject { number, attributes })
+}
+
+fn sequence_of(
+    alloc: Global,
+    first: KeptObject,
+    second: KeptObject,
+) -> Result<Sequence<KeptObject>, NoMemory>
+    ensures { IfOk result (λ objects. objects ≡ first ∷ second ∷ []) }
+{
+    let mut objects = Vec::new(alloc);
+    objects.push(first)?;
+    objects.push(second)?;
+    Ok(Sequence::from_vec(objects))
+}
+
+/// Of seven objects that have been created, the second and the fifth are left; their labels have 2
+/// and 5 bytes.
+fn new_base(rt: &impl Abort, alloc: Global) -> Result<Base, Refusal>
+    ensures { IfOk result (λ base. IsSound base) }
+{
+    let first = kept_object(rt, alloc, 2, &[9; 2])?;
+    let second = kept_object(rt, alloc, 5, &[9; 5])?;
+    let mut base = Base::empty(alloc);
+    base.creations = 7;
+    base.objects = sequence_of(alloc, first, second)?;
+    Ok(base)
+}
+
+/// A base; where memory is refused, it is made again.
+fn base_of_two(rt: &impl Abort, alloc: Global) -> Result<Base, Refusal>
+    ensures { IfOk result (λ base. IsSound base) }
+{
+    match new_base(rt, alloc) {
+        Err(Refusal::Memory) => new_base(rt, alloc),
+        made => made,
+    }
+}
+
+/// The objects of a base, but for the one that is destroyed, and a new one. Passes too where one
+/// growth is refused, whichever it is.
+#[test]
+fn bases(rt: HostRuntime) -> Result<(), Fail> {
+    let alloc = rt.alloc();
+    let base = base_of_two(&rt, alloc)?;
+    let mut store = match Store::from_base(alloc, &base) {
+        Ok(store) => store,
+        Err(NoMemory) => Store::from_base(alloc, &base)?,
+    };
+    assert_eq!(rt; store.creations(), 7);
+    assert_eq!(rt; named(&store, public(), 1), None);
+    assert_eq!(rt; named(&store, public(), 2), Some((2, 2)));
+    assert_eq!(rt; named(&store, public(), 5), Some((5, 5)));
+    let created = add(&rt, alloc, &mut store, 1)?;
+    assert_eq!(rt; created, 8);
+    store.destroy(2);
+    let kept = match store.kept(alloc) {
+        Ok(kept) => kept,
+        Err(NoMemory) => store.kept(alloc)?,
+    };
+    let objects = kept.as_slice();
+    assert_eq!(rt; objects.len(), 2);
+    assert_eq!(rt;
+        (objects[0].number, objects[0].attributes.length(0x3)),
+        (5, Some(5))
+    );
+    assert_eq!(rt;
+        (objects[1].number, objects[1].attributes.length(0x3)),
+        (8, Some(0))
+    );
     Ok(())
 }

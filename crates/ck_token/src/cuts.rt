@@ -34,13 +34,5 @@ pub(crate) fn kept_objects(objects: &Store, alloc: Global) -> Result<Sequence<Ke
     ensures { IfOk result (λ kept. (h : History) → StoreAgrees h objects.now
         → kept ≡ kept_objects h) }
 {
-    let mut kept = Vec::new(alloc);
-    for before in 0..objects.creations() {
-        let number = before + 1;
-        if let Some(attributes) = objects.at(number) {
-            let attributes = attributes.duplicate(alloc)?;
-            kept.push(KeptObject { number, attributes })?;
-        }
-    }
-    Ok(Sequence::from_vec(kept))
+    objects.kept(alloc)
 }
