@@ -257,6 +257,22 @@ module _ (objects : Slab ObjectRow) (index : List Place) (is_index : IsIndex obj
       ∙ ap (get objects) (sym (same_Some k p.key (key.only p.key row
       (object_at-Some objects p row is).0 t))) ∙ has.1)))
 
+  -- and the one that has the number is found
+  pub find-numbered : (key : ℕ) (row : ObjectRow) → get objects key ≡ Some row
+      → has_number number row ≡ true
+      → find (has_number number) (objects_at objects index) ≡ Some row
+  find-numbered key row is t =
+      find-one (object_at objects) (has_number number) row index (place row.number key)
+      (is_index.named key row is) (object_at-here objects key row is) t
+      (λ p other here passes.
+      let at = object_at-Some objects p other here in
+      let same : place other.number p.key ≡ place row.number key =
+      rises-once (λ (q : Place). q.number) index is_index.rises (place other.number p.key)
+      (place row.number key) (is_index.named p.key other at.0) (is_index.named key row is)
+      (eqb-true other.number number passes ∙ sym (eqb-true row.number number t)) in
+      same_Some other row
+      (sym at.0 ∙ ap (λ (q : Place). get objects q.key) same ∙ is))
+
 -- ---- searches
 
 module _ (view : View) (template : List Item) (objects : Slab ObjectRow) (index : List Place) where
@@ -431,26 +447,29 @@ module _ (ending : Ending) (old new : Slab ObjectRow)
 
   pub ended_lists-more : (lists : List SessionList) (i : ℕ) (item : SessionList) → i < length lists
       → item ≡ get_or lists i item
-      → ((session : ℕ) (p : Place) → IsListed (take i lists) session p
-      → concerns ending session ≡ true → HasNone (is_ended_by ending) old p)
-      → (concerns ending item.session ≡ true → (p : Place) → Contains item.places.items p
-      → HasNone (is_ended_by ending) new p)
-      → (session : ℕ) (p : Place) → IsListed (take (i + 1) lists) session p
-      → concerns ending session ≡ true → HasNone (is_ended_by ending) new p
-  ended_lists-more lists i item within is before here session p listed t =
+      → ((session : ℕ) (private : Bool) (p : Place) → IsListed (take i lists) session private p
+      → concerns ending session private ≡ true → HasNone (is_ended_by ending) old p)
+      → (concerns ending item.session item.private ≡ true → (p : Place)
+      → Contains item.places.items p → HasNone (is_ended_by ending) new p)
+      → (session : ℕ) (private : Bool) (p : Place)
+      → IsListed (take (i + 1) lists) session private p
+      → concerns ending session private ≡ true → HasNone (is_ended_by ending) new p
+  ended_lists-more lists i item within is before here session private p listed t =
       elim (Contains-take_more lists i item listed.list within listed.among) [
         | inl earlier ↦
             HasNone-later (is_ended_by ending) old new left p
-            (before session p (record {
+            (before session private p (record {
               list = listed.list;
               among = earlier;
               own = listed.own;
+              mark = listed.mark;
               holds = listed.holds;
             }) t)
         | inr same ↦
             let this : item ≡ listed.list = is ∙ same in
-            here (ap (λ (l : SessionList). concerns ending l.session) this
-            ∙ ap (concerns ending) listed.own ∙ t) p
+            here (ap (λ (l : SessionList). concerns ending l.session l.private) this
+            ∙ ap (λ s. concerns ending s listed.list.private) listed.own
+            ∙ ap (concerns ending session) listed.mark ∙ t) p
             (subst (λ (l : SessionList). Contains l.places.items p) (sym this) listed.holds)
       ]
 

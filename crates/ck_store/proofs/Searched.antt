@@ -94,6 +94,15 @@ module _ {X : Type 0} (number : X → ℕ) (xs : List X)
               omega (arith, ranked _ wanted _ (sym ((parted comparisons_rise).1 k d high below)))
         ]
 
+    -- and the item at a place has it
+    pub place-guessed : (i : ℕ) (d : X) → i < length xs → number (get_or xs i d) ≡ wanted
+        → Some i ≡ position has_wanted xs
+    place-guessed i d within is =
+        let here : (e : X) → number (get_or xs i e) ≡ wanted =
+        λ e. ap number (get_or_default xs i e d within) ∙ is in
+        position-at has_wanted xs i within (λ e. eq-eqb _ _ (here e))
+        (λ k e low. ne_eqb _ _ (λ other. omega (arith, here e, rise k i e low within)))
+
   -- an item is the only one of its number
   pub rises-once : (x y : X) → Contains xs x → Contains xs y → number x ≡ number y → x ≡ y
   rises-once x y here there same = elim (cases_lt here.0 there.0) [

@@ -1,7 +1,10 @@
 -- How the index and the lists stay sound
 use Rattle.std.proofs.Common.{◌≡◌, ◌⊎◌, ℕ, ◌<◌, ◌≤◌, Bool, true, false, cond, not, List, []}
 use Rattle.std.proofs.Common.{◌∷◌, ◌++◌, Option, Some, None, Contains, refl, sym, ap, ◌∙◌, subst}
-use Rattle.std.proofs.Common.{inl, inr, arith, get_or, ◌&&◌}
+use Rattle.std.proofs.Common.{inl, inr, arith, get_or, length, ◌&&◌, ◌||◌}
+use Rattle.std.specs.List.{list_any}
+use Rattle.std.proofs.lemmas.List.{length-map, get_or-map}
+use Rattle.std.proofs.lemmas.List.Folds.{list_any_at}
 use Rattle.std.specs.Prelude.{◌==◌, is_some, filter, map, option_map, option_and_then}
 use Rattle.std.specs.List.{cons_option}
 use Rattle.std.specs.Option.{option_map_or}
@@ -13,12 +16,14 @@ use Rattle.std.proofs.lemmas.List.Quantifiers.{all_pairs_push}
 use Rattle.std.proofs.lemmas.Option.{same_Some}
 use Rattle.slab.specs.Slab.{Slab, get, Updates}
 use Rattle.ck_types.specs.Records.{is_set, with_state}
+use Rattle.ck_types.proofs.ChangeLemmas.{private-in_state}
 use Rattle.ck_types.specs.declared.items.Item.{Item}
 use Rattle.ck_types.specs.declared.key_states.KeyState.{KeyState}
 use Rattle.ck_types.specs.declared.attributes.Attribute.TheVariants as attribute
 use Rattle.ck_store.specs.Index.{place, numbered, object_at, objects_at, is_there, IsIndex, IsListed}
-use Rattle.ck_store.specs.Index.{IsSound, IsChanged, IsLeft, EndsAll, HasNone}
-use Rattle.ck_store.specs.Rows.{ObjectRow, has_number, is_ended_by, concerns, closes}
+use Rattle.ck_store.specs.Index.{IsSound, IsOwn, IsChanged, IsLeft, EndsAll, HasNone, is_needed}
+use Rattle.ck_store.specs.Index.{marked}
+use Rattle.ck_store.specs.Rows.{ObjectRow, has_number, is_ended_by, concerns, is_private_row}
 use Rattle.ck_store.specs.Rows.{with_attributes, with_key_state}
 use Rattle.ck_store.specs.declared.endings.Ending.{Ending}
 use Rattle.ck_store.specs.declared.endings.Ending.TheVariants as ending
@@ -52,7 +57,10 @@ module _ (old new : Slab ObjectRow) (index : List Place) (lists : List SessionLi
     -- each object was there, perhaps with other attributes
     module _ (was : (key : ℕ) (row : ObjectRow) → get new key ≡ Some row
         → (before : ObjectRow) × (get old key ≡ Some before) × (before.number ≡ row.number)
-        × (before.session ≡ row.session)) where
+        × (before.session ≡ row.session))
+        (marks : (session : ℕ) (private : Bool) (p : Place) (row : ObjectRow)
+        → IsListed lists session private p → object_at new p ≡ Some row
+        → is_private_row row ≡ true → private ≡ true) where
       pub IsSound-was : IsSound new index lists unlisted creations
       IsSound-was = record {
         indexed = record {
@@ -63,15 +71,18 @@ module _ (old new : Slab ObjectRow) (index : List Place) (lists : List SessionLi
         };
         listed = λ key row session is of_session.
             let w = was key row is in
-            subst (λ n. IsListed lists session (place n key) ⊎ (unlisted ≡ Some (place n key))) w.2
+            subst (λ n. ((private : Bool) × IsListed lists session private (place n key))
+            ⊎ (unlisted ≡ Some (place n key))) w.2
             (sound.listed key w.0 session w.1 (w.3 ∙ of_session));
-        own = λ session p row listed is.
+        own = λ session private p row listed is.
             let at = object_at-Some new p row is in
             let w = was p.key row at.0 in
-            sym w.3
-            ∙ sound.own session p w.0 listed
-            (ap (λ n. object_at old (place n p.key)) (sym (w.2 ∙ at.1))
-            ∙ object_at-here old p.key w.0 w.1);
+            record {
+              owner = sym w.3 ∙ (sound.own session private p w.0 listed
+                  (ap (λ n. object_at old (place n p.key)) (sym (w.2 ∙ at.1))
+                  ∙ object_at-here old p.key w.0 w.1)).owner;
+              mark = marks session private p row listed is;
+            };
         index_created = sound.index_created;
         unlisted_created = sound.unlisted_created;
         lists_created = sound.lists_created;
@@ -79,7 +90,13 @@ module _ (old new : Slab ObjectRow) (index : List Place) (lists : List SessionLi
 
     pub IsSound-fewer : ((key : ℕ) (row : ObjectRow) → get new key ≡ Some row
         → get old key ≡ Some row) → IsSound new index lists unlisted creations
-    IsSound-fewer was = IsSound-was (λ key row is. (row, was key row is, refl, refl))
+    IsSound-fewer was =
+        IsSound-was (λ key row is. (row, was key row is, refl, refl))
+        (λ session private p row listed is.
+        let at = object_at-Some new p row is in
+        (sound.own session private p row listed
+        (ap (λ n. object_at old (place n p.key)) (sym at.1)
+        ∙ object_at-here old p.key row (was p.key row at.0))).mark)
 
 module _ (change : ObjectRow → ObjectRow) (old new : Slab ObjectRow)
     (changed : IsChanged change old new)
@@ -128,37 +145,66 @@ module _ (change : ObjectRow → ObjectRow) (old new : Slab ObjectRow)
             sym (session before) ∙ ap (λ (r : ObjectRow). r.session) same,
           )
 
+  -- where no object becomes private, the lists say as well which may have private ones
+  module _ (index : List Place) (lists : List SessionList) (unlisted : Option Place) (creations : ℕ)
+      (sound : IsSound old index lists unlisted creations)
+      (private : (key : ℕ) (row : ObjectRow) → get old key ≡ Some row
+      → is_private_row (change row) ≡ true → is_private_row row ≡ true) where
+    pub changed-marks : (session : ℕ) (mark : Bool) (p : Place) (row : ObjectRow)
+        → IsListed lists session mark p → object_at new p ≡ Some row
+        → is_private_row row ≡ true → mark ≡ true
+    changed-marks session mark p row listed is t =
+        let at = object_at-Some new p row is in
+        by_case at.1 (get old p.key) refl (sym (changed p.key) ∙ at.0)
+      where
+        by_case : row.number ≡ p.number → (o : Option ObjectRow) → get old p.key ≡ o
+            → option_map change o ≡ Some row → mark ≡ true
+        by_case n None e m = absurd (cc)
+        by_case n (Some before) e m =
+            let same : change before ≡ row = same_Some (change before) row m in
+            let numbered : before.number ≡ p.number =
+            sym (number before) ∙ ap (λ (r : ObjectRow). r.number) same ∙ n in
+            (sound.own session mark p before listed
+            (ap (λ k. object_at old (place k p.key)) (sym numbered)
+            ∙ object_at-here old p.key before e)).mark
+            (private p.key before e (ap is_private_row same ∙ t))
+
 -- ---- other lists
 
 module _ (objects : Slab ObjectRow) (index : List Place) (lists lists' : List SessionList)
     (unlisted unlisted' : Option Place) (creations : ℕ)
     (sound : IsSound objects index lists unlisted creations)
-    (kept : (session : ℕ) (p : Place) (row : ObjectRow) → IsListed lists session p
-    → object_at objects p ≡ Some row → IsListed lists' session p)
+    (kept : (session : ℕ) (private : Bool) (p : Place) (row : ObjectRow)
+    → IsListed lists session private p → object_at objects p ≡ Some row
+    → (mark : Bool) × IsListed lists' session mark p)
     (newest : (key : ℕ) (row : ObjectRow) (session : ℕ) → get objects key ≡ Some row
     → row.session ≡ Some session → unlisted ≡ Some (place row.number key)
-    → IsListed lists' session (place row.number key)
+    → ((mark : Bool) × IsListed lists' session mark (place row.number key))
     ⊎ (unlisted' ≡ Some (place row.number key)))
-    (only : (session : ℕ) (p : Place) → IsListed lists' session p → IsListed lists session p
+    (only : (session : ℕ) (private : Bool) (p : Place) → IsListed lists' session private p
+    → ((mark : Bool) × IsListed lists session mark p × (mark ≡ true → private ≡ true))
     ⊎ ((p.number ≤ creations)
-    × ((row : ObjectRow) → object_at objects p ≡ Some row → row.session ≡ Some session)))
+    × ((row : ObjectRow) → object_at objects p ≡ Some row → IsOwn session private row)))
     (unlisted_was : (p : Place) → unlisted' ≡ Some p → unlisted ≡ Some p) where
   pub IsSound-relisted : IsSound objects index lists' unlisted' creations
   IsSound-relisted = record {
     indexed = sound.indexed;
     listed = λ key row session is of_session. elim (sound.listed key row session is of_session) [
       | inl before ↦
-          inl (kept session (place row.number key) row before (object_at-here objects key row is))
+          inl (kept session before.0 (place row.number key) row before.1
+          (object_at-here objects key row is))
       | inr last ↦ newest key row session is of_session last
     ];
-    own = λ session p row listed is. elim (only session p listed) [
-      | inl before ↦ sound.own session p row before is
+    own = λ session private p row listed is. elim (only session private p listed) [
+      | inl before ↦
+          let own = sound.own session before.0 p row before.1 is in
+          record { owner = own.owner; mark = λ t. before.2 (own.mark t) }
       | inr added ↦ added.1 row is
     ];
     index_created = sound.index_created;
     unlisted_created = λ p is. sound.unlisted_created p (unlisted_was p is);
-    lists_created = λ session p listed. elim (only session p listed) [
-      | inl before ↦ sound.lists_created session p before
+    lists_created = λ session private p listed. elim (only session private p listed) [
+      | inl before ↦ sound.lists_created session before.0 p before.1
       | inr added ↦ added.0
     ];
   }
@@ -227,8 +273,9 @@ module _ (old new : Slab ObjectRow) (index : List Place) (lists : List SessionLi
       ]
       | inr this ↦ inr (ap Some (named_newest k r this.0 this.1))
     ];
-    own = λ session p r listed is.
-        sound.own session p r listed (sym (same_at p (sound.lists_created session p listed)) ∙ is);
+    own = λ session private p r listed is.
+        sound.own session private p r listed
+        (sym (same_at p (sound.lists_created session private p listed)) ∙ is);
     index_created = λ p there. elim (Contains-push_cases index newest p there) [
       | inl before ↦
           let below = sound.index_created p before in
@@ -237,8 +284,8 @@ module _ (old new : Slab ObjectRow) (index : List Place) (lists : List SessionLi
     ];
     unlisted_created = λ p is.
         subst (λ (q : Place). q.number ≤ number) (same_Some newest p is) (omega arith);
-    lists_created = λ session p listed.
-        let below = sound.lists_created session p listed in
+    lists_created = λ session private p listed.
+        let below = sound.lists_created session private p listed in
         omega arith;
   }
     where
@@ -263,46 +310,65 @@ IsSound-later objects index lists unlisted creations later below sound = record 
   unlisted_created = λ p is.
       let within = sound.unlisted_created p is in
       omega arith;
-  lists_created = λ session p listed.
-      let within = sound.lists_created session p listed in
+  lists_created = λ session private p listed.
+      let within = sound.lists_created session private p listed in
       omega arith;
 }
 
 -- ---- sessions that are closed
 
+-- an object that ends is in a list that may have some which end
 ended_case : (e : Ending) (row : ObjectRow) (o : Option ℕ) → row.session ≡ o
     → is_ended_by e row ≡ true
-    → (session : ℕ) × (o ≡ Some session) × (concerns e session ≡ true)
+    → (session : ℕ) × (o ≡ Some session) × ((private : Bool)
+    → (is_private_row row ≡ true → private ≡ true) → concerns e session private ≡ true)
 ended_case (ending.Session closed) row None is t =
     let wrong : false ≡ true =
     sym (ap (λ x. option_map_or (λ owner. closed == owner) x false) is) ∙ t in
     absurd (cc)
-ended_case (ending.Session closed) row (Some session) is t =
-    (session, refl, sym (ap (λ x. option_map_or (λ owner. closed == owner) x false) is) ∙ t)
+ended_case (ending.Session closed) row (Some session) is t = (
+  session,
+  refl,
+  λ private mark. sym (ap (λ x. option_map_or (λ owner. closed == owner) x false) is) ∙ t,
+)
 ended_case ending.AllSessions row None is t =
     let wrong : false ≡ true = sym (ap is_some is) ∙ t in
     absurd (cc)
-ended_case ending.AllSessions row (Some session) is t = (session, refl, refl)
+ended_case ending.AllSessions row (Some session) is t = (session, refl, λ private mark. refl)
 ended_case ending.Logout row None is t =
-    let wrong : false ≡ true =
-    sym (ap (λ x. is_some x && is_set row.attributes attribute.Private) is) ∙ t in
+    let wrong : false ≡ true = sym (ap (λ x. is_some x && is_private_row row) is) ∙ t in
     absurd (cc)
-ended_case ending.Logout row (Some session) is t = (session, refl, refl)
+ended_case ending.Logout row (Some session) is t = (
+  session,
+  refl,
+  λ private mark. mark (sym (ap (λ x. is_some x && is_private_row row) is) ∙ t),
+)
 
-stays_case : (e : Ending) (row : ObjectRow) (session : ℕ) → row.session ≡ Some session
-    → is_ended_by e row ≡ false → closes e session ≡ false
-stays_case (ending.Session closed) row session is f =
-    sym (ap (λ x. option_map_or (λ owner. closed == owner) x false) is) ∙ f
-stays_case ending.AllSessions row session is f =
-    let wrong : true ≡ false = sym (ap is_some is) ∙ f in
+-- a list of an object that stays is needed
+stays_case : (e : Ending) (objects : Slab ObjectRow) (list : SessionList) (p : Place)
+    (row : ObjectRow) → row.session ≡ Some list.session → Contains list.places.items p
+    → object_at objects p ≡ Some row → is_ended_by e row ≡ false
+    → is_needed e objects list ≡ true
+stays_case (ending.Session closed) objects list p row own there is f =
+    ap not (sym (ap (λ x. option_map_or (λ owner. closed == owner) x false) own) ∙ f)
+stays_case ending.AllSessions objects list p row own there is f =
+    let wrong : true ≡ false = sym (ap is_some own) ∙ f in
     absurd (cc)
-stays_case ending.Logout row session is f = refl
+stays_case ending.Logout objects list p row own there is f =
+    by_mark list.private
+    (list_any_at (is_there objects) list.places.items there.0 p there.1
+    (ap (is_there objects) there.2 ∙ ap is_some is))
+  where
+    by_mark : (private : Bool) → list_any (is_there objects) list.places.items ≡ true
+        → (not private || list_any (is_there objects) list.places.items) ≡ true
+    by_mark true any = any
+    by_mark false any = refl
 
 module _ (e : Ending) (old new : Slab ObjectRow) (index : List Place) (lists : List SessionList)
     (unlisted : Option Place) (creations : ℕ) (sound : IsSound old index lists unlisted creations)
     (left : IsLeft (is_ended_by e) old new)
-    (lists_end : (session : ℕ) (p : Place) → IsListed lists session p
-    → concerns e session ≡ true → HasNone (is_ended_by e) new p)
+    (lists_end : (session : ℕ) (private : Bool) (p : Place) → IsListed lists session private p
+    → concerns e session private ≡ true → HasNone (is_ended_by e) new p)
     (unlisted_ends : (p : Place) → unlisted ≡ Some p → HasNone (is_ended_by e) new p) where
   pub EndsAll-walked : EndsAll (is_ended_by e) new
   EndsAll-walked key row is = by_case (is_ended_by e row) refl
@@ -314,40 +380,109 @@ module _ (e : Ending) (old new : Slab ObjectRow) (index : List Place) (lists : L
       by_case false f = f
       by_case true t =
           let of = ended_case e row row.session refl t in
-          elim (sound.listed key row of.0 (IsLeft-was (is_ended_by e) old new left key row is) of.1) [
-            | inl listed ↦ lists_end of.0 (place row.number key) listed of.2 row at
-            | inr last ↦ unlisted_ends (place row.number key) last row at
+          let was = IsLeft-was (is_ended_by e) old new left key row is in
+          let p = place row.number key in
+          elim (sound.listed key row of.0 was of.1) [
+            | inl listed ↦
+                lists_end of.0 listed.0 p listed.1
+                (of.2 listed.0 (sound.own of.0 listed.0 p row listed.1
+                (object_at-here old key row was)).mark) row at
+            | inr last ↦ unlisted_ends p last row at
           ]
 
   pub IsSound-closed : (lists' : List SessionList)
-      → lists' ≡ filter (λ (l : SessionList). not (closes e l.session)) lists
-      → IsSound new index lists' unlisted creations
+      → lists' ≡ filter (is_needed e new) lists → IsSound new index lists' unlisted creations
   IsSound-closed lists' are =
       let fewer =
       IsSound-fewer old new index lists unlisted creations sound
       (IsLeft-was (is_ended_by e) old new left) in
       IsSound-relisted new index lists lists' unlisted unlisted creations fewer
-      (λ session p row listed is.
+      (λ session private p row listed is.
       let at = object_at-Some new p row is in
+      let own = fewer.own session private p row listed is in
       let stays =
-      stays_case e row session (fewer.own session p row listed is)
-      (EndsAll-walked p.key row at.0) in
-      record {
-        list = listed.list;
-        among = subst (λ ls. Contains ls listed.list) (sym are)
-            (Contains-passing (λ (l : SessionList). not (closes e l.session)) lists listed.list
-            listed.among (ap (λ s. not (closes e s)) listed.own ∙ ap not stays));
-        own = listed.own;
-        holds = listed.holds;
-      })
+      stays_case e new listed.list p row (own.owner ∙ ap Some (sym listed.own)) listed.holds is
+      (EndsAll-walked p.key row at.0) in (
+        private,
+        record {
+          list = listed.list;
+          among = subst (λ ls. Contains ls listed.list) (sym are)
+              (Contains-passing (is_needed e new) lists listed.list listed.among stays);
+          own = listed.own;
+          mark = listed.mark;
+          holds = listed.holds;
+        },
+      ))
       (λ key row session is of_session last. inr last)
-      (λ session p listed. inl (record {
-        list = listed.list;
-        among = Contains-unfiltered (λ (l : SessionList). not (closes e l.session)) lists listed.list
-            (subst (λ ls. Contains ls listed.list) are listed.among);
-        own = listed.own;
-        holds = listed.holds;
-      }))
+      (λ session private p listed. inl (
+        private,
+        record {
+          list = listed.list;
+          among = Contains-unfiltered (is_needed e new) lists listed.list
+              (subst (λ ls. Contains ls listed.list) are listed.among);
+          own = listed.own;
+          mark = listed.mark;
+          holds = listed.holds;
+        },
+        λ t. t,
+      ))
+      (λ p is. is)
+
+-- ---- lists that may all have private objects
+
+module _ (lists : List SessionList) where
+  marked-there : (list : SessionList) → Contains lists list → Contains (map marked lists) (marked list)
+  marked-there list there = (
+    there.0,
+    omega (arith, length-map lists marked, there.1),
+    get_or-map marked lists there.0 list (marked list) there.1 ∙ ap marked there.2,
+  )
+
+  marked-was : (list : SessionList) → Contains (map marked lists) list
+      → (before : SessionList) × Contains lists before × (marked before ≡ list)
+  marked-was list there =
+      let within : there.0 < length lists = omega (arith, length-map lists marked, there.1) in (
+        get_or lists there.0 list,
+        Contains-get_or lists there.0 list within,
+        sym (get_or-map marked lists there.0 list list within) ∙ there.2,
+      )
+
+  -- each says so
+  pub IsListed-marked : (session : ℕ) (private : Bool) (p : Place)
+      → IsListed (map marked lists) session private p → private ≡ true
+  IsListed-marked session private p listed =
+      let was = marked-was listed.list listed.among in
+      sym listed.mark ∙ ap (λ (l : SessionList). l.private) (sym was.2)
+
+  pub IsSound-marked : (objects : Slab ObjectRow) (index : List Place) (unlisted : Option Place)
+      (creations : ℕ) → IsSound objects index lists unlisted creations
+      → IsSound objects index (map marked lists) unlisted creations
+  IsSound-marked objects index unlisted creations sound =
+      IsSound-relisted objects index lists (map marked lists) unlisted unlisted creations sound
+      (λ session private p row listed is. (
+        true,
+        record {
+          list = marked listed.list;
+          among = marked-there listed.list listed.among;
+          own = listed.own;
+          mark = refl;
+          holds = listed.holds;
+        },
+      ))
+      (λ key row session is of_session last. inr last)
+      (λ session private p listed.
+      let was = marked-was listed.list listed.among in
+      inl (
+        was.0.private,
+        record {
+          list = was.0;
+          among = was.1;
+          own = ap (λ (l : SessionList). l.session) was.2 ∙ listed.own;
+          mark = refl;
+          holds = subst (λ (l : SessionList). Contains l.places.items p) (sym was.2) listed.holds;
+        },
+        λ t. IsListed-marked session private p listed,
+      ))
       (λ p is. is)
 
 -- ---- what the methods of a store need
@@ -390,6 +525,31 @@ pub with_attributes-session : (number : ℕ) (attributes : List Item) (row : Obj
 with_attributes-session number attributes row =
     (changed_case (has_number number row) row attributes).1
 
+-- ---- objects that become private
+
+private_case : (t : Bool) (row : ObjectRow) (attributes : List Item)
+    → is_private_row (cond t (record row { attributes = attributes }) row) ≡ true
+    → (t ≡ true → is_set attributes attribute.Private ≡ true → is_private_row row ≡ true)
+    → is_private_row row ≡ true
+private_case true row attributes e becomes = becomes refl e
+private_case false row attributes e becomes = e
+
+-- none does, since the attributes aren't private or the object is
+pub with_attributes-private : (objects : Slab ObjectRow) (number : ℕ) (attributes : List Item)
+    → (is_set attributes attribute.Private ≡ true → (key : ℕ) (row : ObjectRow)
+    → get objects key ≡ Some row → has_number number row ≡ true → is_private_row row ≡ true)
+    → (key : ℕ) (row : ObjectRow) → get objects key ≡ Some row
+    → is_private_row (with_attributes number attributes row) ≡ true → is_private_row row ≡ true
+with_attributes-private objects number attributes becomes key row is e =
+    private_case (has_number number row) row attributes e (λ t p. becomes p key row is t)
+
+-- nor by another state
+pub with_key_state-private : (number : ℕ) (state : KeyState) (row : ObjectRow)
+    → is_private_row (with_key_state number state row) ≡ true → is_private_row row ≡ true
+with_key_state-private number state row e =
+    private_case (has_number number row) row (with_state state row.attributes) e
+    (λ t p. sym (private-in_state state row.attributes) ∙ p)
+
 pub with_key_state-number : (number : ℕ) (state : KeyState) (row : ObjectRow)
     → (with_key_state number state row).number ≡ row.number
 with_key_state-number number state row =
@@ -400,46 +560,108 @@ pub with_key_state-session : (number : ℕ) (state : KeyState) (row : ObjectRow)
 with_key_state-session number state row =
     (changed_case (has_number number row) row (with_state state row.attributes)).1
 
+-- ---- an object gets other attributes
+
+module _ (objects new : Slab ObjectRow) (number : ℕ) (attributes : List Item)
+    (changed : IsChanged (with_attributes number attributes) objects new)
+    (index : List Place) (lists : List SessionList) (unlisted : Option Place) (creations : ℕ)
+    (sound : IsSound objects index lists unlisted creations) where
+  -- a public object stays public
+  pub IsSound-set : (is_set attributes attribute.Private ≡ true → (key : ℕ) (row : ObjectRow)
+      → get objects key ≡ Some row → has_number number row ≡ true → is_private_row row ≡ true)
+      → IsSound new index lists unlisted creations
+  IsSound-set becomes =
+      IsSound-was objects new index lists unlisted creations sound
+      (changed-was (with_attributes number attributes) objects new changed
+      (with_attributes-number number attributes) (with_attributes-session number attributes))
+      (changed-marks (with_attributes number attributes) objects new changed
+      (with_attributes-number number attributes) index lists unlisted creations sound
+      (with_attributes-private objects number attributes becomes))
+
+  -- or any list may have private objects
+  pub IsSound-set_marked : IsSound new index (map marked lists) unlisted creations
+  IsSound-set_marked =
+      IsSound-was objects new index (map marked lists) unlisted creations
+      (IsSound-marked lists objects index unlisted creations sound)
+      (changed-was (with_attributes number attributes) objects new changed
+      (with_attributes-number number attributes) (with_attributes-session number attributes))
+      (λ session private p row listed is t. IsListed-marked lists session private p listed)
+
 -- ---- the newest object gets into its session's list
 
-module _ (objects : Slab ObjectRow) (index : List Place) (lists lists' : List SessionList)
-    (creations : ℕ) (p : Place) (session : ℕ)
-    (of_session : Some session
-    ≡ option_and_then (λ (row : ObjectRow). row.session) (object_at objects p))
-    (sound : IsSound objects index lists (Some p) creations)
-    (kept : (s : ℕ) (q : Place) (row : ObjectRow) → IsListed lists s q
-    → object_at objects q ≡ Some row → IsListed lists' s q)
-    (only : (s : ℕ) (q : Place) → IsListed lists' s q
-    → IsListed lists s q ⊎ ((s ≡ session) × (q ≡ p))) where
-  of_row : (row : ObjectRow) → object_at objects p ≡ Some row → row.session ≡ Some session
-  of_row row is =
-      sym (of_session ∙ ap (option_and_then (λ (r : ObjectRow). r.session)) is)
+-- one that is nobody's needs none
+pub IsSound-unowned : (objects : Slab ObjectRow) (index : List Place) (lists : List SessionList)
+    (creations : ℕ) (p : Place)
+    → ((row : ObjectRow) → object_at objects p ≡ Some row → row.session ≡ None)
+    → IsSound objects index lists (Some p) creations → IsSound objects index lists None creations
+IsSound-unowned objects index lists creations p unowned sound =
+    IsSound-relisted objects index lists lists (Some p) None creations sound
+    (λ session private q row listed is. (private, listed))
+    (λ key row session is of_session last.
+    let this : p ≡ place row.number key = same_Some p (place row.number key) last in
+    let none : row.session ≡ None =
+    unowned row (ap (object_at objects) this ∙ object_at-here objects key row is) in
+    absurd (cc))
+    (λ session private q listed. inl (private, listed, λ t. t)) (λ q is. absurd (cc))
 
-  only_own : (s : ℕ) (q : Place) → IsListed lists' s q → IsListed lists s q
+module _ (objects : Slab ObjectRow) (index : List Place) (lists lists' : List SessionList)
+    (creations : ℕ) (p : Place) (object : ObjectRow) (at : Some object ≡ object_at objects p)
+    (session : ℕ) (of_session : Some session ≡ object.session)
+    (private : Bool) (of_private : private ≡ is_private_row object)
+    (sound : IsSound objects index lists (Some p) creations)
+    (kept : (s : ℕ) (m : Bool) (q : Place) (row : ObjectRow) → IsListed lists s m q
+    → object_at objects q ≡ Some row → IsListed lists' s m q)
+    (only : (s : ℕ) (m : Bool) (q : Place) → IsListed lists' s m q
+    → IsListed lists s m q ⊎ ((s ≡ session) × (m ≡ private) × (q ≡ p))) where
+  is_object : (row : ObjectRow) → object_at objects p ≡ Some row → object ≡ row
+  is_object row is = same_Some object row (at ∙ is)
+
+  of_row : (row : ObjectRow) → object_at objects p ≡ Some row → row.session ≡ Some session
+  of_row row is = ap (λ (r : ObjectRow). r.session) (sym (is_object row is)) ∙ sym of_session
+
+  of_mark : (row : ObjectRow) → object_at objects p ≡ Some row → is_private_row row ≡ true
+      → private ≡ true
+  of_mark row is t = of_private ∙ ap is_private_row (is_object row is) ∙ t
+
+  kept_marked : (s : ℕ) (m : Bool) (q : Place) (row : ObjectRow) → IsListed lists s m q
+      → object_at objects q ≡ Some row → (mark : Bool) × IsListed lists' s mark q
+  kept_marked s m q row listed is = (m, kept s m q row listed is)
+
+  only_own : (s : ℕ) (m : Bool) (q : Place) → IsListed lists' s m q
+      → ((mark : Bool) × IsListed lists s mark q × (mark ≡ true → m ≡ true))
       ⊎ ((q.number ≤ creations)
-      × ((row : ObjectRow) → object_at objects q ≡ Some row → row.session ≡ Some s))
-  only_own s q listed = elim (only s q listed) [
-    | inl before ↦ inl before
+      × ((row : ObjectRow) → object_at objects q ≡ Some row → IsOwn s m row))
+  only_own s m q listed = elim (only s m q listed) [
+    | inl before ↦ inl (m, before, λ t. t)
     | inr added ↦
         inr (
-          subst (λ (x : Place). x.number ≤ creations) (sym added.1) (sound.unlisted_created p refl),
-          λ row is. of_row row (ap (object_at objects) (sym added.1) ∙ is) ∙ ap Some (sym added.0),
+          subst (λ (x : Place). x.number ≤ creations) (sym added.2) (sound.unlisted_created p refl),
+          λ row is.
+              let here = ap (object_at objects) (sym added.2) ∙ is in
+              record {
+                owner = of_row row here ∙ ap Some (sym added.0);
+                mark = λ t. added.1 ∙ of_mark row here t;
+              },
         )
   ]
 
   pub IsSound-tried : IsSound objects index lists' (Some p) creations
   IsSound-tried =
-      IsSound-relisted objects index lists lists' (Some p) (Some p) creations sound kept
+      IsSound-relisted objects index lists lists' (Some p) (Some p) creations sound kept_marked
       (λ key row s is of_s last. inr last) only_own (λ q is. is)
 
-  pub IsSound-listed : IsListed lists' session p → IsSound objects index lists' None creations
+  pub IsSound-listed : IsListed lists' session private p
+      → IsSound objects index lists' None creations
   IsSound-listed listed =
-      IsSound-relisted objects index lists lists' (Some p) None creations sound kept
+      IsSound-relisted objects index lists lists' (Some p) None creations sound kept_marked
       (λ key row s is of_s last.
       let this : p ≡ place row.number key = same_Some p (place row.number key) last in
       let same : session ≡ s =
       same_Some session s
       (sym (of_row row (ap (object_at objects) this ∙ object_at-here objects key row is)) ∙ of_s) in
-      inl (subst (λ x. IsListed lists' x (place row.number key)) same
-      (subst (IsListed lists' session) this listed)))
+      inl (
+        private,
+        subst (λ x. IsListed lists' x private (place row.number key)) same
+            (subst (IsListed lists' session private) this listed),
+      ))
       only_own (λ q is. absurd (cc))

@@ -1,9 +1,13 @@
 -- Objects in a slab, and the places that name them
 use Rattle.std.specs.Prelude.{◌≡◌, ◌⊎◌, ℕ, ◌<◌, ◌≤◌, Bool, true, false, ◌==◌, List, Option, Some, None}
 use Rattle.std.specs.Prelude.{is_some, filter_map, option_map, option_and_then, AllPairs, Contains}
-use Rattle.std.specs.Prelude.{if◌then◌else◌}
+use Rattle.std.specs.Prelude.{if◌then◌else◌, ◌&&◌, ◌||◌, not}
+use Rattle.std.specs.Bool.{beq}
+use Rattle.std.specs.List.{list_any}
 use Rattle.slab.specs.Slab.{Slab, get}
-use Rattle.ck_store.specs.Rows.{ObjectRow, has_number}
+use Rattle.ck_store.specs.Rows.{ObjectRow, has_number, is_private_row}
+use Rattle.ck_store.specs.declared.endings.Ending.{Ending}
+use Rattle.ck_store.specs.declared.endings.Ending.TheVariants as ending
 use Rattle.ck_store.specs.declared.places.Place.{Place}
 use Rattle.ck_store.specs.declared.session_lists.SessionList.{SessionList}
 
@@ -37,30 +41,52 @@ pub record IsIndex (objects : Slab ObjectRow) (index : List Place) : Type 0 wher
   pub named : (key : ℕ) (row : ObjectRow) → get objects key ≡ Some row
       → Contains index (place row.number key)
 
-abbrev pub has_session : ℕ → SessionList → Bool
-has_session session list = list.session == session
+-- it is the session's list of objects that may be private, or of those that aren't
+abbrev pub is_list_of : ℕ → Bool → SessionList → Bool
+is_list_of session private list = list.session == session && beq list.private private
 
--- the place is in a list of the session
-pub record IsListed (lists : List SessionList) (session : ℕ) (p : Place) : Type 0 where
+-- the list, which may have private objects
+abbrev pub marked : SessionList → SessionList
+marked list = record list { private = true }
+
+-- the place is in such a list of the session
+pub record IsListed (lists : List SessionList) (session : ℕ) (private : Bool) (p : Place) : Type 0 where
   pub list : SessionList
   pub among : Contains lists list
   pub own : list.session ≡ session
+  pub mark : list.private ≡ private
   pub holds : Contains list.places.items p
 
+-- the list is needed after the end: its session is open, and where it may have had private objects
+-- only, it has others
+abbrev pub is_needed : Ending → Slab ObjectRow → SessionList → Bool
+is_needed (ending.Session closed) objects list = not (closed == list.session)
+is_needed ending.AllSessions objects list = false
+is_needed ending.Logout objects list =
+    not list.private || list_any (is_there objects) list.places.items
+
+-- the object may be in such a list of the session
+pub record IsOwn (session : ℕ) (private : Bool) (row : ObjectRow) : Type 0 where
+  pub owner : row.session ≡ Some session
+  pub mark : is_private_row row ≡ true → private ≡ true
+
 -- what the fields of a store keep: the index rises and names each object; each session object is in
--- a list of its session, and a list's places have no other objects; no number is above the count of
--- creations
+-- a list of its session, and a list's places have no other objects, and private ones only where the
+-- list says so; no number is above the count of creations
 pub record IsSound (objects : Slab ObjectRow) (index : List Place) (lists : List SessionList)
     (unlisted : Option Place) (creations : ℕ) : Type 0 where
   pub indexed : IsIndex objects index
   pub listed : (key : ℕ) (row : ObjectRow) (session : ℕ) → get objects key ≡ Some row
       → row.session ≡ Some session
-      → IsListed lists session (place row.number key) ⊎ (unlisted ≡ Some (place row.number key))
-  pub own : (session : ℕ) (p : Place) (row : ObjectRow) → IsListed lists session p
-      → object_at objects p ≡ Some row → row.session ≡ Some session
+      → ((private : Bool) × IsListed lists session private (place row.number key))
+      ⊎ (unlisted ≡ Some (place row.number key))
+  pub own : (session : ℕ) (private : Bool) (p : Place) (row : ObjectRow)
+      → IsListed lists session private p → object_at objects p ≡ Some row
+      → IsOwn session private row
   pub index_created : (p : Place) → Contains index p → p.number ≤ creations
   pub unlisted_created : (p : Place) → unlisted ≡ Some p → p.number ≤ creations
-  pub lists_created : (session : ℕ) (p : Place) → IsListed lists session p → p.number ≤ creations
+  pub lists_created : (session : ℕ) (private : Bool) (p : Place) → IsListed lists session private p
+      → p.number ≤ creations
 
 -- ---- what becomes of the objects
 

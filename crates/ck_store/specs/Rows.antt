@@ -41,8 +41,11 @@ is_of_session session row = option_map_or (λ owner. session == owner) row.sessi
 abbrev pub is_session_row : ObjectRow → Bool
 is_session_row row = is_some row.session
 
+abbrev pub is_private_row : ObjectRow → Bool
+is_private_row row = is_set row.attributes attribute.Private
+
 abbrev pub is_private_session_row : ObjectRow → Bool
-is_private_session_row row = is_session_row row && is_set row.attributes attribute.Private
+is_private_session_row row = is_session_row row && is_private_row row
 
 -- it is a session object that ends
 abbrev pub is_ended_by : Ending → ObjectRow → Bool
@@ -50,17 +53,11 @@ is_ended_by (ending.Session session) row = is_of_session session row
 is_ended_by ending.AllSessions row = is_session_row row
 is_ended_by ending.Logout row = is_private_session_row row
 
--- a session is closed
-abbrev pub closes : Ending → ℕ → Bool
-closes (ending.Session closed) session = closed == session
-closes ending.AllSessions session = true
-closes ending.Logout session = false
-
--- objects of the session may end
-abbrev pub concerns : Ending → ℕ → Bool
-concerns (ending.Session closed) session = closed == session
-concerns ending.AllSessions session = true
-concerns ending.Logout session = true
+-- objects of a list of the session may end, where the list may have private ones
+abbrev pub concerns : Ending → ℕ → Bool → Bool
+concerns (ending.Session closed) session private = closed == session
+concerns ending.AllSessions session private = true
+concerns ending.Logout session private = private
 
 -- it is visible and matches the template
 abbrev pub is_match : View → List Item → ObjectRow → Bool

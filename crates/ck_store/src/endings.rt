@@ -1,5 +1,5 @@
-ghost use Rattle.std.specs.Prelude.{◌≡◌, ℕ, ◌==◌, Contains, Some, true};
-ghost use Rattle.ck_store.specs.Rows.{ObjectRow, is_ended_by, concerns, closes};
+ghost use Rattle.std.specs.Prelude.{◌≡◌, ℕ, ◌==◌, Bool, Contains, Some, true};
+ghost use Rattle.ck_store.specs.Rows.{ObjectRow, is_ended_by, concerns};
 ghost use Rattle.ck_store.specs.Index.{IsLeft, HasNone, IsListed};
 ghost use Rattle.ck_store.specs.declared.places.Place.{Place};
 
@@ -20,21 +20,14 @@ pub(crate) enum Ending {
 }
 
 impl Ending {
-    /// Whether it may end objects of the session.
-    fn concerns(self, session: u64) -> bool
-        ensures { result ≡ concerns self session }
-    {
-        self.closes(session) || matches!(self, Ending::Logout)
-    }
-
-    /// Whether it closes the session.
-    pub(crate) fn closes(self, session: u64) -> bool
-        ensures { result ≡ closes self session }
+    /// Whether it may end objects of a list of the session, which may have private ones or not.
+    fn concerns(self, session: u64, private: bool) -> bool
+        ensures { result ≡ concerns self session private }
     {
         match self {
             Ending::Session(closed) => closed == session,
             Ending::AllSessions => true,
-            Ending::Logout => false,
+            Ending::Logout => private,
         }
     }
 }
@@ -65,11 +58,12 @@ fn end_objects(objects: &mut Slab<StoredObject>, places: &[Place], ending: Endin
 /// Ends those of the objects in the lists that end.
 pub(crate) fn end_listed(objects: &mut Slab<StoredObject>, lists: &[SessionList], ending: Ending)
     ensures left { IsLeft (is_ended_by ending) objects.old objects.new }
-    ensures ended { (session : ℕ) (p : Place) → IsListed lists.now session p
-        → concerns ending session ≡ true → HasNone (is_ended_by ending) objects.new p }
+    ensures ended { (session : ℕ) (private : Bool) (p : Place)
+        → IsListed lists.now session private p → concerns ending session private ≡ true
+        → HasNone (is_ended_by ending) objects.new p }
 {
     for list in lists {
-        if ending.concerns(list.session()) {
+        if ending.concerns(list.session(), list.is_private()) {
             end_objects(objects, list.places(), ending);
         }
     }

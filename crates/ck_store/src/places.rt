@@ -1,10 +1,11 @@
-ghost use Rattle.std.specs.Prelude.{◌≡◌, ◌+◌, ◌^◌, ◌<◌, ℕ, not, map, length, find, filter, position};
-ghost use Rattle.std.specs.Prelude.{IfOk, IfSome, option_and_then, Contains};
+ghost use Rattle.std.specs.Prelude.{◌≡◌, ◌+◌, ◌^◌, ◌<◌, ℕ, not, map, length, find, filter, position, get_or};
+ghost use Rattle.std.specs.Prelude.{IfOk, IfSome, Contains, Some, true};
+ghost use Rattle.std.specs.List.{list_any};
 ghost use Rattle.std.specs.Option.{option_copied};
 ghost use Rattle.slab.specs.Slab.{get};
-ghost use Rattle.ck_store.specs.Rows.{ObjectRow, has_number, matching_numbers};
+ghost use Rattle.ck_store.specs.Rows.{ObjectRow, has_number, matching_numbers, is_private_row};
 ghost use Rattle.ck_store.specs.Rows.{with_attributes, with_key_state};
-ghost use Rattle.ck_store.specs.Index.{is_at, object_at, objects_at, is_there, IsIndex, PlacesRise};
+ghost use Rattle.ck_store.specs.Index.{place, is_at, object_at, objects_at, is_there, IsIndex, PlacesRise};
 ghost use Rattle.ck_store.specs.Index.{IsChanged, IsKeyOf, IsLeft, EndsAll};
 ghost use Rattle.ck_store.specs.declared.places.Place.{Place};
 
@@ -39,11 +40,30 @@ fn is_there(objects: &Slab<StoredObject>, place: Place) -> bool
     object_at(objects, place).is_some()
 }
 
-/// The place of a number in an index whose numbers rise.
+/// The place of a number as far from the first place as the number is from the first number, where
+/// the number stands there. It does where the index lacks no number between the two.
+fn guess_position(index: &[Place], number: u64) -> Option<usize>
+    ensures { IfSome result (λ i. (i < length index.now)
+        × ((get_or index.now i (place 0 0)).number ≡ number)) }
+{
+    let first = index.first()?;
+    let guess = number.checked_sub(first.number)? as usize;
+    if guess < index.len() && index[guess].number == number {
+        Some(guess)
+    } else {
+        None
+    }
+}
+
+/// The place of a number in an index whose numbers rise. In a large index a search takes long, since
+/// most places that it looks at are in no cache.
 fn position_of(index: &[Place], number: u64) -> Option<usize>
     ensures within { IfSome result (λ place. place < length index.now) }
     ensures place { PlacesRise index.now → result ≡ position (is_at number) index.now }
 {
+    if let Some(place) = guess_position(index, number) {
+        return Some(place);
+    }
     index
         .binary_search_by_key(&number, |place| place.number)
         .ok()
@@ -139,12 +159,27 @@ pub(crate) fn drop_ended(objects: &Slab<StoredObject>, places: &mut Vec<Place>)
     places.retain(|place| is_there(objects, *place));
 }
 
-/// The session of the place's object, where that is a session object.
-pub(crate) fn session_at(objects: &Slab<StoredObject>, place: Place) -> Option<u64>
-    ensures { result ≡ option_and_then (λ (row : ObjectRow). row.session)
-        (object_at objects.now place) }
+/// Whether one of the places has its object.
+pub(crate) fn has_objects(objects: &Slab<StoredObject>, places: &[Place]) -> bool
+    ensures { result ≡ list_any (is_there objects.now) places.now }
 {
-    object_at(objects, place)?.session()
+    places.iter().any(|place| is_there(objects, *place))
+}
+
+/// Whether the object that has the number is private.
+pub(crate) fn is_private_numbered(
+    objects: &Slab<StoredObject>,
+    index: &[Place],
+    number: u64,
+) -> bool
+    ensures { IsIndex objects.now index.now → result ≡ true → (key : ℕ) (row : ObjectRow)
+        → get objects.now key ≡ Some row → has_number number row ≡ true
+        → is_private_row row ≡ true }
+{
+    match find_numbered(objects, index, number) {
+        None => false,
+        Some(object) => object.is_private(),
+    }
 }
 
 /// Ends the object that has the number.

@@ -1,29 +1,37 @@
-ghost use Rattle.std.specs.Prelude.{◌≡◌, ◌<◌, ◌⊎◌, ℕ, [], Some, Contains, OnOk, IfSome};
-ghost use Rattle.std.specs.Prelude.{List, None, length, position};
-ghost use Rattle.ck_store.specs.Rows.{ObjectRow};
-ghost use Rattle.ck_store.specs.Index.{IsListed, IsSound, has_session, object_at};
+ghost use Rattle.std.specs.Prelude.{◌≡◌, ◌<◌, ◌⊎◌, ℕ, [], Some, Bool, Contains, OnOk, IfSome};
+ghost use Rattle.std.specs.Prelude.{List, None, Option, length, map, position};
+ghost use Rattle.slab.specs.Slab.{Slab as Slots};
+ghost use Rattle.ck_store.specs.Rows.{ObjectRow, with_attributes};
+ghost use Rattle.ck_store.specs.Index.{IsListed, IsSound, is_list_of, is_needed, marked, object_at};
+ghost use Rattle.ck_store.specs.Index.{IsChanged};
 ghost use Rattle.ck_store.specs.declared.places.Place.{Place};
 
-use crate::places::{Place, drop_ended, session_at};
+use crate::endings::Ending;
+use crate::places::{Place, drop_ended, has_objects, is_private_numbered, object_at};
 use crate::stored_objects::StoredObject;
-use ck_types::NoMemory;
+use ck_types::{Attribute, NoMemory, Record};
 use slab::Slab;
 use std::alloc::Global;
 
-/// The places of a session's objects. A place stays in it for a while after its object has ended.
+/// The places of a session's objects. A place stays in it for a while after its object has ended. A
+/// session's private objects have a list of their own, so that a logout walks over no others.
 #[derive(Debug, Drop)]
 pub(crate) struct SessionList {
     session: u64,
+    /// Whether its objects may be private.
+    private: bool,
     places: Vec<Place>,
 }
 
 impl SessionList {
-    fn new(alloc: Global, session: u64) -> SessionList
+    fn new(alloc: Global, session: u64, private: bool) -> SessionList
         ensures session { result.session ≡ session }
+        ensures private { result.private ≡ private }
         ensures places { result.places.items ≡ [] }
     {
         SessionList {
             session,
+            private,
             places: Vec::new(alloc),
         }
     }
@@ -32,6 +40,30 @@ impl SessionList {
         ensures { result ≡ self.now.session }
     {
         self.session
+    }
+
+    pub(crate) fn is_private(&self) -> bool
+        ensures { result ≡ self.now.private }
+    {
+        self.private
+    }
+
+    /// Whether it is a list of the session for private objects, or one for public objects.
+    fn is_list_of(&self, session: u64, private: bool) -> bool
+        ensures { result ≡ is_list_of session private self.now }
+    {
+        self.session == session && self.private == private
+    }
+
+    /// Whether the list may have objects after the end.
+    pub(crate) fn is_needed(&self, objects: &Slab<StoredObject>, ending: Ending) -> bool
+        ensures { result ≡ is_needed ending objects.now self.now }
+    {
+        match ending {
+            Ending::Session(closed) => closed != self.session,
+            Ending::AllSessions => false,
+            Ending::Logout => !self.private || has_objects(objects, self.places.as_slice()),
+        }
     }
 
     pub(crate) fn places(&self) -> &[Place]
@@ -43,6 +75,7 @@ impl SessionList {
     /// Adds a place.
     fn push(&mut self, objects: &Slab<StoredObject>, place: Place) -> Result<(), NoMemory>
         ensures session { self.new.session ≡ self.old.session }
+        ensures private { self.new.private ≡ self.old.private }
         ensures kept { (p : Place) (row : ObjectRow) → Contains self.old.places.items p
             → object_at objects.now p ≡ Some row → Contains self.new.places.items p }
         ensures added { OnOk result (Contains self.new.places.items place) }
@@ -70,33 +103,89 @@ fn make_room(objects: &Slab<StoredObject>, places: &mut Vec<Place>) -> Result<()
     Ok(())
 }
 
-fn position_of(lists: &[SessionList], session: u64) -> Option<usize>
+fn position_of(lists: &[SessionList], session: u64, private: bool) -> Option<usize>
     ensures within { IfSome result (λ i. i < length lists.now) }
-    ensures place { result ≡ position (has_session session) lists.now }
+    ensures place { result ≡ position (is_list_of session private) lists.now }
 {
-    lists.iter().position(|list| list.session == session)
+    lists
+        .iter()
+        .position(|list| list.is_list_of(session, private))
 }
 
-/// Adds a place to the list of the session.
+/// Notes of each list that its objects may be private.
+fn mark_private(lists: &mut [SessionList])
+    ensures { lists.new ≡ map marked lists.old }
+{
+    for list in lists.iter_mut() {
+        list.private = true;
+    }
+}
+
+/// Prepares the lists for a change of the attributes of the object that has the number. Where it
+/// makes a public object private, any list may have private objects from then on.
+pub(crate) fn note_private(
+    lists: &mut Vec<SessionList>,
+    objects: &Slab<StoredObject>,
+    index: &[Place],
+    number: u64,
+    attributes: &Record,
+)
+    ensures { (changed : Slots ObjectRow) (unlisted : Option Place) (creations : ℕ)
+        → IsChanged (with_attributes number attributes.now) objects.now changed
+        → IsSound objects.now index.now lists.old.items unlisted creations
+        → IsSound changed index.now lists.new.items unlisted creations }
+{
+    if !attributes.is_set(Attribute::Private) || is_private_numbered(objects, index, number) {
+        return;
+    }
+    mark_private(lists.as_mut_slice());
+}
+
+/// Adds a place to the list of the session for private objects, or to that for public ones.
 fn add_to_list(
     alloc: Global,
     lists: &mut Vec<SessionList>,
     session: u64,
+    private: bool,
     objects: &Slab<StoredObject>,
     place: Place,
 ) -> Result<(), NoMemory>
-    ensures kept { (s : ℕ) (p : Place) (row : ObjectRow) → IsListed lists.old.items s p
-        → object_at objects.now p ≡ Some row → IsListed lists.new.items s p }
-    ensures added { OnOk result (IsListed lists.new.items session place) }
-    ensures only { (s : ℕ) (p : Place) → IsListed lists.new.items s p
-        → IsListed lists.old.items s p ⊎ ((s ≡ session) × (p ≡ place)) }
+    ensures kept { (s : ℕ) (m : Bool) (p : Place) (row : ObjectRow)
+        → IsListed lists.old.items s m p → object_at objects.now p ≡ Some row
+        → IsListed lists.new.items s m p }
+    ensures added { OnOk result (IsListed lists.new.items session private place) }
+    ensures only { (s : ℕ) (m : Bool) (p : Place) → IsListed lists.new.items s m p
+        → IsListed lists.old.items s m p ⊎ ((s ≡ session) × (m ≡ private) × (p ≡ place)) }
 {
-    if let Some(i) = position_of(lists.as_slice(), session) {
+    if let Some(i) = position_of(lists.as_slice(), session, private) {
         return lists[i].push(objects, place);
     }
-    let mut list = SessionList::new(alloc, session);
+    let mut list = SessionList::new(alloc, session, private);
     list.push(objects, place)?;
     lists.push(list)?;
+    Ok(())
+}
+
+/// Adds the place of a session object to a list of its session.
+fn list_object(
+    alloc: Global,
+    lists: &mut Vec<SessionList>,
+    objects: &Slab<StoredObject>,
+    place: Place,
+) -> Result<(), NoMemory>
+    ensures tried { (index : List Place) (creations : ℕ)
+        → IsSound objects.now index lists.old.items (Some place) creations
+        → IsSound objects.now index lists.new.items (Some place) creations }
+    ensures listed { OnOk result ((index : List Place) (creations : ℕ)
+        → IsSound objects.now index lists.old.items (Some place) creations
+        → IsSound objects.now index lists.new.items None creations) }
+{
+    let Some(object) = object_at(objects, place) else {
+        return Ok(());
+    };
+    if let Some(session) = object.session() {
+        add_to_list(alloc, lists, session, object.is_private(), objects, place)?;
+    }
     Ok(())
 }
 
@@ -113,9 +202,7 @@ pub(crate) fn list_newest(
     ensures listed { OnOk result (unlisted.new ≡ None) }
 {
     if let Some(place) = *unlisted {
-        if let Some(session) = session_at(objects, place) {
-            add_to_list(alloc, lists, session, objects, place)?;
-        }
+        list_object(alloc, lists, objects, place)?;
         *unlisted = None;
     }
     Ok(())

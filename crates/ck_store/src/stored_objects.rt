@@ -32,7 +32,8 @@ impl StoredObject {
     ghost use Rattle.std.specs.Prelude.{◌≡◌, ◌<◌, ◌^◌, IfOk};
     ghost use Rattle.ck_types.specs.Records.{with_state};
     ghost use Rattle.ck_journal.specs.Objects.{is_visible_with};
-    ghost use Rattle.ck_store.specs.Rows.{is_of_session, is_session_row, is_private_session_row};
+    ghost use Rattle.ck_store.specs.Rows.{is_of_session, is_session_row, is_private_row};
+    ghost use Rattle.ck_store.specs.Rows.{is_private_session_row};
     ghost use Rattle.ck_store.specs.Rows.{object_row, is_match, visible_handle, is_ended_by, kept_of};
 
     /// An object that the session creates.
@@ -79,7 +80,7 @@ impl StoredObject {
     fn is_visible(&self, view: View) -> bool
         ensures { result ≡ is_visible_with view self.now.attributes }
     {
-        !self.attributes.is_set(Attribute::Private) || view.user
+        !self.is_private() || view.user
     }
 
     /// The object's handle, where it is visible.
@@ -114,10 +115,16 @@ impl StoredObject {
         self.session.is_some()
     }
 
+    pub(crate) fn is_private(&self) -> bool
+        ensures { result ≡ is_private_row self.now }
+    {
+        self.attributes.is_set(Attribute::Private)
+    }
+
     pub(crate) fn is_private_session_object(&self) -> bool
         ensures { result ≡ is_private_session_row self.now }
     {
-        self.is_session_object() && self.attributes.is_set(Attribute::Private)
+        self.is_session_object() && self.is_private()
     }
 
     /// Whether it is a session object that ends.

@@ -3,7 +3,7 @@ use crate::endings::{Ending, end_listed, end_newest};
 use crate::places::{
     Place, compact, find_matching, find_numbered, remove_numbered, set_numbered, set_state_numbered,
 };
-use crate::session_lists::{SessionList, list_newest};
+use crate::session_lists::{SessionList, list_newest, note_private};
 use crate::stored_objects::StoredObject;
 use ck_journal::{Base, KeptObject, View, number_of_handle};
 use ck_types::{KeyState, NoMemory, Record, Sequence, Template};
@@ -217,6 +217,13 @@ impl Store {
             → is_set attributes attribute.Token ≡ is_set (named_attributes h object) attribute.Token
             → StoreAgrees h self.old → StoreAgrees (e ◁ h) self.new }
     {
+        note_private(
+            &mut self.lists,
+            &self.objects,
+            self.index.as_slice(),
+            number,
+            &attributes,
+        );
         set_numbered(&mut self.objects, self.index.as_slice(), number, attributes);
     }
 
@@ -278,7 +285,7 @@ impl Store {
         self.end(Ending::Logout);
     }
 
-    /// Ends session objects, and drops the lists of the sessions that are closed.
+    /// Ends session objects, and drops the lists that aren't needed.
     fn end(&mut self, ending: Ending)
         ensures rows { self.new.rows
             ≡ filter (λ row. not (is_ended_by ending row)) self.old.rows }
@@ -286,7 +293,8 @@ impl Store {
     {
         end_listed(&mut self.objects, self.lists.as_slice(), ending);
         end_newest(&mut self.objects, self.unlisted, ending);
-        self.lists.retain(|list| !ending.closes(list.session()));
+        let objects = &self.objects;
+        self.lists.retain(|list| list.is_needed(objects, ending));
         compact(&self.objects, &mut self.index);
     }
 }

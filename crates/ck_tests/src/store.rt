@@ -206,6 +206,32 @@ fn ends_of_sessions_and_logins(rt: HostRuntime) -> Result<(), Fail> {
     Ok(())
 }
 
+/// A logout ends an object that has become private, and a later one those that came after it.
+#[test]
+fn logouts(rt: HostRuntime) -> Result<(), Fail> {
+    let alloc = rt.alloc();
+    let mut store = Store::new(alloc);
+    for number in 1..5 {
+        let created = add(&rt, alloc, &mut store, number % 2)?;
+        assert_eq!(rt; created, number);
+    }
+    let items: &[(u64, &[u8])] = &[(0, DATA), (0x2, &[1])];
+    for number in 1..3 {
+        let private = match record_of(alloc, items) {
+            Ok(private) => private,
+            Err(_) => record_of(alloc, items)?,
+        };
+        store.set(number, private);
+        store.end_private();
+        check_all(&rt, &store, 1, number + 1, false);
+        check_all(&rt, &store, number + 1, 5, true);
+    }
+    store.end_session(1);
+    check_all(&rt, &store, 1, 4, false);
+    check_all(&rt, &store, 4, 5, true);
+    Ok(())
+}
+
 /// Passes too where one growth is refused, whichever it is: `rt try --test --fail-alloc N` refuses
 /// the Nth of each test.
 #[test]

@@ -34,13 +34,15 @@ loop-list-preserved c = elim c.if-concerns.branch [
             c.args.lists.now c.loop-list.list-index c.list-item.result c.loop-list-test.true
             c.list-item.is c.loop-list.invariant.ended
             (λ t p there.
-            let no_concern : concerns c.args.ending c.list-item.result.session ≡ false =
-            rw c.session.ensures at (sym c.concerns.ensures ∙ w.if-concerns.false) in
+            let no_concern : concerns c.args.ending c.list-item.result.session
+            c.list-item.result.private ≡ false =
+            rw (c.session.ensures, c.is_private.ensures) at
+            (sym c.concerns.ensures ∙ w.if-concerns.false) in
             absurd (cc));
       }
 ]
 
 pub returns-clause-ended : goal.returns-clause-ended
-returns-clause-ended c = λ session p listed.
-    c.loop-list.invariant.ended session p
+returns-clause-ended c = λ session private p listed.
+    c.loop-list.invariant.ended session private p
     (rw (take_all c.loop-list.list-index c.args.lists.now (omega arith)) listed)

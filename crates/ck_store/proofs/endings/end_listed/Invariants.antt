@@ -1,4 +1,4 @@
-use Rattle.std.proofs.Common.{◌≡◌, ℕ, true, take}
+use Rattle.std.proofs.Common.{◌≡◌, ℕ, Bool, true, take}
 use Rattle.ck_store.specs.Index.{IsLeft, HasNone, IsListed}
 use Rattle.ck_store.specs.Rows.{is_ended_by, concerns}
 use Rattle.ck_store.specs.declared.places.Place.{Place}
@@ -8,6 +8,7 @@ use Rattle.ck_store.proofs.endings.end_listed.Given as goal
 abbrev pub invariant-loop-list : goal.invariant-loop-list
 invariant-loop-list l = record {
   left : IsLeft (is_ended_by l.ending) l.initial.objects l.objects;
-  ended : (session : ℕ) (p : Place) → IsListed (take l.list-index l.lists) session p
-      → concerns l.ending session ≡ true → HasNone (is_ended_by l.ending) l.objects p;
+  ended : (session : ℕ) (private : Bool) (p : Place)
+      → IsListed (take l.list-index l.lists) session private p
+      → concerns l.ending session private ≡ true → HasNone (is_ended_by l.ending) l.objects p;
 }

@@ -1,8 +1,14 @@
 use Rattle.std.proofs.Common.{◌∙◌, rules}
 use Rattle.std.proofs.lemmas.List.Sorted.{answers_always}
 use Rattle.ck_store.specs.declared.places.Place.{Place}
-use Rattle.ck_store.proofs.Searched.{place-searched}
+use Rattle.ck_store.specs.Index.{place}
+use Rattle.ck_store.proofs.Searched.{place-searched, place-guessed}
 use Rattle.ck_store.proofs.places.position_of.Goals as goal
+
+pub returns-in-Some-clause-place : goal.returns-in-Some-clause-place
+returns-in-Some-clause-place c = λ rise.
+    place-guessed (λ (p : Place). p.number) c.args.index.now rise c.args.number c.in-Some.place
+    (place 0 0) c.in-Some.ensures.0 c.in-Some.ensures.1
 
 pub returns-clause-place : goal.returns-clause-place
 returns-clause-place c = λ rise.

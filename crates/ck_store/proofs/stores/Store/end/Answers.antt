@@ -1,7 +1,7 @@
 use Rattle.std.proofs.Common.{◌≡◌, not, filter, ◌∙◌, ap, rules}
 use Rattle.std.proofs.lemmas.Fn.{filter_same}
-use Rattle.ck_store.specs.Rows.{ObjectRow, is_ended_by, closes}
-use Rattle.ck_store.specs.declared.session_lists.SessionList.{SessionList}
+use Rattle.ck_store.specs.Index.{is_needed}
+use Rattle.ck_store.specs.Rows.{ObjectRow, is_ended_by}
 use Rattle.ck_store.proofs.PlaceLemmas.{IsLeft-then, HasNone-later, objects_at-left}
 use Rattle.ck_store.proofs.SoundLemmas.{EndsAll-walked, IsSound-closed, IsSound-reindexed}
 use Rattle.ck_store.proofs.stores.Store.end.Goals as goal
@@ -13,7 +13,7 @@ invariant_of-self c =
     c.end_newest.new.objects c.end_listed.ensures.left c.end_newest.ensures.left in
     let walked = rw c.as_slice.ensures.value at c.end_listed.ensures.ended in
     let are : c.retain.new.self.items
-    ≡ filter (λ (l : SessionList). not (closes c.args.ending l.session)) c.self.inside.lists.items =
+    ≡ filter (is_needed c.args.ending c.end_newest.new.objects) c.self.inside.lists.items =
     filter_same _ _ _ (λ x b f' k. search rules) _ _ c.retain.ensures.filtered in (
       IsSound-reindexed c.end_newest.new.objects c.self.inside.index.items
           c.compact.new.index.items c.retain.new.self.items c.self.inside.unlisted
@@ -21,8 +21,9 @@ invariant_of-self c =
           (IsSound-closed c.args.ending c.self.inside.objects c.end_newest.new.objects
           c.self.inside.index.items c.self.inside.lists.items c.self.inside.unlisted
           c.self.inside.creations c.self.invariant.0 left
-          (λ session p listed t. HasNone-later (is_ended_by c.args.ending) c.end_listed.new.objects
-          c.end_newest.new.objects c.end_newest.ensures.left p (walked session p listed t))
+          (λ session private p listed t.
+          HasNone-later (is_ended_by c.args.ending) c.end_listed.new.objects
+          c.end_newest.new.objects c.end_newest.ensures.left p (walked session private p listed t))
           c.end_newest.ensures.ended c.retain.new.self.items are)
           c.compact.ensures.is_index c.compact.ensures.only,
       c.self.invariant.1,
@@ -39,7 +40,8 @@ returns-clause-rows c =
     (EndsAll-walked c.args.ending c.self.inside.objects c.end_newest.new.objects
     c.self.inside.index.items c.self.inside.lists.items c.self.inside.unlisted
     c.self.inside.creations c.self.invariant.0 left
-    (λ session p listed t. HasNone-later (is_ended_by c.args.ending) c.end_listed.new.objects
-    c.end_newest.new.objects c.end_newest.ensures.left p (walked session p listed t))
+    (λ session private p listed t.
+    HasNone-later (is_ended_by c.args.ending) c.end_listed.new.objects
+    c.end_newest.new.objects c.end_newest.ensures.left p (walked session private p listed t))
     c.end_newest.ensures.ended) c.self.inside.index.items
     ∙ ap (λ s. filter (λ (row : ObjectRow). not (is_ended_by c.args.ending row)) s.rows) c.self.view_is

@@ -1,18 +1,14 @@
 use Rattle.std.proofs.Common.{refl}
 use Rattle.ck_store.specs.Rows.{with_attributes}
 use Rattle.ck_store.proofs.Moves.{StoreAgrees-set}
-use Rattle.ck_store.proofs.SoundLemmas.{IsSound-was, changed-was, objects_at-changed}
-use Rattle.ck_store.proofs.SoundLemmas.{with_attributes-number, with_attributes-session}
+use Rattle.ck_store.proofs.SoundLemmas.{objects_at-changed, with_attributes-number}
 use Rattle.ck_store.proofs.stores.Store.set.Goals as goal
 
 pub invariant_of-self : goal.invariant_of-self
 invariant_of-self c =
-    let changed = (rw c.as_slice.ensures.value at c.set_numbered.ensures) c.self.invariant.0.indexed in (
-      IsSound-was c.self.inside.objects c.set_numbered.new.objects c.self.inside.index.items
-          c.self.inside.lists.items c.self.inside.unlisted c.self.inside.creations c.self.invariant.0
-          (changed-was (with_attributes c.args.number c.args.attributes) c.self.inside.objects
-          c.set_numbered.new.objects changed (with_attributes-number c.args.number c.args.attributes)
-          (with_attributes-session c.args.number c.args.attributes)),
+    let changed = (rw c.as_slice-2.ensures.value at c.set_numbered.ensures) c.self.invariant.0.indexed in (
+      (rw c.as_slice.ensures.value at c.note_private.ensures) c.set_numbered.new.objects
+          c.self.inside.unlisted c.self.inside.creations changed c.self.invariant.0,
       c.self.invariant.1,
     )
 
@@ -20,7 +16,7 @@ pub returns : goal.returns
 returns c = record {
   agree = λ h e session object template d named given token agree.
       let here = rw (← c.self.view_is) at agree in
-      let changed = (rw c.as_slice.ensures.value at c.set_numbered.ensures) c.self.invariant.0.indexed in
+      let changed = (rw c.as_slice-2.ensures.value at c.set_numbered.ensures) c.self.invariant.0.indexed in
       StoreAgrees-set h _ here e _ refl session object c.args.number named c.self.invariant.1 template
       c.args.attributes given token d
       (objects_at-changed (with_attributes c.args.number c.args.attributes) c.self.inside.objects

@@ -3,6 +3,7 @@ use Rattle.ck_store.specs.Rows.{with_key_state}
 use Rattle.ck_store.proofs.Moves.{StoreAgrees-state_set}
 use Rattle.ck_store.proofs.SoundLemmas.{IsSound-was, changed-was, objects_at-changed}
 use Rattle.ck_store.proofs.SoundLemmas.{with_key_state-number, with_key_state-session}
+use Rattle.ck_store.proofs.SoundLemmas.{changed-marks, with_key_state-private}
 use Rattle.ck_store.proofs.stores.Store.set_state.Goals as goal
 
 pub invariant_of-self : goal.invariant_of-self
@@ -12,7 +13,12 @@ invariant_of-self c =
           c.self.inside.lists.items c.self.inside.unlisted c.self.inside.creations c.self.invariant.0
           (changed-was (with_key_state c.args.number c.args.state) c.self.inside.objects
           c.set_state_numbered.new.objects changed (with_key_state-number c.args.number c.args.state)
-          (with_key_state-session c.args.number c.args.state)),
+          (with_key_state-session c.args.number c.args.state))
+          (changed-marks (with_key_state c.args.number c.args.state) c.self.inside.objects
+          c.set_state_numbered.new.objects changed (with_key_state-number c.args.number c.args.state)
+          c.self.inside.index.items c.self.inside.lists.items c.self.inside.unlisted
+          c.self.inside.creations c.self.invariant.0
+          (λ key row is. with_key_state-private c.args.number c.args.state row)),
       c.self.invariant.1,
     )
 
