@@ -1,68 +1,51 @@
 //! The cases of a file. A line `limits SESSIONS OPENINGS CREATIONS LOGINS`, or `limits largest`,
-//! begins a case on a new token, and so does the first call of the file. Each other line is a line
-//! of a script and its reply, as `1 OpenSession 6 -> 0 1`. Empty lines and lines that begin with
-//! `#` are skipped.
+//! begins a case on a new token, and so does the first step of the file. Each other line is a step:
+//! what is done, an arrow, and what comes of it. Empty lines and lines that begin with `#` are
+//! skipped.
+//!
+//! - `1 OpenSession 6 -> 0 1`: a line of a script and its reply.
+//! - `1 OpenSession E -> bad script: ..`: a line that is none of a script's, and why.
+//! - `cut -> entries 2`: the token's journal is cut, and so many entries are taken out.
+//! - `cut -> a session is open`: it isn't cut, and why.
+use crate::case_errors::CaseError;
 use ck_journal::Call;
 use ck_script::{BadLine, Line, LineError};
-use ck_types::{Limits, NoMemory};
-use std::alloc::{AllocError, AllocFailed, Global};
-use thiserror::Error;
+use ck_types::Limits;
+use std::alloc::Global;
 
-/// Why the cases of a file don't pass.
-#[derive(Debug, Drop, Error)]
-pub(crate) enum CaseError {
-    #[error("out of memory")]
-    Memory,
-    #[error("line {0}: neither limits nor a call with its reply")]
-    NoCase(u64),
-    #[error("line {0}: bad script: {1}")]
-    BadLine(u64, BadLine),
-    /// The reply that came.
-    #[error("line {0}: came {1}")]
-    Differs(u64, String),
-    #[error("line {0}: no entry of the journal")]
-    NoEntry(u64),
+/// What is done to the token.
+#[derive(Drop)]
+pub(crate) enum Action {
+    Call { caller: u32, call: Call },
+    /// Nothing: the line is bad.
+    BadLine(BadLine),
+    Cut,
 }
 
-impl From<NoMemory> for CaseError {
-    fn from(_error: NoMemory) -> CaseError {
-        CaseError::Memory
-    }
-}
-
-impl From<AllocError> for CaseError {
-    fn from(_error: AllocError) -> CaseError {
-        CaseError::Memory
-    }
-}
-
-impl<T: Drop> From<AllocFailed<T>> for CaseError {
-    fn from(_error: AllocFailed<T>) -> CaseError {
-        CaseError::Memory
-    }
-}
-
-/// A call and the reply that it must have, with the number of its line.
+/// A step of a case, with the number of its line.
 #[derive(Drop)]
 pub(crate) struct Step<'a> {
     pub(crate) number: u64,
-    line: &'a str,
-    pub(crate) reply: &'a str,
+    pub(crate) action: Action,
+    /// What comes of it, as a text.
+    pub(crate) outcome: &'a str,
 }
 
 impl<'a> Step<'a> {
-    /// The caller and its call.
-    pub(crate) fn call(&self, alloc: Global) -> Result<(u32, Call), CaseError> {
-        match Line::parse(alloc, self.line.as_bytes()) {
-            Ok(Line::Called { caller, call }) => Ok((caller, call)),
-            Ok(Line::Skipped) => Err(CaseError::NoCase(self.number)),
-            Err(LineError::Bad(reason)) => Err(CaseError::BadLine(self.number, reason)),
-            Err(LineError::Memory) => Err(CaseError::Memory),
+    /// The call with its caller, where the step makes one.
+    pub(crate) fn call(&self) -> Option<(u32, &Call)> {
+        match &self.action {
+            Action::Call { caller, call } => Some((*caller, call)),
+            Action::BadLine(_) | Action::Cut => None,
         }
+    }
+
+    pub(crate) fn is_cut(&self) -> bool {
+        matches!(self.action, Action::Cut)
     }
 }
 
-/// Calls on one token, which has these limits.
+/// Steps on one token, which has these limits.
 #[derive(Drop)]
 pub(crate) struct Case<'a> {
     pub(crate) limits: Limits,
@@ -91,6 +74,19 @@ fn limits_in(text: &str) -> Option<Limits> {
     Limits::of(sessions, openings, creations, logins)
 }
 
+/// What the text before the arrow says.
+fn action_in(alloc: Global, number: u64, text: &str) -> Result<Action, CaseError> {
+    if text == "cut" {
+        return Ok(Action::Cut);
+    }
+    match Line::parse(alloc, text.as_bytes()) {
+        Ok(Line::Called { caller, call }) => Ok(Action::Call { caller, call }),
+        Ok(Line::Skipped) => Err(CaseError::NoCase(number)),
+        Err(LineError::Bad(reason)) => Ok(Action::BadLine(reason)),
+        Err(LineError::Memory) => Err(CaseError::Memory),
+    }
+}
+
 /// Adds what a line says to the cases.
 fn add_line<'a>(
     alloc: Global,
@@ -109,12 +105,13 @@ fn add_line<'a>(
     if cases.is_empty() {
         cases.push(Case::new(alloc, Limits::largest()))?;
     }
-    let (line, reply) = line.split_once(" -> ").ok_or(CaseError::NoCase(number))?;
+    let (text, outcome) = line.split_once(" -> ").ok_or(CaseError::NoCase(number))?;
+    let action = action_in(alloc, number, text)?;
     let case = cases.last_mut().ok_or(CaseError::NoCase(number))?;
     case.steps.push(Step {
         number,
-        line,
-        reply,
+        action,
+        outcome,
     })?;
     Ok(())
 }

@@ -1,11 +1,14 @@
 //! Plays files of cases, whose lines are calls with the replies that they must have, and writes a
-//! line for each file: how many cases passed, or the first reply that differs.
+//! line for each file: how many cases passed, or the first reply that differs. A call that finds no
+//! memory is made again, and the line says how many were.
 #![tactic(auto)]
 
+mod case_errors;
 mod cases;
 mod replays;
+mod retries;
 
-use replays::play_text;
+use replays::{Passed, play_text};
 use std::env::Env;
 use std::fs::Files;
 use std::process::ExitCode;
@@ -15,8 +18,12 @@ use std::{env, fs, io};
 fn play_file<R: Files + Print + AllocGlobal>(rt: &R, name: &str) -> io::Result<bool> {
     let text = fs::read_to_string(rt, name)?;
     match play_text(rt.alloc(), text.as_str()) {
-        Ok(count) => {
-            println!(rt; "{name}: {count} passed")?;
+        Ok(Passed { cases, retries: 0 }) => {
+            println!(rt; "{name}: {cases} passed")?;
+            Ok(true)
+        }
+        Ok(Passed { cases, retries }) => {
+            println!(rt; "{name}: {cases} passed, {retries} made again")?;
             Ok(true)
         }
         Err(error) => {

@@ -1,57 +1,129 @@
 //! Cases that are played on a token.
-use crate::cases::{Case, CaseError, Step, cases_in};
-use ck_journal::Reply;
+use crate::case_errors::CaseError;
+use crate::cases::{Action, Case, Step, cases_in};
+use crate::retries::RetryingToken;
+use ck_journal::{Journal, Reply};
 use ck_script::push_reply;
-use ck_token::{Token, run};
+use ck_token::Uncut;
 use std::alloc::Global;
 
-/// Compares a reply with the one that the step must have.
-fn compare(alloc: Global, step: &Step, reply: &Reply) -> Result<(), CaseError> {
-    let mut text = Vec::new(alloc);
-    push_reply(&mut text, reply)?;
-    let came = text.as_slice();
-    let came = came.strip_suffix(b"\n").unwrap_or(came);
-    if came == step.reply.as_bytes() {
+/// How many cases passed, and how often something was made again that had found no memory.
+#[derive(Clone, Copy)]
+pub(crate) struct Passed {
+    pub(crate) cases: usize,
+    pub(crate) retries: u64,
+}
+
+/// The text of a reply, without a line end.
+fn reply_text(alloc: Global, reply: &Reply) -> Result<String, CaseError> {
+    let mut line = Vec::new(alloc);
+    push_reply(&mut line, reply)?;
+    let text = line.as_slice();
+    let text = text.strip_suffix(b"\n").unwrap_or(text);
+    Ok(String::from_utf8_lossy(alloc, text)?)
+}
+
+fn cut_text(alloc: Global, cut: Result<Journal, Uncut>) -> Result<String, CaseError> {
+    match cut {
+        Ok(journal) => Ok(format!(in alloc; "entries {}", journal.len())?),
+        Err(refused) => Ok(format!(in alloc; "{refused}")?),
+    }
+}
+
+/// What comes of an action.
+fn outcome_of(
+    alloc: Global,
+    token: &mut RetryingToken,
+    action: &Action,
+) -> Result<String, CaseError> {
+    match action {
+        Action::Call { caller, call } => {
+            let reply = token.call(alloc, *caller, call)?;
+            reply_text(alloc, &reply)
+        }
+        Action::BadLine(reason) => Ok(format!(in alloc; "bad script: {reason}")?),
+        Action::Cut => {
+            let cut = token.cut(alloc)?;
+            cut_text(alloc, cut)
+        }
+    }
+}
+
+fn compare(step: &Step, came: String) -> Result<(), CaseError> {
+    if came.as_str() == step.outcome {
         return Ok(());
     }
-    Err(CaseError::Differs(step.number, String::from_utf8_lossy(alloc, came)?))
+    Err(CaseError::Differs(step.number, came))
 }
 
-/// Makes the calls of a case one after the other.
-fn play_by_calls(alloc: Global, case: &Case) -> Result<(), CaseError> {
-    let mut token = Token::new(alloc, case.limits);
+/// Takes the steps of a case one after the other. Says how often one was made again.
+fn play_by_steps(alloc: Global, case: &Case) -> Result<u64, CaseError> {
+    let mut token = RetryingToken::new(alloc, case.limits);
     for step in case.steps.iter() {
-        let (caller, call) = step.call(alloc)?;
-        let reply = token.call(alloc, caller, call)?;
-        compare(alloc, step, &reply)?;
+        let came = outcome_of(alloc, &mut token, &step.action)?;
+        compare(step, came)?;
     }
-    Ok(())
+    Ok(token.retries())
 }
 
-/// Makes the calls of a case by one run, whose journal has the replies.
-fn play_by_run(alloc: Global, case: &Case) -> Result<(), CaseError> {
-    let mut calls = Vec::new(alloc);
+/// Makes the calls of a case alone, and cuts the journal before each of them, where no session is
+/// open: they are answered alike.
+fn play_with_cuts(alloc: Global, case: &Case) -> Result<u64, CaseError> {
+    let mut token = RetryingToken::new(alloc, case.limits);
     for step in case.steps.iter() {
-        calls.push(step.call(alloc)?)?;
+        if let Some((caller, call)) = step.call() {
+            let _cut = token.cut(alloc)?;
+            let reply = token.call(alloc, caller, call)?;
+            compare(step, reply_text(alloc, &reply)?)?;
+        }
     }
-    let mut token = Token::new(alloc, case.limits);
-    run(&mut token, alloc, calls).map_err(|_| CaseError::Memory)?;
-    let mut number = 0u64;
-    for step in case.steps.iter() {
+    Ok(token.retries())
+}
+
+/// Compares the replies of the entries after so many with those of the steps.
+fn compare_entries(
+    alloc: Global,
+    journal: &Journal,
+    before: u64,
+    steps: &[Step],
+) -> Result<(), CaseError> {
+    let mut number = before;
+    for step in steps.iter().filter(|step| step.call().is_some()) {
         number = number.saturating_add(1);
-        let entry = token.journal().entry(number);
+        let entry = journal.entry(number);
         let entry = entry.ok_or(CaseError::NoEntry(step.number))?;
-        compare(alloc, step, &entry.reply)?;
+        compare(step, reply_text(alloc, &entry.reply)?)?;
     }
     Ok(())
 }
 
-/// Plays the cases of a file, each by calls and by a run, and says how many they are.
-pub(crate) fn play_text(alloc: Global, text: &str) -> Result<usize, CaseError> {
-    let cases = cases_in(alloc, text)?;
-    for case in cases.iter() {
-        play_by_calls(alloc, case)?;
-        play_by_run(alloc, case)?;
+/// Makes the calls of a case up to each cut by one run, and looks for the replies in the journal.
+fn play_by_runs(alloc: Global, case: &Case) -> Result<u64, CaseError> {
+    let mut token = RetryingToken::new(alloc, case.limits);
+    for steps in case.steps.split(|step| step.is_cut()) {
+        let before = token.journal().len();
+        token.run(alloc, steps)?;
+        compare_entries(alloc, token.journal(), before, steps)?;
+        let _cut = token.cut(alloc)?;
     }
-    Ok(cases.len())
+    Ok(token.retries())
+}
+
+/// Plays the cases of a file.
+pub(crate) fn play_text(alloc: Global, text: &str) -> Result<Passed, CaseError> {
+    let cases = cases_in(alloc, text)?;
+    let mut retries = 0u64;
+    for case in cases.iter() {
+        let by_steps = play_by_steps(alloc, case)?;
+        let with_cuts = play_with_cuts(alloc, case)?;
+        let by_runs = play_by_runs(alloc, case)?;
+        retries = retries
+            .saturating_add(by_steps)
+            .saturating_add(with_cuts)
+            .saturating_add(by_runs);
+    }
+    Ok(Passed {
+        cases: cases.len(),
+        retries,
+    })
 }

@@ -1,0 +1,37 @@
+/* Refuses one growth of memory of the program that it is loaded into before the C library: the one whose number,
+ * from 1, stands in REFUSED_GROWTH. At the end it writes to the file descriptor 3 how many growths there were. */
+#include <errno.h>
+#include <stdio.h>
+#include <stdlib.h>
+
+void *__libc_malloc(size_t size);
+void *__libc_realloc(void *block, size_t size);
+
+static long refused;
+static long growths;
+
+__attribute__((constructor)) static void start(void) {
+    const char *text = getenv("REFUSED_GROWTH");
+    refused = text ? atol(text) : 0;
+    growths = 0;
+}
+
+__attribute__((destructor)) static void end(void) {
+    dprintf(3, "%ld", growths);
+}
+
+static int is_refused(void) {
+    growths++;
+    if (growths != refused)
+        return 0;
+    errno = ENOMEM;
+    return 1;
+}
+
+void *malloc(size_t size) {
+    return is_refused() ? NULL : __libc_malloc(size);
+}
+
+void *realloc(void *block, size_t size) {
+    return is_refused() ? NULL : __libc_realloc(block, size);
+}

@@ -1,0 +1,145 @@
+#!/usr/bin/env python3
+"""Refuses each growth of memory in turn, of the program that plays cases and of the one that plays scripts.
+
+Each case of the files in crates/ck_cases/data, or of the files that are named, is played once for each growth of
+memory, which is refused. What finds no memory, a call, a run or a cut, the program of cases makes again after a look at
+the journal: so the case passes, or the program itself is out of memory. The calls of a case are also played as a
+script: all replies are written, or whole lines at their front, and then the program says that it is out of memory.
+Where anything else comes, it is printed, and the status is 1.
+
+The programs are crates/ck_cases/out/ck_cases and crates/ck_run/out/ck_run, built by `rt run` in their folders. This
+needs Linux with the GNU C library, and a C compiler, `cc`, for growths.c beside this file.
+"""
+import collections
+import concurrent.futures
+import glob
+import os
+import subprocess
+import sys
+import tempfile
+
+HERE = os.path.dirname(os.path.abspath(__file__))
+CRATES = os.path.join(HERE, "..", "crates")
+CASES = os.path.join(CRATES, "ck_cases", "out", "ck_cases")
+SCRIPTS = os.path.join(CRATES, "ck_run", "out", "ck_run")
+DATA = os.path.join(CRATES, "ck_cases", "data", "*.cases")
+LARGEST = "limits largest"
+
+Ended = collections.namedtuple("Ended", "status output errors growths")
+
+
+def build(folder):
+    """The library that refuses a growth."""
+    library = os.path.join(folder, "growths.so")
+    subprocess.run(["cc", "-O2", "-shared", "-fPIC", "-o", library, os.path.join(HERE, "growths.c")], check=True)
+    return library
+
+
+def play(library, words, text, growth):
+    """One run of a command whose growth of this number is refused; 0 is none."""
+    files = [tempfile.TemporaryFile() for _ in range(4)]
+    files[0].write(text)
+    files[0].seek(0)
+    actions = [(os.POSIX_SPAWN_DUP2, file.fileno(), number) for number, file in enumerate(files)]
+    environment = {"LD_PRELOAD": library, "REFUSED_GROWTH": str(growth)}
+    child = os.posix_spawn(words[0], words, environment, file_actions=actions)
+    _, status = os.waitpid(child, 0)
+    texts = []
+    for file in files[1:]:
+        file.seek(0)
+        texts.append(file.read())
+        file.close()
+    files[0].close()
+    return Ended(os.WEXITSTATUS(status) if os.WIFEXITED(status) else -1, texts[0], texts[1], int(texts[2] or 0))
+
+
+def cases_in(path):
+    """The cases of a file: of each its lines, the limits first, and the number of the first of them."""
+    cases = []
+    with open(path, encoding="utf-8", newline="\n") as file:
+        for number, line in enumerate(file, 1):
+            line = line.rstrip("\n")
+            if line.startswith("limits "):
+                cases.append((number, [line]))
+            elif line and not line.startswith("#"):
+                if not cases:
+                    cases.append((number, [LARGEST]))
+                cases[-1][1].append(line)
+    return cases
+
+
+def calls_in(case):
+    """The calls of a case, each with its reply."""
+    steps = [line.split(" -> ", 1) for line in case[1:]]
+    return [step for step in steps if step[0] != "cut" and not step[1].startswith("bad script: ")]
+
+
+def is_case_right(ended, name, plain):
+    """The case passes, or the program itself is out of memory."""
+    if ended.output == plain.output or ended.output == f"{name}: 1 passed, 1 made again\n".encode():
+        return ended.status == 0
+    return ended.status == 1 and ended.output in (b"", f"{name}: out of memory\n".encode())
+
+
+def is_script_right(ended, plain):
+    """All replies are written, or whole lines at their front."""
+    if ended.output == plain.output:
+        return ended.status == 0 or ended.errors == b"ck_run: out of memory\n"
+    is_front = plain.output.startswith(ended.output) and ended.output[-1:] in (b"", b"\n")
+    return is_front and ended.status == 3 and ended.errors == b"ck_run: out of memory\n"
+
+
+def check_case(library, name, lines):
+    """How many growths the case makes, after how many something was made again, and what was wrong."""
+    with tempfile.NamedTemporaryFile("w", suffix=".cases", encoding="utf-8", newline="\n") as file:
+        file.write("\n".join(lines) + "\n")
+        file.flush()
+        words = [CASES, file.name]
+        plain = play(library, words, b"", 0)
+        if plain.output != f"{file.name}: 1 passed\n".encode():
+            return 0, 0, [f"{name}: {plain.output}"]
+        retries = 0
+        faults = []
+        for growth in range(1, plain.growths + 1):
+            ended = play(library, words, b"", growth)
+            retries += ended.output.endswith(b" made again\n")
+            if not is_case_right(ended, file.name, plain):
+                faults.append(f"{name}, growth {growth}: {ended}")
+    return plain.growths, retries, faults
+
+
+def check_script(library, name, lines):
+    """The same of the calls of the case as a script, of which nothing is made again."""
+    calls = calls_in(lines)
+    text = "".join(call + "\n" for call, _ in calls).encode()
+    plain = play(library, [SCRIPTS], text, 0)
+    if plain.status != 0 or plain.output != "".join(reply + "\n" for _, reply in calls).encode():
+        return 0, 0, [f"{name} as a script: {plain.output}"]
+    faults = []
+    for growth in range(1, plain.growths + 1):
+        ended = play(library, [SCRIPTS], text, growth)
+        if not is_script_right(ended, plain):
+            faults.append(f"{name} as a script, growth {growth}: {ended}")
+    return plain.growths, 0, faults
+
+
+def main(paths):
+    with tempfile.TemporaryDirectory() as folder, concurrent.futures.ThreadPoolExecutor(os.cpu_count()) as pool:
+        library = build(folder)
+        checks = []
+        for path in paths:
+            for number, lines in cases_in(path):
+                name = f"{os.path.basename(path)}, line {number}"
+                checks.append(pool.submit(check_case, library, name, lines))
+                if lines[0] == LARGEST:
+                    checks.append(pool.submit(check_script, library, name, lines))
+        results = [check.result() for check in checks]
+    faults = [fault for _, _, of_case in results for fault in of_case]
+    print("\n".join(faults))
+    print(f"{sum(growths for growths, _, _ in results)} growths refused, "
+          f"{sum(retries for _, retries, _ in results)} times made again, {len(faults)} faults")
+    return 1 if faults else 0
+
+
+if __name__ == "__main__":
+    sys.exit(main(sys.argv[1:] or sorted(glob.glob(DATA))))

@@ -1,0 +1,93 @@
+//! A token on which what finds no memory is made again.
+use crate::case_errors::CaseError;
+use crate::cases::Step;
+use ck_journal::{Call, Journal, Reply};
+use ck_token::{Stopped, Token, Uncut, run};
+use ck_types::{Limits, NoMemory};
+use std::alloc::Global;
+
+/// A token, and how often it found no memory. What finds none must have left the journal as long as
+/// it was, and is made again.
+#[derive(Drop)]
+pub(crate) struct RetryingToken {
+    token: Token,
+    retries: u64,
+}
+
+/// The calls of the steps, but for so many at their front.
+fn calls_after(alloc: Global, steps: &[Step], count: u64) -> Result<Vec<(u32, Call)>, CaseError> {
+    let mut calls = Vec::new(alloc);
+    for (caller, call) in steps.iter().filter_map(Step::call).skip(count as usize) {
+        calls.push((caller, call.duplicate(alloc)?))?;
+    }
+    Ok(calls)
+}
+
+impl RetryingToken {
+    pub(crate) fn new(alloc: Global, limits: Limits) -> RetryingToken {
+        RetryingToken {
+            token: Token::new(alloc, limits),
+            retries: 0,
+        }
+    }
+
+    pub(crate) fn journal(&self) -> &Journal {
+        self.token.journal()
+    }
+
+    pub(crate) fn retries(&self) -> u64 {
+        self.retries
+    }
+
+    /// Counts a retry. The journal must have so many entries.
+    fn retry(&mut self, entries: u64) -> Result<(), CaseError> {
+        let came = self.token.journal().len();
+        if came != entries {
+            return Err(CaseError::Entered { entries, came });
+        }
+        self.retries = self.retries.saturating_add(1);
+        Ok(())
+    }
+
+    pub(crate) fn call(
+        &mut self,
+        alloc: Global,
+        caller: u32,
+        call: &Call,
+    ) -> Result<Reply, CaseError> {
+        let before = self.token.journal().len();
+        let copy = call.duplicate(alloc)?;
+        match self.token.call(alloc, caller, copy) {
+            Ok(reply) => Ok(reply),
+            Err(NoMemory) => {
+                self.retry(before)?;
+                Ok(self.token.call(alloc, caller, call.duplicate(alloc)?)?)
+            }
+        }
+    }
+
+    /// Makes the calls of the steps by a run, and those that it leaves by a second one.
+    pub(crate) fn run(&mut self, alloc: Global, steps: &[Step]) -> Result<(), CaseError> {
+        let before = self.token.journal().len();
+        let calls = calls_after(alloc, steps, 0)?;
+        match run(&mut self.token, alloc, calls) {
+            Ok(()) => Ok(()),
+            Err(Stopped { answered }) => {
+                self.retry(before.saturating_add(answered))?;
+                let left = calls_after(alloc, steps, answered)?;
+                run(&mut self.token, alloc, left).map_err(|_| CaseError::Memory)
+            }
+        }
+    }
+
+    pub(crate) fn cut(&mut self, alloc: Global) -> Result<Result<Journal, Uncut>, CaseError> {
+        let before = self.token.journal().len();
+        match self.token.cut(alloc) {
+            Err(Uncut::Memory) => {
+                self.retry(before)?;
+                Ok(self.token.cut(alloc))
+            }
+            cut => Ok(cut),
+        }
+    }
+}
