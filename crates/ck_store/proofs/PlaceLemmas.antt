@@ -2,7 +2,7 @@
 use Rattle.std.proofs.Common.{◌≡◌, ◌⊎◌, ℕ, ◌<◌, Bool, true, false, cond, not, List, [], ◌∷◌}
 use Rattle.std.proofs.Common.{Option, Some, None, Contains, refl, sym, ap, ◌∙◌, subst, inl, inr}
 use Rattle.std.proofs.Common.{arith, position, length, get_or, take, ◌++◌, ◌+◌}
-use Rattle.std.proofs.lemmas.List.{take_more, map-append, append-nil}
+use Rattle.std.proofs.lemmas.List.{take_more, map-append}
 use Rattle.ck_types.specs.declared.items.Item.{Item}
 use Rattle.ck_journal.specs.declared.views.View.{View}
 use Rattle.std.proofs.lemmas.List.Elements.{All-contains, All-filter, All-contains_itself, Contains-get_or, Contains-push_cases, filter_map-append, filter-append}
@@ -16,7 +16,8 @@ use Rattle.slab.specs.Slab.{Slab, get, Updates}
 use Rattle.ck_journal.proofs.NumberTests.{same_number}
 use Rattle.ck_store.specs.Index.{place, is_at, numbered, object_at, objects_at, is_there}
 use Rattle.ck_store.specs.Index.{IsIndex, IsKeyOf, IsLeft, HasNone, IsListed}
-use Rattle.ck_store.specs.Rows.{ObjectRow, has_number, is_match, matching_numbers, is_ended_by, concerns}
+use Rattle.ck_store.specs.Rows.{ObjectRow, has_number, is_match, matching_numbers, is_ended_by}
+use Rattle.ck_store.specs.Rows.{concerns, matching_number}
 use Rattle.ck_store.specs.declared.places.Place.{Place}
 use Rattle.ck_store.specs.declared.session_lists.SessionList.{SessionList}
 use Rattle.ck_store.specs.declared.endings.Ending.{Ending}
@@ -320,17 +321,26 @@ module _ (view : View) (template : List Item) (objects : Slab ObjectRow) (index 
       ∙ ap (λ x. matching_numbers view template (objects_at objects (take i index)) ++ match_of x) is
       ∙ sym (matching-more i (place 0 0) within)
 
-  -- a match, and an object that is none
-  pub match_of-true : (row : ObjectRow) (numbers : List ℕ) (n : ℕ) → n ≡ row.number
-      → true ≡ is_match view template row → numbers ++ n ∷ [] ≡ numbers ++ match_of (Some row)
-  match_of-true row numbers n is t =
-      ap (λ k. numbers ++ k ∷ []) is
-      ∙ ap (λ b. numbers ++ cond b (row.number ∷ []) []) t
+  -- a match, and no match
+  pub match_of-some : (o : Option ObjectRow) (n : ℕ) → Some n ≡ matching_number view template o
+      → n ∷ [] ≡ match_of o
+  match_of-some None n is = absurd (cc)
+  match_of-some (Some row) n is = tested (is_match view template row) is
+    where
+      tested : (t : Bool) → Some n ≡ cond t (Some row.number) None
+          → n ∷ [] ≡ cond t (row.number ∷ []) []
+      tested true e = ap (λ k. k ∷ []) (same_Some n row.number e)
+      tested false e = absurd (cc)
 
-  pub match_of-false : (row : ObjectRow) (numbers : List ℕ)
-      → false ≡ is_match view template row → numbers ≡ numbers ++ match_of (Some row)
-  match_of-false row numbers t =
-      sym (append-nil numbers) ∙ ap (λ b. numbers ++ cond b (row.number ∷ []) []) t
+  pub match_of-none : (o : Option ObjectRow) → None ≡ matching_number view template o
+      → [] ≡ match_of o
+  match_of-none None is = refl
+  match_of-none (Some row) is = tested (is_match view template row) is
+    where
+      tested : (t : Bool) → None ≡ cond t (Some row.number) None
+          → [] ≡ cond t (row.number ∷ []) []
+      tested true e = absurd (cc)
+      tested false e = refl
 
 -- ---- objects that end
 

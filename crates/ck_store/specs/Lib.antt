@@ -3,4 +3,5 @@ pub use Rattle.ck_journal.specs.Objects
 pub use Rattle.ck_types.specs.Records
 pub mod Agreement
 pub mod Index
+pub mod Labels
 pub mod Rows

@@ -1,6 +1,6 @@
 -- An object as the store has it
 use Rattle.std.specs.Prelude.{ℕ, ◌<◌, Bool, true, false, List, Option, Some, None, ◌==◌, ◌&&◌, AllPairs}
-use Rattle.std.specs.Prelude.{filter, is_some, map, if◌then◌else◌}
+use Rattle.std.specs.Prelude.{filter, is_some, map, option_and_then, if◌then◌else◌}
 use Rattle.std.specs.Option.{option_map_or}
 use Rattle.ck_types.specs.Records.{is_set, with_state}
 use Rattle.ck_types.specs.declared.attributes.Attribute.TheVariants as attribute
@@ -87,6 +87,11 @@ with_key_state number state row =
     if has_number number row
     then record row { attributes = with_state state row.attributes }
     else row
+
+-- the number of an object that is visible and matches the template
+abbrev pub matching_number : View → List Item → Option ObjectRow → Option ℕ
+matching_number view template object = option_and_then
+    (λ (row : ObjectRow). if is_match view template row then Some row.number else None) object
 
 -- ---- lists of objects
 

@@ -3,6 +3,7 @@
 
 mod bases;
 mod endings;
+mod labels;
 mod places;
 mod session_lists;
 mod stored_objects;

@@ -2,13 +2,15 @@ ghost use Rattle.std.specs.Prelude.{◌≡◌, ◌+◌, ◌^◌, ◌<◌, ℕ, n
 ghost use Rattle.std.specs.Prelude.{IfOk, IfSome, Contains, Some, true};
 ghost use Rattle.std.specs.List.{list_any};
 ghost use Rattle.std.specs.Option.{option_copied};
-ghost use Rattle.slab.specs.Slab.{get};
+ghost use Rattle.slab.specs.Slab.{Slab as Slots, get};
 ghost use Rattle.ck_store.specs.Rows.{ObjectRow, has_number, matching_numbers, is_private_row};
-ghost use Rattle.ck_store.specs.Rows.{with_attributes, with_key_state};
+ghost use Rattle.ck_store.specs.Rows.{with_attributes, with_key_state, matching_number};
+ghost use Rattle.ck_store.specs.Labels.{IsMarked, IsWanted};
 ghost use Rattle.ck_store.specs.Index.{place, is_at, object_at, objects_at, is_there, IsIndex, PlacesRise};
-ghost use Rattle.ck_store.specs.Index.{IsChanged, IsKeyOf, IsLeft, EndsAll};
+ghost use Rattle.ck_store.specs.Index.{IsChanged, IsChangedOnly, IsKeyOf, IsLeft, EndsAll};
 ghost use Rattle.ck_store.specs.declared.places.Place.{Place};
 
+use crate::labels::{is_refused, mark_of, set_mark, wanted_mark};
 use crate::stored_objects::StoredObject;
 use ck_journal::View;
 use ck_types::{KeyState, NoMemory, Record, Template};
@@ -93,24 +95,48 @@ pub(crate) fn find_numbered<'a>(
     objects.get(key_of(objects, index, number)?)
 }
 
+/// The number of the place's object, where it is visible and matches the template, which asks for a
+/// label of this mark.
+fn match_at(
+    objects: &Slab<StoredObject>,
+    marks: &[u32],
+    place: Place,
+    wanted: u32,
+    view: View,
+    template: &Template,
+) -> Option<u64>
+    ensures { IsMarked objects.now marks.now → IsWanted template.now.items wanted
+        → result ≡ matching_number view template.now.items (object_at objects.now place) }
+{
+    if is_refused(marks, place.key, wanted) {
+        return None;
+    }
+    let object = object_at(objects, place)?;
+    if object.is_match(view, template) {
+        Some(object.number())
+    } else {
+        None
+    }
+}
+
 /// The numbers of the objects that are visible and match the template. Most searches find few
 /// objects, so room is made as they are found.
 pub(crate) fn find_matching(
     alloc: Global,
     objects: &Slab<StoredObject>,
     index: &[Place],
+    marks: &[u32],
     view: View,
     template: &Template,
 ) -> Result<Vec<u64>, NoMemory>
-    ensures { IfOk result (λ numbers. numbers.items
+    ensures { IfOk result (λ numbers. IsMarked objects.now marks.now → numbers.items
         ≡ matching_numbers view template.now.items (objects_at objects.now index.now)) }
 {
+    let wanted = wanted_mark(template);
     let mut numbers = Vec::new(alloc);
     for place in index {
-        if let Some(object) = object_at(objects, *place) {
-            if object.is_match(view, template) {
-                numbers.push(object.number())?;
-            }
+        if let Some(number) = match_at(objects, marks, *place, wanted, view, template) {
+            numbers.push(number)?;
         }
     }
     Ok(numbers)
@@ -149,6 +175,25 @@ pub(crate) fn set_state_numbered(
     };
     if let Some(object) = objects.get_mut(key) {
         object.set_state(state);
+    }
+}
+
+/// Marks the label of the object that has the number, after a change of the object.
+pub(crate) fn mark_numbered(
+    marks: &mut Vec<u32>,
+    objects: &Slab<StoredObject>,
+    index: &[Place],
+    number: u64,
+)
+    ensures { (old : Slots ObjectRow) → IsIndex objects.now index.now
+        → IsChangedOnly number old objects.now
+        → IsMarked old marks.old.items → IsMarked objects.now marks.new.items }
+{
+    let Some(key) = key_of(objects, index, number) else {
+        return;
+    };
+    if let Some(object) = objects.get(key) {
+        set_mark(marks, key, mark_of(object.attributes()));
     }
 }
 

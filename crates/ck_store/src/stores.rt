@@ -1,7 +1,9 @@
 use crate::bases::copy_objects;
 use crate::endings::{Ending, end_listed, end_newest};
+use crate::labels::{grow_marks, mark_of, set_mark};
 use crate::places::{
-    Place, compact, find_matching, find_numbered, remove_numbered, set_numbered, set_state_numbered,
+    Place, compact, find_matching, find_numbered, mark_numbered, remove_numbered, set_numbered,
+    set_state_numbered,
 };
 use crate::session_lists::{SessionList, list_newest, note_private};
 use crate::stored_objects::StoredObject;
@@ -22,6 +24,8 @@ pub struct Store {
     /// The newest object, until its session's list takes it.
     unlisted: Option<Place>,
     creations: u64,
+    /// By an object's key the mark of its label.
+    marks: Vec<u32>,
 }
 
 impl Model for Store {
@@ -30,6 +34,7 @@ impl Model for Store {
     ghost use Rattle.slab.specs.Slab.{slab_len};
     ghost use Rattle.ck_store.specs.Agreement.{StoreState};
     ghost use Rattle.ck_store.specs.Index.{IsSound, objects_at};
+    ghost use Rattle.ck_store.specs.Labels.{IsMarked};
 
     ghost Value = { StoreState };
 
@@ -44,7 +49,7 @@ impl Model for Store {
 
     ghost invariant = { λ s.
         IsSound s.objects s.index.items s.lists.items s.unlisted s.creations
-        × (s.creations < 2 ^ 32) };
+        × (s.creations < 2 ^ 32) × IsMarked s.objects s.marks.items };
 }
 
 impl Store {
@@ -80,6 +85,7 @@ impl Store {
             lists: Vec::new(alloc),
             unlisted: None,
             creations: 0,
+            marks: Vec::new(alloc),
         }
     }
 
@@ -151,7 +157,15 @@ impl Store {
         ensures { IfOk result (λ numbers. (h : History) → StoreAgrees h self.now
             → view ≡ view_of h → numbers.items ≡ matching_objects h template.now.items) }
     {
-        find_matching(alloc, &self.objects, self.index.as_slice(), view, template)
+        let index = self.index.as_slice();
+        find_matching(
+            alloc,
+            &self.objects,
+            index,
+            self.marks.as_slice(),
+            view,
+            template,
+        )
     }
 
     /// Copies of the objects, in the order of their creations.
@@ -177,7 +191,7 @@ impl Store {
         list_newest(alloc, &mut self.lists, &mut self.unlisted, &self.objects)?;
         self.objects.reserve(1)?;
         self.index.reserve(1)?;
-        Ok(())
+        grow_marks(&mut self.marks, self.objects.capacity())
     }
 
     /// Adds an object that the session creates or copies.
@@ -200,8 +214,10 @@ impl Store {
         ensures rows { self.new.rows ≡ self.old.rows ++ object_row number session attributes ∷ [] }
         ensures creations { self.new.creations ≡ number }
     {
+        let mark = mark_of(&attributes);
         let object = StoredObject::new(number, session, attributes);
         let key = self.objects.insert_reserved(object);
+        set_mark(&mut self.marks, key, mark);
         let place = Place { number, key };
         self.index.push(place).unwrap();
         self.unlisted = Some(place);
@@ -225,6 +241,12 @@ impl Store {
             &attributes,
         );
         set_numbered(&mut self.objects, self.index.as_slice(), number, attributes);
+        mark_numbered(
+            &mut self.marks,
+            &self.objects,
+            self.index.as_slice(),
+            number,
+        );
     }
 
     /// Gives the key that has the number this state.
@@ -236,6 +258,12 @@ impl Store {
             → StoreAgrees h self.old → StoreAgrees (e ◁ h) self.new }
     {
         set_state_numbered(&mut self.objects, self.index.as_slice(), number, state);
+        mark_numbered(
+            &mut self.marks,
+            &self.objects,
+            self.index.as_slice(),
+            number,
+        );
     }
 
     /// Ends the object that has the number.

@@ -1,6 +1,9 @@
 use Rattle.std.proofs.Common.{◌++◌, ◌∷◌, [], Some, ap, sym, ◌∙◌, subst}
 use Rattle.ck_store.specs.Index.{place, objects_at, IsSound}
-use Rattle.ck_store.specs.Rows.{object_row}
+use Rattle.std.proofs.lemmas.Option.{same_Some}
+use Rattle.ck_store.specs.Labels.{IsMarkOf}
+use Rattle.ck_store.specs.Rows.{ObjectRow, object_row}
+use Rattle.ck_store.proofs.LabelLemmas.{IsMarked-updated}
 use Rattle.ck_store.proofs.SoundLemmas.{IsSound-created, objects_at-created, unlisted_none}
 use Rattle.ck_store.proofs.stores.Store.add.Goals as goal
 
@@ -20,6 +23,18 @@ invariant_of-self c =
           (ap (λ row. row.number) c.new-object.ensures) c.insert_reserved-key.ensures.was_vacant
           c.insert_reserved-key.ensures.updates),
       c.requires.small,
+      IsMarked-updated c.self.inside.objects c.insert_reserved-key.new.self
+          c.self.inside.marks.items c.set_mark.new.marks.items c.insert_reserved-key.result
+          c.mark_of-mark.result c.set_mark.ensures.set c.set_mark.ensures.others
+          (λ row is.
+          subst (λ attributes. IsMarkOf attributes c.mark_of-mark.result)
+          (ap (λ (r : ObjectRow). r.attributes)
+          (sym c.new-object.ensures
+          ∙ same_Some c.new-object.result row (sym c.insert_reserved-key.ensures.updates.changed ∙ is)))
+          c.mark_of-mark.ensures)
+          (λ other row differs is.
+          sym (c.insert_reserved-key.ensures.updates.others other differs) ∙ is)
+          c.self.invariant.2,
     )
 
 pub returns-clause-rows : goal.returns-clause-rows

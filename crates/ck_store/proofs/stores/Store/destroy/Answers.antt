@@ -1,6 +1,7 @@
 use Rattle.std.proofs.Common.{refl, ◌∙◌}
 use Rattle.ck_store.specs.Rows.{has_number}
 use Rattle.ck_store.proofs.Moves.{StoreAgrees-destroyed}
+use Rattle.ck_store.proofs.LabelLemmas.{IsMarked-fewer}
 use Rattle.ck_store.proofs.PlaceLemmas.{IsLeft-was, objects_at-left}
 use Rattle.ck_store.proofs.SoundLemmas.{IsSound-fewer, IsSound-reindexed}
 use Rattle.ck_store.proofs.stores.Store.destroy.Goals as goal
@@ -16,6 +17,9 @@ invariant_of-self c =
           (IsLeft-was (has_number c.args.number) c.self.inside.objects c.remove_numbered.new.objects left))
           c.compact.ensures.is_index c.compact.ensures.only,
       c.self.invariant.1,
+      IsMarked-fewer c.self.inside.objects c.remove_numbered.new.objects c.self.inside.marks.items
+          c.self.invariant.2
+          (IsLeft-was (has_number c.args.number) c.self.inside.objects c.remove_numbered.new.objects left),
     )
 
 pub returns : goal.returns

@@ -2,7 +2,8 @@ use Rattle.std.proofs.Common.{◌≡◌, not, filter, ◌∙◌, ap, rules}
 use Rattle.std.proofs.lemmas.Fn.{filter_same}
 use Rattle.ck_store.specs.Index.{is_needed}
 use Rattle.ck_store.specs.Rows.{ObjectRow, is_ended_by}
-use Rattle.ck_store.proofs.PlaceLemmas.{IsLeft-then, HasNone-later, objects_at-left}
+use Rattle.ck_store.proofs.LabelLemmas.{IsMarked-fewer}
+use Rattle.ck_store.proofs.PlaceLemmas.{IsLeft-then, IsLeft-was, HasNone-later, objects_at-left}
 use Rattle.ck_store.proofs.SoundLemmas.{EndsAll-walked, IsSound-closed, IsSound-reindexed}
 use Rattle.ck_store.proofs.stores.Store.end.Goals as goal
 
@@ -27,6 +28,9 @@ invariant_of-self c =
           c.end_newest.ensures.ended c.retain.new.self.items are)
           c.compact.ensures.is_index c.compact.ensures.only,
       c.self.invariant.1,
+      IsMarked-fewer c.self.inside.objects c.end_newest.new.objects c.self.inside.marks.items
+          c.self.invariant.2
+          (IsLeft-was (is_ended_by c.args.ending) c.self.inside.objects c.end_newest.new.objects left),
     )
 
 pub returns-clause-rows : goal.returns-clause-rows

@@ -33,6 +33,7 @@ invariant_of-store c = (
       c.store-2.inside.unlisted c.store-2.inside.creations c.args.base.now.creations
       (rw (← c.store-2.view_is) at c.loop-object.invariant.first.within) c.store-2.invariant.0,
   c.requires.creations,
+  c.store-2.invariant.2,
 )
 
 pub returns : goal.returns

@@ -1,6 +1,7 @@
 use Rattle.std.proofs.Common.{ap, sym, ◌∙◌, subst}
 use Rattle.slab.specs.Slab.{get}
 use Rattle.ck_store.specs.Index.{IsSound}
+use Rattle.ck_store.proofs.LabelLemmas.{IsMarked-fewer, IsMarked-grown}
 use Rattle.ck_store.proofs.SoundLemmas.{IsSound-fewer}
 use Rattle.ck_store.proofs.stores.Store.reserve.Goals as goal
 
@@ -9,6 +10,7 @@ invariant_of-self c = (
   c.list_newest.ensures.sound c.self.inside.index.items c.self.inside.creations
       c.self.invariant.0,
   c.self.invariant.1,
+  c.self.invariant.2,
 )
 
 pub invariant_of-self-in_err-reserve : goal.invariant_of-self-in_err-reserve
@@ -19,6 +21,8 @@ invariant_of-self-in_err-reserve c = (
       c.self.invariant.0)
       (λ key row is. sym (ap (λ s. get s key) c.reserve.ensures.rest_kept) ∙ is),
   c.self.invariant.1,
+  IsMarked-fewer c.self.inside.objects c.reserve.new.self c.self.inside.marks.items
+      c.self.invariant.2 (λ key row is. sym (ap (λ s. get s key) c.reserve.ensures.rest_kept) ∙ is),
 )
 
 pub invariant_of-self-in_err-reserve-2 : goal.invariant_of-self-in_err-reserve-2
@@ -31,6 +35,8 @@ invariant_of-self-in_err-reserve-2 c = (
       c.self.invariant.0)
       (λ key row is. sym (ap (λ s. get s key) c.reserve.ensures.rest_kept) ∙ is)),
   c.self.invariant.1,
+  IsMarked-fewer c.self.inside.objects c.reserve.new.self c.self.inside.marks.items
+      c.self.invariant.2 (λ key row is. sym (ap (λ s. get s key) c.reserve.ensures.rest_kept) ∙ is),
 )
 
 pub invariant_of-self-2 : goal.invariant_of-self-2
@@ -43,4 +49,8 @@ invariant_of-self-2 c = (
       c.self.invariant.0)
       (λ key row is. sym (ap (λ s. get s key) c.reserve.ensures.rest_kept) ∙ is)),
   c.self.invariant.1,
+  IsMarked-grown c.reserve.new.self c.self.inside.marks.items c.grow_marks.new.marks.items
+      (IsMarked-fewer c.self.inside.objects c.reserve.new.self c.self.inside.marks.items
+      c.self.invariant.2 (λ key row is. sym (ap (λ s. get s key) c.reserve.ensures.rest_kept) ∙ is))
+      c.grow_marks.ensures,
 )

@@ -1,0 +1,208 @@
+-- The marks of labels stay those of the objects, and refuse no match
+use Rattle.std.proofs.Common.{◌≡◌, ◌≢◌, ◌⊎◌, ℕ, Bool, true, false, cond, not, List, []}
+use Rattle.std.proofs.Common.{◌∷◌, Option, Some, None, Contains, refl, sym, ap, ◌∙◌, subst}
+use Rattle.std.proofs.Common.{inl, inr, arith, get_or, ◌&&◌, unwrap_or}
+use Rattle.std.specs.Prelude.{◌==◌, option_map}
+use Rattle.std.specs.Cmp.Lexicographic.{same_text}
+use Rattle.std.specs.List.{list_all}
+use Rattle.std.proofs.lemmas.Bool.{cases_eq}
+use Rattle.std.proofs.lemmas.Option.{same_Some}
+use Rattle.slab.specs.Slab.{Slab, get}
+use Rattle.slab.proofs.SlabLemmas.{Contains-cons_cases}
+use Rattle.ck_types.specs.Attributes.{type_of, same_bytes}
+use Rattle.ck_types.specs.Records.{readable_value, has_item, matches}
+use Rattle.ck_types.specs.declared.attributes.Attribute.TheVariants as attribute
+use Rattle.ck_types.specs.declared.items.Item.{Item}
+use Rattle.ck_journal.specs.Objects.{is_visible_with}
+use Rattle.ck_journal.specs.declared.views.View.{View}
+use Rattle.ck_journal.proofs.NumberTests.{same_number}
+use Rattle.ck_types.specs.Records.{with_state}
+use Rattle.ck_types.specs.declared.key_states.KeyState.{KeyState}
+use Rattle.ck_store.specs.Index.{object_at, IsChanged, IsChangedOnly, IsKeyOf}
+use Rattle.ck_store.specs.Labels.{label_mark, IsMarkOf, IsWanted, IsMarked, is_refused}
+use Rattle.ck_store.specs.Rows.{ObjectRow, has_number, is_match, matching_number}
+use Rattle.ck_store.specs.Rows.{with_attributes, with_key_state}
+use Rattle.ck_store.specs.declared.places.Place.{Place}
+use Rattle.ck_store.proofs.PlaceLemmas.{object_at-Some}
+
+-- ---- an object that is refused is no match
+
+both : (s t : Bool) → (s && t) ≡ true → (s ≡ true) × (t ≡ true)
+both true t e = (refl, e)
+both false t e = absurd (cc)
+
+all-has : (items template : List Item) (item : Item) → Contains template item
+    → matches items template ≡ true → has_item items item ≡ true
+all-has items [] item there all = absurd (omega (arith, there.1))
+all-has items (first ∷ rest) item there all =
+    let tests = both (has_item items first) (list_all (has_item items) rest) all in
+    elim (Contains-cons_cases first item rest there) [
+      | inl same ↦ ap (has_item items) (sym same) ∙ tests.0
+      | inr later ↦ all-has items rest item later tests.1
+    ]
+
+-- an item of an object has the object's value
+has-value : (value : List ℕ) (o : Option (List ℕ))
+    → unwrap_or (option_map (same_bytes value) o) false ≡ true → o ≡ Some value
+has-value value None e = absurd (cc)
+has-value value (Some bytes) e = ap Some (sym (same_text value bytes (sym e)))
+
+refuses-equal : (mark : ℕ) → is_refused mark mark ≡ false
+refuses-equal mark =
+    ap (λ t. not (mark == 0) && not (mark == 0) && not t) (same_number mark) ∙ out (mark == 0)
+  where
+    out : (t : Bool) → (not t && not t && false) ≡ false
+    out true = refl
+    out false = refl
+
+refuses-none : (mark : ℕ) → is_refused mark 0 ≡ false
+refuses-none mark = out (mark == 0) (mark == 0)
+  where
+    out : (s t : Bool) → (not s && false && not t) ≡ false
+    out true t = refl
+    out false t = refl
+
+pub refused-no_match : (view : View) (template : List Item) (row : ObjectRow) (mark wanted : ℕ)
+    → IsMarkOf row.attributes mark → IsWanted template wanted → is_refused mark wanted ≡ true
+    → is_match view template row ≡ false
+refused-no_match view template row mark wanted marked is_wanted refused =
+    by_case (is_match view template row) refl
+  where
+    matching : matches row.attributes template ≡ true → ⊥
+    matching all = elim is_wanted [
+      | inl zero_ ↦
+          let out = sym refused ∙ ap (is_refused mark) zero_ ∙ refuses-none mark in
+          absurd (cc)
+      | inr asked ↦
+          let has = all-has row.attributes template asked.0 asked.1 all in
+          let value =
+          has-value asked.0.value (readable_value row.attributes (type_of attribute.Label))
+          (ap (λ kind. unwrap_or (option_map (same_bytes asked.0.value)
+          (readable_value row.attributes kind)) false) (sym asked.2) ∙ has) in
+          elim (marked asked.0.value value) [
+            | inl zero_ ↦
+                let out : true ≡ false = sym refused ∙ ap (λ m. is_refused m wanted) zero_ in
+                absurd (cc)
+            | inr same ↦
+                let out = sym refused ∙ ap (λ m. is_refused m wanted) (same ∙ sym asked.3)
+                ∙ refuses-equal wanted in
+                absurd (cc)
+          ]
+    ]
+
+    by_case : (t : Bool) → is_match view template row ≡ t → is_match view template row ≡ false
+    by_case false e = e
+    by_case true e =
+        absurd (matching (both (is_visible_with view row.attributes)
+        (matches row.attributes template) e).1)
+
+pub refused-none : (objects : Slab ObjectRow) (marks : List ℕ) (p : Place) (view : View)
+    (template : List Item) (wanted : ℕ) → IsMarked objects marks → IsWanted template wanted
+    → is_refused (get_or marks p.key 0) wanted ≡ true
+    → None ≡ matching_number view template (object_at objects p)
+refused-none objects marks p view template wanted marked is_wanted refused =
+    by_case (object_at objects p) refl
+  where
+    by_case : (o : Option ObjectRow) → object_at objects p ≡ o
+        → None ≡ matching_number view template o
+    by_case None is = refl
+    by_case (Some row) is =
+        ap (λ t. cond t (Some row.number) None)
+        (sym (refused-no_match view template row (get_or marks p.key 0) wanted
+        (marked p.key row (object_at-Some objects p row is).0) is_wanted refused))
+
+-- ---- how the marks stay
+
+module _ (objects : Slab ObjectRow) (marks marks' : List ℕ) where
+  pub IsMarked-grown : IsMarked objects marks
+      → ((key : ℕ) → (get_or marks' key 0 ≡ get_or marks key 0) ⊎ (get_or marks' key 0 ≡ 0))
+      → IsMarked objects marks'
+  IsMarked-grown marked grown key row is label has = elim (grown key) [
+    | inl same ↦ subst (λ m. (m ≡ 0) ⊎ (m ≡ label_mark label)) (sym same) (marked key row is label has)
+    | inr zero_ ↦ inl zero_
+  ]
+
+-- one object is new or has other attributes
+module _ (old new : Slab ObjectRow) (marks marks' : List ℕ) (key mark : ℕ)
+    (set_here : (get_or marks' key 0 ≡ mark) ⊎ (get_or marks' key 0 ≡ 0))
+    (others : (other : ℕ) → other ≢ key → get_or marks' other 0 ≡ get_or marks other 0)
+    (here : (row : ObjectRow) → get new key ≡ Some row → IsMarkOf row.attributes mark)
+    (there : (other : ℕ) (row : ObjectRow) → other ≢ key → get new other ≡ Some row
+    → get old other ≡ Some row) where
+  pub IsMarked-updated : IsMarked old marks → IsMarked new marks'
+  IsMarked-updated marked k row is label has = elim (cases_eq k key) [
+    | inl same ↦ elim set_here [
+      | inl set_ ↦
+          subst (λ m. (m ≡ 0) ⊎ (m ≡ label_mark label))
+          (sym (ap (λ x. get_or marks' x 0) same ∙ set_))
+          (here row (sym (ap (get new) same) ∙ is) label has)
+      | inr zero_ ↦ inl (ap (λ x. get_or marks' x 0) same ∙ zero_)
+    ]
+    | inr other ↦
+        subst (λ m. (m ≡ 0) ⊎ (m ≡ label_mark label)) (sym (others k other))
+        (marked k row (there k row other is) label has)
+  ]
+
+-- fewer objects
+pub IsMarked-fewer : (old new : Slab ObjectRow) (marks : List ℕ) → IsMarked old marks
+    → ((key : ℕ) (row : ObjectRow) → get new key ≡ Some row → get old key ≡ Some row)
+    → IsMarked new marks
+IsMarked-fewer old new marks marked was key row is = marked key row (was key row is)
+
+-- ---- which objects a change leaves
+
+module _ (number : ℕ) (change : ObjectRow → ObjectRow) (old new : Slab ObjectRow)
+    (changed : IsChanged change old new)
+    (same_number' : (row : ObjectRow) → (change row).number ≡ row.number)
+    (same : (row : ObjectRow) → has_number number row ≡ false → change row ≡ row) where
+  pub changed-only : IsChangedOnly number old new
+  changed-only key row is other = by_case (get old key) refl (sym (changed key) ∙ is)
+    where
+      by_case : (o : Option ObjectRow) → get old key ≡ o → option_map change o ≡ Some row
+          → get old key ≡ Some row
+      by_case None e m = absurd (cc)
+      by_case (Some before) e m =
+          let this : change before ≡ row = same_Some (change before) row m in
+          let numbers : before.number ≡ row.number =
+          sym (same_number' before) ∙ ap (λ (r : ObjectRow). r.number) this in
+          e ∙ ap Some (sym (same before (ap (λ n. n == number) numbers ∙ other)) ∙ this)
+
+pub with_attributes-other : (number : ℕ) (attributes : List Item) (row : ObjectRow)
+    → has_number number row ≡ false → with_attributes number attributes row ≡ row
+with_attributes-other number attributes row f =
+    ap (λ t. cond t (record row { attributes = attributes }) row) f
+
+pub with_key_state-other : (number : ℕ) (state : KeyState) (row : ObjectRow)
+    → has_number number row ≡ false → with_key_state number state row ≡ row
+with_key_state-other number state row f =
+    ap (λ t. cond t (record row { attributes = with_state state row.attributes }) row) f
+
+-- ---- the object of a number is marked
+
+module _ (old new : Slab ObjectRow) (number : ℕ) (only : IsChangedOnly number old new)
+    (marks : List ℕ) (marked : IsMarked old marks) where
+  -- no object has the number
+  pub IsMarked-none : IsKeyOf new number None → IsMarked new marks
+  IsMarked-none is_key key row is =
+      marked key row (only key row is (by_case (has_number number row) refl))
+    where
+      by_case : (t : Bool) → has_number number row ≡ t → has_number number row ≡ false
+      by_case false e = e
+      by_case true e = let wrong = is_key.only key row is e in absurd (cc)
+
+  pub IsMarked-set : (marks' : List ℕ) (key mark : ℕ) → IsKeyOf new number (Some key)
+      → (get_or marks' key 0 ≡ mark) ⊎ (get_or marks' key 0 ≡ 0)
+      → ((other : ℕ) → other ≢ key → get_or marks' other 0 ≡ get_or marks other 0)
+      → ((row : ObjectRow) → get new key ≡ Some row → IsMarkOf row.attributes mark)
+      → IsMarked new marks'
+  IsMarked-set marks' key mark is_key set_here others here =
+      IsMarked-updated old new marks marks' key mark set_here others here there marked
+    where
+      there : (other : ℕ) (row : ObjectRow) → other ≢ key → get new other ≡ Some row
+          → get old other ≡ Some row
+      there other row differs is = only other row is (by_case (has_number number row) refl)
+        where
+          by_case : (t : Bool) → has_number number row ≡ t → has_number number row ≡ false
+          by_case false e = e
+          by_case true e =
+              absurd (differs (sym (same_Some key other (is_key.only other row is e))))

@@ -1,0 +1,72 @@
+//! Marks of labels, by which a search passes over most objects and looks at none of their attributes.
+ghost use Rattle.std.specs.Prelude.{◌≡◌, ◌≢◌, ◌⊎◌, ℕ, get_or, OnOk};
+ghost use Rattle.ck_types.specs.Attributes.{type_of};
+ghost use Rattle.ck_types.specs.declared.attributes.Attribute.TheVariants as attribute;
+ghost use Rattle.ck_store.specs.Labels.{label_mark, IsMarkOf, IsWanted, is_refused};
+
+use ck_types::{Attribute, Field, NoMemory, Record, Template};
+
+/// The mark of a label. Equal labels have equal marks, and others seldom do.
+fn label_mark(label: &[u8]) -> u32
+    ensures { result ≡ label_mark label.now }
+{
+    let mut mark = 0x811c_9dc5;
+    for byte in label {
+        mark = u32::wrapping_mul(mark, 0x0100_0193).wrapping_add(u32::from(*byte));
+    }
+    mark
+}
+
+/// The mark of an object's label, or 0, which is no mark.
+pub(crate) fn mark_of(attributes: &Record) -> u32
+    ensures { IsMarkOf attributes.now result }
+{
+    match attributes.readable(Attribute::Label.number()) {
+        Ok(Field::Bytes(label)) => label_mark(label.as_slice()),
+        _ => 0,
+    }
+}
+
+/// The mark of the label that a template asks for, or 0 where it asks for none.
+pub(crate) fn wanted_mark(template: &Template) -> u32
+    ensures { IsWanted template.now.items result }
+{
+    let items = template.items.as_slice();
+    let label = Attribute::Label.number();
+    match items.iter().find(|item| item.kind == label) {
+        None => 0,
+        Some(item) => label_mark(item.value.as_slice()),
+    }
+}
+
+/// Whether the label of the object under the key isn't the one that is wanted.
+pub(crate) fn is_refused(marks: &[u32], key: usize, wanted: u32) -> bool
+    ensures { result ≡ is_refused (get_or marks.now key 0) wanted }
+{
+    match marks.get(key) {
+        None => false,
+        Some(mark) => *mark != 0 && wanted != 0 && *mark != wanted,
+    }
+}
+
+/// Writes the mark of the object under the key, where there is room for it.
+pub(crate) fn set_mark(marks: &mut Vec<u32>, key: usize, mark: u32)
+    ensures set { (get_or marks.new.items key 0 ≡ mark) ⊎ (get_or marks.new.items key 0 ≡ 0) }
+    ensures others { (other : ℕ) → other ≢ key
+        → get_or marks.new.items other 0 ≡ get_or marks.old.items other 0 }
+{
+    if key < marks.len() {
+        marks[key] = mark;
+    }
+}
+
+/// Makes room for the marks of the keys below this one.
+pub(crate) fn grow_marks(marks: &mut Vec<u32>, past: usize) -> Result<(), NoMemory>
+    ensures { (key : ℕ) → (get_or marks.new.items key 0 ≡ get_or marks.old.items key 0)
+        ⊎ (get_or marks.new.items key 0 ≡ 0) }
+{
+    if marks.len() < past {
+        marks.resize(past, 0)?;
+    }
+    Ok(())
+}
