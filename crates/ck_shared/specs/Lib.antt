@@ -1,4 +1,5 @@
 pub mod Accounts
+pub mod Asks
 pub mod Callers
 pub mod Locked
 pub mod News

@@ -1,7 +1,7 @@
 ghost use Rattle.std.specs.Prelude.{◌≡◌, ◌≤◌};
 ghost use Rattle.ck_journal.specs.Boards.{board_of};
 ghost use Rattle.ck_journal.specs.Callers.{call_count};
-ghost use Rattle.ck_journal.specs.Histories.{History};
+ghost use Rattle.ck_journal.specs.Histories.{History, start};
 ghost use Rattle.ck_shared.specs.News.{board_after};
 
 use crate::identity::TokenId;
@@ -28,6 +28,16 @@ pub trait ReadBoard<K: TokenId> {
 
     fn front(&self) -> &Front<K>
         ensures { result.now ≡ history self.now };
+}
+
+/// A board that there are two copies of, of which readers see one.
+pub trait WriteBoard<K: TokenId, O: Drop>: Absorb<O> + ReadBoard<K> {
+    /// The two copies, before the first entry.
+    fn pair(board: &TokenBoard, front: &Front<K>) -> (Self, Self)
+        requires front { front.now ≡ start K.base }
+        requires board { board.now ≡ board_of K.limits front.now }
+        ensures published { Self.history result.0 ≡ front.now }
+        ensures alike { Self.state result.0 ≡ Self.state result.1 };
 }
 
 /// One of the two copies of the board. Contracts see the history that it is of.
@@ -66,6 +76,23 @@ fn board_after(before: &TokenBoard, change: &Change) -> TokenBoard
 }
 
 impl<K: TokenId> BoardCopy<K> {
+    ghost use Rattle.std.specs.Prelude.{◌≡◌};
+    ghost use Rattle.ck_journal.specs.Boards.{board_of};
+    ghost use Rattle.ck_journal.specs.Histories.{start};
+
+    /// The board of a history without entries.
+    fn new(board: &TokenBoard, front: &Front<K>) -> BoardCopy<K>
+        requires front { front.now ≡ start K.base }
+        requires board { board.now ≡ board_of K.limits front.now }
+        ensures { result ≡ front.now }
+    {
+        BoardCopy {
+            board: board.duplicate(),
+            calls: [0; 8],
+            front: front.duplicate(),
+        }
+    }
+
     /// Takes in an entry where it is the next one of the board's history.
     fn take_in(&mut self, new: &NewEntry<K>) {
         if !self.front.begins(&new.front) || new.front.len() - self.front.len() != 1 {
@@ -113,5 +140,11 @@ impl<K: TokenId> Absorb<EntrySlot<K>> for BoardCopy<K> {
             self.take_in(new);
         }
         Ok(())
+    }
+}
+
+impl<K: TokenId> WriteBoard<K, EntrySlot<K>> for BoardCopy<K> {
+    fn pair(board: &TokenBoard, front: &Front<K>) -> (BoardCopy<K>, BoardCopy<K>) {
+        (BoardCopy::new(board, front), BoardCopy::new(board, front))
     }
 }

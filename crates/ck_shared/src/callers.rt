@@ -1,3 +1,11 @@
+ghost use Rattle.std.specs.Prelude.{◌≡◌, IfSome};
+ghost use Rattle.ck_journal.specs.Answers.{IsLegal, answer};
+ghost use Rattle.ck_journal.specs.Callers.{call_count};
+ghost use Rattle.ck_journal.specs.Fronts.{IsFront};
+ghost use Rattle.ck_shared.specs.Asks.{call_of, reply_of};
+
+use crate::asks::{Ask, Status, status_on};
+use crate::boards::ReadBoard;
 use crate::identity::TokenId;
 use crate::ledgers::Account;
 use ck_history::Front;
@@ -41,7 +49,22 @@ impl<K: TokenId, T: Drop> Caller<K, T> {
     ghost use Rattle.std.specs.Prelude.{◌≡◌, ◌⊎◌};
     ghost use Rattle.ck_journal.specs.Fronts.{IsFront};
     ghost use Rattle.ck_journal.specs.Answers.{IsLegal};
-    ghost use Rattle.ck_journal.specs.Histories.{entry_count};
+    ghost use Rattle.ck_journal.specs.Histories.{start, entry_count};
+    ghost use Rattle.ck_shared.specs.Callers.{new_caller};
+
+    /// A caller that has made no call.
+    pub(crate) fn new(account: Account<K>, front: &Front<K>, reader: ReadHandle<T>) -> Caller<K, T>
+        requires count { account.count ≡ 0 }
+        requires front { front.now ≡ start K.base }
+        ensures { result ≡ new_caller K.base account }
+    {
+        Caller {
+            account,
+            last: front.duplicate(),
+            seen: front.duplicate(),
+            reader,
+        }
+    }
 
     pub fn number(&self) -> u32
         ensures { result ≡ self.now.number }
@@ -86,6 +109,58 @@ impl<K: TokenId, T: Drop> Caller<K, T> {
         if self.seen.begins(&news.front) {
             self.seen = news.front.duplicate();
         }
+    }
+}
+
+/// What a board answers, and its history, where the history is no shorter than all that the caller
+/// knows and has all entries of the caller.
+fn look<K: TokenId, T: ReadBoard<K>>(
+    board: &T,
+    account: &Account<K>,
+    seen: &Front<K>,
+    ask: Ask,
+) -> Option<(Status, Front<K>)>
+    ensures front { IfSome result (λ found. IsFront seen.now found.1) }
+    ensures count { IfSome result (λ found.
+        call_count account.now.number found.1 ≡ account.now.count) }
+    ensures legal { IfSome result (λ found. IsLegal K.limits found.1) }
+    ensures answer { IfSome result (λ found.
+        reply_of found.0 ≡ answer K.limits found.1 (call_of ask)) }
+{
+    let front = board.front();
+    if !seen.begins(front) || board.calls(account.number()) != account.count() {
+        return None;
+    }
+    // Tells the prover that the history is legal.
+    let _entries = front.len();
+    Some((status_on(board.board(), ask), front.duplicate()))
+}
+
+impl<K: TokenId, T: ReadBoard<K> + Drop> Caller<K, T> {
+    ghost use Rattle.std.specs.Prelude.{◌≡◌, IfSome, OnSome};
+    ghost use Rattle.ck_journal.specs.Answers.{IsLegal, answer};
+    ghost use Rattle.ck_journal.specs.Callers.{entries_by};
+    ghost use Rattle.ck_journal.specs.Fronts.{IsFront};
+    ghost use Rattle.ck_shared.specs.Asks.{call_of, reply_of};
+
+    /// What the token's state was when it had answered the calls that the caller then knows. It
+    /// takes neither the lock nor memory and waits for nobody. `None` where the board can't be
+    /// read, or doesn't show all that the caller knows.
+    pub fn status(&mut self, ask: Ask) -> Option<Status>
+        ensures answer { IfSome result (λ status.
+            reply_of status ≡ answer K.limits self.new.seen (call_of ask)) }
+        ensures legal { OnSome result (IsLegal K.limits self.new.seen) }
+        ensures own { OnSome result (entries_by self.new.number self.new.seen
+            ≡ entries_by self.new.number self.new.last) }
+        ensures front { IsFront self.old.seen self.new.seen }
+        ensures same { self.new ≡ record self.old { seen = self.new.seen } }
+    {
+        let board = self.reader.enter()?;
+        let found = look(&*board, &self.account, &self.seen, ask);
+        drop(board);
+        let (status, front) = found?;
+        self.seen = front;
+        Some(status)
     }
 }
 

@@ -1,5 +1,6 @@
-use ck_history::HistoryId;
-use std::marker::Brand;
+use crate::ledgers::NewLedgers;
+use ck_history::{HistoryId, NewHistory};
+use std::marker::{Brand, Model, PhantomData};
 
 /// Which token it is: its one history, how many callers it has, and the ledger of each caller's
 /// calls. A type stands for them.
@@ -15,4 +16,56 @@ impl TokenId for Brand {
     ghost ledger = { λ caller. 0 };
 
     ghost callers = { 1 };
+}
+
+/// What a type may come to stand for: a history without entries, and ledgers without calls.
+pub struct NewIdentity {
+    pub history: NewHistory,
+    pub ledgers: NewLedgers,
+}
+
+impl NewIdentity {
+    pub fn new() -> NewIdentity {
+        NewIdentity {
+            history: NewHistory::new(),
+            ledgers: NewLedgers::new(),
+        }
+    }
+}
+
+/// How many callers the token has.
+#[derive(Drop)]
+pub(crate) struct CallerCount<K: TokenId> {
+    count: u32,
+    of: PhantomData<K>,
+}
+
+impl<K: TokenId> Model for CallerCount<K> {
+    ghost use Rattle.std.specs.Prelude.{ℕ, ◌≡◌};
+
+    ghost Value = { ℕ };
+
+    ghost view = { λ c. c.count };
+
+    ghost invariant = { λ c. c.count ≡ K.callers };
+}
+
+impl<K: TokenId> CallerCount<K> {
+    ghost use Rattle.std.specs.Prelude.{◌≡◌};
+
+    pub(crate) fn new(count: u32) -> CallerCount<K>
+        requires { count ≡ K.callers }
+        ensures { result ≡ count }
+    {
+        CallerCount {
+            count,
+            of: PhantomData,
+        }
+    }
+
+    pub(crate) fn get(&self) -> u32
+        ensures { result ≡ K.callers }
+    {
+        self.count
+    }
 }

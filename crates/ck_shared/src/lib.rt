@@ -2,6 +2,7 @@
 //! token's state without the lock.
 #![tactic(auto)]
 
+mod asks;
 mod boards;
 mod callers;
 mod identity;
@@ -9,11 +10,14 @@ mod ledgers;
 mod locked;
 mod shared;
 mod slots;
+#[cfg(test)]
+mod tests;
 
-pub use boards::{BoardCopy, ReadBoard};
+pub use asks::{Ask, Status};
+pub use boards::{BoardCopy, ReadBoard, WriteBoard};
 pub use callers::{Caller, News};
-pub use identity::TokenId;
-pub use ledgers::{Account, CallBooks, CallerLedger};
+pub use identity::{NewIdentity, TokenId};
+pub use ledgers::{Account, CallBooks, CallerLedger, NewLedgers};
 pub use locked::Locked;
-pub use shared::SharedToken;
+pub use shared::{Ends, SharedToken};
 pub use slots::{Change, EntrySlot, NewEntry, Slot};

@@ -104,15 +104,71 @@ fn change_of(token: &Token, leaves: bool) -> Change
     }
 }
 
+/// Waits until the history is no shorter than another front of it.
+fn await_front<K: TokenId, W: Wait>(rt: &W, other: &Front<K>, front: &Front<K>)
+    ensures { IsFront other.now front.now }
+{
+    for _ in rt.forever() {
+        if other.begins(front) {
+            return;
+        }
+    }
+    unreachable!()
+}
+
 impl<K: TokenId, O: Slot<K>, T: Absorb<O> + ReadBoard<K> + Drop, R: Wait + Drop> Locked<
     K,
     O,
     T,
     R,
 > {
-    ghost use Rattle.std.specs.Prelude.{◌≡◌, IfOk, OnOk, OnErr};
+    ghost use Rattle.std.specs.Prelude.{◌≡◌, [], IfOk, OnOk, OnErr};
+    ghost use Rattle.left_right.specs.Handles.{published, pending};
+    ghost use Rattle.ck_journal.specs.Callers.{AreCallers};
     ghost use Rattle.ck_token.specs.TokenStates.{IsAnswered, IsUnchanged};
-    ghost use Rattle.ck_shared.specs.Callers.{HasCalled};
+    ghost use Rattle.ck_shared.specs.Callers.{HasCalled, IsSettled};
+    ghost use Rattle.ck_shared.specs.Locked.{IsTied};
+
+    /// Ties a token to its callers and to the board.
+    pub(crate) fn new(
+        token: Token,
+        books: CallBooks<K>,
+        front: Front<K>,
+        head: Head<K>,
+        writer: WriteHandle<T, O, R>,
+    ) -> Locked<K, O, T, R>
+        requires tied { IsTied K.limits K.callers token books front
+            (T.history (published writer)) }
+        requires pending { pending writer ≡ [] }
+        ensures { result ≡ token }
+    {
+        Locked {
+            token,
+            books,
+            front,
+            head,
+            writer,
+        }
+    }
+
+    /// Takes a caller back. It may wait, until the history is as long as that of the caller.
+    pub(crate) fn settle<W: Wait>(&mut self, rt: &W, caller: Caller<K, T>)
+        ensures same { self.new ≡ self.old }
+        ensures settled { IsSettled self.old.history caller }
+    {
+        let mut caller = caller;
+        self.books.compare(&mut caller.account);
+        await_front(rt, &caller.seen, &self.front);
+    }
+
+    /// The token without its lock. It waits for those who still read the board.
+    pub(crate) fn into_token(self) -> Token
+        ensures token { result ≡ self }
+        ensures limits { result.limits ≡ K.limits }
+        ensures callers { AreCallers K.callers result.history }
+    {
+        self.token
+    }
 
     /// One call of a caller. Where there is no memory for it, nothing has changed. It may wait for
     /// those who still read the board from before the last call.

@@ -1,11 +1,22 @@
-use crate::boards::ReadBoard;
+ghost use Rattle.std.specs.Prelude.{◌≡◌, ◌==◌, ◌≤◌, ℕ, [], IfOk, map};
+ghost use Rattle.std.specs.List.{list_any};
+ghost use Rattle.left_right.specs.Handles.{published, pending};
+ghost use Rattle.ck_journal.specs.Boards.{board_of};
+ghost use Rattle.ck_journal.specs.Histories.{start};
+ghost use Rattle.ck_shared.specs.Accounts.{AreNew, name_of, no_calls};
+ghost use Rattle.ck_shared.specs.Callers.{are_all, new_caller, new_callers};
+
+use crate::boards::{ReadBoard, WriteBoard};
 use crate::callers::Caller;
-use crate::identity::TokenId;
+use crate::identity::{CallerCount, NewIdentity, TokenId};
+use crate::ledgers::{Account, CallBooks};
 use crate::locked::Locked;
 use crate::slots::Slot;
-use ck_journal::{Call, Reply};
-use ck_types::NoMemory;
-use left_right::Absorb;
+use ck_history::{Front, Head};
+use ck_journal::{Call, Reply, TokenBoard};
+use ck_token::Token;
+use ck_types::{Limits, NoMemory};
+use left_right::{Absorb, WriteHandle};
 use std::alloc::Global;
 use std::sync::{Mutex, Wait};
 
@@ -13,6 +24,150 @@ use std::sync::{Mutex, Wait};
 #[derive(Drop)]
 pub struct SharedToken<K: TokenId, O: Slot<K>, T: Absorb<O> + ReadBoard<K> + Drop, R: Wait + Drop> {
     lock: Mutex<Locked<K, O, T, R>>,
+    callers: CallerCount<K>,
+}
+
+/// The two ends of a token that is shared: what is shared, and what each caller has.
+#[derive(Drop)]
+pub struct Ends<K: TokenId, O: Slot<K>, T: Absorb<O> + ReadBoard<K> + Drop, R: Wait + Drop> {
+    pub token: SharedToken<K, O, T, R>,
+    pub callers: Vec<Caller<K, T>>,
+}
+
+/// What a shared token has beside the token, before the first call.
+#[derive(Drop)]
+struct Opened<K: TokenId, O: Slot<K>, T: Absorb<O> + ReadBoard<K> + Drop, R: Wait + Drop> {
+    books: CallBooks<K>,
+    front: Front<K>,
+    head: Head<K>,
+    writer: WriteHandle<T, O, R>,
+    callers: Vec<Caller<K, T>>,
+}
+
+/// The callers that have these accounts, each with a reader of the board.
+fn callers_of<K: TokenId, O: Slot<K>, T: Absorb<O> + ReadBoard<K> + Drop, R: Wait + Drop>(
+    alloc: Global,
+    accounts: Vec<Account<K>>,
+    front: &Front<K>,
+    writer: &WriteHandle<T, O, R>,
+) -> Result<Vec<Caller<K, T>>, NoMemory>
+    requires counts { AreNew accounts.items }
+    requires front { front.now ≡ start K.base }
+    ensures { IfOk result (λ callers. callers.items ≡ map (new_caller K.base) accounts.items) }
+{
+    let mut callers = Vec::with_capacity(alloc, accounts.len())?;
+    for account in accounts {
+        callers.push(Caller::new(account, front, writer.handle()?))?;
+    }
+    Ok(callers)
+}
+
+/// All that a shared token takes memory for when it is opened.
+fn prepare<K: TokenId, O: Slot<K>, T: WriteBoard<K, O> + Drop, R: Wait + Drop>(
+    rt: R,
+    alloc: Global,
+    board: TokenBoard,
+    callers: u32,
+    identity: NewIdentity,
+) -> Result<Opened<K, O, T, R>, NoMemory>
+    requires board { board ≡ board_of K.limits (start K.base) }
+    requires callers { (1 ≤ callers) × (callers ≤ 8) × (callers ≡ K.callers) }
+    requires history { identity.history.seen.book ≡ K.book }
+    requires ledgers { (n : ℕ) → K.ledger n ≡ name_of identity.ledgers n }
+    ensures books { IfOk result (λ opened. opened.books ≡ no_calls) }
+    ensures front { IfOk result (λ opened. opened.front ≡ start K.base) }
+    ensures published { IfOk result (λ opened. T.history (published opened.writer) ≡ start K.base) }
+    ensures pending { IfOk result (λ opened. pending opened.writer ≡ []) }
+    ensures callers { IfOk result (λ opened. opened.callers.items ≡ new_callers K.base callers) }
+{
+    let NewIdentity { history, ledgers } = identity;
+    let (head, front) = history.named::<K>();
+    let (books, accounts) = ledgers.named::<K>(alloc, callers)?;
+    let (shown, hidden) = T::pair(&board, &front);
+    let writer = WriteHandle::new(alloc, rt, shown, hidden, callers as usize)?;
+    let callers = callers_of(alloc, accounts, &front, &writer)?;
+    Ok(Opened {
+        books,
+        front,
+        head,
+        writer,
+        callers,
+    })
+}
+
+fn has_caller<K: TokenId, T: Drop>(number: u32, callers: &[Caller<K, T>]) -> bool
+    ensures { result ≡ list_any (λ caller. caller.number == number) callers.now }
+{
+    callers.iter().any(|caller| caller.number() == number)
+}
+
+/// Whether each of the numbers 1 to `most` is that of one of the callers.
+fn are_all<K: TokenId, T: Drop>(most: u32, callers: &[Caller<K, T>]) -> bool
+    ensures { result ≡ are_all most callers.now }
+{
+    most == 0 || (has_caller(most, callers) && are_all(most - 1, callers))
+}
+
+impl<K: TokenId, O: Slot<K>, T: WriteBoard<K, O> + Drop, R: Wait + Drop> SharedToken<K, O, T, R> {
+    ghost use Rattle.std.specs.Prelude.{◌≡◌, ◌≤◌, ℕ, IfOk, IfErr};
+    ghost use Rattle.ck_journal.specs.Bases.{empty_base};
+    ghost use Rattle.ck_journal.specs.Histories.{start};
+    ghost use Rattle.ck_shared.specs.Accounts.{name_of};
+    ghost use Rattle.ck_shared.specs.Callers.{new_callers};
+
+    /// Shares a token whose journal has no entry among the callers 1 to `callers`. Where there is
+    /// no memory, the token comes back.
+    pub fn adopt(
+        rt: R,
+        alloc: Global,
+        token: Token,
+        callers: u32,
+        identity: NewIdentity,
+    ) -> Result<Ends<K, O, T, R>, (Token, NoMemory)>
+        requires history { token.history ≡ start K.base }
+        requires limits { token.limits ≡ K.limits }
+        requires callers { (1 ≤ callers) × (callers ≤ 8) × (callers ≡ K.callers) }
+        requires book { identity.history.seen.book ≡ K.book }
+        requires ledgers { (n : ℕ) → K.ledger n ≡ name_of identity.ledgers n }
+        ensures callers { IfOk result (λ ends. ends.callers.items ≡ new_callers K.base callers) }
+        ensures token { IfErr result (λ refused. refused.0 ≡ token) }
+    {
+        match prepare(rt, alloc, token.board(), callers, identity) {
+            Ok(opened) => Ok(Ends {
+                token: SharedToken {
+                    lock: Mutex::new(Locked::new(
+                        token,
+                        opened.books,
+                        opened.front,
+                        opened.head,
+                        opened.writer,
+                    )),
+                    callers: CallerCount::new(callers),
+                },
+                callers: opened.callers,
+            }),
+            Err(NoMemory) => Err((token, NoMemory)),
+        }
+    }
+
+    /// Shares a new token among the callers 1 to `callers`.
+    pub fn open(
+        rt: R,
+        alloc: Global,
+        limits: Limits,
+        callers: u32,
+        identity: NewIdentity,
+    ) -> Result<Ends<K, O, T, R>, NoMemory>
+        requires base { K.base ≡ empty_base }
+        requires limits { limits ≡ K.limits }
+        requires callers { (1 ≤ callers) × (callers ≤ 8) × (callers ≡ K.callers) }
+        requires book { identity.history.seen.book ≡ K.book }
+        requires ledgers { (n : ℕ) → K.ledger n ≡ name_of identity.ledgers n }
+        ensures { IfOk result (λ ends. ends.callers.items ≡ new_callers K.base callers) }
+    {
+        let token = Token::new(alloc, limits);
+        SharedToken::adopt(rt, alloc, token, callers, identity).map_err(|refused| refused.1)
+    }
 }
 
 impl<K: TokenId, O: Slot<K>, T: Absorb<O> + ReadBoard<K> + Drop, R: Wait + Drop> SharedToken<
@@ -21,8 +176,9 @@ impl<K: TokenId, O: Slot<K>, T: Absorb<O> + ReadBoard<K> + Drop, R: Wait + Drop>
     T,
     R,
 > {
-    ghost use Rattle.std.specs.Prelude.{◌≡◌, IfOk, OnErr};
-    ghost use Rattle.ck_shared.specs.Callers.{HasCalled};
+    ghost use Rattle.std.specs.Prelude.{◌≡◌, true, false, All, IfOk, OnOk, IfErr, OnErr};
+    ghost use Rattle.ck_journal.specs.Callers.{AreCallers};
+    ghost use Rattle.ck_shared.specs.Callers.{HasCalled, IsSettled, are_all};
 
     /// One call of a caller, under the lock.
     pub fn call<W: Wait>(
@@ -37,5 +193,29 @@ impl<K: TokenId, O: Slot<K>, T: Absorb<O> + ReadBoard<K> + Drop, R: Wait + Drop>
         ensures caller { OnErr result (caller.new ≡ caller.old) }
     {
         self.lock.lock(rt).step(rt, alloc, caller, call)
+    }
+
+    /// Takes the token back, where all of its callers are given back, of which each then knew a
+    /// front of its journal. Else nothing has changed.
+    pub fn close<W: Wait>(
+        self,
+        rt: &W,
+        callers: Vec<Caller<K, T>>,
+    ) -> Result<Token, (SharedToken<K, O, T, R>, Vec<Caller<K, T>>)>
+        ensures all { OnOk result (are_all K.callers callers.items ≡ true) }
+        ensures missing { OnErr result (are_all K.callers callers.items ≡ false) }
+        ensures back { IfErr result (λ refused. refused.1 ≡ callers) }
+        ensures limits { IfOk result (λ token. token.limits ≡ K.limits) }
+        ensures callers { IfOk result (λ token. AreCallers K.callers token.history) }
+        ensures settled { IfOk result (λ token. All (IsSettled token.history) callers.items) }
+    {
+        if !are_all(self.callers.get(), callers.as_slice()) {
+            return Err((self, callers));
+        }
+        let mut locked = self.lock.into_inner();
+        for caller in callers {
+            locked.settle(rt, caller);
+        }
+        Ok(locked.into_token())
     }
 }
