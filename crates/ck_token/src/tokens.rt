@@ -3,7 +3,7 @@ ghost use Rattle.ck_journal.specs.Histories.{History};
 ghost use Rattle.ck_journal.specs.Replies.{has_list};
 ghost use Rattle.ck_parts.specs.Agreement.{PartsAgree, adds, HasRoom};
 
-use crate::cuts::{Uncut, kept_objects};
+use crate::cuts::Uncut;
 use crate::decisions::{Decision, Refused};
 use ck_journal::{Base, Body, Call, Entry, Journal, OperationKind, Reply, TokenBoard};
 use ck_parts::{Change, Parts};
@@ -192,7 +192,7 @@ impl Token {
         if self.parts.sessions.count() != 0 {
             return Err(Uncut::Session);
         }
-        let objects = kept_objects(&self.parts.objects, alloc)?;
+        let objects = self.parts.objects.kept(alloc)?;
         let base = self
             .parts
             .sessions
