@@ -10,8 +10,6 @@ mod ledgers;
 mod locked;
 mod shared;
 mod slots;
-#[cfg(test)]
-mod tests;
 
 pub use asks::{Ask, Status};
 pub use boards::{BoardCopy, ReadBoard, WriteBoard};

@@ -4,8 +4,8 @@ ghost use Rattle.std.specs.Prelude.{◌≡◌, ◌≤◌, ℕ};
 ghost use Rattle.ck_journal.specs.Histories.{start};
 ghost use Rattle.ck_shared.specs.Accounts.{name_of};
 
-use super::*;
 use ck_journal::{Body, Call, Journal, Reply};
+use ck_shared::*;
 use ck_token::Token;
 use ck_types::{Limits, NoMemory, Pin, Rv, RvError, SessionState, TokenFlags};
 use std::alloc::Global;
