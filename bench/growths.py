@@ -5,7 +5,8 @@ Each case of the files in crates/ck_cases/data, or of the files that are named, 
 memory, which is refused. What finds no memory, a call, a run or a cut, the program of cases makes again after a look at
 the journal: so the case passes, or the program itself is out of memory. The calls of a case are also played as a
 script: all replies are written, or whole lines at their front, and then the program says that it is out of memory.
-Where anything else comes, it is printed, and the status is 1.
+Where anything else comes, it is printed, and the status is 1. Bad lines are left out: they make no call, and without
+memory one may have another reason.
 
 The programs are crates/ck_cases/out/ck_cases and crates/ck_run/out/ck_run, built by `rt run` in their folders. This
 needs Linux with the GNU C library, and a C compiler, `cc`, for growths.c beside this file.
@@ -24,6 +25,7 @@ CASES = os.path.join(CRATES, "ck_cases", "out", "ck_cases")
 SCRIPTS = os.path.join(CRATES, "ck_run", "out", "ck_run")
 DATA = os.path.join(CRATES, "ck_cases", "data", "*.cases")
 LARGEST = "limits largest"
+BAD_LINE = " -> bad script: "
 
 Ended = collections.namedtuple("Ended", "status output errors growths")
 
@@ -54,14 +56,14 @@ def play(library, words, text, growth):
 
 
 def cases_in(path):
-    """The cases of a file: of each its lines, the limits first, and the number of the first of them."""
+    """The cases of a file without bad lines: of each its lines, the limits first, and the number of the first."""
     cases = []
     with open(path, encoding="utf-8", newline="\n") as file:
         for number, line in enumerate(file, 1):
             line = line.rstrip("\n")
             if line.startswith("limits "):
                 cases.append((number, [line]))
-            elif line and not line.startswith("#"):
+            elif line and not line.startswith("#") and BAD_LINE not in line:
                 if not cases:
                     cases.append((number, [LARGEST]))
                 cases[-1][1].append(line)
@@ -71,7 +73,7 @@ def cases_in(path):
 def calls_in(case):
     """The calls of a case, each with its reply."""
     steps = [line.split(" -> ", 1) for line in case[1:]]
-    return [step for step in steps if step[0] != "cut" and not step[1].startswith("bad script: ")]
+    return [step for step in steps if step[0] != "cut"]
 
 
 def is_case_right(ended, name, plain):

@@ -35,6 +35,7 @@ impl RetryingToken {
         self.token.journal()
     }
 
+    /// How often something found no memory and was made again.
     pub(crate) fn retries(&self) -> u64 {
         self.retries
     }
@@ -49,6 +50,7 @@ impl RetryingToken {
         Ok(())
     }
 
+    /// Makes a call.
     pub(crate) fn call(
         &mut self,
         alloc: Global,
@@ -80,6 +82,7 @@ impl RetryingToken {
         }
     }
 
+    /// Cuts the journal, or says why it isn't cut.
     pub(crate) fn cut(&mut self, alloc: Global) -> Result<Result<Journal, Uncut>, CaseError> {
         let before = self.token.journal().len();
         match self.token.cut(alloc) {
