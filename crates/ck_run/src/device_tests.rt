@@ -85,6 +85,17 @@ fn lines_are_answered_before_the_next_read(rt: HostRuntime) -> Result<(), Fail> 
 }
 
 #[test]
+fn finding_the_end_takes_a_read(rt: HostRuntime) -> Result<(), Fail> {
+    for (turns, want) in [(3, "reader does not end"), (4, "played")] {
+        let mut devices = Devices::of(1);
+        devices.turns = turns;
+        let text = transcript(rt.alloc(), b"#x\n", devices)?;
+        assert_eq!(rt; text.as_str(), want, "{turns} reads");
+    }
+    Ok(())
+}
+
+#[test]
 fn a_writer_that_fails_has_a_beginning_of_the_replies(rt: HostRuntime) -> Result<(), Fail> {
     for count in 0..REPLIES.len() {
         let number = (count as u64).saturating_add(1);

@@ -1,4 +1,4 @@
-use crate::line_tables::{BAD_LINES, MEANINGS};
+use crate::line_tables::MEANINGS;
 use ck_script::{BadLine, Line, LineError, cut_line};
 use std::alloc::Global;
 use std::process::Abort;
@@ -19,32 +19,6 @@ fn lines_have_their_meanings(rt: HostRuntime) -> Result<(), Fail> {
             return Err(Fail::new("a row has no meaning"));
         };
         assert_eq!(rt; meaning_of(rt.alloc(), text)?.as_str(), meaning, "{text}");
-    }
-    Ok(())
-}
-
-/// Why a line is bad.
-fn reason_of(alloc: Global, line: &str) -> Result<String, Fail> {
-    match Line::parse(alloc, line.as_bytes()) {
-        Err(LineError::Bad(reason)) => Ok(format!(in alloc; "{reason}")?),
-        _ => Ok(String::from_str(alloc, "none")?),
-    }
-}
-
-fn assert_reasons(rt: &impl Abort, alloc: Global, block: &str) -> Result<(), Fail> {
-    let Some((reason, lines)) = block.split_once('\n') else {
-        return Err(Fail::new("a reason has no lines"));
-    };
-    for line in lines.split('\n') {
-        assert_eq!(rt; reason_of(alloc, line)?.as_str(), reason, "{line}");
-    }
-    Ok(())
-}
-
-#[test]
-fn bad_lines_have_their_reasons(rt: HostRuntime) -> Result<(), Fail> {
-    for block in BAD_LINES.split("\n\n") {
-        assert_reasons(&rt, rt.alloc(), block)?;
     }
     Ok(())
 }
