@@ -253,6 +253,46 @@ fn searches(rt: HostRuntime) -> Result<(), Fail> {
     Ok(())
 }
 
+/// The objects that a search by this label finds.
+fn labelled(store: &Store, alloc: Global, label: &[u8]) -> Result<Vec<u64>, NoMemory> {
+    let items: &[(u64, &[u8])] = &[(0x3, label)];
+    let template = match template_of(alloc, items) {
+        Ok(template) => template,
+        Err(NoMemory) => template_of(alloc, items)?,
+    };
+    match store.find(alloc, logged_in(), &template) {
+        Ok(found) => Ok(found),
+        Err(NoMemory) => store.find(alloc, logged_in(), &template),
+    }
+}
+
+/// A search goes by the label that an object has now, also where another object lay before.
+#[test]
+fn searches_after_changes(rt: HostRuntime) -> Result<(), Fail> {
+    let alloc = rt.alloc();
+    let mut store = filled(&rt, alloc)?;
+    let items: &[(u64, &[u8])] = &[(0, DATA), (0x3, &[9; 2])];
+    let changed = match record_of(alloc, items) {
+        Ok(changed) => changed,
+        Err(_) => record_of(alloc, items)?,
+    };
+    store.set(4, changed);
+    assert_eq!(rt;
+        labelled(&store, alloc, &[9; 2])?.as_slice(),
+        [2, 4].as_slice()
+    );
+    assert!(rt; labelled(&store, alloc, &[9; 4])?.is_empty());
+    store.destroy(2);
+    let created = add(&rt, alloc, &mut store, 1)?;
+    assert_eq!(rt; created, 5);
+    assert_eq!(rt;
+        labelled(&store, alloc, &[9; 2])?.as_slice(),
+        [4].as_slice()
+    );
+    assert_eq!(rt; labelled(&store, alloc, &[])?.as_slice(), [5].as_slice());
+    Ok(())
+}
+
 /// Creates a session object; where memory is refused, it is asked for again.
 fn add(rt: &impl Abort, alloc: Global, store: &mut Store, session: u64) -> Result<u64, Refusal> {
     let items: &[(u64, &[u8])] = &[(0, DATA)];
