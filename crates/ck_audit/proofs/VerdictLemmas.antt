@@ -59,13 +59,13 @@ module _ (limits : Ranges) where
       none (x ∷ later) parts = cc
   first_wrong (e ◁ h) n m one other = elim (wrong-case e h n one) [
     | inl before ↦ elim (wrong-case e h m other) [
-        | inl too ↦ first_wrong h n m before too
-        | inr newest ↦ absurd (legal-right h n newest.1 before)
-      ]
+      | inl too ↦ first_wrong h n m before too
+      | inr newest ↦ absurd (legal-right h n newest.1 before)
+    ]
     | inr newest ↦ elim (wrong-case e h m other) [
-        | inl before ↦ absurd (legal-right h m newest.1 before)
-        | inr too ↦ newest.0 ∙ sym too.0
-      ]
+      | inl before ↦ absurd (legal-right h m newest.1 before)
+      | inr too ↦ newest.0 ∙ sym too.0
+    ]
   ]
 
   -- what a verdict says that is so

@@ -3,5 +3,7 @@
 
 mod audits;
 mod comparisons;
+#[cfg(test)]
+mod tests;
 
 pub use audits::{Verdict, audit, audit_token};

@@ -9,5 +9,5 @@ abbrev pub invariant-loop-index : goal.invariant-loop-index
 invariant-loop-index l = record {
   limits : l.token.limits ≡ l.fn.token.limits;
   history : l.token.history ≡ history_of (start_of l.fn.journal.history) (take l.index l.entries);
-  legal : IsLegal l.token.limits l.token.history
+  legal : IsLegal l.token.limits l.token.history;
 }
