@@ -3,7 +3,5 @@
 
 mod audits;
 mod comparisons;
-#[cfg(test)]
-mod tests;
 
 pub use audits::{Verdict, audit, audit_token};

@@ -1,5 +1,5 @@
 //! Journals of mixed calls as a token leaves them, and with a reply changed.
-use crate::{Verdict, audit, audit_token};
+use ck_audit::{Verdict, audit, audit_token};
 use ck_journal::{AttributeQuery, Body, Call, Entry, Journal, Reply};
 use ck_token::Token;
 use ck_types::{Bytes, Item, Limits, Mechanism, NoMemory, Pin, Rv, RvError, Sequence, Template};
