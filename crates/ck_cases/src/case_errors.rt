@@ -14,6 +14,8 @@ pub(crate) enum CaseError {
     Differs(u64, String),
     #[error("line {0}: no entry of the journal")]
     NoEntry(u64),
+    #[error("the audit finds entry {0} wrong")]
+    Wrong(u64),
     /// What found no memory isn't in the journal.
     #[error("out of memory, and the journal has {came} entries in place of {entries}")]
     Entered { entries: u64, came: u64 },

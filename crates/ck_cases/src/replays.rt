@@ -2,6 +2,7 @@
 use crate::case_errors::CaseError;
 use crate::cases::{Action, Case, Step, cases_in};
 use crate::retries::RetryingToken;
+use ck_audit::Verdict;
 use ck_journal::{Journal, Reply};
 use ck_script::push_reply;
 use ck_token::Uncut;
@@ -97,13 +98,17 @@ fn compare_entries(
     Ok(())
 }
 
-/// Makes the calls of a case up to each cut by one run, and looks for the replies in the journal.
+/// Makes the calls of a case up to each cut by one run, looks for the replies in the journal, and
+/// audits it.
 fn play_by_runs(alloc: Global, case: &Case) -> Result<u64, CaseError> {
     let mut token = RetryingToken::new(alloc, case.limits);
     for steps in case.steps.split(|step| step.is_cut()) {
         let before = token.journal().len();
         token.run(alloc, steps)?;
         compare_entries(alloc, token.journal(), before, steps)?;
+        if let Verdict::Wrong(number) = token.audit(alloc)? {
+            return Err(CaseError::Wrong(number));
+        }
         let _cut = token.cut(alloc)?;
     }
     Ok(token.retries())

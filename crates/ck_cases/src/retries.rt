@@ -1,6 +1,7 @@
 //! A token on which what finds no memory is made again.
 use crate::case_errors::CaseError;
 use crate::cases::Step;
+use ck_audit::{Verdict, audit};
 use ck_journal::{Call, Journal, Reply};
 use ck_token::{Stopped, Token, Uncut, run};
 use ck_types::{Limits, NoMemory};
@@ -78,6 +79,17 @@ impl RetryingToken {
                 self.retry(before.saturating_add(answered))?;
                 let left = calls_after(alloc, steps, answered)?;
                 run(&mut self.token, alloc, left).map_err(|_| CaseError::Memory)
+            }
+        }
+    }
+
+    /// Audits the journal.
+    pub(crate) fn audit(&mut self, alloc: Global) -> Result<Verdict, CaseError> {
+        match audit(alloc, self.token.journal(), self.token.limits()) {
+            Ok(verdict) => Ok(verdict),
+            Err(NoMemory) => {
+                self.retry(self.token.journal().len())?;
+                Ok(audit(alloc, self.token.journal(), self.token.limits())?)
             }
         }
     }
