@@ -83,15 +83,18 @@ impl RetryingToken {
         }
     }
 
+    fn verdict(&self, alloc: Global) -> Result<Verdict, NoMemory> {
+        audit(alloc, self.token.journal(), self.token.limits())
+    }
+
     /// Audits the journal.
     pub(crate) fn audit(&mut self, alloc: Global) -> Result<Verdict, CaseError> {
-        match audit(alloc, self.token.journal(), self.token.limits()) {
-            Ok(verdict) => Ok(verdict),
-            Err(NoMemory) => {
-                self.retry(self.token.journal().len())?;
-                Ok(audit(alloc, self.token.journal(), self.token.limits())?)
-            }
+        let entries = self.token.journal().len();
+        if let Ok(verdict) = self.verdict(alloc) {
+            return Ok(verdict);
         }
+        self.retry(entries)?;
+        Ok(self.verdict(alloc)?)
     }
 
     /// Cuts the journal, or says why it isn't cut.
