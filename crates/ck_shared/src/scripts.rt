@@ -50,6 +50,13 @@ impl<K: TokenId, T: Drop> Script<K, T> {
         self.replies.as_slice()
     }
 
+    /// The caller, and the replies to its calls.
+    pub fn into_parts(self) -> (Caller<K, T>, Vec<Reply>)
+        ensures { result ≡ (self.caller, self.replies) }
+    {
+        (self.caller, self.replies)
+    }
+
     /// Where it is not `Ok`, the call after those that were answered found no memory, and those
     /// after it were not made.
     pub fn outcome(&self) -> Result<(), NoMemory>
