@@ -137,7 +137,7 @@ fn look<K: TokenId, T: ReadBoard<K>>(
 }
 
 impl<K: TokenId, T: ReadBoard<K> + Drop> Caller<K, T> {
-    ghost use Rattle.std.specs.Prelude.{◌≡◌, IfSome, OnSome};
+    ghost use Rattle.std.specs.Prelude.{◌≡◌, IfNone, IfSome, OnSome};
     ghost use Rattle.ck_journal.specs.Answers.{IsLegal, answer};
     ghost use Rattle.ck_journal.specs.Callers.{entries_by};
     ghost use Rattle.ck_journal.specs.Fronts.{IsFront};
@@ -154,6 +154,7 @@ impl<K: TokenId, T: ReadBoard<K> + Drop> Caller<K, T> {
             ≡ entries_by self.new.number self.new.last) }
         ensures front { IsFront self.old.seen self.new.seen }
         ensures same { self.new ≡ record self.old { seen = self.new.seen } }
+        ensures unchanged { IfNone result (self.new ≡ self.old) }
     {
         let board = self.reader.enter()?;
         let found = look(&*board, &self.account, &self.seen, ask);
