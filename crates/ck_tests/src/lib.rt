@@ -1,9 +1,8 @@
-//! Tests of the libraries: vectors and rows from outside, each public function once, and growths
-//! refused in turn. They stand apart, since a crate with tests is proved a second time with them.
+//! Tests of values, computations, definitions and scripts: vectors and rows from outside, and each
+//! public function once. They stand apart from what they test, since a crate with tests is proved a
+//! second time with them.
 #![tactic(auto)]
 
-#[cfg(test)]
-mod audit;
 #[cfg(test)]
 mod history;
 #[cfg(test)]
@@ -17,16 +16,6 @@ mod mac;
 #[cfg(test)]
 mod mechanisms;
 #[cfg(test)]
-mod operations;
-#[cfg(test)]
 mod replies;
-#[cfg(test)]
-mod sessions;
-#[cfg(test)]
-mod shared;
-#[cfg(test)]
-mod store;
-#[cfg(test)]
-mod token;
 #[cfg(test)]
 mod types;

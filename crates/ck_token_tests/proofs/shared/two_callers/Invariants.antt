@@ -1,6 +1,6 @@
 use Rattle.ck_journal.specs.Histories.{start_of}
 use Rattle.ck_shared.specs.Accounts.{name_of}
-use Rattle.ck_tests.proofs.shared.two_callers.Given as goal
+use Rattle.ck_token_tests.proofs.shared.two_callers.Given as goal
 
 -- the token that was just made
 abbrev pub ghosts-called_by_two-K-TokenId : goal.ghosts-called_by_two-K-TokenId
