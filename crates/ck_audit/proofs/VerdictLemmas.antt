@@ -1,5 +1,6 @@
 -- At most one verdict is so, and how the entries of a log lead to one
-use Rattle.std.proofs.Common.{◌≡◌, ◌≢◌, ◌⊎◌, inl, inr, ℕ, suc, ◌+◌, ◌<◌, List, [], ◌∷◌, ◌++◌, length, take, drop, get_or, refl, sym, ap, ◌∙◌, subst, arith}
+use Rattle.std.proofs.Common.{◌≡◌, ◌≢◌, ◌⊎◌, inl, inr, ℕ, suc, ◌+◌, ◌<◌, List, [], ◌∷◌, ◌++◌, length}
+use Rattle.std.proofs.Common.{take, drop, get_or, refl, sym, ap, ◌∙◌, subst, arith}
 use Rattle.std.specs.Prelude.{reverse}
 use Rattle.std.proofs.lemmas.List.{take_more, take-append-drop, length-take-le}
 use Rattle.ck_types.specs.TokenLimits.{Ranges}
@@ -8,7 +9,8 @@ use Rattle.ck_journal.specs.declared.calls.Entry.{Entry}
 use Rattle.ck_journal.specs.Answers.{answer, IsLegal}
 use Rattle.ck_journal.specs.Fronts.{extended_by, history_of}
 use Rattle.ck_journal.specs.Histories.{History, start, ◌◁◌, followed_by, entry_count}
-use Rattle.ck_journal.proofs.FrontLemmas.{entry_count-log, history_of-next, extended_by-append, extended_by-reverse}
+use Rattle.ck_journal.proofs.FrontLemmas.{entry_count-log, history_of-next, extended_by-append}
+use Rattle.ck_journal.proofs.FrontLemmas.{extended_by-reverse}
 use Rattle.ck_audit.specs.Verdicts.{IsFirstWrong, IsVerdict}
 use Rattle.ck_audit.specs.declared.audits.Verdict.{Verdict}
 use Rattle.ck_audit.specs.declared.audits.Verdict.TheVariants as verdict

@@ -14,11 +14,13 @@ module _ (b : Base) where
   pub count_is : (log : List Entry) (h : History) (n : ℕ) → n ≡ length log → history_of b log ≡ h → n ≡ entry_count h
   count_is log h n len is = len ∙ sym (entry_count-log b log) ∙ ap entry_count is
 
-  module _ (one two all : List Entry) (g h : History) (p : IsPrefix one all) (q : IsPrefix two all) (is : history_of b one ≡ g) (also : history_of b two ≡ h) where
+  module _ (one two all : List Entry) (g h : History) (p : IsPrefix one all) (q : IsPrefix two all)
+      (is : history_of b one ≡ g) (also : history_of b two ≡ h) where
     -- of two fronts the shorter begins the longer
     pub shorter_begins : length one ≤ length two → IsFront g h
     shorter_begins len =
-        subst (λ x. IsFront x h) is (subst (IsFront (history_of b one)) also (front_of_prefix b one two (prefix_shorter one two all p q len)))
+        subst (λ x. IsFront x h) is (subst (IsFront (history_of b one)) also
+            (front_of_prefix b one two (prefix_shorter one two all p q len)))
 
     pub as_long_same : length one ≡ length two → g ≡ h
     as_long_same len =
@@ -26,7 +28,8 @@ module _ (b : Base) where
         sym is ∙ ap (history_of b) whole ∙ also
 
   -- an entry was added to all that was seen, which was as long as the one front
-  module _ (one two seen log : List Entry) (e : Entry) (g h : History) (p : IsPrefix one seen) (q : IsPrefix two seen) (is : history_of b one ≡ g) (also : history_of b two ≡ h)
+  module _ (one two seen log : List Entry) (e : Entry) (g h : History) (p : IsPrefix one seen)
+      (q : IsPrefix two seen) (is : history_of b one ≡ g) (also : history_of b two ≡ h)
       (len : length seen ≡ length one) (added : log ≡ seen ++ e ∷ []) where
     same_seen : one ≡ seen
     same_seen = prefix_whole one seen p (omega arith)

@@ -1,5 +1,6 @@
 -- What the board of a token answers, and which calls leave it
-use Rattle.std.proofs.Common.{◌≡◌, ℕ, Bool, true, false, not, cond, Option, Some, None, IsTrue, refl, sym, ap, ◌∙◌, subst}
+use Rattle.std.proofs.Common.{◌≡◌, ℕ, Bool, true, false, not, cond, Option, Some, None, IsTrue, refl}
+use Rattle.std.proofs.Common.{sym, ap, ◌∙◌, subst}
 use Rattle.std.proofs.lemmas.Bool.{eqb-true}
 use Rattle.std.proofs.lemmas.List.{length-map}
 use Rattle.std.specs.Prelude.{◌==◌, map, filter, find, length, is_some, option_map}
@@ -23,9 +24,12 @@ use Rattle.ck_journal.specs.Answers.{answer, flags_of_token, ok, refusal, unless
 use Rattle.ck_journal.specs.Boards.{BoardState, board_of, login_status, LeavesBoard}
 use Rattle.ck_journal.specs.Histories.{History, ◌◁◌, done, is_ok, is_wrong_pin, effects_of, effects}
 use Rattle.ck_journal.specs.Pins.{about, is_about, is_user, tries}
-use Rattle.ck_journal.specs.Sessions.{openings, is_open, flags_of, open_sessions, rw_sessions, has_rw_flag, login, state_of}
-use Rattle.ck_journal.proofs.LoginMoves.{session_rows-left, login-left, user_pin-left, is_initialized-left, tries-left, opens-left}
-use Rattle.ck_journal.proofs.Selections.{list_any-selected, list_any-at, filter-map, find-map, is_some-find, find-passes}
+use Rattle.ck_journal.specs.Sessions.{openings, is_open, flags_of, open_sessions, rw_sessions}
+use Rattle.ck_journal.specs.Sessions.{has_rw_flag, login, state_of}
+use Rattle.ck_journal.proofs.LoginMoves.{session_rows-left, login-left, user_pin-left}
+use Rattle.ck_journal.proofs.LoginMoves.{is_initialized-left, tries-left, opens-left}
+use Rattle.ck_journal.proofs.Selections.{list_any-selected, list_any-at, filter-map, find-map}
+use Rattle.ck_journal.proofs.Selections.{is_some-find, find-passes}
 use Rattle.ck_journal.proofs.SessionMoves.{is_open-within, flags_of-later}
 
 abbrev row_of : History → ℕ → ℕ × ℕ
@@ -53,7 +57,8 @@ module _ (h : History) where
       ∙ list_any-selected (λ (row : ℕ × ℕ). row.0 == session) (is_open h) (row_of h) (openings h)
       ∙ list_any-at (is_open h) session (openings h) (is_open-within h session))
 
-  pub rw-rows : length (filter (λ (row : ℕ × ℕ). has_rw_flag row.1) (map (row_of h) (open_sessions h))) ≡ length (rw_sessions h)
+  pub rw-rows : length (filter (λ (row : ℕ × ℕ). has_rw_flag row.1) (map (row_of h) (open_sessions h))) ≡
+      length (rw_sessions h)
   rw-rows =
       ap length (filter-map (λ (row : ℕ × ℕ). has_rw_flag row.1) (row_of h) (open_sessions h))
       ∙ length-map (rw_sessions h) (row_of h)
@@ -76,7 +81,8 @@ module _ (limits : Ranges) (h : History) (session : ℕ) where
   pub info-closed : find (λ (row : ℕ × ℕ). row.0 == session) (board_of limits h).sessions ≡ None
       → refusal rv_error.SessionHandleInvalid ≡ answer limits h (call.GetSessionInfo session)
   info-closed none =
-      let closed : is_open h session ≡ false = closed_case h (is_open h session) (row_of h session) (sym (find-row h session) ∙ none) in
+      let closed : is_open h session ≡ false = closed_case h (is_open h session) (row_of h session)
+            (sym (find-row h session) ∙ none) in
       ap (λ t. info_by t (state_of h session) (flags_of h session)) (sym closed)
 
   pub info-open : (row : ℕ × ℕ) (s : SessionState)
@@ -146,7 +152,8 @@ module _ (h : History) (e : Entry) (l : (effects_of (Some e.call)).sessions ≡ 
 
   status-stays : login_status (e ◁ h) ≡ login_status h
   status-stays =
-      rw (login-left e h done-left, tries-stay user.So, tries-stay user.User, is_initialized-left e h done-left, user_pin-left e h done-left) refl
+      rw (login-left e h done-left, tries-stay user.So, tries-stay user.User, is_initialized-left e h
+          done-left, user_pin-left e h done-left) refl
 
   board-stays : (limits : Ranges) → board_of limits (e ◁ h) ≡ board_of limits h
   board-stays limits = rw (rows-stay, status-stays) refl

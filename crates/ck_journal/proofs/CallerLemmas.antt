@@ -1,5 +1,6 @@
 -- The entries of a caller in a history that goes on
-use Rattle.std.proofs.Common.{◌≡◌, ℕ, zero, suc, ◌+◌, ◌-◌, ◌≤◌, Bool, true, false, List, [], ◌∷◌, length, slice_index, slice_set, refl, sym, ap, ◌∙◌, cond, arith}
+use Rattle.std.proofs.Common.{◌≡◌, ℕ, zero, suc, ◌+◌, ◌-◌, ◌≤◌, Bool, true, false, List, [], ◌∷◌}
+use Rattle.std.proofs.Common.{length, slice_index, slice_set, refl, sym, ap, ◌∙◌, cond, arith}
 use Rattle.std.specs.Prelude.{◌==◌}
 use Rattle.ck_journal.specs.declared.calls.Entry.{Entry}
 use Rattle.ck_journal.specs.Callers.{entries_by, call_count, call_counts}
@@ -19,7 +20,8 @@ shorter_before : (caller : ℕ) (g : History) (later : List Entry)
     → call_count caller g ≤ call_count caller (followed_by g later)
 shorter_before caller g [] = omega arith
 shorter_before caller g (e ∷ later) =
-    shorter_step (e.caller == caller) (call_count caller g) e (entries_by caller (followed_by g later)) (shorter_before caller g later)
+    shorter_step (e.caller == caller) (call_count caller g) e (entries_by caller (followed_by g later))
+        (shorter_before caller g later)
 
 same_step : (t : Bool) (old : List Entry) (e : Entry) (es : List Entry) → length old ≤ length es
     → (length es ≡ length old → es ≡ old)
@@ -32,7 +34,8 @@ same_before : (caller : ℕ) (g : History) (later : List Entry)
     → entries_by caller (followed_by g later) ≡ entries_by caller g
 same_before caller g [] counts = refl
 same_before caller g (e ∷ later) counts =
-    same_step (e.caller == caller) (entries_by caller g) e (entries_by caller (followed_by g later)) (shorter_before caller g later) (same_before caller g later) counts
+    same_step (e.caller == caller) (entries_by caller g) e (entries_by caller (followed_by g later))
+        (shorter_before caller g later) (same_before caller g later) counts
 
 -- where a front has as many entries of the caller, they are the same
 pub entries_by-front : (caller : ℕ) (g h : History) → IsFront g h → call_count caller h ≡ call_count caller g

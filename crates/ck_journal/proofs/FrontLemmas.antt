@@ -33,7 +33,8 @@ nothing_later g h (x ∷ later) e short = absurd (omega (arith, ap entry_count e
 before_later : (e : Entry) (g h : History) (later : List Entry) → e ◁ h ≡ followed_by g later
     → entry_count g ≡ entry_count h → g ≡ h
 before_later e g h [] is counts = let longer = ap entry_count is in absurd (omega arith)
-before_later e g h (x ∷ later) is counts = let rest : h ≡ followed_by g later = cc is in nothing_later g h later rest (omega arith)
+before_later e g h (x ∷ later) is counts = let rest : h ≡ followed_by g later = cc is in nothing_later g h
+    later rest (omega arith)
 
 -- a front that lacks one entry is all before it
 pub front_before : (e : Entry) (g h : History) → IsFront g (e ◁ h) → entry_count g ≡ entry_count h → g ≡ h
@@ -65,7 +66,8 @@ module _ (b : Base) where
   -- the history of a beginning of a log is a front
   pub front_of_prefix : (log all : List Entry) → IsPrefix log all → IsFront (history_of b log) (history_of b all)
   front_of_prefix log all p =
-      subst (λ x. IsFront (history_of b log) x) (sym (extended_by-append (start b) log p.0) ∙ ap (history_of b) p.1) (front_extended (history_of b log) p.0)
+      subst (λ x. IsFront (history_of b log) x) (sym (extended_by-append (start b) log p.0) ∙ ap
+          (history_of b) p.1) (front_extended (history_of b log) p.0)
 
 -- a log and the same entries, the newest first
 pub extended_by-reverse : (h : History) (log : List Entry)

@@ -1,9 +1,11 @@
 -- What is so in every legal history that starts from a sound base, where the limits are in range
-use Rattle.std.proofs.Common.{◌≡◌, ◌≢◌, ℕ, suc, ◌<◌, ◌≤◌, ◌^◌, Bool, true, false, cond, not, ◌&&◌, List, [], ◌∷◌, Option, Some, None, length, refl, sym, ap, ◌∙◌, subst, arith}
+use Rattle.std.proofs.Common.{◌≡◌, ◌≢◌, ℕ, suc, ◌<◌, ◌≤◌, ◌^◌, Bool, true, false, cond, not, ◌&&◌, List}
+use Rattle.std.proofs.Common.{[], ◌∷◌, Option, Some, None, length, refl, sym, ap, ◌∙◌, subst, arith}
 use Rattle.std.specs.Prelude.{◌==◌, is_none, nat_le, nat_lt, bit_and, option_and_then}
 use Rattle.std.specs.List.{list_any}
 use Rattle.std.specs.Option.{option_map_or}
-use Rattle.std.proofs.lemmas.Bool.{eqb-true, eqb-false, ne_eqb, leb-false, not-false, false_from_ne_true, false≢true}
+use Rattle.std.proofs.lemmas.Bool.{eqb-true, eqb-false, ne_eqb, leb-false, not-false}
+use Rattle.std.proofs.lemmas.Bool.{false_from_ne_true, false≢true}
 use Rattle.std.proofs.lemmas.Option.{same_Some}
 use Rattle.ck_types.specs.Checks.{error_if, or_else, first_of}
 use Rattle.ck_types.specs.Pins.{fits_a_pin}
@@ -33,15 +35,24 @@ use Rattle.ck_journal.specs.declared.calls.Entry.{Entry}
 use Rattle.ck_journal.specs.declared.operations.OperationKind.TheVariants as kind
 use Rattle.ck_journal.specs.declared.replies.Body.TheVariants as body
 use Rattle.ck_journal.specs.declared.replies.Reply.{Reply}
-use Rattle.ck_journal.specs.Answers.{unless, refusal, session_error, pin_error, init_token_error, init_pin_error, set_pin_error, known_login_error, user_login_error, logged_in_error, read_only_error, logins_error, object_error, prohibited_error, placement_error, read_only_session_error, creations_error, too_small, ok, bytes_reply, call_error, allowed_reply, answer, IsLegal, is_so, is_so_state, tag_in, parameter_error}
+use Rattle.ck_journal.specs.Answers.{unless, refusal, session_error, pin_error, init_token_error}
+use Rattle.ck_journal.specs.Answers.{init_pin_error, set_pin_error, known_login_error, user_login_error}
+use Rattle.ck_journal.specs.Answers.{logged_in_error, read_only_error, logins_error, object_error}
+use Rattle.ck_journal.specs.Answers.{prohibited_error, placement_error, read_only_session_error}
+use Rattle.ck_journal.specs.Answers.{creations_error, too_small, ok, bytes_reply, call_error}
+use Rattle.ck_journal.specs.Answers.{allowed_reply, answer, IsLegal, is_so, is_so_state, tag_in}
+use Rattle.ck_journal.specs.Answers.{parameter_error}
 use Rattle.ck_journal.specs.Bases.{base_tries, IsSound}
 use Rattle.ck_journal.specs.Histories.{History, start, ◌◁◌, start_of, done, wrong_try, is_ok, is_wrong_pin}
-use Rattle.ck_journal.specs.Objects.{creates, creations, object_at, object_after, attributes_named, named_attributes, session_of, view_of, names_with, in_state}
+use Rattle.ck_journal.specs.Objects.{creates, creations, object_at, object_after, attributes_named}
+use Rattle.ck_journal.specs.Objects.{named_attributes, session_of, view_of, names_with, in_state}
 use Rattle.ck_journal.specs.Operations.{message_in}
-use Rattle.ck_journal.specs.Pins.{about, is_about, is_user, is_locked, is_initialized, is_pin, pin_owner, present_pin, resets, tries}
+use Rattle.ck_journal.specs.Pins.{about, is_about, is_user, is_locked, is_initialized, is_pin}
+use Rattle.ck_journal.specs.Pins.{pin_owner, present_pin, resets, tries}
 use Rattle.ck_journal.specs.Queries.{is_sensitive, is_missing, lacks_room}
 use Rattle.ck_journal.specs.Searches.{starts_search, ends_search, is_searching}
-use Rattle.ck_journal.specs.Sessions.{opens, openings, closes, is_open, open_sessions, has_rw_flag, is_read_write, login, logs_user_in, user_logins, state_of}
+use Rattle.ck_journal.specs.Sessions.{opens, openings, closes, is_open, open_sessions, has_rw_flag}
+use Rattle.ck_journal.specs.Sessions.{is_read_write, login, logs_user_in, user_logins, state_of}
 use Rattle.ck_journal.proofs.ObjectMoves.{object_at-within}
 use Rattle.ck_journal.proofs.SessionMoves.{is_open-within}
 

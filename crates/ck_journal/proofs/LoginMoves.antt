@@ -1,5 +1,6 @@
 -- How the login, PINs and wrong tries move by one entry
-use Rattle.std.proofs.Common.{◌≡◌, ℕ, suc, Bool, true, false, cond, ◌||◌, Option, Some, None, length, refl, sym, ap, ◌∙◌}
+use Rattle.std.proofs.Common.{◌≡◌, ℕ, suc, Bool, true, false, cond, ◌||◌, Option, Some, None, length}
+use Rattle.std.proofs.Common.{refl, sym, ap, ◌∙◌}
 use Rattle.std.specs.Prelude.{◌==◌}
 use Rattle.ck_types.specs.declared.pins.Pin.{Pin}
 use Rattle.ck_types.specs.declared.return_codes.Rv.{Rv}
@@ -8,10 +9,13 @@ use Rattle.ck_types.specs.declared.users.UserType.{UserType}
 use Rattle.ck_journal.specs.declared.calls.Call.{Call}
 use Rattle.ck_journal.specs.declared.calls.Call.TheVariants as call
 use Rattle.ck_journal.specs.declared.calls.Entry.{Entry}
-use Rattle.ck_journal.specs.Histories.{History, start, ◌◁◌, done, wrong_try, is_ok, is_wrong_pin, effects_of, effects}
-use Rattle.ck_journal.specs.Pins.{so_pin, so_pin_after, user_pin, user_pin_after, named_owner, is_initialized, initializes, is_about, resets, tries}
+use Rattle.ck_journal.specs.Histories.{History, start, ◌◁◌, done, wrong_try, is_ok, is_wrong_pin}
+use Rattle.ck_journal.specs.Histories.{effects_of, effects}
+use Rattle.ck_journal.specs.Pins.{so_pin, so_pin_after, user_pin, user_pin_after, named_owner}
+use Rattle.ck_journal.specs.Pins.{is_initialized, initializes, is_about, resets, tries}
 use Rattle.ck_journal.proofs.SessionMoves.{session_rows, session_rows-same, openings-later, open_sessions-rows}
-use Rattle.ck_journal.specs.Sessions.{opens, openings, closes, open_sessions, login, login_after, logs_user_in, user_logins}
+use Rattle.ck_journal.specs.Sessions.{opens, openings, closes, open_sessions, login, login_after}
+use Rattle.ck_journal.specs.Sessions.{logs_user_in, user_logins}
 
 -- ---- an entry is answered OK, or is a wrong try, or neither
 

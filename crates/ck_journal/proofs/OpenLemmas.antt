@@ -1,5 +1,6 @@
 -- No more sessions are open than the limit allows
-use Rattle.std.proofs.Common.{◌≡◌, ℕ, suc, ◌+◌, ◌<◌, ◌≤◌, Bool, true, false, not, cond, List, [], ◌∷◌, Option, Some, None, length, length-append, refl, sym, ap, ◌∙◌, arith}
+use Rattle.std.proofs.Common.{◌≡◌, ℕ, suc, ◌+◌, ◌<◌, ◌≤◌, Bool, true, false, not, cond, List, [], ◌∷◌}
+use Rattle.std.proofs.Common.{Option, Some, None, length, length-append, refl, sym, ap, ◌∙◌, arith}
 use Rattle.std.specs.Prelude.{◌==◌, ◌&&◌, bit_and, nat_le, filter}
 use Rattle.ck_types.specs.Checks.{error_if}
 use Rattle.ck_types.specs.TokenLimits.{Ranges}
@@ -14,7 +15,8 @@ use Rattle.ck_journal.specs.Pins.{is_initialized}
 use Rattle.ck_journal.specs.Sessions.{opens, openings, closes, is_open, open_sessions, has_rw_flag, login}
 use Rattle.ck_journal.proofs.LegalLemmas.{later-passes, count-free, passed-done}
 use Rattle.ck_journal.proofs.Selections.{selected-none, filter-selected}
-use Rattle.ck_journal.proofs.SessionMoves.{session_rows, session_rows-opened, session_rows-later, open_sessions-rows}
+use Rattle.ck_journal.proofs.SessionMoves.{session_rows, session_rows-opened, session_rows-later}
+use Rattle.ck_journal.proofs.SessionMoves.{open_sessions-rows}
 
 filter_step : (t : Bool) (k : ℕ) (ks rest : List ℕ) → length ks ≤ length rest
     → length (cond t (k ∷ ks) ks) ≤ suc (length rest)

@@ -11,7 +11,9 @@ use Rattle.ck_journal.specs.declared.views.View.{View}
 use Rattle.ck_journal.specs.Histories.{History, ◌◁◌, done, effects_of, effects}
 use Rattle.ck_journal.specs.Objects.{creations, object_at, is_some_with, view_of}
 use Rattle.ck_journal.specs.Pins.{is_user}
-use Rattle.ck_journal.specs.Searches.{starts_search, ends_search, asks_search, is_searching, is_match_with, matching_objects, search_template, found_objects, last_number}
+use Rattle.ck_journal.specs.Searches.{starts_search, ends_search, asks_search, is_searching}
+use Rattle.ck_journal.specs.Searches.{is_match_with, matching_objects, search_template, found_objects}
+use Rattle.ck_journal.specs.Searches.{last_number}
 use Rattle.ck_journal.specs.Sessions.{numbers, login, user_logins}
 use Rattle.ck_journal.proofs.LoginMoves.{login-left, user_logins-left}
 use Rattle.ck_journal.proofs.ObjectMoves.{creations-left, object_at-left}
@@ -39,7 +41,8 @@ module _ (e : Entry) (h : History) (l : (effects e).searches ≡ false) (s : ℕ
 
   pub found_objects-left : found_objects (e ◁ h) s ≡ found_objects h s
   found_objects-left =
-      ap (λ t. cond t (matching_objects (e ◁ h) (search_template (done e))) (found_objects h s)) (starts-left (done e) s l)
+      ap (λ t. cond t (matching_objects (e ◁ h) (search_template (done e))) (found_objects h s))
+          (starts-left (done e) s l)
 
   pub last_number-left : last_number (e ◁ h) s ≡ last_number h s
   last_number-left = rw (starts-left (done e) s l, asks-left (done e) s l) refl
@@ -56,7 +59,8 @@ module _ (e : Entry) (h : History) where
   module _ (lo : (effects e).objects ≡ false) (ls : (effects e).sessions ≡ false) where
     pub matching_objects-left : (template : List Item) → matching_objects (e ◁ h) template ≡ matching_objects h template
     matching_objects-left template =
-        ap (λ n. filter (λ k. is_some_with (is_match_with (view_of (e ◁ h)) template) (object_at (e ◁ h) k)) (numbers n)) (creations-left e h lo)
+        ap (λ n. filter (λ k. is_some_with (is_match_with (view_of (e ◁ h)) template) (object_at (e ◁ h) k))
+            (numbers n)) (creations-left e h lo)
         ∙ filter_agree (λ k. is_some_with (is_match_with (view_of (e ◁ h)) template) (object_at (e ◁ h) k))
         (λ k. is_some_with (is_match_with (view_of h) template) (object_at h k))
         (λ k. ap (λ (v : View). is_some_with (is_match_with v template) (object_at (e ◁ h) k)) (view_of-left ls)

@@ -1,5 +1,6 @@
 -- How sessions move by one entry
-use Rattle.std.proofs.Common.{◌≡◌, ℕ, suc, ◌≤◌, Bool, true, false, cond, not, ◌&&◌, List, [], ◌∷◌, ◌++◌, Option, Some, refl, ap, ◌∙◌, arith}
+use Rattle.std.proofs.Common.{◌≡◌, ℕ, suc, ◌≤◌, Bool, true, false, cond, not, ◌&&◌, List, [], ◌∷◌, ◌++◌}
+use Rattle.std.proofs.Common.{Option, Some, refl, ap, ◌∙◌, arith}
 use Rattle.std.specs.Prelude.{◌==◌, map, length}
 use Rattle.std.proofs.Math.Bool.{and-true}
 use Rattle.std.proofs.lemmas.Bool.{eqb-true}
@@ -9,7 +10,8 @@ use Rattle.ck_journal.specs.declared.calls.Entry.{Entry}
 use Rattle.ck_journal.specs.Histories.{History, start, ◌◁◌, done}
 use Rattle.ck_journal.specs.Sessions.{opens, openings, closes, is_open, opening_flags, flags_of, open_sessions}
 use Rattle.ck_journal.proofs.NumberTests.{below_suc, same_number, ended_test}
-use Rattle.ck_journal.proofs.Selections.{selected, selected-suc, selected-same, selected-rows_same, length-selected}
+use Rattle.ck_journal.proofs.Selections.{selected, selected-suc, selected-same, selected-rows_same}
+use Rattle.ck_journal.proofs.Selections.{length-selected}
 
 -- ---- steps, over what was done
 
@@ -61,7 +63,8 @@ module _ (e : Entry) (h : History) where
         ap (λ n. selected (is_open (e ◁ h)) (row (e ◁ h)) n) openings-opened
         ∙ selected-suc (is_open (e ◁ h)) (row (e ◁ h)) (openings h)
         ∙ rw is_open-opened
-        (ap (λ rows. rows ++ row (e ◁ h) (suc (openings h)) ∷ []) (selected-same (is_open (e ◁ h)) (is_open h) (row (e ◁ h)) (row h) (openings h) is_open-below same))
+        (ap (λ rows. rows ++ row (e ◁ h) (suc (openings h)) ∷ [])
+            (selected-same (is_open (e ◁ h)) (is_open h) (row (e ◁ h)) (row h) (openings h) is_open-below same))
 
   -- ---- an entry that opens nothing
 
@@ -83,7 +86,8 @@ module _ (e : Entry) (h : History) where
         → session_rows row (e ◁ h) ≡ selected (λ k. is_open h k && not (closes (done e) k)) (row h) (openings h)
     session_rows-later row same =
         ap (λ n. selected (is_open (e ◁ h)) (row (e ◁ h)) n) openings-later
-        ∙ selected-same (is_open (e ◁ h)) (λ k. is_open h k && not (closes (done e) k)) (row (e ◁ h)) (row (e ◁ h)) (openings h) (λ k below. is_open-later k) (λ k below. refl)
+        ∙ selected-same (is_open (e ◁ h)) (λ k. is_open h k && not (closes (done e) k)) (row (e ◁ h))
+            (row (e ◁ h)) (openings h) (λ k below. is_open-later k) (λ k below. refl)
         ∙ selected-rows_same (λ k. is_open h k && not (closes (done e) k)) (row (e ◁ h)) (row h) (openings h) same
 
     -- where it closes nothing either all stay, with what it makes of their rows
@@ -92,7 +96,8 @@ module _ (e : Entry) (h : History) where
     session_rows-changed row no_closing =
         ap (λ n. selected (is_open (e ◁ h)) (row (e ◁ h)) n) openings-later
         ∙ selected-same (is_open (e ◁ h)) (is_open h) (row (e ◁ h)) (row (e ◁ h)) (openings h)
-        (λ k below. is_open-later k ∙ ap (λ t. is_open h k && not t) (no_closing k) ∙ and-true (is_open h k)) (λ k below. refl)
+        (λ k below. is_open-later k ∙ ap (λ t. is_open h k && not t) (no_closing k) ∙ and-true (is_open h k))
+            (λ k below. refl)
 
     pub session_rows-same : {X : Type 0} (row : History → ℕ → X) → ((k : ℕ) → row (e ◁ h) k ≡ row h k)
         → ((s : ℕ) → closes (done e) s ≡ false)
@@ -107,7 +112,8 @@ within_step : (e : Entry) (h : History) (s : ℕ) → (is_open h s ≡ true → 
     → (opened closed : Bool) (same : Bool) → opens (done e) ≡ opened → s == suc (openings h) ≡ same
     → cond (opened && same) true (cond closed false (is_open h s)) ≡ true
     → (1 ≤ s) × (s ≤ cond opened (suc (openings h)) (openings h))
-within_step e h s below true closed true o same is_so = let e : s ≡ suc (openings h) = eqb-true s (suc (openings h)) same in (omega arith, omega arith)
+within_step e h s below true closed true o same is_so = let e : s ≡ suc (openings h) = eqb-true s
+    (suc (openings h)) same in (omega arith, omega arith)
 within_step e h s below true true false o same is_so = cc
 within_step e h s below true false false o same is_so = let b = below is_so in (omega arith, omega arith)
 within_step e h s below false true same o n is_so = cc

@@ -1,5 +1,6 @@
 -- What a history starts from
-use Rattle.std.specs.Prelude.{◌≡◌, ℕ, ◌<◌, ◌≤◌, ◌^◌, true, false, List, [], Option, None, ◌==◌, find, option_map, is_some}
+use Rattle.std.specs.Prelude.{◌≡◌, ℕ, ◌<◌, ◌≤◌, ◌^◌, true, false, List, [], Option, None, ◌==◌, find}
+use Rattle.std.specs.Prelude.{option_map, is_some}
 use Rattle.std.specs.List.{All, AllPairs}
 use Rattle.ck_types.specs.Records.{is_set}
 use Rattle.ck_types.specs.declared.attributes.Attribute.TheVariants as attribute

@@ -1,5 +1,6 @@
 -- What C_GetAttributeValue answers (PKCS #11 Base 3.0, Object management functions)
-use Rattle.std.specs.Prelude.{ℕ, Bool, false, List, Option, Some, None, nat_lt, is_none, length, map, if◌then◌else◌}
+use Rattle.std.specs.Prelude.{ℕ, Bool, false, List, Option, Some, None, nat_lt, is_none, length, map}
+use Rattle.std.specs.Prelude.{if◌then◌else◌}
 use Rattle.std.specs.List.{list_any}
 use Rattle.ck_types.specs.Records.{readable_value, is_hidden}
 use Rattle.ck_types.specs.Templates.{value_at}

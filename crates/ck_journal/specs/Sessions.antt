@@ -1,5 +1,6 @@
 -- Sessions, the login and session states (PKCS #11 Base 3.0, Session management functions)
-use Rattle.std.specs.Prelude.{ℕ, zero, suc, Bool, true, false, List, [], ◌∷◌, ◌++◌, Option, Some, None, ◌==◌, ◌&&◌, not, filter, length, bit_and, if◌then◌else◌}
+use Rattle.std.specs.Prelude.{ℕ, zero, suc, Bool, true, false, List, [], ◌∷◌, ◌++◌, Option, Some, None}
+use Rattle.std.specs.Prelude.{◌==◌, ◌&&◌, not, filter, length, bit_and, if◌then◌else◌}
 use Rattle.ck_types.specs.Users.{user_of, session_state}
 use Rattle.ck_types.specs.declared.users.SessionState.{SessionState}
 use Rattle.ck_types.specs.declared.users.UserType.{UserType}

@@ -1,5 +1,7 @@
 -- How active operations keep agreeing with the history
-use Rattle.std.proofs.Common.{◌≡◌, ℕ, suc, Bool, true, false, cond, not, List, [], ◌∷◌, ◌++◌, Option, Some, None, length, refl, sym, ap, ◌∙◌, subst, append-nil, append_assoc, arith}
+use Rattle.std.proofs.Common.{◌≡◌, ℕ, suc, Bool, true, false, cond, not, List, [], ◌∷◌, ◌++◌, Option}
+use Rattle.std.proofs.Common.{Some, None, length, refl, sym, ap, ◌∙◌, subst, append-nil, append_assoc}
+use Rattle.std.proofs.Common.{arith}
 use Rattle.std.specs.Prelude.{◌==◌, ◌&&◌, filter, find, option_map, option_and_then}
 use Rattle.std.specs.List.{concat}
 use Rattle.std.specs.Option.{option_or}
@@ -10,14 +12,19 @@ use Rattle.ck_journal.specs.declared.operations.OperationKind.{OperationKind}
 use Rattle.ck_journal.specs.Histories.{History, ◌◁◌, done}
 use Rattle.ck_journal.specs.Objects.{object_named}
 use Rattle.ck_journal.specs.OperationCalls.{same_kind}
-use Rattle.ck_journal.specs.Operations.{is_active, computation_in, key_in, pieces_in, started_computation, init_key, names_kind}
+use Rattle.ck_journal.specs.Operations.{is_active, computation_in, key_in, pieces_in}
+use Rattle.ck_journal.specs.Operations.{started_computation, init_key, names_kind}
 use Rattle.ck_mac.specs.Computations.{Computation, HoldsTag}
 use Rattle.ck_mac.specs.declared.running_tags.RunningTag.{RunningTag}
-use Rattle.ck_operations.specs.Agreement.{OperationsState, ActiveOperation, operation_at, OptionAgrees, OperationAgrees, OperationsAgree}
-use Rattle.ck_operations.specs.Moves.{Move, Stay, Start, Add, End, Does, OnlyIn, OnlyInSession, OnlyNamed, InAll, IsStartOf}
-use Rattle.ck_operations.specs.Rows.{is_operation, is_of_session, is_named, new_operation, IsUpdateOfRows, IsUpdateOfOption}
+use Rattle.ck_operations.specs.Agreement.{OperationsState, ActiveOperation, operation_at, OptionAgrees}
+use Rattle.ck_operations.specs.Agreement.{OperationAgrees, OperationsAgree}
+use Rattle.ck_operations.specs.Moves.{Move, Stay, Start, Add, End, Does, OnlyIn, OnlyInSession}
+use Rattle.ck_operations.specs.Moves.{OnlyNamed, InAll, IsStartOf}
+use Rattle.ck_operations.specs.Rows.{is_operation, is_of_session, is_named, new_operation}
+use Rattle.ck_operations.specs.Rows.{IsUpdateOfRows, IsUpdateOfOption}
 use Rattle.ck_operations.specs.declared.active_operations.Operation.{Operation}
-use Rattle.ck_operations.proofs.RowLemmas.{find-kept, find-removed, operation-is, same_kind-eq, same_kind-swap, and-both}
+use Rattle.ck_operations.proofs.RowLemmas.{find-kept, find-removed, operation-is, same_kind-eq}
+use Rattle.ck_operations.proofs.RowLemmas.{same_kind-swap, and-both}
 
 concat-append : (xs : List (List ℕ)) (y : List ℕ) → concat (xs ++ y ∷ []) ≡ concat xs ++ y
 concat-append [] y = append-nil y
@@ -66,7 +73,8 @@ operation_by active computation key pieces =
     }))
     None
 
-by-added : (started : ActiveOperation) (bytes : List ℕ) (active : Bool) (computation : Computation) (key : Option ℕ) (pieces : List (List ℕ))
+by-added : (started : ActiveOperation) (bytes : List ℕ) (active : Bool) (computation : Computation)
+    (key : Option ℕ) (pieces : List (List ℕ))
     → operation_by active computation key (pieces ++ bytes ∷ [])
     ≡ moved started (Add bytes) (operation_by active computation key pieces)
 by-added started bytes false computation key pieces = refl
@@ -122,7 +130,8 @@ module _ (h : History) (old : OperationsState) (agree : OperationsAgree h old) (
       → OperationsAgree (e ◁ h) new
   moves new move does same = record {
     each =
-        λ k s. subst (OptionAgrees (find (is_operation k s) new.rows)) (sym (operation_at-moved k e h s (move k s) (does k s)))
+        λ k s. subst (OptionAgrees (find (is_operation k s) new.rows))
+            (sym (operation_at-moved k e h s (move k s) (does k s)))
         (same k s);
   }
 
@@ -193,7 +202,8 @@ module _ (h : History) (old : OperationsState) (agree : OperationsAgree h old) (
       added k s true here =
           let both = and-both (same_kind kind k) (session == s) here in
           rw (← same_kind-eq kind k both.0, ← eqb-true session s both.1)
-          (added-same (started_by h e) bytes (find (is_operation kind session) old.rows) (find (is_operation kind session) new.rows)
+          (added-same (started_by h e) bytes (find (is_operation kind session) old.rows)
+              (find (is_operation kind session) new.rows)
           (operation_at kind h session) is.added (agree.each kind session))
       added k s false there =
           subst (λ found. OptionAgrees found (operation_at k h s)) (sym (is.others k s there)) (agree.each k s)
@@ -222,7 +232,8 @@ module _ (h : History) (old : OperationsState) (agree : OperationsAgree h old) (
           let p = is_operation k s in
           let inactive : operation_at k h s ≡ None =
           rw (← same_kind-eq kind k both.0, ← eqb-true session s both.1) (idle-none kind h session idle) in
-          let none : find p old.rows ≡ None = none-found (find p old.rows) (subst (OptionAgrees (find p old.rows)) inactive (agree.each k s)) in
+          let none : find p old.rows ≡ None = none-found (find p old.rows)
+                (subst (OptionAgrees (find p old.rows)) inactive (agree.each k s)) in
           let last : find p new.rows ≡ Some o =
           ap (find p) rows ∙ find-append p old.rows (o ∷ []) ∙ ap (λ found. option_or found (find p (o ∷ []))) none
           ∙ ap (λ t. cond t (Some o) None) here in

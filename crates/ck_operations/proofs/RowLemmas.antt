@@ -1,5 +1,6 @@
 -- Active operations that are looked for, after rows were added, changed or removed
-use Rattle.std.proofs.Common.{◌≡◌, ℕ, Bool, true, false, cond, List, [], ◌∷◌, Option, Some, None, refl, sym, ap, ◌∙◌, get_or}
+use Rattle.std.proofs.Common.{◌≡◌, ℕ, Bool, true, false, cond, List, [], ◌∷◌, Option, Some, None, refl}
+use Rattle.std.proofs.Common.{sym, ap, ◌∙◌, get_or}
 use Rattle.std.specs.Prelude.{◌==◌, ◌&&◌, filter, find}
 use Rattle.std.specs.List.{position, position_or_len, slice_get}
 use Rattle.std.proofs.Math.ListN.{set}
@@ -145,11 +146,13 @@ module _ (k : OperationKind) (session : ℕ) (bytes : List ℕ) (rows : List Ope
       let passes-new : is_operation k session new ≡ true = rw (is.session, is.kind) passes in
       record {
         added = has-added bytes old new _ _
-            (find_at (is_operation k session) rows ∙ ap (slice_get rows) p.1 ∙ slice_get-get_or rows place old at.0 ∙ ap Some (sym item))
+            (find_at (is_operation k session) rows ∙ ap (slice_get rows) p.1 ∙ slice_get-get_or rows place old
+                at.0 ∙ ap Some (sym item))
             (find-set (is_operation k session) rows place new (sym p.1) at.0 passes-new)
             is;
         others = λ l s apart-from.
-            ap (find (is_operation l s)) (change_first-place (is_operation k session) (λ o. new) rows place old found item)
+            ap (find (is_operation l s)) (change_first-place (is_operation k session) (λ o. new) rows place
+                old found item)
             ∙ find-other (is_operation k session) new (is_operation l s) (apart k l session s apart-from new passes-new)
             (apart k l session s apart-from) rows;
       }

@@ -1,5 +1,6 @@
 -- That the counts which a change raises stay in range
-use Rattle.std.proofs.Common.{◌≡◌, ℕ, Bool, true, false, not, Option, Some, None, refl, ap, sym, ◌∙◌, subst, arith}
+use Rattle.std.proofs.Common.{◌≡◌, ℕ, Bool, true, false, not, Option, Some, None, refl, ap, sym, ◌∙◌}
+use Rattle.std.proofs.Common.{subst, arith}
 use Rattle.std.specs.Prelude.{is_none, is_some}
 use Rattle.ck_types.specs.Checks.{error_if, or_else}
 use Rattle.ck_types.specs.TokenLimits.{Ranges, AreInRange}
@@ -20,7 +21,8 @@ use Rattle.ck_journal.specs.Answers.{IsLegal, answer, call_error, session_error}
 use Rattle.ck_journal.specs.Histories.{History, done}
 use Rattle.ck_journal.specs.Pins.{pin_owner, present_pin}
 use Rattle.ck_journal.specs.Sessions.{is_read_write, state_of}
-use Rattle.ck_journal.proofs.LegalLemmas.{passed-done, creation-free, user_logins-bound, openings-bound, tries-bound}
+use Rattle.ck_journal.proofs.LegalLemmas.{passed-done, creation-free, user_logins-bound, openings-bound}
+use Rattle.ck_journal.proofs.LegalLemmas.{tries-bound}
 use Rattle.ck_sessions.specs.Agreement.{SessionsState, SessionsAgree, CredentialAgrees, credential_of}
 use Rattle.ck_parts.specs.Agreement.{PartsAgree, IsCounted}
 use Rattle.ck_parts.specs.Changes.{effect}
@@ -52,7 +54,8 @@ set_pin-passed limits h session old new e =
     let owner = pin_owner (state_of h session) in
     is_some-pin (present_pin owner h)
     (some_pin (is_none (present_pin owner h)) _
-    (or_else-none (error_if (not (is_read_write h session)) rv_error.SessionReadOnly) _ (or_else-none (session_error h session) _ e).1).1)
+    (or_else-none (error_if (not (is_read_write h session)) rv_error.SessionReadOnly) _
+        (or_else-none (session_error h session) _ e).1).1)
 
 -- the hash function, the key and the length that a signing or verifying starts with
 pub started-injected : (k : OperationKind) (session : ℕ) (made : Hash) (number len : ℕ) (other : Hash) (n m : ℕ)
@@ -60,7 +63,8 @@ pub started-injected : (k : OperationKind) (session : ℕ) (made : Hash) (number
     → (made ≡ other) × (number ≡ n) × (len ≡ m)
 started-injected k session made number len other n m e = (cc, cc, cc)
 
-module _ (limits : Ranges) (in_range : AreInRange limits.sessions limits.openings limits.creations limits.logins) (h : History) (p : Parts)
+module _ (limits : Ranges) (in_range : AreInRange limits.sessions limits.openings limits.creations
+    limits.logins) (h : History) (p : Parts)
     (legal : IsLegal limits h) (agree : PartsAgree h p) (c : Call) (r : Reply) (answered : r ≡ answer limits h c) where
   abbrev answered_entry : Entry
   answered_entry = record { caller = 0; call = c; reply = r }

@@ -1,5 +1,6 @@
 -- Which call a change is of
-use Rattle.std.proofs.Common.{◌≡◌, ℕ, Bool, true, false, cond, List, Option, Some, None, refl, sym, ap, ◌∙◌, subst}
+use Rattle.std.proofs.Common.{◌≡◌, ℕ, Bool, true, false, cond, List, Option, Some, None, refl, sym, ap}
+use Rattle.std.proofs.Common.{◌∙◌, subst}
 use Rattle.std.specs.Prelude.{map, unwrap_or}
 use Rattle.ck_types.specs.KeyStates.{state_of_number}
 use Rattle.ck_types.specs.Mechanisms.{digest_hash}
@@ -27,7 +28,8 @@ use Rattle.ck_journal.specs.declared.operations.OperationKind.{OperationKind}
 use Rattle.ck_journal.specs.declared.operations.OperationKind.TheVariants as kind
 use Rattle.ck_journal.specs.declared.replies.Body.{Body}
 use Rattle.ck_journal.specs.Histories.{History, done, is_ok}
-use Rattle.ck_journal.specs.Objects.{creates, creation_session, creation_attributes, attributes_named, object_named, named_attributes}
+use Rattle.ck_journal.specs.Objects.{creates, creation_session, creation_attributes, attributes_named}
+use Rattle.ck_journal.specs.Objects.{object_named, named_attributes}
 use Rattle.ck_journal.specs.Pins.{pin_owner, about}
 use Rattle.ck_journal.specs.Searches.{matching_objects, last_number, last_or, number_of_handle, handles_in}
 use Rattle.ck_journal.specs.Sessions.{state_of}
@@ -138,7 +140,8 @@ module _ (h : History) (b : Body) where
   of-CloseAllSessions other e = cc
 
   pub of-LogIn : (c : Call) (u : UserType) → change.LogIn u ≡ change_of h c b
-      → (session number : ℕ) × (pin : Pin) × (c ≡ call.Login session number pin) × (u ≡ unwrap_or (user_of number) user.User)
+      → (session number : ℕ) × (pin : Pin) × (c ≡ call.Login session number pin) ×
+          (u ≡ unwrap_or (user_of number) user.User)
   of-LogIn (call.Login session number pin) u e = (session, number, pin, refl, cc)
   of-LogIn other u e = cc
 
@@ -148,7 +151,8 @@ module _ (h : History) (b : Body) where
 
   pub of-CreateObject : (c : Call) (session : ℕ) (attributes : List Item)
       → change.CreateObject session attributes ≡ change_of h c b
-      → (creates (Some c) ≡ true) × (session ≡ creation_session (Some c)) × (attributes ≡ creation_attributes (Some c) (attributes_named h))
+      → (creates (Some c) ≡ true) × (session ≡ creation_session (Some c)) ×
+          (attributes ≡ creation_attributes (Some c) (attributes_named h))
   of-CreateObject (call.CreateObject other template) session attributes e = (refl, cc, cc)
   of-CreateObject (call.GenerateKey other mechanism template random) session attributes e = (refl, cc, cc)
   of-CreateObject (call.CopyObject other object template) session attributes e = (refl, cc, cc)
@@ -157,7 +161,8 @@ module _ (h : History) (b : Body) where
   pub of-SetAttributes : (c : Call) (number : ℕ) (attributes : List Item)
       → change.SetAttributes number attributes ≡ change_of h c b
       → (session object : ℕ) × (template : Template) × (c ≡ call.SetAttributeValue session object template)
-      × (number ≡ unwrap_or (object_named h object) 0) × (attributes ≡ with_given template.items (named_attributes h object))
+      × (number ≡ unwrap_or (object_named h object) 0) ×
+          (attributes ≡ with_given template.items (named_attributes h object))
   of-SetAttributes (call.SetAttributeValue session object template) number attributes e =
       (session, object, template, refl, cc, cc)
   of-SetAttributes other number attributes e = cc
@@ -174,12 +179,14 @@ module _ (h : History) (b : Body) where
   of-SetKeyState other number made e = cc
 
   pub of-StartSearch : (c : Call) (session : ℕ) (found : List ℕ) → change.StartSearch session found ≡ change_of h c b
-      → (template : Template) × (c ≡ call.FindObjectsInit session template) × (found ≡ matching_objects h template.items)
+      → (template : Template) × (c ≡ call.FindObjectsInit session template) ×
+          (found ≡ matching_objects h template.items)
   of-StartSearch (call.FindObjectsInit other template) session found e = (template, cc, cc)
   of-StartSearch other session found e = cc
 
   pub of-AdvanceSearch : (c : Call) (session number : ℕ) → change.AdvanceSearch session number ≡ change_of h c b
-      → (max : ℕ) × (c ≡ call.FindObjects session max) × (number ≡ last_or (last_number h session) (map number_of_handle (handles_in b)))
+      → (max : ℕ) × (c ≡ call.FindObjects session max) ×
+          (number ≡ last_or (last_number h session) (map number_of_handle (handles_in b)))
   of-AdvanceSearch (call.FindObjects other max) session number e = (max, cc, cc)
   of-AdvanceSearch other session number e = cc
 

@@ -1,5 +1,6 @@
 -- How sessions, the login and PINs keep agreeing with the history
-use Rattle.std.proofs.Common.{◌≡◌, ℕ, suc, ◌+◌, Bool, true, false, not, cond, ◌||◌, ◌&&◌, List, [], ◌∷◌, ◌++◌, Option, Some, None, refl, sym, ap, ◌∙◌, add-one, arith}
+use Rattle.std.proofs.Common.{◌≡◌, ℕ, suc, ◌+◌, Bool, true, false, not, cond, ◌||◌, ◌&&◌, List, [], ◌∷◌}
+use Rattle.std.proofs.Common.{◌++◌, Option, Some, None, refl, sym, ap, ◌∙◌, add-one, arith}
 use Rattle.std.specs.Prelude.{◌==◌, filter, length, map, is_some, unwrap_or}
 use Rattle.std.proofs.Math.Bool.{and-false}
 use Rattle.std.proofs.lemmas.Bool.{eq-eqb, eqb-true, eqb-false, ne_eqb, false≢true}
@@ -15,16 +16,27 @@ use Rattle.ck_journal.specs.declared.calls.Call.TheVariants as call
 use Rattle.ck_journal.specs.declared.calls.Entry.{Entry}
 use Rattle.ck_journal.specs.Histories.{History, ◌◁◌, done, wrong_try, effects_of, effects}
 use Rattle.ck_journal.specs.Lists.{change_first}
-use Rattle.ck_journal.specs.Searches.{is_searching, matching_objects, handles_in, number_of_handle, last_or, last_number}
-use Rattle.ck_journal.specs.Pins.{so_pin, so_pin_after, user_pin, user_pin_after, named_owner, pin_owner, is_initialized, initializes, about, is_about, is_user, resets, tries}
-use Rattle.ck_journal.specs.Sessions.{opens, openings, closes, is_open, open_sessions, login, login_after, user_logins, logs_user_in, state_of}
-use Rattle.ck_journal.proofs.LoginMoves.{wrong_try-done, login-none, login-open, login-same, login-logged_out, user_logins-step, so_pin-step, user_pin-step, tries-step, tries-done, openings-left, opens-left, session_rows-left, login-left, user_logins-left, so_pin-left, user_pin-left, is_initialized-left, tries-left}
+use Rattle.ck_journal.specs.Searches.{is_searching, matching_objects, handles_in, number_of_handle}
+use Rattle.ck_journal.specs.Searches.{last_or, last_number}
+use Rattle.ck_journal.specs.Pins.{so_pin, so_pin_after, user_pin, user_pin_after, named_owner}
+use Rattle.ck_journal.specs.Pins.{pin_owner, is_initialized, initializes, about, is_about, is_user}
+use Rattle.ck_journal.specs.Pins.{resets, tries}
+use Rattle.ck_journal.specs.Sessions.{opens, openings, closes, is_open, open_sessions, login}
+use Rattle.ck_journal.specs.Sessions.{login_after, user_logins, logs_user_in, state_of}
+use Rattle.ck_journal.proofs.LoginMoves.{wrong_try-done, login-none, login-open, login-same}
+use Rattle.ck_journal.proofs.LoginMoves.{login-logged_out, user_logins-step, so_pin-step, user_pin-step}
+use Rattle.ck_journal.proofs.LoginMoves.{tries-step, tries-done, openings-left, opens-left}
+use Rattle.ck_journal.proofs.LoginMoves.{session_rows-left, login-left, user_logins-left, so_pin-left}
+use Rattle.ck_journal.proofs.LoginMoves.{user_pin-left, is_initialized-left, tries-left}
 use Rattle.ck_journal.proofs.Selections.{selected-same, filter-selected, selected-none}
-use Rattle.ck_journal.proofs.SessionMoves.{session_rows, openings-opened, session_rows-opened, openings-later, session_rows-later, session_rows-changed, session_rows-same, open_sessions-rows, length-session_rows}
+use Rattle.ck_journal.proofs.SessionMoves.{session_rows, openings-opened, session_rows-opened}
+use Rattle.ck_journal.proofs.SessionMoves.{openings-later, session_rows-later, session_rows-changed}
+use Rattle.ck_journal.proofs.SessionMoves.{session_rows-same, open_sessions-rows, length-session_rows}
 use Rattle.ck_sessions.specs.Agreement.{SessionsState, SessionsAgree, CredentialAgrees, session_row}
 use Rattle.ck_types.specs.declared.templates.Template.{Template}
 use Rattle.ck_sessions.proofs.Readings.{list_any-open}
-use Rattle.ck_sessions.proofs.SearchRows.{row-left, row-below, row-opened, row-other, row-logged_out, session_rows-started, session_rows-found, session_rows-ended}
+use Rattle.ck_sessions.proofs.SearchRows.{row-left, row-below, row-opened, row-other, row-logged_out}
+use Rattle.ck_sessions.proofs.SearchRows.{session_rows-started, session_rows-found, session_rows-ended}
 use Rattle.ck_sessions.specs.Rows.{SessionRow, is_session, with_search, with_last_found}
 use Rattle.ck_sessions.specs.declared.credentials.Credential.{Credential}
 
@@ -85,7 +97,8 @@ module _ (h : History) (old : SessionsState) (agree : SessionsAgree h old) (e : 
   openings-stay : (c : Call) → done e ≡ Some c → opens (Some c) ≡ false → old.openings ≡ openings (e ◁ h)
   openings-stay c d o = agree.openings ∙ sym (openings-later e h (ap opens d ∙ o))
 
-  module _ (c : Call) (d : done e ≡ Some c) (o : opens (Some c) ≡ false) (cl : (s : ℕ) → closes (Some c) s ≡ false) (ls : (effects_of (Some c)).searches ≡ false) where
+  module _ (c : Call) (d : done e ≡ Some c) (o : opens (Some c) ≡ false)
+      (cl : (s : ℕ) → closes (Some c) s ≡ false) (ls : (effects_of (Some c)).searches ≡ false) where
     no_opening : opens (done e) ≡ false
     no_opening = ap opens d ∙ o
 
@@ -95,7 +108,8 @@ module _ (h : History) (old : SessionsState) (agree : SessionsAgree h old) (e : 
     rows-stay : old.rows ≡ session_rows session_row (e ◁ h)
     rows-stay =
         agree.rows
-        ∙ sym (session_rows-same e h no_opening session_row (row-left e h no_opening (ap (λ o. (effects_of o).searches) d ∙ ls)) no_closing)
+        ∙ sym (session_rows-same e h no_opening session_row
+            (row-left e h no_opening (ap (λ o. (effects_of o).searches) d ∙ ls)) no_closing)
 
     sessions-stay : open_sessions (e ◁ h) ≡ open_sessions h
     sessions-stay =
@@ -146,9 +160,11 @@ module _ (h : History) (old : SessionsState) (agree : SessionsAgree h old) (e : 
     login = log ∙ agree.login ∙ sym (login-left e h l);
     logins = logs ∙ agree.logins ∙ sym (user_logins-left e h l);
     so =
-        rw so (record { pin = agree.so.pin ∙ sym (so_pin-left e h l); tries = agree.so.tries ∙ sym (tries-left e h l user.So (w user.So)) });
+        rw so (record { pin = agree.so.pin ∙ sym (so_pin-left e h l); tries = agree.so.tries ∙ sym
+            (tries-left e h l user.So (w user.So)) });
     user =
-        rw us (record { pin = agree.user.pin ∙ sym (user_pin-left e h l); tries = agree.user.tries ∙ sym (tries-left e h l user.User (w user.User)) });
+        rw us (record { pin = agree.user.pin ∙ sym (user_pin-left e h l); tries = agree.user.tries ∙ sym
+            (tries-left e h l user.User (w user.User)) });
     initialized = ap (λ (c : Credential). is_some c.pin) so ∙ agree.initialized ∙ sym (is_initialized-left e h l);
   }
 
@@ -166,7 +182,8 @@ module _ (h : History) (old : SessionsState) (agree : SessionsAgree h old) (e : 
       → new.openings ≡ old.openings → new.login ≡ old.login → new.logins ≡ old.logins → new.so ≡ old.so
       → new.user ≡ old.user → SessionsAgree (e ◁ h) new
   SessionsAgree-searched c d l new rows count log logs so us =
-      SessionsAgree-same (ap (λ o. (effects_of o).sessions) d ∙ l) (λ u. ap (is_about u h) (wrong_try-done e c d)) new rows count log logs so us
+      SessionsAgree-same (ap (λ o. (effects_of o).sessions) d ∙ l)
+          (λ u. ap (is_about u h) (wrong_try-done e c d)) new rows count log logs so us
 
   -- ---- a wrong try
 
@@ -193,9 +210,11 @@ module _ (h : History) (old : SessionsState) (agree : SessionsAgree h old) (e : 
         login = login ∙ agree.login ∙ sym (login-left e h l);
         logins = logins ∙ agree.logins ∙ sym (user_logins-left e h l);
         so =
-            record { pin = so_pin ∙ agree.so.pin ∙ sym (so_pin-left e h l); tries = so_tries ∙ rw agree.so.tries (sym (tries-wrong u user.So d a)) };
+            record { pin = so_pin ∙ agree.so.pin ∙ sym (so_pin-left e h l); tries = so_tries ∙ rw
+                agree.so.tries (sym (tries-wrong u user.So d a)) };
         user =
-            record { pin = user_pin ∙ agree.user.pin ∙ sym (user_pin-left e h l); tries = user_tries ∙ rw agree.user.tries (sym (tries-wrong u user.User d a)) };
+            record { pin = user_pin ∙ agree.user.pin ∙ sym (user_pin-left e h l); tries = user_tries ∙ rw
+                agree.user.tries (sym (tries-wrong u user.User d a)) };
         initialized = ap is_some so_pin ∙ agree.initialized ∙ sym (is_initialized-left e h l);
       }
 
@@ -208,11 +227,13 @@ module _ (h : History) (old : SessionsState) (agree : SessionsAgree h old) (e : 
       → new.user ≡ old.user → SessionsAgree (e ◁ h) new
   SessionsAgree-opened flags new d none rows count log logs so us =
       let c = call.OpenSession flags in
-      let all : session_rows session_row (e ◁ h) ≡ session_rows session_row h ++ record { handle = suc (openings h); flags = flags; search = None } ∷ [] =
+      let all : session_rows session_row (e ◁ h) ≡ session_rows session_row h ++ record
+            { handle = suc (openings h); flags = flags; search = None } ∷ [] =
       session_rows-opened e h flags d session_row (row-below e h flags d)
       ∙ ap (λ r. session_rows session_row h ++ r ∷ []) (row-opened e h flags d none) in
       let some : length (open_sessions (e ◁ h)) == 0 ≡ false =
-      ne_eqb (length (open_sessions (e ◁ h))) 0 (λ z. more (session_rows session_row h) (record { handle = suc (openings h); flags = flags; search = None })
+      ne_eqb (length (open_sessions (e ◁ h))) 0 (λ z. more (session_rows session_row h)
+          (record { handle = suc (openings h); flags = flags; search = None })
       (sym (ap length all) ∙ length-session_rows session_row (e ◁ h) ∙ z)) in
       record {
         rows = rows ∙ rw (agree.rows, agree.openings, add-one) (sym all);
@@ -233,17 +254,20 @@ module _ (h : History) (old : SessionsState) (agree : SessionsAgree h old) (e : 
   closed c new d o left rows count log =
       log ∙ ap (λ rs. cond (length rs == 0) None old.login) rows
       ∙ ap (λ n. cond (n == 0) None old.login) (length-session_rows session_row (e ◁ h))
-      ∙ ap (cond (length (open_sessions (e ◁ h)) == 0) None) (agree.login ∙ sym (ap (λ x. login_after x (login h)) d ∙ left (login h)))
+      ∙ ap (cond (length (open_sessions (e ◁ h)) == 0) None)
+          (agree.login ∙ sym (ap (λ x. login_after x (login h)) d ∙ left (login h)))
 
   pub SessionsAgree-closed : (session : ℕ) (new : SessionsState) → done e ≡ Some (call.CloseSession session)
-      → new.rows ≡ filter (λ (row : SessionRow). not (is_session session row)) old.rows → new.openings ≡ old.openings → new.login ≡ cond (length new.rows == 0) None old.login
+      → new.rows ≡ filter (λ (row : SessionRow). not (is_session session row)) old.rows → new.openings ≡
+          old.openings → new.login ≡ cond (length new.rows == 0) None old.login
       → new.logins ≡ old.logins → new.so ≡ old.so → new.user ≡ old.user → SessionsAgree (e ◁ h) new
   SessionsAgree-closed session new d rows count log logs so us =
       let c = call.CloseSession session in
       let all : new.rows ≡ session_rows session_row (e ◁ h) =
       rows ∙ ap (filter (λ (row : SessionRow). not (is_session session row))) agree.rows
       ∙ filter-selected (λ (row : SessionRow). not (is_session session row)) (is_open h) (session_row h) (openings h)
-      ∙ selected-same (λ k. is_open h k && not (k == session)) (λ k. is_open h k && not (closes (done e) k)) (session_row h) (session_row h) (openings h)
+      ∙ selected-same (λ k. is_open h k && not (k == session)) (λ k. is_open h k && not (closes (done e) k))
+          (session_row h) (session_row h) (openings h)
       (λ k below. ap (λ t. is_open h k && not t) (eqb-sym k session ∙ ap (λ x. closes x k) (sym d))) (λ k below. refl)
       ∙ sym (session_rows-later e h (ap opens d) session_row (λ k below passes. row-other e h session d k passes)) in
       record {
@@ -263,7 +287,8 @@ module _ (h : History) (old : SessionsState) (agree : SessionsAgree h old) (e : 
       let c = call.CloseAllSessions in
       let all : session_rows session_row (e ◁ h) ≡ [] =
       session_rows-later e h (ap opens d) session_row
-      (λ k below passes. absurd (false≢true (sym (ap (λ x. is_open h k && not (closes x k)) d ∙ and-false (is_open h k)) ∙ passes)))
+      (λ k below passes. absurd (false≢true (sym (ap (λ x. is_open h k && not (closes x k)) d ∙ and-false
+          (is_open h k)) ∙ passes)))
       ∙ selected-none (λ k. is_open h k && not (closes (done e) k)) (session_row h) (openings h)
       (λ k below. ap (λ x. is_open h k && not (closes x k)) d ∙ and-false (is_open h k)) in
       let none : length (open_sessions (e ◁ h)) == 0 ≡ true = rw (sym (length-session_rows session_row (e ◁ h)), all) in
@@ -288,7 +313,8 @@ module _ (h : History) (old : SessionsState) (agree : SessionsAgree h old) (e : 
       → new.so.tries ≡ cond (same_user user.So u || false) 0 old.so.tries
       → new.user.tries ≡ cond (same_user user.User u || false) 0 old.user.tries
       → SessionsAgree (e ◁ h) new
-  SessionsAgree-logged_in session number pin u new d opened known rows count log logs so_pin user_pin so_tries user_tries =
+  SessionsAgree-logged_in session number pin u new d opened known rows count log logs so_pin user_pin so_tries
+      user_tries =
       let c = call.Login session number pin in
       let same = sessions-stay c d refl (λ s. refl) refl in
       let some : length (open_sessions (e ◁ h)) == 0 ≡ false = ap (λ ss. length ss == 0) same
@@ -303,12 +329,14 @@ module _ (h : History) (old : SessionsState) (agree : SessionsAgree h old) (e : 
         so = record {
           pin = so_pin ∙ agree.so.pin ∙ sym (so_pin-step e h (Some c) d);
           tries = so_tries ∙ ap (cond (same_user user.So u || false) 0) agree.so.tries
-              ∙ sym (tries-done e h user.So c d ∙ ap (λ a. cond (is_user user.So a || false) 0 (tries user.So h)) known);
+              ∙ sym (tries-done e h user.So c d ∙ ap (λ a. cond (is_user user.So a || false) 0
+                  (tries user.So h)) known);
         };
         user = record {
           pin = user_pin ∙ agree.user.pin ∙ sym (user_pin-step e h (Some c) d);
           tries = user_tries ∙ ap (cond (same_user user.User u || false) 0) agree.user.tries
-              ∙ sym (tries-done e h user.User c d ∙ ap (λ a. cond (is_user user.User a || false) 0 (tries user.User h)) known);
+              ∙ sym (tries-done e h user.User c d ∙ ap (λ a. cond (is_user user.User a || false) 0
+                  (tries user.User h)) known);
         };
         initialized = ap is_some so_pin ∙ initialized-stays c d refl;
       }
@@ -328,9 +356,11 @@ module _ (h : History) (old : SessionsState) (agree : SessionsAgree h old) (e : 
         login = log ∙ login-stays c d refl (λ s. refl) refl (λ before. refl);
         logins = logs ∙ logins-stay c d refl;
         so =
-            record { pin = so_pin ∙ rw agree.so.pin (sym (so_pin-step e h (Some c) d)); tries = so_tries ∙ sym (tries-done e h user.So c d) };
+            record { pin = so_pin ∙ rw agree.so.pin (sym (so_pin-step e h (Some c) d)); tries = so_tries ∙ sym
+                (tries-done e h user.So c d) };
         user =
-            record { pin = user_pin ∙ sym (user_pin-step e h (Some c) d); tries = user_tries ∙ sym (tries-done e h user.User c d) };
+            record { pin = user_pin ∙ sym (user_pin-step e h (Some c) d); tries = user_tries ∙ sym
+                (tries-done e h user.User c d) };
         initialized = ap is_some so_pin ∙ some_after pin old.so.pin
             ∙ sym (ap (λ x. initializes x || is_initialized h) d);
       }
@@ -348,12 +378,14 @@ module _ (h : History) (old : SessionsState) (agree : SessionsAgree h old) (e : 
         logins = logs ∙ logins-stay c d refl;
         so = rw so (so-stays c d (λ owner before. refl) refl);
         user =
-            record { pin = user_pin ∙ sym (user_pin-step e h (Some c) d); tries = user_tries ∙ sym (tries-done e h user.User c d) };
+            record { pin = user_pin ∙ sym (user_pin-step e h (Some c) d); tries = user_tries ∙ sym
+                (tries-done e h user.User c d) };
         initialized = ap (λ (c : Credential). is_some c.pin) so ∙ initialized-stays c d refl;
       }
 
   -- the owner of the session's PIN sets it
-  module _ (session : ℕ) (before pin : Pin) (new : SessionsState) (d : done e ≡ Some (call.SetPin session before pin)) (rows : new.rows ≡ old.rows)
+  module _ (session : ℕ) (before pin : Pin) (new : SessionsState)
+      (d : done e ≡ Some (call.SetPin session before pin)) (rows : new.rows ≡ old.rows)
       (count : new.openings ≡ old.openings) (log : new.login ≡ old.login) (logs : new.logins ≡ old.logins) where
     abbrev c : Call
     c = call.SetPin session before pin
@@ -369,14 +401,16 @@ module _ (h : History) (old : SessionsState) (agree : SessionsAgree h old) (e : 
       so = record {
         pin = so_pin ∙ sym (so_pin-step e h (Some c) d ∙ ap (λ o. so_pin_after (Some c) o (so_pin_of h)) owner);
         tries = so_tries
-            ∙ sym (tries-done e h user.So c d ∙ ap (λ o. cond (is_user user.So (Some o) || false) 0 (tries user.So h)) owner);
+            ∙ sym (tries-done e h user.So c d ∙ ap (λ o. cond (is_user user.So (Some o) || false) 0
+                (tries user.So h)) owner);
       };
       user = rw us (record {
         pin =
             agree.user.pin
             ∙ sym (user_pin-step e h (Some c) d ∙ ap (λ o. user_pin_after (Some c) o (user_pin h)) owner);
         tries = agree.user.tries
-            ∙ sym (tries-done e h user.User c d ∙ ap (λ o. cond (is_user user.User (Some o) || false) 0 (tries user.User h)) owner);
+            ∙ sym (tries-done e h user.User c d ∙ ap (λ o. cond (is_user user.User (Some o) || false) 0
+                (tries user.User h)) owner);
       });
       initialized = ap is_some so_pin ∙ sym had ∙ initialized-stays c d refl;
     }
@@ -391,27 +425,32 @@ module _ (h : History) (old : SessionsState) (agree : SessionsAgree h old) (e : 
       so = rw so (record {
         pin = agree.so.pin ∙ sym (so_pin-step e h (Some c) d ∙ ap (λ o. so_pin_after (Some c) o (so_pin_of h)) owner);
         tries = agree.so.tries
-            ∙ sym (tries-done e h user.So c d ∙ ap (λ o. cond (is_user user.So (Some o) || false) 0 (tries user.So h)) owner);
+            ∙ sym (tries-done e h user.So c d ∙ ap (λ o. cond (is_user user.So (Some o) || false) 0
+                (tries user.So h)) owner);
       });
       user = record {
         pin = us_pin ∙ sym (user_pin-step e h (Some c) d ∙ ap (λ o. user_pin_after (Some c) o (user_pin h)) owner);
         tries = us_tries
-            ∙ sym (tries-done e h user.User c d ∙ ap (λ o. cond (is_user user.User (Some o) || false) 0 (tries user.User h)) owner);
+            ∙ sym (tries-done e h user.User c d ∙ ap (λ o. cond (is_user user.User (Some o) || false) 0
+                (tries user.User h)) owner);
       };
       initialized = ap (λ (c : Credential). is_some c.pin) so ∙ initialized-stays c d refl;
     }
 
   -- ---- searches
 
-  module _ (new : SessionsState) (count : new.openings ≡ old.openings) (log : new.login ≡ old.login) (logs : new.logins ≡ old.logins) (so : new.so ≡ old.so)
+  module _ (new : SessionsState) (count : new.openings ≡ old.openings) (log : new.login ≡ old.login)
+      (logs : new.logins ≡ old.logins) (so : new.so ≡ old.so)
       (us : new.user ≡ old.user) where
     pub SessionsAgree-started : (session : ℕ) (template : Template) (found : List ℕ)
         → done e ≡ Some (call.FindObjectsInit session template)
         → found ≡ matching_objects h template.items
-        → new.rows ≡ change_first (is_session session) (with_search (Some (record { found = found; last = 0 }))) old.rows → SessionsAgree (e ◁ h) new
+        → new.rows ≡ change_first (is_session session) (with_search
+            (Some (record { found = found; last = 0 }))) old.rows → SessionsAgree (e ◁ h) new
     SessionsAgree-started session template found d matching rows =
         SessionsAgree-searched (call.FindObjectsInit session template) d refl new
-        (rows ∙ ap (change_first (is_session session) (with_search (Some (record { found = found; last = 0 })))) agree.rows
+        (rows ∙ ap (change_first (is_session session) (with_search
+            (Some (record { found = found; last = 0 })))) agree.rows
         ∙ session_rows-started e h session template found d matching) count log logs so us
 
     pub SessionsAgree-found : (session max number : ℕ) → done e ≡ Some (call.FindObjects session max)
@@ -427,7 +466,8 @@ module _ (h : History) (old : SessionsState) (agree : SessionsAgree h old) (e : 
         → SessionsAgree (e ◁ h) new
     SessionsAgree-search_ended session d rows =
         SessionsAgree-searched (call.FindObjectsFinal session) d refl new
-        (rows ∙ ap (change_first (is_session session) (with_search None)) agree.rows ∙ session_rows-ended e h session d) count log logs so us
+        (rows ∙ ap (change_first (is_session session) (with_search None)) agree.rows ∙ session_rows-ended e h
+            session d) count log logs so us
 
   -- a logout ends the login and all searches
   pub SessionsAgree-logged_out : (session : ℕ) (new : SessionsState) → done e ≡ Some (call.Logout session)
@@ -439,7 +479,8 @@ module _ (h : History) (old : SessionsState) (agree : SessionsAgree h old) (e : 
       record {
         rows =
             rows ∙ ap (map (with_search None)) agree.rows ∙ map-map (with_search None) (session_row h) (open_sessions h)
-            ∙ selected-same (is_open h) (is_open h) (λ k. with_search None (session_row h k)) (session_row (e ◁ h)) (openings h) (λ k b. refl)
+            ∙ selected-same (is_open h) (is_open h) (λ k. with_search None (session_row h k))
+                (session_row (e ◁ h)) (openings h) (λ k b. refl)
             (λ k b. sym (row-logged_out e h session d k))
             ∙ sym (session_rows-changed e h (ap opens d) session_row (λ s. ap (λ x. closes x s) d));
         openings = count ∙ openings-stay c d refl;

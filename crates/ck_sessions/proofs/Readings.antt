@@ -1,5 +1,6 @@
 -- Readings of sessions that agree with a history
-use Rattle.std.proofs.Common.{◌≡◌, ℕ, Bool, true, false, not, cond, List, [], ◌∷◌, ◌++◌, Option, Some, None, refl, sym, ap, ◌∙◌, subst}
+use Rattle.std.proofs.Common.{◌≡◌, ℕ, Bool, true, false, not, cond, List, [], ◌∷◌, ◌++◌, Option, Some}
+use Rattle.std.proofs.Common.{None, refl, sym, ap, ◌∙◌, subst}
 use Rattle.std.proofs.lemmas.Bool.{eqb-true}
 use Rattle.std.proofs.lemmas.List.{length-map}
 use Rattle.std.proofs.lemmas.Option.{same_Some}
@@ -12,19 +13,23 @@ use Rattle.ck_journal.specs.declared.boards.LoginStatus.{LoginStatus}
 use Rattle.ck_journal.specs.Boards.{BoardState, board_of, login_status}
 use Rattle.ck_journal.specs.Histories.{History}
 use Rattle.ck_journal.specs.Sessions.{openings, is_open, open_sessions, is_read_write, rw_sessions}
-use Rattle.ck_journal.proofs.Selections.{list_any-selected, list_any-at, filter-map, find-map, is_some-find, find-passes}
+use Rattle.ck_journal.proofs.Selections.{list_any-selected, list_any-at, filter-map, find-map}
+use Rattle.ck_journal.proofs.Selections.{is_some-find, find-passes}
 use Rattle.ck_journal.proofs.SessionMoves.{session_rows, is_open-within}
 use Rattle.ck_journal.specs.Searches.{is_searching, found_objects, last_number}
 use Rattle.ck_journal.proofs.RisingLemmas.{found_objects-rise}
-use Rattle.ck_sessions.specs.Agreement.{SessionsState, SessionsAgree, session_row, session_at, search_of, search_left}
+use Rattle.ck_sessions.specs.Agreement.{SessionsState, SessionsAgree, session_row, session_at}
+use Rattle.ck_sessions.specs.Agreement.{search_of, search_left}
 use Rattle.ck_sessions.specs.Rows.{Search, SessionRow, is_session, is_rw_row, is_read_only_row, board_row}
 
-list_any-map : (test : SessionRow → Bool) (row : ℕ → SessionRow) (ks : List ℕ) → list_any test (map row ks) ≡ list_any (λ k. test (row k)) ks
+list_any-map : (test : SessionRow → Bool) (row : ℕ → SessionRow) (ks : List ℕ) → list_any test (map row ks) ≡
+    list_any (λ k. test (row k)) ks
 list_any-map test row [] = refl
 list_any-map test row (k ∷ ks) = rw (list_any-map test row ks)
 
 -- whether the row of a session is among those of the open sessions
-pub list_any-open : (h : History) (session : ℕ) → list_any (is_session session) (session_rows session_row h) ≡ is_open h session
+pub list_any-open : (h : History) (session : ℕ) → list_any (is_session session) (session_rows session_row h) ≡
+    is_open h session
 list_any-open h session =
     list_any-selected (is_session session) (is_open h) (session_row h) (openings h)
     ∙ list_any-at (is_open h) session (openings h) (is_open-within h session)
@@ -54,11 +59,13 @@ module _ (h : History) (s : SessionsState) (agree : SessionsAgree h s) where
   -- the first row with the handle is that of the open session, if it is open
   pub find-session : (session : ℕ) → find (is_session session) s.rows ≡ session_at h session
   find-session session =
-      let found : find (is_session session) (session_rows session_row h) ≡ option_map row_of (find (λ k. k == session) (open_sessions h)) =
+      let found : find (is_session session) (session_rows session_row h) ≡ option_map row_of
+            (find (λ k. k == session) (open_sessions h)) =
       find-map (is_session session) row_of (open_sessions h) in
       ap (find (is_session session)) agree.rows ∙ found
       ∙ at_handle session (find (λ k. k == session) (open_sessions h)) refl
-      (ap is_some (sym found) ∙ is_some-find (is_session session) (session_rows session_row h) ∙ list_any-open h session)
+      (ap is_some (sym found) ∙ is_some-find (is_session session) (session_rows session_row h) ∙ list_any-open
+          h session)
 
 -- ---- the board
 

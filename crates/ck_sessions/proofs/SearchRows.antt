@@ -1,5 +1,6 @@
 -- How the rows of sessions move with their searches
-use Rattle.std.proofs.Common.{◌≡◌, ℕ, suc, ◌≤◌, Bool, true, false, cond, not, ◌&&◌, List, [], ◌++◌, length, take, drop, Option, Some, None, refl, sym, ap, ◌∙◌, subst, arith}
+use Rattle.std.proofs.Common.{◌≡◌, ℕ, suc, ◌≤◌, Bool, true, false, cond, not, ◌&&◌, List, [], ◌++◌}
+use Rattle.std.proofs.Common.{length, take, drop, Option, Some, None, refl, sym, ap, ◌∙◌, subst, arith}
 use Rattle.std.specs.Prelude.{◌==◌, map, option_map}
 use Rattle.std.proofs.lemmas.Bool.{eqb-true, eqb-false, eq-eqb, ne_eqb, and_parts, not-true}
 use Rattle.std.proofs.lemmas.List.{append-nil, length-map, take_all, drop_all}
@@ -9,11 +10,15 @@ use Rattle.ck_journal.specs.declared.calls.Call.TheVariants as call
 use Rattle.ck_journal.specs.declared.calls.Entry.{Entry}
 use Rattle.ck_journal.specs.Histories.{History, ◌◁◌, done, effects_of, effects}
 use Rattle.ck_journal.specs.Lists.{change_first}
-use Rattle.ck_journal.specs.Searches.{starts_search, ends_search, asks_search, is_searching, matching_objects, search_template, found_objects, number_of_handle, handles_in, last_or, last_number}
+use Rattle.ck_journal.specs.Searches.{starts_search, ends_search, asks_search, is_searching}
+use Rattle.ck_journal.specs.Searches.{matching_objects, search_template, found_objects}
+use Rattle.ck_journal.specs.Searches.{number_of_handle, handles_in, last_or, last_number}
 use Rattle.ck_journal.specs.Sessions.{opens, openings, closes, is_open, flags_of}
 use Rattle.ck_journal.proofs.Changes.{selected-replaced}
-use Rattle.ck_journal.proofs.SearchMoves.{is_searching-left, found_objects-left, last_number-left, matching_objects-left}
-use Rattle.ck_journal.proofs.SessionMoves.{session_rows, session_rows-changed, flags_of-below, flags_of-opened, flags_of-later}
+use Rattle.ck_journal.proofs.SearchMoves.{is_searching-left, found_objects-left, last_number-left}
+use Rattle.ck_journal.proofs.SearchMoves.{matching_objects-left}
+use Rattle.ck_journal.proofs.SessionMoves.{session_rows, session_rows-changed, flags_of-below}
+use Rattle.ck_journal.proofs.SessionMoves.{flags_of-opened, flags_of-later}
 use Rattle.ck_sessions.specs.Agreement.{search_of, session_row}
 use Rattle.ck_sessions.specs.Rows.{Search, SessionRow, is_session, with_search, with_last, with_last_found}
 
@@ -25,7 +30,8 @@ active_search active found last = cond active (Some (record { found = found; las
 -- by what was done, what matches now, what is returned, and the search before
 abbrev search_step : Option Call → List ℕ → List ℕ → ℕ → Bool → List ℕ → ℕ → Option Search
 search_step o matching handles k active found last =
-    active_search (cond (starts_search o k) true (cond (ends_search o k) false active)) (cond (starts_search o k) matching found)
+    active_search (cond (starts_search o k) true (cond (ends_search o k) false active))
+        (cond (starts_search o k) matching found)
     (cond (starts_search o k) 0 (last_or last (map number_of_handle (cond (asks_search o k) handles []))))
 
 abbrev row : ℕ → ℕ → Option Search → SessionRow
@@ -37,9 +43,11 @@ same_number k s false e = ne_eqb s k (λ same. eqb-false k s e (sym same))
 
 module _ (e : Entry) (h : History) where
   search_of-step : (k : ℕ) (o : Option Call) → done e ≡ o
-      → search_of (e ◁ h) k ≡ search_step o (matching_objects (e ◁ h) (search_template o)) (handles_in e.reply.body) k (is_searching h k) (found_objects h k) (last_number h k)
+      → search_of (e ◁ h) k ≡ search_step o (matching_objects (e ◁ h) (search_template o))
+          (handles_in e.reply.body) k (is_searching h k) (found_objects h k) (last_number h k)
   search_of-step k o d =
-      ap (λ x. search_step x (matching_objects (e ◁ h) (search_template x)) (handles_in e.reply.body) k (is_searching h k) (found_objects h k) (last_number h k)) d
+      ap (λ x. search_step x (matching_objects (e ◁ h) (search_template x)) (handles_in e.reply.body) k
+          (is_searching h k) (found_objects h k) (last_number h k)) d
 
   search_of-left : (effects e).searches ≡ false → (k : ℕ) → search_of (e ◁ h) k ≡ search_of h k
   search_of-left l k =
@@ -71,13 +79,15 @@ module _ (e : Entry) (h : History) where
     row-opened none =
         let n = suc (openings h) in
         ap (λ f. row n f (search_of (e ◁ h) n)) (flags_of-opened e h flags d)
-        ∙ ap (row n flags) (search_of-left (ap (λ o. (effects_of o).searches) d) n ∙ ap (λ t. active_search t (found_objects h n) (last_number h n)) none)
+        ∙ ap (row n flags) (search_of-left (ap (λ o. (effects_of o).searches) d) n ∙ ap
+            (λ t. active_search t (found_objects h n) (last_number h n)) none)
 
   -- the closing of another session
   pub row-other : (session : ℕ) → done e ≡ Some (call.CloseSession session) → (k : ℕ)
       → (is_open h k && not (closes (done e) k)) ≡ true → session_row (e ◁ h) k ≡ session_row h k
   row-other session d k passes =
-      let other : session == k ≡ false = not-true (session == k) ((and_parts (is_open h k) _ (subst (λ o. (is_open h k && not (closes o k)) ≡ true) d passes)).1) in
+      let other : session == k ≡ false = not-true (session == k)
+            ((and_parts (is_open h k) _ (subst (λ o. (is_open h k && not (closes o k)) ≡ true) d passes)).1) in
       row-moved k (search_of h k) (ap opens d)
       (search_of-step k (Some (call.CloseSession session)) d
       ∙ ap (λ t. active_search (cond t false (is_searching h k)) (found_objects h k) (last_number h k)) other)
@@ -89,10 +99,12 @@ module _ (e : Entry) (h : History) where
 
   -- ---- the rows after a call about the search of one session
 
-  module _ (c : Call) (d : done e ≡ Some c) (o : opens (Some c) ≡ false) (cl : (s : ℕ) → closes (Some c) s ≡ false) (session : ℕ) (change : SessionRow → SessionRow)
+  module _ (c : Call) (d : done e ≡ Some c) (o : opens (Some c) ≡ false)
+      (cl : (s : ℕ) → closes (Some c) s ≡ false) (session : ℕ) (change : SessionRow → SessionRow)
       (here : (k : ℕ) → session == k ≡ true → session_row (e ◁ h) k ≡ change (session_row h k))
       (there : (k : ℕ) → session == k ≡ false → session_row (e ◁ h) k ≡ session_row h k) where
-    pub session_rows-searched : change_first (is_session session) change (session_rows session_row h) ≡ session_rows session_row (e ◁ h)
+    pub session_rows-searched : change_first (is_session session) change (session_rows session_row h) ≡
+        session_rows session_row (e ◁ h)
     session_rows-searched =
         selected-replaced (is_session session) change (is_open h) (session_row h) (session_row (e ◁ h)) (openings h)
         (λ j k bj bk nj nk. eqb-true j session nj ∙ sym (eqb-true k session nk))
@@ -101,26 +113,34 @@ module _ (e : Entry) (h : History) where
 
   -- ---- a search starts
 
-  module _ (session : ℕ) (template : Template) (found : List ℕ) (d : done e ≡ Some (call.FindObjectsInit session template)) where
+  module _ (session : ℕ) (template : Template) (found : List ℕ)
+      (d : done e ≡ Some (call.FindObjectsInit session template)) where
     started-here : found ≡ matching_objects (e ◁ h) template.items → (k : ℕ) → session == k ≡ true
         → session_row (e ◁ h) k ≡ with_search (Some (record { found = found; last = 0 })) (session_row h k)
     started-here matching k same =
         row-moved k (Some (record { found = found; last = 0 })) (ap opens d)
         (search_of-step k (Some (call.FindObjectsInit session template)) d
-        ∙ ap (λ t. active_search (cond t true (is_searching h k)) (cond t (matching_objects (e ◁ h) template.items) (found_objects h k)) (cond t 0 (last_number h k))) same
+        ∙ ap (λ t. active_search (cond t true (is_searching h k))
+            (cond t (matching_objects (e ◁ h) template.items) (found_objects h k))
+            (cond t 0 (last_number h k))) same
         ∙ ap (λ f. active_search true f 0) (sym matching))
 
     started-there : (k : ℕ) → session == k ≡ false → session_row (e ◁ h) k ≡ session_row h k
     started-there k other =
         row-moved k (search_of h k) (ap opens d)
         (search_of-step k (Some (call.FindObjectsInit session template)) d
-        ∙ ap (λ t. active_search (cond t true (is_searching h k)) (cond t (matching_objects (e ◁ h) template.items) (found_objects h k)) (cond t 0 (last_number h k))) other)
+        ∙ ap (λ t. active_search (cond t true (is_searching h k))
+            (cond t (matching_objects (e ◁ h) template.items) (found_objects h k))
+            (cond t 0 (last_number h k))) other)
 
     pub session_rows-started : found ≡ matching_objects h template.items
-        → change_first (is_session session) (with_search (Some (record { found = found; last = 0 }))) (session_rows session_row h) ≡ session_rows session_row (e ◁ h)
+        → change_first (is_session session) (with_search (Some (record { found = found; last = 0 })))
+            (session_rows session_row h) ≡ session_rows session_row (e ◁ h)
     session_rows-started matching =
-        session_rows-searched (call.FindObjectsInit session template) d refl (λ s. refl) session (with_search (Some (record { found = found; last = 0 })))
-        (started-here (matching ∙ sym (matching_objects-left e h (ap (λ o. (effects_of o).objects) d) (ap (λ o. (effects_of o).sessions) d) template.items))) started-there
+        session_rows-searched (call.FindObjectsInit session template) d refl (λ s. refl) session
+            (with_search (Some (record { found = found; last = 0 })))
+        (started-here (matching ∙ sym (matching_objects-left e h (ap (λ o. (effects_of o).objects) d)
+            (ap (λ o. (effects_of o).sessions) d) template.items))) started-there
 
   -- ---- a search returns objects
 
@@ -133,7 +153,8 @@ module _ (e : Entry) (h : History) where
     found-there k other =
         row-moved k (search_of h k) (ap opens d)
         (search_of-step k (Some (call.FindObjects session max)) d
-        ∙ ap (λ t. found_search t (is_searching h k) (handles_in e.reply.body) (found_objects h k) (last_number h k)) other)
+        ∙ ap (λ t. found_search t (is_searching h k) (handles_in e.reply.body) (found_objects h k)
+            (last_number h k)) other)
 
     last_step : (active : Bool) (found : List ℕ) (last n after : ℕ) → after ≡ n
         → active_search active found after ≡ option_map (with_last n) (active_search active found last)
@@ -146,15 +167,20 @@ module _ (e : Entry) (h : History) where
     found-here n last k same =
         row-moved k (option_map (with_last n) (search_of h k)) (ap opens d)
         (search_of-step k (Some (call.FindObjects session max)) d
-        ∙ ap (λ t. found_search t (is_searching h k) (handles_in e.reply.body) (found_objects h k) (last_number h k)) same
-        ∙ last_step (is_searching h k) (found_objects h k) (last_number h k) n (last_or (last_number h k) (map number_of_handle (handles_in e.reply.body)))
-        (ap (λ s. last_or (last_number h s) (map number_of_handle (handles_in e.reply.body))) (sym (eqb-true session k same)) ∙ sym last))
+        ∙ ap (λ t. found_search t (is_searching h k) (handles_in e.reply.body) (found_objects h k)
+            (last_number h k)) same
+        ∙ last_step (is_searching h k) (found_objects h k) (last_number h k) n
+            (last_or (last_number h k) (map number_of_handle (handles_in e.reply.body)))
+        (ap (λ s. last_or (last_number h s) (map number_of_handle (handles_in e.reply.body)))
+            (sym (eqb-true session k same)) ∙ sym last))
 
     pub session_rows-found : (n : ℕ)
         → n ≡ last_or (last_number h session) (map number_of_handle (handles_in e.reply.body))
-        → change_first (is_session session) (with_last_found n) (session_rows session_row h) ≡ session_rows session_row (e ◁ h)
+        → change_first (is_session session) (with_last_found n) (session_rows session_row h) ≡ session_rows
+            session_row (e ◁ h)
     session_rows-found n last =
-        session_rows-searched (call.FindObjects session max) d refl (λ s. refl) session (with_last_found n) (found-here n last) found-there
+        session_rows-searched (call.FindObjects session max) d refl (λ s. refl) session (with_last_found n)
+            (found-here n last) found-there
 
   -- ---- a search ends
 
@@ -166,14 +192,17 @@ module _ (e : Entry) (h : History) where
         ∙ ended_case t
       where
         ended_case : (t : Bool)
-            → active_search (cond t false (is_searching h k)) (found_objects h k) (last_number h k) ≡ cond t None (search_of h k)
+            → active_search (cond t false (is_searching h k)) (found_objects h k) (last_number h k) ≡ cond t
+                None (search_of h k)
         ended_case true = refl
         ended_case false = refl
 
-    pub session_rows-ended : change_first (is_session session) (with_search None) (session_rows session_row h) ≡ session_rows session_row (e ◁ h)
+    pub session_rows-ended : change_first (is_session session) (with_search None) (session_rows session_row h)
+        ≡ session_rows session_row (e ◁ h)
     session_rows-ended =
         session_rows-searched (call.FindObjectsFinal session) d refl (λ s. refl) session (with_search None)
-        (λ k same. row-moved k None (ap opens d) (ended_step k true same)) (λ k other. row-moved k (search_of h k) (ap opens d) (ended_step k false other))
+        (λ k same. row-moved k None (ap opens d) (ended_step k true same))
+            (λ k other. row-moved k (search_of h k) (ap opens d) (ended_step k false other))
 
 -- all rows written over
 pub written_over : (change : SessionRow → SessionRow) (n : ℕ) (new old items : List SessionRow) → new ≡ map change old

@@ -1,5 +1,6 @@
 -- A script of which some calls were made
-use Rattle.std.proofs.Common.{◌≡◌, ◌+◌, List, [], ◌∷◌, ◌++◌, length, length-append, refl, sym, ap, ◌∙◌, subst, arith}
+use Rattle.std.proofs.Common.{◌≡◌, ◌+◌, List, [], ◌∷◌, ◌++◌, length, length-append, refl, sym, ap, ◌∙◌}
+use Rattle.std.proofs.Common.{subst, arith}
 use Rattle.std.proofs.lemmas.List.{append-nil}
 use mathlib.Core.List.{append_assoc}
 use Rattle.std.specs.Prelude.{Result, Ok, Err, IsErr}
@@ -26,7 +27,8 @@ pub record IsPlaying (old : CallerState) (calls : List Call) (replies : List Rep
 
 module _ (old : CallerState) (calls : List Call) (replies : List Reply) (now : CallerState) where
   module _ (limits : Ranges) (call : Call) (left all : List Call) (is : all ≡ call ∷ left)
-      (at : IsPlaying old calls replies all now) (reply : Reply) (new : CallerState) (does : HasCalled limits now call reply new) where
+      (at : IsPlaying old calls replies all now) (reply : Reply) (new : CallerState)
+          (does : HasCalled limits now call reply new) where
     own_one : entries_by old.number new.last ≡ entry_by old.number call reply ∷ entries_by old.number now.last
     own_one =
         ap (entries_by old.number) does.last

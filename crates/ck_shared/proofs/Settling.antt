@@ -1,5 +1,6 @@
 -- What is known of a caller that is given back
-use Rattle.std.proofs.Common.{◌≡◌, ℕ, zero, suc, ◌-◌, ◌≤◌, List, [], ◌∷◌, length, slice_index, sym, ap, ◌∙◌, subst, arith}
+use Rattle.std.proofs.Common.{◌≡◌, ℕ, zero, suc, ◌-◌, ◌≤◌, List, [], ◌∷◌, length, slice_index, sym, ap}
+use Rattle.std.proofs.Common.{◌∙◌, subst, arith}
 use Rattle.std.specs.Prelude.{All}
 use Rattle.ck_journal.specs.Callers.{call_count, call_counts}
 use Rattle.ck_journal.specs.Fronts.{IsFront}
@@ -9,7 +10,8 @@ use Rattle.ck_journal.proofs.FrontLemmas.{front_trans}
 use Rattle.ck_shared.specs.Callers.{CallerState, IsSettled}
 
 pub settled : (h : History) (c : CallerState) (counts : List ℕ) → 1 ≤ c.number → c.number ≤ 8 → counts ≡ call_counts h
-    → c.count ≡ slice_index counts (c.number - 1) → IsFront c.last c.seen → call_count c.number c.last ≡ c.count → IsFront c.seen h
+    → c.count ≡ slice_index counts (c.number - 1) → IsFront c.last c.seen → call_count c.number c.last ≡
+        c.count → IsFront c.seen h
     → IsSettled h c
 settled h c counts low high books same known made front =
     let count : call_count c.number h ≡ c.count =
@@ -27,11 +29,13 @@ all_cons P x xs first rest zero d below = first
 all_cons P x xs first rest (suc k) d below = rest k d (omega arith)
 
 -- where all that are left but one are settled, and so is that one, all are
-pub settled_next : (g h : History) (c : CallerState) (left rest all : List CallerState) → g ≡ h → left ≡ c ∷ rest → IsSettled h c
+pub settled_next : (g h : History) (c : CallerState) (left rest all : List CallerState) → g ≡ h → left ≡ c ∷
+    rest → IsSettled h c
     → (All (IsSettled h) left → All (IsSettled h) all) → All (IsSettled g) rest → All (IsSettled g) all
 settled_next g h c left rest all same is one then others =
     subst (λ x. All (IsSettled x) all) (sym same)
-    (then (subst (All (IsSettled h)) (sym is) (all_cons (IsSettled h) c rest one (subst (λ x. All (IsSettled x) rest) same others))))
+    (then (subst (All (IsSettled h)) (sym is) (all_cons (IsSettled h) c rest one
+        (subst (λ x. All (IsSettled x) rest) same others))))
 
 pub settled_last : (g h : History) (left all : List CallerState) → g ≡ h → length left ≡ 0
     → (All (IsSettled h) left → All (IsSettled h) all) → All (IsSettled g) all

@@ -1,5 +1,6 @@
 -- One call of a caller under the lock
-use Rattle.std.proofs.Common.{◌≡◌, ℕ, ◌+◌, ◌-◌, ◌<◌, ◌≤◌, ◌^◌, List, [], ◌∷◌, length, slice_index, slice_set, refl, sym, ap, ◌∙◌, subst, arith}
+use Rattle.std.proofs.Common.{◌≡◌, ℕ, ◌+◌, ◌-◌, ◌<◌, ◌≤◌, ◌^◌, List, [], ◌∷◌, length, slice_index}
+use Rattle.std.proofs.Common.{slice_set, refl, sym, ap, ◌∙◌, subst, arith}
 use Rattle.ck_types.specs.TokenLimits.{Ranges}
 use Rattle.ck_journal.specs.Boards.{board_of}
 use Rattle.ck_journal.specs.Callers.{entries_by, call_count, call_counts}
@@ -7,20 +8,23 @@ use Rattle.ck_journal.specs.Fronts.{IsFront}
 use Rattle.ck_journal.specs.Histories.{History, ◌◁◌, entry_count}
 use Rattle.ck_journal.specs.declared.calls.Call.{Call}
 use Rattle.ck_journal.specs.declared.replies.Reply.{Reply}
-use Rattle.ck_journal.proofs.CallerLemmas.{entries_by-own, entries_by-front, call_count-within, call_counts-at, call_counts-next}
+use Rattle.ck_journal.proofs.CallerLemmas.{entries_by-own, entries_by-front, call_count-within}
+use Rattle.ck_journal.proofs.CallerLemmas.{call_counts-at, call_counts-next}
 use Rattle.ck_journal.proofs.FrontLemmas.{front_trans}
 use Rattle.ck_shared.specs.Callers.{entry_by}
 use Rattle.ck_shared.specs.News.{board_after, HasNews}
 use Rattle.ck_shared.specs.declared.slots.Change.{Change}
 
-module _ (h after : History) (number : ℕ) (call : Call) (reply : Reply) (entered : after ≡ entry_by number call reply ◁ h)
+module _ (h after : History) (number : ℕ) (call : Call) (reply : Reply)
+    (entered : after ≡ entry_by number call reply ◁ h)
     (low : 1 ≤ number) (high : number ≤ 8) where
   -- the caller's entries are those from before and this one
   pub own_next : entries_by number after ≡ entry_by number call reply ∷ entries_by number h
   own_next = ap (entries_by number) entered ∙ entries_by-own (entry_by number call reply) h
 
   pub news : (limits own_limits : Ranges) (c : Change) (front : History) → own_limits ≡ limits → front ≡ after
-      → entry_count after < 2 ^ 64 → board_after c (board_of own_limits h) ≡ board_of own_limits after → HasNews limits number c front
+      → entry_count after < 2 ^ 64 → board_after c (board_of own_limits h) ≡ board_of own_limits after →
+          HasNews limits number c front
   news limits own_limits c front same is room board = record {
     before = h;
     entry = entry_by number call reply;
@@ -43,7 +47,8 @@ module _ (h after : History) (number : ℕ) (call : Call) (reply : Reply) (enter
       count_next =
           let more = ap length own_next in omega (arith, more, audited, known_count)
 
-      pub own_before : (last seen : History) → IsFront last seen → IsFront seen h → call_count number last ≡ count → entries_by number h ≡ entries_by number last
+      pub own_before : (last seen : History) → IsFront last seen → IsFront seen h → call_count number last ≡
+          count → entries_by number h ≡ entries_by number last
       own_before last seen p q made =
           entries_by-front number last h (front_trans last seen h p q) (sym known_count ∙ sym audited ∙ sym made)
 

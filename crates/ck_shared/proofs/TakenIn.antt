@@ -1,5 +1,6 @@
 -- What a copy of the board is after the next entry
-use Rattle.std.proofs.Common.{◌≡◌, ℕ, ◌+◌, ◌-◌, ◌<◌, ◌≤◌, ◌^◌, slice_index, slice_set, refl, sym, ap, ◌∙◌, subst, arith}
+use Rattle.std.proofs.Common.{◌≡◌, ℕ, ◌+◌, ◌-◌, ◌<◌, ◌≤◌, ◌^◌, slice_index, slice_set, refl, sym, ap}
+use Rattle.std.proofs.Common.{◌∙◌, subst, arith}
 use Rattle.ck_types.specs.TokenLimits.{Ranges}
 use Rattle.ck_journal.specs.Boards.{board_of}
 use Rattle.ck_journal.specs.Callers.{call_count, call_counts}
@@ -16,7 +17,8 @@ module _ (limits : Ranges) (caller : ℕ) (c : Change) (h front : History) (news
 
   -- the next count of the caller fits
   pub next_count-fits : entry_count h < entry_count front → slice_index (call_counts h) (caller - 1) + 1 < 2 ^ 64
-  next_count-fits less = let at = call_counts-at caller h news.range.0 news.range.1 in omega (arith, at, room-below less)
+  next_count-fits less = let at = call_counts-at caller h news.range.0 news.range.1 in omega
+      (arith, at, room-below less)
 
   module _ (begins : IsFront h front) (one : entry_count front ≡ entry_count h + 1) where
     same : h ≡ news.before
@@ -27,7 +29,8 @@ module _ (limits : Ranges) (caller : ℕ) (c : Change) (h front : History) (news
     pub next_board : board_after c (board_of limits h) ≡ board_of limits front
     next_board = ap (λ x. board_after c (board_of limits x)) same ∙ news.board
 
-    pub next_counts : slice_set (call_counts h) (caller - 1) (slice_index (call_counts h) (caller - 1) + 1) ≡ call_counts front
+    pub next_counts : slice_set (call_counts h) (caller - 1) (slice_index (call_counts h) (caller - 1) + 1) ≡
+        call_counts front
     next_counts =
         ap (λ n. slice_set (call_counts h) (caller - 1) (n + 1)) (call_counts-at caller h news.range.0 news.range.1)
         ∙ sym (call_counts-next caller news.entry h news.caller news.range.0 news.range.1)

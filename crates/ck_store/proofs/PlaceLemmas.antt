@@ -5,7 +5,9 @@ use Rattle.std.proofs.Common.{arith, position, length, get_or, take, ◌++◌, �
 use Rattle.std.proofs.lemmas.List.{take_more, map-append}
 use Rattle.ck_types.specs.declared.items.Item.{Item}
 use Rattle.ck_journal.specs.declared.views.View.{View}
-use Rattle.std.proofs.lemmas.List.Elements.{All-contains, All-filter, All-contains_itself, Contains-get_or, Contains-push_cases, filter_map-append, filter-append}
+use Rattle.std.proofs.lemmas.List.Elements.{All-contains, All-filter, All-contains_itself}
+use Rattle.std.proofs.lemmas.List.Elements.{Contains-get_or, Contains-push_cases, filter_map-append}
+use Rattle.std.proofs.lemmas.List.Elements.{filter-append}
 use Rattle.std.proofs.lemmas.List.Quantifiers.{position-Some}
 use Rattle.std.specs.List.{cons_option}
 use Rattle.std.specs.Prelude.{◌==◌, find, map, filter, filter_map, is_some, option_map, option_and_then}

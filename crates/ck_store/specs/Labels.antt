@@ -1,5 +1,6 @@
 -- Marks of labels
-use Rattle.std.specs.Prelude.{◌≡◌, ◌⊎◌, ℕ, ◌+◌, ◌*◌, ◌%◌, ◌^◌, Bool, ◌==◌, ◌&&◌, not, List, Some, Contains, get_or}
+use Rattle.std.specs.Prelude.{◌≡◌, ◌⊎◌, ℕ, ◌+◌, ◌*◌, ◌%◌, ◌^◌, Bool, ◌==◌, ◌&&◌, not, List, Some}
+use Rattle.std.specs.Prelude.{Contains, get_or}
 use Rattle.std.specs.List.{fold}
 use Rattle.slab.specs.Slab.{Slab, get}
 use Rattle.ck_types.specs.Attributes.{type_of}

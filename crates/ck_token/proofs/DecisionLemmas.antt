@@ -1,5 +1,6 @@
 -- Decisions by the checks of a call, one after the other
-use Rattle.std.proofs.Common.{◌≡◌, ℕ, Bool, true, false, cond, not, List, Option, Some, None, Result, Ok, Err, length, refl, sym, ap, ◌∙◌, subst}
+use Rattle.std.proofs.Common.{◌≡◌, ℕ, Bool, true, false, cond, not, List, Option, Some, None, Result}
+use Rattle.std.proofs.Common.{Ok, Err, length, refl, sym, ap, ◌∙◌, subst}
 use Rattle.std.specs.Prelude.{◌==◌, ◌&&◌, is_none, is_some, nat_lt}
 use Rattle.std.specs.List.{list_any}
 use Rattle.std.specs.Result.{IsErrAnd, IfErr}
@@ -245,7 +246,8 @@ pub session-passes : (h : History) (session : ℕ) → is_open h session ≡ tru
 session-passes h session is_so = ap (λ t. error_if (not t) rv_error.SessionHandleInvalid) is_so
 
 -- a session that is open, and then the checks of the object that a handle names
-pub object-checks : (h : History) (session object : ℕ) (checks : List Item → Option RvError) (attributes : List Item) (error : Option RvError)
+pub object-checks : (h : History) (session object : ℕ) (checks : List Item → Option RvError)
+    (attributes : List Item) (error : Option RvError)
     → is_open h session ≡ true → attributes_named h object ≡ Some attributes → checks attributes ≡ error
     → or_else (session_error h session) (or_else (object_error h object checks) None) ≡ error
 object-checks h session object checks attributes error is_so named is =
@@ -334,7 +336,8 @@ final-signature : (tag signature : List ℕ) → is_final (signature_error tag s
 final-signature tag signature = cases (length signature == length tag) (same_bytes signature tag)
   where
     cases : (fits same : Bool)
-        → is_final (cond fits (cond same None (Some rv_error.SignatureInvalid)) (Some rv_error.SignatureLenRange)) ≡ true
+        → is_final (cond fits (cond same None (Some rv_error.SignatureInvalid))
+            (Some rv_error.SignatureLenRange)) ≡ true
     cases true true = refl
     cases true false = refl
     cases false same = refl

@@ -1,5 +1,6 @@
 -- A run of a list of calls, of which some are answered and the rest is left
-use Rattle.std.proofs.Common.{◌≡◌, ℕ, suc, ◌+◌, ◌<◌, ◌≤◌, false, List, [], ◌∷◌, ◌++◌, length, get_or, refl, sym, ap, ◌∙◌, subst, arith, append_assoc, length-append}
+use Rattle.std.proofs.Common.{◌≡◌, ℕ, suc, ◌+◌, ◌<◌, ◌≤◌, false, List, [], ◌∷◌, ◌++◌, length, get_or}
+use Rattle.std.proofs.Common.{refl, sym, ap, ◌∙◌, subst, arith, append_assoc, length-append}
 use Rattle.std.specs.List.{All}
 use Rattle.std.specs.Prelude.{reverse}
 use Rattle.std.proofs.lemmas.List.{reverse-append, reverse-reverse}
@@ -16,7 +17,8 @@ get_or-here [] c later = refl
 get_or-here (d ∷ before) c later = get_or-here before c later
 
 -- so many calls of the list are answered, and the others are left, the last first
-pub record Answers (old : TokenState) (calls : List (ℕ × Call)) (count : ℕ) (left : List (ℕ × Call)) (new : TokenState) : Type 0 where
+pub record Answers (old : TokenState) (calls : List (ℕ × Call)) (count : ℕ) (left : List (ℕ × Call))
+    (new : TokenState) : Type 0 where
   pub answered : List (ℕ × Call)
   pub parts : calls ≡ answered ++ reverse left
   pub counted : length answered ≡ count
@@ -40,7 +42,8 @@ module _ (old : TokenState) (calls : List (ℕ × Call)) where
     room = omega arith;
   }
 
-  pub Answers-more : (count : ℕ) (rest : List (ℕ × Call)) (c : ℕ × Call) (left : List (ℕ × Call)) (token new : TokenState) (reply : _)
+  pub Answers-more : (count : ℕ) (rest : List (ℕ × Call)) (c : ℕ × Call) (left : List (ℕ × Call))
+      (token new : TokenState) (reply : _)
       → left ≡ rest ++ c ∷ [] → Answers old calls count left token → IsAnswered token new c.0 c.1 reply
       → IsLegal new.limits new.history
       → token.spare ≤ new.spare + 1 → Answers old calls (count + 1) rest new

@@ -1,5 +1,7 @@
 -- What a search gives next
-use Rattle.std.proofs.Common.{◌≡◌, ℕ, zero, suc, ◌+◌, ◌-◌, ◌<◌, Bool, true, false, cond, List, [], ◌∷◌, ◌++◌, length, drop, get_or, Some, None, refl, sym, ap, ◌∙◌, add-one, arith}
+use Rattle.std.proofs.Common.{◌≡◌, ℕ, zero, suc, ◌+◌, ◌-◌, ◌<◌, Bool, true, false, cond, List, [], ◌∷◌}
+use Rattle.std.proofs.Common.{◌++◌, length, drop, get_or, Some, None, refl, sym, ap, ◌∙◌, add-one}
+use Rattle.std.proofs.Common.{arith}
 use Rattle.std.proofs.Math.Seq.{drop-cons}
 use Rattle.std.specs.Prelude.{filter, map, take}
 use Rattle.std.specs.List.{slice_get}
@@ -49,10 +51,12 @@ module _ (h : History) where
 
   -- ---- one number more
 
-  module _ (total handles numbers : List ℕ) (i room : ℕ) (is : total ≡ handles ++ next h room (drop i numbers)) (below : i < length numbers) where
+  module _ (total handles numbers : List ℕ) (i room : ℕ)
+      (is : total ≡ handles ++ next h room (drop i numbers)) (below : i < length numbers) where
     one_more : total ≡ handles ++ next h room (get_or numbers i 0 ∷ drop (i + 1) numbers)
     one_more =
-        is ∙ ap (λ ns. handles ++ next h room ns) (drop-cons numbers i 0 below ∙ ap (λ k. get_or numbers i 0 ∷ drop k numbers) (sym (add-one i)))
+        is ∙ ap (λ ns. handles ++ next h room ns) (drop-cons numbers i 0 below ∙ ap
+            (λ k. get_or numbers i 0 ∷ drop k numbers) (sym (add-one i)))
 
     -- it is visible and is given
     pub given-next : (handles' : List ℕ) (room' handle : ℕ) → (room ≡ 0 → ⊥)
@@ -60,7 +64,8 @@ module _ (h : History) where
         → room' ≡ room - 1 → total ≡ handles' ++ next h room' (drop (i + 1) numbers)
     given-next handles' room' handle some found more less =
         one_more
-        ∙ ap (λ hs. handles ++ hs) (next-visible room (get_or numbers i 0) handle (drop (i + 1) numbers) (omega arith) found)
+        ∙ ap (λ hs. handles ++ hs) (next-visible room (get_or numbers i 0) handle (drop (i + 1) numbers)
+            (omega arith) found)
         ∙ append-one handles handle (next h (room - 1) (drop (i + 1) numbers))
         ∙ ap (λ r. (handles ++ handle ∷ []) ++ next h r (drop (i + 1) numbers)) (sym less)
         ∙ ap (λ hs. hs ++ next h room' (drop (i + 1) numbers)) (sym more)

@@ -8,6 +8,7 @@ returns c =
     let b = c.self.inside.base in
     let v = c.self.inside.entries in
     rw (← c.self.view_is) (
-      (λ t. let n = eqb-true (vec_len v) 0 (sym c.is_empty.ensures ∙ t) in no_entries b v.items (omega (arith, v.ok.0))),
+      (λ t. let n = eqb-true (vec_len v) 0 (sym c.is_empty.ensures ∙ t) in no_entries b v.items
+          (omega (arith, v.ok.0))),
       (λ e. let n = only_start b v.items e in c.is_empty.ensures ∙ eq-eqb (vec_len v) 0 (omega (arith, v.ok.0))),
     )

@@ -4,5 +4,6 @@ use Rattle.ck_operations.proofs.operation_table.Operations.add_piece.Goals as go
 pub returns : goal.returns
 returns c = record {
   agree =
-      λ h e does agree. operations-added h _ (rw (← c.self.view_is) at agree) e c.args.kind c.args.session c.args.bytes.now does _ c.add_piece.ensures;
+      λ h e does agree. operations-added h _ (rw (← c.self.view_is) at agree) e c.args.kind c.args.session
+          c.args.bytes.now does _ c.add_piece.ensures;
 }

@@ -4,5 +4,6 @@ use Rattle.ck_operations.proofs.operation_table.Operations.end_session.Goals as 
 pub returns : goal.returns
 returns c = record {
   agree =
-      λ h e does agree. operations-closed h _ (rw (← c.self.view_is) at agree) e c.args.session does _ c.remove_session.ensures;
+      λ h e does agree. operations-closed h _ (rw (← c.self.view_is) at agree) e c.args.session does _
+          c.remove_session.ensures;
 }

@@ -12,11 +12,13 @@ board-requires c =
     let h = c.self.inside.journal.history in
     let rows : length c.self.inside.parts.sessions.rows ≡ length (open_sessions h) =
     ap length agree.parts.sessions.rows ∙ length-map (open_sessions h) (session_row h) in
-    let few : length (open_sessions h) ≤ c.self.inside.limits.sessions = open-bound c.self.inside.limits h agree.legal in
+    let few : length (open_sessions h) ≤ c.self.inside.limits.sessions = open-bound c.self.inside.limits h
+          agree.legal in
     let most : c.self.inside.limits.sessions ≤ 64 = agree.ranges.1 in
     omega (arith, rows, few, most)
 
 pub returns : goal.returns
 returns c =
     let agree = c.self.invariant in
-    rw (← c.self.view_is) (c.board.ensures c.self.inside.limits c.self.inside.journal.history agree.parts.sessions c.sessions.ensures.value)
+    rw (← c.self.view_is) (c.board.ensures c.self.inside.limits c.self.inside.journal.history
+        agree.parts.sessions c.sessions.ensures.value)

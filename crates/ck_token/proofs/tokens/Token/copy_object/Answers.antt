@@ -10,7 +10,8 @@ use Rattle.ck_journal.specs.Answers.{ok, new_handle, placement_error, prohibited
 use Rattle.ck_journal.specs.declared.calls.Call.TheVariants as call
 use Rattle.ck_journal.specs.declared.replies.Body.TheVariants as body
 use Rattle.ck_parts.specs.declared.changes.Change.TheVariants as change
-use Rattle.ck_token.proofs.DecisionLemmas.{refused-decision, memory-decision, object-checks, second-fails, third-fails, fourth-fails, four-pass}
+use Rattle.ck_token.proofs.DecisionLemmas.{refused-decision, memory-decision, object-checks}
+use Rattle.ck_token.proofs.DecisionLemmas.{second-fails, third-fails, fourth-fails, four-pass}
 use Rattle.ck_token.proofs.tokens.Token.copy_object.Goals as goal
 
 pub returns-in_err-check_copy : goal.returns-in_err-check_copy
@@ -18,7 +19,8 @@ returns-in_err-check_copy c =
     let h = c.args.self.now.history in
     let code = c.in_err-check_copy.field-0.0 in
     let source = c.in_ok-source.source.now in
-    let allowed = check_of-ok (prohibited_error attribute.Copyable source) _ (sym c.check_flag.ensures ∙ c.in_ok-check_flag.was) in
+    let allowed = check_of-ok (prohibited_error attribute.Copyable source) _
+          (sym c.check_flag.ensures ∙ c.in_ok-check_flag.was) in
     let fails = check_of-err (copied_error (class_of source) (protections_of source) c.args.template.now.items) code
     (sym c.check_copy.ensures ∙ c.in_err-check_copy.was) in
     refused-decision c.args.self.now.limits h (call.CopyObject c.args.session c.args.object c.args.template.now) _ code
@@ -31,7 +33,8 @@ returns-in_err-check_placement c =
     let h = c.args.self.now.history in
     let code = c.in_err-check_placement.field-0.0 in
     let source = c.in_ok-source.source.now in
-    let allowed = check_of-ok (prohibited_error attribute.Copyable source) _ (sym c.check_flag.ensures ∙ c.in_ok-check_flag.was) in
+    let allowed = check_of-ok (prohibited_error attribute.Copyable source) _
+          (sym c.check_flag.ensures ∙ c.in_ok-check_flag.was) in
     let copied = check_of-ok (copied_error (class_of source) (protections_of source) c.args.template.now.items) _
     (sym c.check_copy.ensures ∙ c.in_ok-check_copy.was) in
     let fails = check_of-err (placement_error h c.args.session c.copy_placement.result) code
@@ -47,7 +50,8 @@ returns-in_err-number c =
     let h = c.args.self.now.history in
     let code = c.in_err-number.field-0.0 in
     let source = c.in_ok-source.source.now in
-    let allowed = check_of-ok (prohibited_error attribute.Copyable source) _ (sym c.check_flag.ensures ∙ c.in_ok-check_flag.was) in
+    let allowed = check_of-ok (prohibited_error attribute.Copyable source) _
+          (sym c.check_flag.ensures ∙ c.in_ok-check_flag.was) in
     let copied = check_of-ok (copied_error (class_of source) (protections_of source) c.args.template.now.items) _
     (sym c.check_copy.ensures ∙ c.in_ok-check_copy.was) in
     let placed = check_of-ok (placement_error h c.args.session c.copy_placement.result) _
@@ -56,13 +60,15 @@ returns-in_err-number c =
     c.from_residual-in_err-number.ensures.1
     (object-checks h c.args.session c.args.object _ source _ c.in_ok-row.ensures.open c.in_ok-source.ensures.attributes
     (fourth-fails _ _ _ _ _ code allowed copied
-    (ap (λ (p : Placement). placement_error h c.args.session p) (sym c.copy_placement.ensures) ∙ placed) c.in_err-number.ensures.used_up)) refl
+    (ap (λ (p : Placement). placement_error h c.args.session p) (sym c.copy_placement.ensures) ∙ placed)
+        c.in_err-number.ensures.used_up)) refl
 
 pub returns-in_err-made : goal.returns-in_err-made
 returns-in_err-made c =
     let h = c.args.self.now.history in
     let source = c.in_ok-source.source.now in
-    let allowed = check_of-ok (prohibited_error attribute.Copyable source) _ (sym c.check_flag.ensures ∙ c.in_ok-check_flag.was) in
+    let allowed = check_of-ok (prohibited_error attribute.Copyable source) _
+          (sym c.check_flag.ensures ∙ c.in_ok-check_flag.was) in
     let copied = check_of-ok (copied_error (class_of source) (protections_of source) c.args.template.now.items) _
     (sym c.check_copy.ensures ∙ c.in_ok-check_copy.was) in
     let placed = check_of-ok (placement_error h c.args.session c.copy_placement.result) _
@@ -71,13 +77,15 @@ returns-in_err-made c =
     c.from_residual-in_err-made.ensures.1
     (object-checks h c.args.session c.args.object _ source _ c.in_ok-row.ensures.open c.in_ok-source.ensures.attributes
     (four-pass _ _ _ _ allowed copied
-    (ap (λ (p : Placement). placement_error h c.args.session p) (sym c.copy_placement.ensures) ∙ placed) c.in_ok-number.ensures.free)) refl
+    (ap (λ (p : Placement). placement_error h c.args.session p) (sym c.copy_placement.ensures) ∙ placed)
+        c.in_ok-number.ensures.free)) refl
 
 pub returns-in_err-attributes : goal.returns-in_err-attributes
 returns-in_err-attributes c =
     let h = c.args.self.now.history in
     let source = c.in_ok-source.source.now in
-    let allowed = check_of-ok (prohibited_error attribute.Copyable source) _ (sym c.check_flag.ensures ∙ c.in_ok-check_flag.was) in
+    let allowed = check_of-ok (prohibited_error attribute.Copyable source) _
+          (sym c.check_flag.ensures ∙ c.in_ok-check_flag.was) in
     let copied = check_of-ok (copied_error (class_of source) (protections_of source) c.args.template.now.items) _
     (sym c.check_copy.ensures ∙ c.in_ok-check_copy.was) in
     let placed = check_of-ok (placement_error h c.args.session c.copy_placement.result) _
@@ -86,23 +94,27 @@ returns-in_err-attributes c =
     c.from_residual-in_err-attributes.ensures.1
     (object-checks h c.args.session c.args.object _ source _ c.in_ok-row.ensures.open c.in_ok-source.ensures.attributes
     (four-pass _ _ _ _ allowed copied
-    (ap (λ (p : Placement). placement_error h c.args.session p) (sym c.copy_placement.ensures) ∙ placed) c.in_ok-number.ensures.free)) refl
+    (ap (λ (p : Placement). placement_error h c.args.session p) (sym c.copy_placement.ensures) ∙ placed)
+        c.in_ok-number.ensures.free)) refl
 
 pub returns : goal.returns
 returns c =
     let h = c.args.self.now.history in
     let source = c.in_ok-source.source.now in
-    let allowed = check_of-ok (prohibited_error attribute.Copyable source) _ (sym c.check_flag.ensures ∙ c.in_ok-check_flag.was) in
+    let allowed = check_of-ok (prohibited_error attribute.Copyable source) _
+          (sym c.check_flag.ensures ∙ c.in_ok-check_flag.was) in
     let copied = check_of-ok (copied_error (class_of source) (protections_of source) c.args.template.now.items) _
     (sym c.check_copy.ensures ∙ c.in_ok-check_copy.was) in
     let placed = check_of-ok (placement_error h c.args.session c.copy_placement.result) _
     (sym (c.check_placement.ensures c.args.session c.in_ok-row.ensures.row) ∙ c.in_ok-check_placement.was) in
     let made = c.in_ok-attributes.ensures
     ∙ c.in_ok-made.ensures
-    ∙ ap (λ found. with_given c.args.template.now.items (unwrap_or found [])) (sym c.in_ok-source.ensures.attributes) in (
+    ∙ ap (λ found. with_given c.args.template.now.items (unwrap_or found []))
+        (sym c.in_ok-source.ensures.attributes) in (
       object-checks h c.args.session c.args.object _ source _ c.in_ok-row.ensures.open c.in_ok-source.ensures.attributes
           (four-pass _ _ _ _ allowed copied
-          (ap (λ (p : Placement). placement_error h c.args.session p) (sym c.copy_placement.ensures) ∙ placed) c.in_ok-number.ensures.free),
+          (ap (λ (p : Placement). placement_error h c.args.session p) (sym c.copy_placement.ensures) ∙ placed)
+              c.in_ok-number.ensures.free),
       c.creation.ensures.reply ∙ ap (λ (a : List Item). ok (body.Handle (new_handle h a))) made,
       c.creation.ensures.change ∙ ap (λ (a : List Item). change.CreateObject c.args.session a) made,
     )

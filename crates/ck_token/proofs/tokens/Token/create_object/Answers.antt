@@ -7,32 +7,38 @@ use Rattle.ck_journal.specs.Answers.{ok, new_handle, placement_error}
 use Rattle.ck_journal.specs.declared.replies.Body.TheVariants as body
 use Rattle.ck_journal.specs.declared.calls.Call.TheVariants as call
 use Rattle.ck_parts.specs.declared.changes.Change.TheVariants as change
-use Rattle.ck_token.proofs.DecisionLemmas.{refused-decision, memory-decision, second-fails, third-fails, four-pass, session-passes}
+use Rattle.ck_token.proofs.DecisionLemmas.{refused-decision, memory-decision, second-fails, third-fails}
+use Rattle.ck_token.proofs.DecisionLemmas.{four-pass, session-passes}
 use Rattle.ck_token.proofs.tokens.Token.create_object.Goals as goal
 
 pub returns-in_err-check_creation : goal.returns-in_err-check_creation
 returns-in_err-check_creation c =
     let h = c.args.self.now.history in
     let code = c.in_err-check_creation.field-0.0 in
-    let fails = check_of-err (created_error c.args.template.now.items) code (sym c.check_creation.ensures ∙ c.in_err-check_creation.was) in
-    refused-decision c.args.self.now.limits h (call.CreateObject c.args.session c.args.template.now) _ code c.from_residual-in_err-check_creation.ensures.1
+    let fails = check_of-err (created_error c.args.template.now.items) code
+          (sym c.check_creation.ensures ∙ c.in_err-check_creation.was) in
+    refused-decision c.args.self.now.limits h (call.CreateObject c.args.session c.args.template.now) _ code
+        c.from_residual-in_err-check_creation.ensures.1
     (second-fails _ _ _ code (session-passes h c.args.session c.in_ok-row.ensures.open) fails) refl
 
 pub returns-in_err-check_placement : goal.returns-in_err-check_placement
 returns-in_err-check_placement c =
     let h = c.args.self.now.history in
     let code = c.in_err-check_placement.field-0.0 in
-    let made = check_of-ok (created_error c.args.template.now.items) _ (sym c.check_creation.ensures ∙ c.in_ok-check_creation.was) in
+    let made = check_of-ok (created_error c.args.template.now.items) _
+          (sym c.check_creation.ensures ∙ c.in_ok-check_creation.was) in
     let fails = check_of-err (placement_error h c.args.session c.creation_placement.result) code
     (sym (c.check_placement.ensures c.args.session c.in_ok-row.ensures.row) ∙ c.in_err-check_placement.was) in
-    refused-decision c.args.self.now.limits h (call.CreateObject c.args.session c.args.template.now) _ code c.from_residual-in_err-check_placement.ensures.1
+    refused-decision c.args.self.now.limits h (call.CreateObject c.args.session c.args.template.now) _ code
+        c.from_residual-in_err-check_placement.ensures.1
     (third-fails _ _ _ _ code (session-passes h c.args.session c.in_ok-row.ensures.open) made
     (ap (λ (p : Placement). placement_error h c.args.session p) (sym c.creation_placement.ensures) ∙ fails)) refl
 
 pub returns-in_err-attributes : goal.returns-in_err-attributes
 returns-in_err-attributes c =
     let h = c.args.self.now.history in
-    let made = check_of-ok (created_error c.args.template.now.items) _ (sym c.check_creation.ensures ∙ c.in_ok-check_creation.was) in
+    let made = check_of-ok (created_error c.args.template.now.items) _
+          (sym c.check_creation.ensures ∙ c.in_ok-check_creation.was) in
     let placed = check_of-ok (placement_error h c.args.session c.creation_placement.result) _
     (sym (c.check_placement.ensures c.args.session c.in_ok-row.ensures.row) ∙ c.in_ok-check_placement.was) in
     memory-decision c.args.self.now.limits h (call.CreateObject c.args.session c.args.template.now) _
@@ -44,13 +50,17 @@ returns-in_err-attributes c =
 pub returns : goal.returns
 returns c =
     let h = c.args.self.now.history in
-    let made = check_of-ok (created_error c.args.template.now.items) _ (sym c.check_creation.ensures ∙ c.in_ok-check_creation.was) in
+    let made = check_of-ok (created_error c.args.template.now.items) _
+          (sym c.check_creation.ensures ∙ c.in_ok-check_creation.was) in
     let placed = check_of-ok (placement_error h c.args.session c.creation_placement.result) _
     (sym (c.check_placement.ensures c.args.session c.in_ok-row.ensures.row) ∙ c.in_ok-check_placement.was) in (
       four-pass _ _ _ _ (session-passes h c.args.session c.in_ok-row.ensures.open) made
-          (ap (λ (p : Placement). placement_error h c.args.session p) (sym c.creation_placement.ensures) ∙ placed) c.in_ok-number.ensures.free,
+          (ap (λ (p : Placement). placement_error h c.args.session p) (sym c.creation_placement.ensures) ∙
+              placed) c.in_ok-number.ensures.free,
       c.creation.ensures.reply
-          ∙ ap (λ (a : List Item). ok (body.Handle (new_handle h a))) (c.in_ok-attributes.ensures ∙ c.in_ok-made.ensures),
+          ∙ ap (λ (a : List Item). ok (body.Handle (new_handle h a)))
+              (c.in_ok-attributes.ensures ∙ c.in_ok-made.ensures),
       c.creation.ensures.change
-          ∙ ap (λ (a : List Item). change.CreateObject c.args.session a) (c.in_ok-attributes.ensures ∙ c.in_ok-made.ensures),
+          ∙ ap (λ (a : List Item). change.CreateObject c.args.session a)
+              (c.in_ok-attributes.ensures ∙ c.in_ok-made.ensures),
     )

@@ -12,7 +12,8 @@ use Rattle.ck_journal.specs.declared.calls.Call.TheVariants as call
 use Rattle.ck_parts.specs.declared.changes.Change.TheVariants as change
 use Rattle.ck_token.specs.Decisions.{reply_of}
 use Rattle.ck_token.specs.declared.decisions.Decision.{Decision}
-use Rattle.ck_token.proofs.DecisionLemmas.{refused-decision, memory-decision, object-checks, second-fails, third-fails, three-pass}
+use Rattle.ck_token.proofs.DecisionLemmas.{refused-decision, memory-decision, object-checks}
+use Rattle.ck_token.proofs.DecisionLemmas.{second-fails, third-fails, three-pass}
 use Rattle.ck_token.proofs.tokens.Token.set_attribute_value.Goals as goal
 
 pub returns-in_err-check_flag : goal.returns-in_err-check_flag
@@ -22,11 +23,14 @@ returns-in_err-check_flag c =
     let present = c.in_ok-number.present.now in
     let writable = check_of-ok (read_only_session_error h c.args.session c.placement.result) _
     (sym (c.check_writable.ensures c.args.session c.in_ok-row.ensures.row) ∙ c.in_ok-check_writable.was) in
-    let fails = check_of-err (prohibited_error attribute.Modifiable present) code (sym c.check_flag.ensures ∙ c.in_err-check_flag.was) in
-    refused-decision c.args.self.now.limits h (call.SetAttributeValue c.args.session c.args.object c.args.template.now) _ code
+    let fails = check_of-err (prohibited_error attribute.Modifiable present) code
+          (sym c.check_flag.ensures ∙ c.in_err-check_flag.was) in
+    refused-decision c.args.self.now.limits h (call.SetAttributeValue c.args.session c.args.object
+        c.args.template.now) _ code
     c.from_residual-in_err-check_flag.ensures.1
     (object-checks h c.args.session c.args.object _ present _ c.in_ok-row.ensures.open c.in_ok-number.ensures.attributes
-    (second-fails _ _ _ code (ap (λ (p : Placement). read_only_session_error h c.args.session p) (sym c.placement.ensures) ∙ writable) fails)) refl
+    (second-fails _ _ _ code (ap (λ (p : Placement). read_only_session_error h c.args.session p)
+        (sym c.placement.ensures) ∙ writable) fails)) refl
 
 pub returns-in_err-check_change : goal.returns-in_err-check_change
 returns-in_err-check_change c =
@@ -35,13 +39,16 @@ returns-in_err-check_change c =
     let present = c.in_ok-number.present.now in
     let writable = check_of-ok (read_only_session_error h c.args.session c.placement.result) _
     (sym (c.check_writable.ensures c.args.session c.in_ok-row.ensures.row) ∙ c.in_ok-check_writable.was) in
-    let allowed = check_of-ok (prohibited_error attribute.Modifiable present) _ (sym c.check_flag.ensures ∙ c.in_ok-check_flag.was) in
+    let allowed = check_of-ok (prohibited_error attribute.Modifiable present) _
+          (sym c.check_flag.ensures ∙ c.in_ok-check_flag.was) in
     let fails = check_of-err (changed_error (class_of present) (protections_of present) c.args.template.now.items) code
     (sym c.check_change.ensures ∙ c.in_err-check_change.was) in
-    refused-decision c.args.self.now.limits h (call.SetAttributeValue c.args.session c.args.object c.args.template.now) _ code
+    refused-decision c.args.self.now.limits h (call.SetAttributeValue c.args.session c.args.object
+        c.args.template.now) _ code
     c.from_residual-in_err-check_change.ensures.1
     (object-checks h c.args.session c.args.object _ present _ c.in_ok-row.ensures.open c.in_ok-number.ensures.attributes
-    (third-fails _ _ _ _ code (ap (λ (p : Placement). read_only_session_error h c.args.session p) (sym c.placement.ensures) ∙ writable) allowed fails)) refl
+    (third-fails _ _ _ _ code (ap (λ (p : Placement). read_only_session_error h c.args.session p)
+        (sym c.placement.ensures) ∙ writable) allowed fails)) refl
 
 pub returns-in_err-made : goal.returns-in_err-made
 returns-in_err-made c =
@@ -49,13 +56,15 @@ returns-in_err-made c =
     let present = c.in_ok-number.present.now in
     let writable = check_of-ok (read_only_session_error h c.args.session c.placement.result) _
     (sym (c.check_writable.ensures c.args.session c.in_ok-row.ensures.row) ∙ c.in_ok-check_writable.was) in
-    let allowed = check_of-ok (prohibited_error attribute.Modifiable present) _ (sym c.check_flag.ensures ∙ c.in_ok-check_flag.was) in
+    let allowed = check_of-ok (prohibited_error attribute.Modifiable present) _
+          (sym c.check_flag.ensures ∙ c.in_ok-check_flag.was) in
     let changed = check_of-ok (changed_error (class_of present) (protections_of present) c.args.template.now.items) _
     (sym c.check_change.ensures ∙ c.in_ok-check_change.was) in
     memory-decision c.args.self.now.limits h (call.SetAttributeValue c.args.session c.args.object c.args.template.now) _
     c.from_residual-in_err-made.ensures.1
     (object-checks h c.args.session c.args.object _ present _ c.in_ok-row.ensures.open c.in_ok-number.ensures.attributes
-    (three-pass _ _ _ (ap (λ (p : Placement). read_only_session_error h c.args.session p) (sym c.placement.ensures) ∙ writable) allowed changed)) refl
+    (three-pass _ _ _ (ap (λ (p : Placement). read_only_session_error h c.args.session p)
+        (sym c.placement.ensures) ∙ writable) allowed changed)) refl
 
 pub returns-in_err-attributes : goal.returns-in_err-attributes
 returns-in_err-attributes c =
@@ -63,13 +72,15 @@ returns-in_err-attributes c =
     let present = c.in_ok-number.present.now in
     let writable = check_of-ok (read_only_session_error h c.args.session c.placement.result) _
     (sym (c.check_writable.ensures c.args.session c.in_ok-row.ensures.row) ∙ c.in_ok-check_writable.was) in
-    let allowed = check_of-ok (prohibited_error attribute.Modifiable present) _ (sym c.check_flag.ensures ∙ c.in_ok-check_flag.was) in
+    let allowed = check_of-ok (prohibited_error attribute.Modifiable present) _
+          (sym c.check_flag.ensures ∙ c.in_ok-check_flag.was) in
     let changed = check_of-ok (changed_error (class_of present) (protections_of present) c.args.template.now.items) _
     (sym c.check_change.ensures ∙ c.in_ok-check_change.was) in
     memory-decision c.args.self.now.limits h (call.SetAttributeValue c.args.session c.args.object c.args.template.now) _
     c.from_residual-in_err-attributes.ensures.1
     (object-checks h c.args.session c.args.object _ present _ c.in_ok-row.ensures.open c.in_ok-number.ensures.attributes
-    (three-pass _ _ _ (ap (λ (p : Placement). read_only_session_error h c.args.session p) (sym c.placement.ensures) ∙ writable) allowed changed)) refl
+    (three-pass _ _ _ (ap (λ (p : Placement). read_only_session_error h c.args.session p)
+        (sym c.placement.ensures) ∙ writable) allowed changed)) refl
 
 pub returns : goal.returns
 returns c =
@@ -77,15 +88,19 @@ returns c =
     let present = c.in_ok-number.present.now in
     let writable = check_of-ok (read_only_session_error h c.args.session c.placement.result) _
     (sym (c.check_writable.ensures c.args.session c.in_ok-row.ensures.row) ∙ c.in_ok-check_writable.was) in
-    let allowed = check_of-ok (prohibited_error attribute.Modifiable present) _ (sym c.check_flag.ensures ∙ c.in_ok-check_flag.was) in
+    let allowed = check_of-ok (prohibited_error attribute.Modifiable present) _
+          (sym c.check_flag.ensures ∙ c.in_ok-check_flag.was) in
     let changed = check_of-ok (changed_error (class_of present) (protections_of present) c.args.template.now.items) _
     (sym c.check_change.ensures ∙ c.in_ok-check_change.was) in
-    let checks = object-checks h c.args.session c.args.object _ present _ c.in_ok-row.ensures.open c.in_ok-number.ensures.attributes
-    (three-pass _ _ _ (ap (λ (p : Placement). read_only_session_error h c.args.session p) (sym c.placement.ensures) ∙ writable) allowed changed) in
+    let checks = object-checks h c.args.session c.args.object _ present _ c.in_ok-row.ensures.open
+          c.in_ok-number.ensures.attributes
+    (three-pass _ _ _ (ap (λ (p : Placement). read_only_session_error h c.args.session p)
+        (sym c.placement.ensures) ∙ writable) allowed changed) in
     let number = ap (λ found. unwrap_or found 0) (sym c.in_ok-number.ensures.number) in
     let made = c.in_ok-attributes.ensures
     ∙ c.in_ok-made.ensures
-    ∙ ap (λ found. with_given c.args.template.now.items (unwrap_or found [])) (sym c.in_ok-number.ensures.attributes) in (
+    ∙ ap (λ found. with_given c.args.template.now.items (unwrap_or found []))
+        (sym c.in_ok-number.ensures.attributes) in (
       checks,
       ap reply_of c.of_change.ensures,
       ap (λ (d : Decision). d.change) c.of_change.ensures

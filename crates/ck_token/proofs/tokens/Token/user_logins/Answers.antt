@@ -7,5 +7,6 @@ pub returns-clause-bound : goal.returns-clause-bound
 returns-clause-bound c =
     let agree = c.self.invariant in
     let h = c.self.inside.journal.history in
-    let below : user_logins h < 2147483648 = user_logins-bound c.self.inside.limits agree.ranges h agree.parts.objects.sound agree.legal in
+    let below : user_logins h < 2147483648 = user_logins-bound c.self.inside.limits agree.ranges h
+          agree.parts.objects.sound agree.legal in
     rw (c.logins.ensures.logins h agree.parts.sessions) below
