@@ -83,7 +83,7 @@ fn create(
     attributes: Record,
 ) -> Result<(), NoMemory> {
     assert!(rt; store.creations() < 0xffff_fffe);
-    store.reserve(session)?;
+    store.reserve()?;
     store.create(session, attributes);
     Ok(())
 }
@@ -301,9 +301,9 @@ fn add(rt: &impl Abort, alloc: Global, store: &mut Store, session: u64) -> Resul
         Err(_) => record_of(alloc, items)?,
     };
     assert!(rt; store.creations() < 0xffff_fffe);
-    match store.reserve(session) {
+    match store.reserve() {
         Ok(()) => {}
-        Err(NoMemory) => store.reserve(session)?,
+        Err(NoMemory) => store.reserve()?,
     }
     store.create(session, attributes);
     Ok(store.creations())

@@ -60,7 +60,7 @@ impl Parts {
     {
         match change {
             Change::OpenSession { .. } => self.sessions.reserve(),
-            Change::CreateObject { session, .. } => self.objects.reserve(*session),
+            Change::CreateObject { .. } => self.objects.reserve(),
             Change::StartDigest { .. } | Change::StartHmac { .. } => self.operations.reserve(),
             _ => Ok(()),
         }

@@ -2,23 +2,24 @@
 use Rattle.std.proofs.Common.{◌≡◌, ◌≢◌, ◌⊎◌, ℕ, Bool, true, false, cond, not, List, []}
 use Rattle.std.proofs.Common.{◌∷◌, Option, Some, None, Contains, refl, sym, ap, ◌∙◌, subst}
 use Rattle.std.proofs.Common.{inl, inr, arith, get_or, ◌&&◌, unwrap_or}
-use Rattle.std.specs.Prelude.{◌==◌, option_map}
+use Rattle.std.specs.Prelude.{◌==◌, find, option_map}
 use Rattle.std.specs.Cmp.Lexicographic.{same_text}
 use Rattle.std.specs.List.{list_all}
-use Rattle.std.proofs.lemmas.Bool.{cases_eq}
+use Rattle.std.proofs.lemmas.Bool.{cases_eq, eqb-true}
 use Rattle.std.proofs.lemmas.Option.{same_Some}
 use Rattle.slab.specs.Slab.{Slab, get}
 use Rattle.slab.proofs.SlabLemmas.{Contains-cons_cases}
 use Rattle.ck_types.specs.Attributes.{type_of, same_bytes}
+use Rattle.ck_types.specs.Templates.{value_at, value_or}
 use Rattle.ck_types.specs.Records.{readable_value, has_item, matches}
 use Rattle.ck_types.specs.declared.attributes.Attribute.TheVariants as attribute
 use Rattle.ck_types.specs.declared.items.Item.{Item}
 use Rattle.ck_journal.specs.Objects.{is_visible_with}
 use Rattle.ck_journal.specs.declared.views.View.{View}
 use Rattle.ck_journal.proofs.NumberTests.{same_number}
-use Rattle.ck_types.specs.Records.{with_state}
+use Rattle.ck_types.specs.Records.{with_state, state_item}
 use Rattle.ck_types.specs.declared.key_states.KeyState.{KeyState}
-use Rattle.ck_store.specs.Index.{object_at, IsChanged, IsChangedOnly, IsKeyOf}
+use Rattle.ck_store.specs.Index.{object_at, IsChanged, IsKeyOf}
 use Rattle.ck_store.specs.Labels.{label_mark, IsMarkOf, IsWanted, IsMarked, is_refused}
 use Rattle.ck_store.specs.Rows.{ObjectRow, has_number, is_match, matching_number}
 use Rattle.ck_store.specs.Rows.{with_attributes, with_key_state}
@@ -149,23 +150,25 @@ pub IsMarked-fewer : (old new : Slab ObjectRow) (marks : List ℕ) → IsMarked 
     → IsMarked new marks
 IsMarked-fewer old new marks marked was key row is = marked key row (was key row is)
 
--- ---- which objects a change leaves
+-- ---- an object of a number is changed
 
-module _ (number : ℕ) (change : ObjectRow → ObjectRow) (old new : Slab ObjectRow)
-    (changed : IsChanged change old new)
-    (same_number' : (row : ObjectRow) → (change row).number ≡ row.number)
-    (same : (row : ObjectRow) → has_number number row ≡ false → change row ≡ row) where
-  pub changed-only : IsChangedOnly number old new
-  changed-only key row is other = by_case (get old key) refl (sym (changed key) ∙ is)
-    where
-      by_case : (o : Option ObjectRow) → get old key ≡ o → option_map change o ≡ Some row
-          → get old key ≡ Some row
-      by_case None e m = absurd (cc)
-      by_case (Some before) e m =
-          let this : change before ≡ row = same_Some (change before) row m in
-          let numbers : before.number ≡ row.number =
-          sym (same_number' before) ∙ ap (λ (r : ObjectRow). r.number) this in
-          e ∙ ap Some (sym (same before (ap (λ n. n == number) numbers ∙ other)) ∙ this)
+-- no object has the number
+pub IsChanged-none : (objects : Slab ObjectRow) (number : ℕ) (change : ObjectRow → ObjectRow)
+    → ((row : ObjectRow) → has_number number row ≡ false → change row ≡ row)
+    → IsKeyOf objects number None → IsChanged change objects objects
+IsChanged-none objects number change same is_key key = by_case (get objects key) refl
+  where
+    other : (row : ObjectRow) → get objects key ≡ Some row → (t : Bool)
+        → has_number number row ≡ t → has_number number row ≡ false
+    other row is false e = e
+    other row is true e = let wrong = is_key.only key row is e in absurd (cc)
+
+    by_case : (o : Option ObjectRow) → get objects key ≡ o
+        → get objects key ≡ option_map change (get objects key)
+    by_case None is = is ∙ sym (ap (option_map change) is)
+    by_case (Some row) is =
+        is ∙ ap Some (sym (same row (other row is (has_number number row) refl)))
+        ∙ sym (ap (option_map change) is)
 
 pub with_attributes-other : (number : ℕ) (attributes : List Item) (row : ObjectRow)
     → has_number number row ≡ false → with_attributes number attributes row ≡ row
@@ -177,32 +180,87 @@ pub with_key_state-other : (number : ℕ) (state : KeyState) (row : ObjectRow)
 with_key_state-other number state row f =
     ap (λ t. cond t (record row { attributes = with_state state row.attributes }) row) f
 
--- ---- the object of a number is marked
+-- ---- how the marks stay at a change
 
-module _ (old new : Slab ObjectRow) (number : ℕ) (only : IsChangedOnly number old new)
-    (marks : List ℕ) (marked : IsMarked old marks) where
-  -- no object has the number
-  pub IsMarked-none : IsKeyOf new number None → IsMarked new marks
-  IsMarked-none is_key key row is =
-      marked key row (only key row is (by_case (has_number number row) refl))
-    where
-      by_case : (t : Bool) → has_number number row ≡ t → has_number number row ≡ false
-      by_case false e = e
-      by_case true e = let wrong = is_key.only key row is e in absurd (cc)
+module _ (change : ObjectRow → ObjectRow) (old new : Slab ObjectRow)
+    (changed : IsChanged change old new) (key : ℕ) (row : ObjectRow) (is : get new key ≡ Some row)
+  where
+    -- an object that is there was there before the change
+    changed-from : (before : ObjectRow) × (get old key ≡ Some before) × (change before ≡ row)
+    changed-from = by_case (get old key) refl (sym (changed key) ∙ is)
+      where
+        by_case : (o : Option ObjectRow) → get old key ≡ o → option_map change o ≡ Some row
+            → (before : ObjectRow) × (get old key ≡ Some before) × (change before ≡ row)
+        by_case None e m = absurd (cc)
+        by_case (Some before) e m = (before, e, same_Some (change before) row m)
 
-  pub IsMarked-set : (marks' : List ℕ) (key mark : ℕ) → IsKeyOf new number (Some key)
+-- a key in another state has its label
+label-in_state : (state : KeyState) (attributes : List Item)
+    → value_at (with_state state attributes) (type_of attribute.Label)
+    ≡ value_at attributes (type_of attribute.Label)
+label-in_state state [] = refl
+label-in_state state (item ∷ items) =
+    first (item.kind == type_of attribute.Label) refl (label-in_state state items)
+  where
+    first : (t : Bool) → item.kind == type_of attribute.Label ≡ t
+        → value_at (with_state state items) (type_of attribute.Label)
+        ≡ value_at items (type_of attribute.Label)
+        → option_map (λ (i : Item). i.value)
+        (cond t (Some (record item { value = value_or (state_item state ∷ []) item.kind item.value }))
+        (find (λ (i : Item). i.kind == type_of attribute.Label) (with_state state items)))
+        ≡ option_map (λ (i : Item). i.value)
+        (cond t (Some item) (find (λ (i : Item). i.kind == type_of attribute.Label) items))
+    first true is rest =
+        ap (λ kind. Some (value_or (state_item state ∷ []) kind item.value))
+        (eqb-true item.kind (type_of attribute.Label) is)
+    first false is rest = rest
+
+pub IsMarked-in_state : (number : ℕ) (state : KeyState) (old new : Slab ObjectRow) (marks : List ℕ)
+    → IsChanged (with_key_state number state) old new → IsMarked old marks → IsMarked new marks
+IsMarked-in_state number state old new marks changed marked key row is label has =
+    let from = changed-from (with_key_state number state) old new changed key row is in
+    marked key from.0 from.1 label
+    (by_case (has_number number from.0) from.0
+    ∙ ap (λ (r : ObjectRow). readable_value r.attributes (type_of attribute.Label)) from.2 ∙ has)
+  where
+    by_case : (t : Bool) (before : ObjectRow)
+        → readable_value before.attributes (type_of attribute.Label)
+        ≡ readable_value (cond t (record before { attributes = with_state state before.attributes })
+        before).attributes (type_of attribute.Label)
+    by_case true before = sym (label-in_state state before.attributes)
+    by_case false before = refl
+
+-- the object of the number gets other attributes, and their mark
+module _ (number : ℕ) (attributes : List Item) (old new : Slab ObjectRow)
+    (changed : IsChanged (with_attributes number attributes) old new)
+    (key mark : ℕ) (is_key : IsKeyOf old number (Some key)) where
+  pub IsMarked-set : (marks marks' : List ℕ)
       → (get_or marks' key 0 ≡ mark) ⊎ (get_or marks' key 0 ≡ 0)
       → ((other : ℕ) → other ≢ key → get_or marks' other 0 ≡ get_or marks other 0)
-      → ((row : ObjectRow) → get new key ≡ Some row → IsMarkOf row.attributes mark)
-      → IsMarked new marks'
-  IsMarked-set marks' key mark is_key set_here others here =
+      → IsMarkOf attributes mark → IsMarked old marks → IsMarked new marks'
+  IsMarked-set marks marks' set_here others is_mark marked =
       IsMarked-updated old new marks marks' key mark set_here others here there marked
     where
+      here : (row : ObjectRow) → get new key ≡ Some row → IsMarkOf row.attributes mark
+      here row is =
+          let has = is_key.has key refl in
+          let this : with_attributes number attributes has.0 ≡ row =
+          same_Some (with_attributes number attributes has.0) row
+          (sym (changed key ∙ ap (option_map (with_attributes number attributes)) has.1) ∙ is) in
+          subst (λ items. IsMarkOf items mark)
+          (ap (λ t. (cond t (record has.0 { attributes = attributes }) has.0).attributes)
+          (sym has.2) ∙ ap (λ (r : ObjectRow). r.attributes) this) is_mark
+
       there : (other : ℕ) (row : ObjectRow) → other ≢ key → get new other ≡ Some row
           → get old other ≡ Some row
-      there other row differs is = only other row is (by_case (has_number number row) refl)
+      there other row differs is =
+          let from = changed-from (with_attributes number attributes) old new changed other row is in
+          from.1
+          ∙ ap Some (sym (with_attributes-other number attributes from.0
+          (by_case from.0 from.1 (has_number number from.0) refl)) ∙ from.2)
         where
-          by_case : (t : Bool) → has_number number row ≡ t → has_number number row ≡ false
-          by_case false e = e
-          by_case true e =
-              absurd (differs (sym (same_Some key other (is_key.only other row is e))))
+          by_case : (before : ObjectRow) → get old other ≡ Some before → (t : Bool)
+              → has_number number before ≡ t → has_number number before ≡ false
+          by_case before e false f = f
+          by_case before e true t =
+              absurd (differs (sym (same_Some key other (is_key.only other before e t))))

@@ -101,11 +101,6 @@ pub record IsKeyOf (objects : Slab ObjectRow) (number : ℕ) (found : Option ℕ
 abbrev pub IsChanged : (ObjectRow → ObjectRow) → Slab ObjectRow → Slab ObjectRow → Type 0
 IsChanged change old new = (key : ℕ) → get new key ≡ option_map change (get old key)
 
--- the objects of other numbers were there, as they are
-abbrev pub IsChangedOnly : ℕ → Slab ObjectRow → Slab ObjectRow → Type 0
-IsChangedOnly number old new = (key : ℕ) (row : ObjectRow) → get new key ≡ Some row
-    → has_number number row ≡ false → get old key ≡ Some row
-
 -- some of the objects of the test are there no more; the others are, each under its key
 abbrev pub IsLeft : (ObjectRow → Bool) → Slab ObjectRow → Slab ObjectRow → Type 0
 IsLeft test old new = (key : ℕ) → (get new key ≡ get old key)

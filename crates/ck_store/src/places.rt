@@ -1,16 +1,16 @@
 ghost use Rattle.std.specs.Prelude.{◌≡◌, ◌+◌, ◌^◌, ◌<◌, ℕ, not, map, length, find, filter, position, get_or};
-ghost use Rattle.std.specs.Prelude.{IfOk, IfSome, Contains, Some, true};
+ghost use Rattle.std.specs.Prelude.{IfOk, IfSome, Contains, Some, true, false};
 ghost use Rattle.std.specs.List.{list_any};
-ghost use Rattle.std.specs.Option.{option_copied};
-ghost use Rattle.slab.specs.Slab.{Slab as Slots, get};
+ghost use Rattle.std.specs.Option.{option_copied, option_map_or};
+ghost use Rattle.slab.specs.Slab.{get};
 ghost use Rattle.ck_store.specs.Rows.{ObjectRow, has_number, matching_numbers, is_private_row};
 ghost use Rattle.ck_store.specs.Rows.{with_attributes, with_key_state, matching_number};
 ghost use Rattle.ck_store.specs.Labels.{IsMarked, IsWanted};
 ghost use Rattle.ck_store.specs.Index.{place, is_at, object_at, objects_at, is_there, IsIndex, PlacesRise};
-ghost use Rattle.ck_store.specs.Index.{IsChanged, IsChangedOnly, IsKeyOf, IsLeft, EndsAll};
+ghost use Rattle.ck_store.specs.Index.{IsChanged, IsKeyOf, IsLeft, EndsAll};
 ghost use Rattle.ck_store.specs.declared.places.Place.{Place};
 
-use crate::labels::{is_refused, mark_of, set_mark, wanted_mark};
+use crate::labels::{is_refused, wanted_mark};
 use crate::stored_objects::StoredObject;
 use ck_journal::View;
 use ck_types::{KeyState, NoMemory, Record, Template};
@@ -142,58 +142,23 @@ pub(crate) fn find_matching(
     Ok(numbers)
 }
 
-/// Gives the object that has the number these attributes.
-pub(crate) fn set_numbered(
-    objects: &mut Slab<StoredObject>,
-    index: &[Place],
-    number: u64,
-    attributes: Record,
-)
-    ensures { IsIndex objects.old index.now
+/// Gives the object under the key these attributes.
+pub(crate) fn set_at(objects: &mut Slab<StoredObject>, key: usize, attributes: Record)
+    ensures { (number : ℕ) → IsKeyOf objects.old number (Some key)
         → IsChanged (with_attributes number attributes) objects.old objects.new }
 {
-    let Some(key) = key_of(objects, index, number) else {
-        return;
-    };
     if let Some(object) = objects.get_mut(key) {
         object.set_attributes(attributes);
     }
 }
 
-/// Gives the key that has the number this state.
-pub(crate) fn set_state_numbered(
-    objects: &mut Slab<StoredObject>,
-    index: &[Place],
-    number: u64,
-    state: KeyState,
-)
-    ensures { IsIndex objects.old index.now
+/// Gives the object under the key, a key, this state.
+pub(crate) fn set_state_at(objects: &mut Slab<StoredObject>, key: usize, state: KeyState)
+    ensures { (number : ℕ) → IsKeyOf objects.old number (Some key)
         → IsChanged (with_key_state number state) objects.old objects.new }
 {
-    let Some(key) = key_of(objects, index, number) else {
-        return;
-    };
     if let Some(object) = objects.get_mut(key) {
         object.set_state(state);
-    }
-}
-
-/// Marks the label of the object that has the number, after a change of the object.
-pub(crate) fn mark_numbered(
-    marks: &mut Vec<u32>,
-    objects: &Slab<StoredObject>,
-    index: &[Place],
-    number: u64,
-)
-    ensures { (old : Slots ObjectRow) → IsIndex objects.now index.now
-        → IsChangedOnly number old objects.now
-        → IsMarked old marks.old.items → IsMarked objects.now marks.new.items }
-{
-    let Some(key) = key_of(objects, index, number) else {
-        return;
-    };
-    if let Some(object) = objects.get(key) {
-        set_mark(marks, key, mark_of(object.attributes()));
     }
 }
 
@@ -211,17 +176,11 @@ pub(crate) fn has_objects(objects: &Slab<StoredObject>, places: &[Place]) -> boo
     places.iter().any(|place| is_there(objects, *place))
 }
 
-/// Whether the object that has the number is private.
-pub(crate) fn is_private_numbered(
-    objects: &Slab<StoredObject>,
-    index: &[Place],
-    number: u64,
-) -> bool
-    ensures { IsIndex objects.now index.now → result ≡ true → (key : ℕ) (row : ObjectRow)
-        → get objects.now key ≡ Some row → has_number number row ≡ true
-        → is_private_row row ≡ true }
+/// Whether there is an object under the key that is private.
+pub(crate) fn is_private_at(objects: &Slab<StoredObject>, key: usize) -> bool
+    ensures { result ≡ option_map_or is_private_row (get objects.now key) false }
 {
-    match find_numbered(objects, index, number) {
+    match objects.get(key) {
         None => false,
         Some(object) => object.is_private(),
     }

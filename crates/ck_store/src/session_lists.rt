@@ -3,11 +3,11 @@ ghost use Rattle.std.specs.Prelude.{List, None, Option, length, map, position};
 ghost use Rattle.slab.specs.Slab.{Slab as Slots};
 ghost use Rattle.ck_store.specs.Rows.{ObjectRow, with_attributes};
 ghost use Rattle.ck_store.specs.Index.{IsListed, IsSound, is_list_of, is_needed, marked, object_at};
-ghost use Rattle.ck_store.specs.Index.{IsChanged};
+ghost use Rattle.ck_store.specs.Index.{IsChanged, IsKeyOf};
 ghost use Rattle.ck_store.specs.declared.places.Place.{Place};
 
 use crate::endings::Ending;
-use crate::places::{Place, drop_ended, has_objects, is_private_numbered, object_at};
+use crate::places::{Place, drop_ended, has_objects, is_private_at, object_at};
 use crate::stored_objects::StoredObject;
 use ck_types::{Attribute, NoMemory, Record};
 use slab::Slab;
@@ -121,21 +121,21 @@ fn mark_private(lists: &mut [SessionList])
     }
 }
 
-/// Prepares the lists for a change of the attributes of the object that has the number. Where it
-/// makes a public object private, any list may have private objects from then on.
+/// Prepares the lists for a change of the attributes of the object under the key. Where it makes a
+/// public object private, any list may have private objects from then on.
 pub(crate) fn note_private(
     lists: &mut Vec<SessionList>,
     objects: &Slab<StoredObject>,
-    index: &[Place],
-    number: u64,
+    key: usize,
     attributes: &Record,
 )
-    ensures { (changed : Slots ObjectRow) (unlisted : Option Place) (creations : ℕ)
+    ensures { (number : ℕ) (changed : Slots ObjectRow) (index : List Place)
+        (unlisted : Option Place) (creations : ℕ) → IsKeyOf objects.now number (Some key)
         → IsChanged (with_attributes number attributes.now) objects.now changed
-        → IsSound objects.now index.now lists.old.items unlisted creations
-        → IsSound changed index.now lists.new.items unlisted creations }
+        → IsSound objects.now index lists.old.items unlisted creations
+        → IsSound changed index lists.new.items unlisted creations }
 {
-    if !attributes.is_set(Attribute::Private) || is_private_numbered(objects, index, number) {
+    if !attributes.is_set(Attribute::Private) || is_private_at(objects, key) {
         return;
     }
     mark_private(lists.as_mut_slice());

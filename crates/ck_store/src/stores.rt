@@ -2,8 +2,7 @@ use crate::bases::copy_objects;
 use crate::endings::{Ending, end_listed, end_newest};
 use crate::labels::{grow_marks, mark_of, set_mark};
 use crate::places::{
-    Place, compact, find_matching, find_numbered, mark_numbered, remove_numbered, set_numbered,
-    set_state_numbered,
+    Place, compact, find_matching, find_numbered, key_of, remove_numbered, set_at, set_state_at,
 };
 use crate::session_lists::{SessionList, list_newest, note_private};
 use crate::stored_objects::StoredObject;
@@ -98,7 +97,7 @@ impl Store {
         let mut store = Store::new(alloc);
         for object in base.objects.as_slice() {
             let attributes = object.attributes.duplicate(alloc)?;
-            store.reserve(0)?;
+            store.reserve()?;
             store.add(object.number, 0, attributes);
         }
         store.creations = base.creations;
@@ -181,7 +180,7 @@ impl Store {
 
     /// Makes room for one more object, which any session may create. The newest object gets its
     /// place in its session's list here, since this may ask for memory and a creation may not.
-    pub fn reserve(&mut self, _session: u64) -> Result<(), NoMemory>
+    pub fn reserve(&mut self) -> Result<(), NoMemory>
         ensures agree { (h : History) → StoreAgrees h self.old → StoreAgrees h self.new }
         ensures rows { self.new.rows ≡ self.old.rows }
         ensures creations { self.new.creations ≡ self.old.creations }
@@ -233,20 +232,12 @@ impl Store {
             → is_set attributes attribute.Token ≡ is_set (named_attributes h object) attribute.Token
             → StoreAgrees h self.old → StoreAgrees (e ◁ h) self.new }
     {
-        note_private(
-            &mut self.lists,
-            &self.objects,
-            self.index.as_slice(),
-            number,
-            &attributes,
-        );
-        set_numbered(&mut self.objects, self.index.as_slice(), number, attributes);
-        mark_numbered(
-            &mut self.marks,
-            &self.objects,
-            self.index.as_slice(),
-            number,
-        );
+        let Some(key) = key_of(&self.objects, self.index.as_slice(), number) else {
+            return;
+        };
+        note_private(&mut self.lists, &self.objects, key, &attributes);
+        set_mark(&mut self.marks, key, mark_of(&attributes));
+        set_at(&mut self.objects, key, attributes);
     }
 
     /// Gives the key that has the number this state.
@@ -257,13 +248,9 @@ impl Store {
             → object_named h key ≡ Some number
             → StoreAgrees h self.old → StoreAgrees (e ◁ h) self.new }
     {
-        set_state_numbered(&mut self.objects, self.index.as_slice(), number, state);
-        mark_numbered(
-            &mut self.marks,
-            &self.objects,
-            self.index.as_slice(),
-            number,
-        );
+        if let Some(key) = key_of(&self.objects, self.index.as_slice(), number) {
+            set_state_at(&mut self.objects, key, state);
+        }
     }
 
     /// Ends the object that has the number.
