@@ -146,6 +146,8 @@ impl NewLedgers {
     ghost use Rattle.std.specs.Prelude.{◌≡◌, ◌≤◌, ℕ, IfOk};
     ghost use Rattle.ck_shared.specs.Accounts.{name_of, no_calls, new_accounts};
 
+    /// Ledgers without calls. No clause says which names they have; that each is whole is so of
+    /// every value of the type.
     pub fn new() -> NewLedgers {
         NewLedgers {
             one: Blank::new(1),
