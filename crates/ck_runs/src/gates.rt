@@ -1,10 +1,5 @@
-use crate::asks::{Ask, Status};
-use crate::boards::ReadBoard;
-use crate::callers::Caller;
-use crate::identity::TokenId;
-use crate::shared::SharedToken;
-use crate::slots::Slot;
 use ck_journal::{Call, Reply};
+use ck_shared::{Ask, Caller, ReadBoard, SharedToken, Slot, Status, TokenId};
 use ck_types::NoMemory;
 use left_right::Absorb;
 use std::alloc::Global;
