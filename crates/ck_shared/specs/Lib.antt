@@ -3,6 +3,4 @@ pub mod Asks
 pub mod Callers
 pub mod Locked
 pub mod News
-pub mod Runs
-pub mod Scripts
 pub mod Shares

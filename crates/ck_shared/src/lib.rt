@@ -5,23 +5,17 @@
 mod asks;
 mod boards;
 mod callers;
-mod gates;
 mod identity;
 mod ledgers;
 mod locked;
-mod runs;
-mod scripts;
 mod shared;
 mod slots;
 
 pub use asks::{Ask, Status};
 pub use boards::{BoardCopy, ReadBoard, WriteBoard};
 pub use callers::{Caller, News};
-pub use gates::Gate;
 pub use identity::{NewIdentity, TokenId};
 pub use ledgers::{Account, CallBooks, CallerLedger, NewLedgers};
 pub use locked::Locked;
-pub use runs::run_scripts;
-pub use scripts::Script;
 pub use shared::{Ends, SharedToken};
 pub use slots::{Change, EntrySlot, NewEntry, Slot};

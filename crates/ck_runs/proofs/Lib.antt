@@ -1,0 +1,4 @@
+pub mod Playing
+pub mod Places
+pub mod Taking
+pub mod Turning

@@ -1,0 +1,4 @@
+pub mod Runs
+pub mod Scripts
+pub mod Steps
+pub mod Turns

@@ -1,0 +1,18 @@
+-- What a caller does in turn, whatever it is
+use Rattle.std.specs.Prelude.{◌≡◌, List, [], ◌∷◌, Result, Ok, Err}
+use Rattle.ck_types.specs.declared.memory.NoMemory.{NoMemory}
+use Rattle.ck_shared.specs.Callers.{CallerState}
+
+-- what is left when it ends: nothing, or first one that may find no memory and found none
+abbrev pub EndsAt : {S : Type 0} → (S → Type 0) → List S → Result (Unit {0}) NoMemory → Type 0
+EndsAt MayFail left (Ok done) = left ≡ []
+EndsAt MayFail [] (Err none) = ⊥
+EndsAt MayFail (s ∷ left) (Err none) = MayFail s
+
+-- the caller has done each of these that has a reply, one after the other
+abbrev pub HasMade : {S A : Type 0} → (CallerState → S → A → CallerState → Type 0) → (S → Type 0)
+    → CallerState → List S → List A → Result (Unit {0}) NoMemory → CallerState → Type 0
+HasMade Does MayFail old steps [] outcome new = (new ≡ old) × EndsAt MayFail steps outcome
+HasMade Does MayFail old [] (a ∷ replies) outcome new = ⊥
+HasMade Does MayFail old (s ∷ steps) (a ∷ replies) outcome new =
+    (now : CallerState) × Does old s a now × HasMade Does MayFail now steps replies outcome new

@@ -1,0 +1,29 @@
+ghost use Rattle.std.specs.Prelude.{◌≡◌, IfOk, OnErr};
+
+use crate::gates::Gate;
+use ck_shared::{Caller, TokenId};
+use ck_types::NoMemory;
+use std::alloc::Global;
+use std::sync::Wait;
+
+/// What a caller does in one turn at a gate. What is answered to it is an `A`.
+pub trait Turn<K: TokenId, A: Drop>: Drop {
+    ghost use Rattle.ck_shared.specs.Callers.{CallerState};
+
+    // what it does: the caller before it, the turn, what is answered, the caller after it
+    ghost does: { CallerState → Self → A → CallerState → Type 0 };
+
+    // whether it may find no memory
+    ghost may_fail: { Self → Type 0 };
+
+    fn make<T: Drop, G: Gate<K, T>, W: Wait>(
+        self,
+        rt: &W,
+        alloc: Global,
+        gate: &G,
+        caller: &mut Caller<K, T>,
+    ) -> Result<A, NoMemory>
+        ensures made { IfOk result (λ answer. does caller.old self answer caller.new) }
+        ensures memory { OnErr result (may_fail self) }
+        ensures caller { OnErr result (caller.new ≡ caller.old) };
+}
