@@ -1,3 +1,4 @@
+use crate::asks::{Ask, Status};
 use crate::boards::ReadBoard;
 use crate::callers::Caller;
 use crate::identity::TokenId;
@@ -9,9 +10,13 @@ use left_right::Absorb;
 use std::alloc::Global;
 use std::sync::Wait;
 
-/// What answers the calls of callers: a shared token, or what stands before one.
+/// What answers callers, their calls and what they ask: a shared token, or what stands before one.
 pub trait Gate<K: TokenId, T: Drop> {
-    ghost use Rattle.std.specs.Prelude.{◌≡◌, IfOk, OnErr};
+    ghost use Rattle.std.specs.Prelude.{◌≡◌, IfOk, OnErr, IfSome, IfNone, OnSome};
+    ghost use Rattle.ck_journal.specs.Answers.{IsLegal, answer};
+    ghost use Rattle.ck_journal.specs.Callers.{entries_by};
+    ghost use Rattle.ck_journal.specs.Fronts.{IsFront};
+    ghost use Rattle.ck_shared.specs.Asks.{call_of, reply_of};
     ghost use Rattle.ck_shared.specs.Callers.{HasCalled};
 
     /// One call of a caller.
@@ -25,6 +30,18 @@ pub trait Gate<K: TokenId, T: Drop> {
         ensures called { IfOk result (λ reply.
             HasCalled K.limits caller.old call reply caller.new) }
         ensures caller { OnErr result (caller.new ≡ caller.old) };
+
+    /// What the token's state was when it had answered the calls that the caller then knows, or
+    /// `None` where that can't be seen.
+    fn status(&self, caller: &mut Caller<K, T>, ask: Ask) -> Option<Status>
+        ensures answer { IfSome result (λ status.
+            reply_of status ≡ answer K.limits caller.new.seen (call_of ask)) }
+        ensures legal { OnSome result (IsLegal K.limits caller.new.seen) }
+        ensures own { OnSome result (entries_by caller.new.number caller.new.seen
+            ≡ entries_by caller.new.number caller.new.last) }
+        ensures front { IsFront caller.old.seen caller.new.seen }
+        ensures same { caller.new ≡ record caller.old { seen = caller.new.seen } }
+        ensures unchanged { IfNone result (caller.new ≡ caller.old) };
 }
 
 impl<K: TokenId, O: Slot<K>, T: Absorb<O> + ReadBoard<K> + Drop, R: Wait + Drop> Gate<K, T>
@@ -37,5 +54,9 @@ impl<K: TokenId, O: Slot<K>, T: Absorb<O> + ReadBoard<K> + Drop, R: Wait + Drop>
         call: Call,
     ) -> Result<Reply, NoMemory> {
         SharedToken::call(self, rt, alloc, caller, call)
+    }
+
+    fn status(&self, caller: &mut Caller<K, T>, ask: Ask) -> Option<Status> {
+        caller.status(ask)
     }
 }
