@@ -1,13 +1,13 @@
 //! A caller asks for the state of a session, without the lock, while another logs in.
 ghost use Rattle.std.specs.Prelude.{◌≡◌, ℕ};
-ghost use Rattle.ck_journal.specs.Histories.{start};
+ghost use Rattle.ck_journal.specs.Bases.{empty_base};
 ghost use Rattle.ck_shared.specs.Accounts.{name_of};
 
 use crate::errors::RaceError;
 use crate::runs::{Board, Shared};
+use crate::texts::reply_text;
 use ck_journal::{Body, Call, Reply};
 use ck_shared::{Ask, Caller, Ends, NewIdentity, Status, TokenId};
-use ck_token::Token;
 use ck_types::{Limits, Pin, Rv, SessionState};
 use std::alloc::Global;
 use std::marker::Brand;
@@ -17,6 +17,11 @@ use std::thread::Threads;
 
 /// How often the second caller asks.
 const ASKS: u32 = 1_000;
+
+/// What C_GetMechanismList gives.
+const MECHANISMS: [u64; 13] = [
+    0x250, 0x251, 0x252, 0x255, 0x256, 0x257, 0x260, 0x261, 0x262, 0x270, 0x271, 0x272, 0x350,
+];
 
 /// How often all of it is run.
 pub(crate) const RUNS: u32 = 100;
@@ -98,25 +103,66 @@ fn ask_often<K: TokenId>(caller: &mut Caller<K, Board<K>>) -> Result<(), RaceErr
     Ok(())
 }
 
+/// The reply to an ask has this text.
+fn check_answer<K: TokenId>(
+    alloc: Global,
+    caller: &mut Caller<K, Board<K>>,
+    ask: Ask,
+    text: &str,
+) -> Result<(), RaceError> {
+    match caller.status(ask) {
+        Some(Status::Reply(reply)) if reply_text(alloc, &reply)?.as_str() == text => Ok(()),
+        _ => Err(RaceError::Asked),
+    }
+}
+
+/// A caller that has made no call sees a token without PINs and sessions, and all mechanisms.
+fn check_new<K: TokenId>(alloc: Global, caller: &mut Caller<K, Board<K>>) -> Result<(), RaceError> {
+    check_answer(alloc, caller, Ask::Token, "0 4 64 0 0")?;
+    check_answer(alloc, caller, Ask::Session(1), "b3")?;
+    match caller.status(Ask::Mechanisms) {
+        Some(Status::Mechanisms(types)) if types == MECHANISMS => Ok(()),
+        _ => Err(RaceError::Asked),
+    }
+}
+
+/// Without its second caller the token isn't taken back, with both it is.
+fn check_close<K: TokenId, R: Wait + Drop>(
+    rt: &R,
+    token: Shared<K, R>,
+    callers: Vec<Caller<K, Board<K>>>,
+    one: Caller<K, Board<K>>,
+    two: Caller<K, Board<K>>,
+) -> Result<(), RaceError> {
+    let mut callers = callers;
+    callers.push(one)?;
+    let Err((token, mut callers)) = token.close(rt, callers) else {
+        return Err(RaceError::Asked);
+    };
+    callers.push(two)?;
+    match token.close(rt, callers) {
+        Ok(token) if token.journal().len() == 6 => Ok(()),
+        _ => Err(RaceError::Asked),
+    }
+}
+
 /// One caller logs in and asks, another asks, each in a thread of its own.
 fn ask_shared<K: TokenId + Send + Sync, R: Threads + Wait + Copy + Drop + Send + Sync>(
     rt: R,
     alloc: Global,
-    token: Token,
+    limits: Limits,
     identity: NewIdentity,
 ) -> Result<(), RaceError>
-    requires history { token.history ≡ start K.base }
-    requires limits { token.limits ≡ K.limits }
+    requires base { K.base ≡ empty_base }
+    requires limits { limits ≡ K.limits }
     requires callers { K.callers ≡ 2 }
     requires book { identity.history.seen.book ≡ K.book }
     requires ledgers { (n : ℕ) → K.ledger n ≡ name_of identity.ledgers n }
 {
-    let Ok(ends) = Shared::<K, R>::adopt(rt, alloc, token, 2, identity) else {
-        return Err(RaceError::Memory);
-    };
-    let Ends { token, mut callers } = ends;
+    let Ends { token, mut callers } = Shared::<K, R>::open(rt, alloc, limits, 2, identity)?;
     let mut two = callers.pop().ok_or(RaceError::Asked)?;
     let mut one = callers.pop().ok_or(RaceError::Asked)?;
+    check_new(alloc, &mut one)?;
     prepare(&rt, alloc, &token, &mut one)?;
     two.learn(&one.news());
     let (logged_in, asked) = thread::join(
@@ -128,7 +174,7 @@ fn ask_shared<K: TokenId + Send + Sync, R: Threads + Wait + Copy + Drop + Send +
     asked?;
     two.learn(&one.news());
     match state(&mut two) {
-        Some(SessionState::RwUser) => Ok(()),
+        Some(SessionState::RwUser) => check_close(&rt, token, callers, one, two),
         _ => Err(RaceError::Asked),
     }
 }
@@ -137,8 +183,7 @@ fn ask_once<R: Threads + Wait + Copy + Drop + Send + Sync>(
     rt: R,
     alloc: Global,
 ) -> Result<(), RaceError> {
-    let token = Token::new(alloc, Limits::largest());
-    ask_shared::<Brand, R>(rt, alloc, token, NewIdentity::new())
+    ask_shared::<Brand, R>(rt, alloc, Limits::largest(), NewIdentity::new())
 }
 
 /// Runs it so often, each time on a new token.

@@ -1,9 +1,10 @@
 //! A race in one thread, in orders that a gate keeps, and in none.
 use crate::errors::RaceError;
 use crate::orders::Draws;
-use crate::races::{Known, Race, Step, races_in};
+use crate::races::{Known, Race, Step};
 use crate::runs::{Got, Ran, run_race};
 use crate::texts::{compare, reply_text};
+use crate::tokens::{make_steps, token_of};
 use ck_audit::{Verdict, audit_token};
 use ck_journal::Entry;
 use ck_token::Token;
@@ -14,18 +15,9 @@ use std::thread::Threads;
 /// How often a race is run in orders that a gate keeps, and how often in none.
 const RUNS: u64 = 100;
 
-/// Makes steps one after the other.
-fn make_steps(alloc: Global, token: &mut Token, steps: &[Step]) -> Result<(), RaceError> {
-    for step in steps {
-        let reply = token.call(alloc, step.caller, step.call.duplicate(alloc)?)?;
-        compare(alloc, step, &reply)?;
-    }
-    Ok(())
-}
-
 /// Makes all steps of a race on a token by one thread.
 fn check_alone(alloc: Global, race: &Race) -> Result<(), RaceError> {
-    let mut token = Token::new(alloc, race.limits);
+    let mut token = token_of(alloc, race)?;
     make_steps(alloc, &mut token, race.first.as_slice())?;
     make_steps(alloc, &mut token, race.together.as_slice())?;
     make_steps(alloc, &mut token, race.afterwards.as_slice())
@@ -165,17 +157,13 @@ fn check_free<R: Threads + Wait + Copy + Drop + Send + Sync>(
     Ok(())
 }
 
-/// Checks the races of a file, and says how many there are.
-pub(crate) fn check_races<R: Threads + Wait + Copy + Drop + Send + Sync>(
+/// Checks a race in one thread, in orders that a gate keeps, and in none.
+pub(crate) fn check_race<R: Threads + Wait + Copy + Drop + Send + Sync>(
     rt: R,
     alloc: Global,
-    text: &str,
-) -> Result<usize, RaceError> {
-    let races = races_in(alloc, text)?;
-    for race in races.iter() {
-        check_alone(alloc, race)?;
-        check_ordered(rt, alloc, race)?;
-        check_free(rt, alloc, race)?;
-    }
-    Ok(races.len())
+    race: &Race,
+) -> Result<(), RaceError> {
+    check_alone(alloc, race)?;
+    check_ordered(rt, alloc, race)?;
+    check_free(rt, alloc, race)
 }

@@ -22,6 +22,11 @@ pub(crate) enum RaceError {
     NotClosed(u64),
     #[error("the race of line {0}: the audit finds a wrong entry")]
     Wrong(u64),
+    /// The call found no memory.
+    #[error("line {0}: without memory, and something changed")]
+    Changed(u64),
+    #[error("the race of line {race}: {came} entries in place of {entries}")]
+    Entries { race: u64, entries: u64, came: u64 },
     #[error("a session's state is asked for, and the answer is wrong")]
     Asked,
 }

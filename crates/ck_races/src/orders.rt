@@ -97,9 +97,9 @@ impl Draws {
 
     /// Shuffles an order.
     pub(crate) fn shuffle(&mut self, order: &mut [u32]) {
-        for last in (1..order.len()).rev() {
-            let other = self.next() as usize % (last + 1);
-            order.swap(last, other);
+        for place in 1..order.len() {
+            let other = self.next() as usize % (place + 1);
+            order.swap(place, other);
         }
     }
 }

@@ -2,7 +2,8 @@
 //! stand: `race limits SESSIONS OPENINGS CREATIONS LOGINS`. A step is a line of a script, an arrow
 //! and its reply: `1 OpenSession 6 -> 0 1`.
 //!
-//! - The first steps are made one after the other.
+//! - The steps before a line `cut` are made before the token is shared, and then its journal is cut.
+//! - The first steps behind it are made one after the other.
 //! - The steps behind `together` are made by callers in threads of their own. In the order in which
 //!   they stand they get these replies. Where `together in any order` stands, the replies come in
 //!   every order of the steps, to whichever callers.
@@ -14,6 +15,7 @@ use ck_journal::Call;
 use ck_script::{Line, LineError};
 use ck_types::Limits;
 use std::alloc::Global;
+use std::mem;
 
 /// A call with the reply that it gets, as a text, and the number of its line.
 #[derive(Drop)]
@@ -44,6 +46,7 @@ pub(crate) struct Race<'a> {
     pub(crate) line: u64,
     pub(crate) limits: Limits,
     pub(crate) known: Known,
+    pub(crate) earlier: Vec<Step<'a>>,
     pub(crate) first: Vec<Step<'a>>,
     pub(crate) together: Vec<Step<'a>>,
     pub(crate) afterwards: Vec<Step<'a>>,
@@ -56,6 +59,7 @@ impl<'a> Race<'a> {
             line,
             limits,
             known: Known::InThisOrder,
+            earlier: Vec::new(alloc),
             first: Vec::new(alloc),
             together: Vec::new(alloc),
             afterwards: Vec::new(alloc),
@@ -117,6 +121,7 @@ fn add_line<'a>(
     }
     let race = races.last_mut().ok_or(RaceError::NoRace(line))?;
     match text {
+        "cut" => race.earlier = mem::replace(&mut race.first, Vec::new(alloc)),
         "together" => race.part = Part::Together,
         "together in any order" => {
             race.part = Part::Together;

@@ -7,6 +7,7 @@ use crate::errors::RaceError;
 use crate::orders::OrderedGate;
 use crate::races::{Race, Step};
 use crate::texts::compare;
+use crate::tokens::token_of;
 use ck_journal::{Call, Reply};
 use ck_shared::*;
 use ck_token::Token;
@@ -140,13 +141,13 @@ fn run_shared<K: TokenId + Send + Sync, R: Threads + Wait + Copy + Drop + Send +
     finish(&rt, alloc, token, scripts, race.line)
 }
 
-/// One run of the race on a new token.
+/// One run of the race on a token of its own.
 pub(crate) fn run_race<R: Threads + Wait + Copy + Drop + Send + Sync>(
     rt: R,
     alloc: Global,
     race: &Race,
     order: Option<&[u32]>,
 ) -> Result<Ran, RaceError> {
-    let token = Token::new(alloc, race.limits);
+    let token = token_of(alloc, race)?;
     run_shared::<Brand, R>(rt, alloc, token, NewIdentity::new(), race, order)
 }

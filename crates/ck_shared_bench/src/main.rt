@@ -40,6 +40,9 @@ const MEASURED: Effort = Effort {
     tries: 20,
 };
 
+/// How many times as many objects as other rounds are made by callers in threads.
+const CHANGES: u64 = 50;
+
 const TRIED: Effort = Effort {
     asks: 3,
     rounds: 3,
@@ -92,7 +95,7 @@ fn thread_times<K: TokenId + Send + Sync, R: Clock + Threads + Wait + Drop + Sen
     effort: Effort,
 ) -> Result<ThreadTimes, Failed> {
     let ask = Task::Ask(effort.asks);
-    let change = Task::Change(effort.rounds * 50);
+    let change = Task::Change(effort.rounds.saturating_mul(CHANGES));
     give(workers, ask);
     let first = workers.get_mut(..1).ok_or(Failed)?;
     let ask_alone = best_together(rt, alloc, token, first, effort.tries)?;
@@ -153,13 +156,25 @@ fn times_alone<C: Clock>(clock: &C, alloc: Global, effort: Effort) -> Result<Cal
     call_times(clock, alloc, &mut target, effort)
 }
 
-/// Writes the nanoseconds of a call of the token itself and of one by the lock.
+/// The time of each of so many, 0 of none.
+fn each(time: u128, count: u64) -> u128 {
+    time.checked_div(u128::from(count)).unwrap_or(0)
+}
+
+/// Writes the nanoseconds of a call of the token itself and of one by the lock. A round that changes
+/// the board has two calls.
 fn write_calls<R: Print>(rt: &R, alone: CallTimes, locked: CallTimes) -> io::Result<()> {
-    let one = u128::from(MEASURED.rounds);
-    let (direct, shared) = (alone.leaves / one, locked.leaves / one);
+    let rounds = MEASURED.rounds;
+    let (direct, shared) = (each(alone.leaves, rounds), each(locked.leaves, rounds));
     println!(rt; "session info: {direct} ns, by the lock {shared} ns")?;
-    let (direct, shared) = (alone.changes / (2 * one), locked.changes / (2 * one));
+    let calls = rounds.saturating_mul(2);
+    let (direct, shared) = (each(alone.changes, calls), each(locked.changes, calls));
     println!(rt; "open and close, each: {direct} ns, by the lock {shared} ns")
+}
+
+/// How many percent of a time another is, 0 where there is none.
+fn percent(part: u128, whole: u128) -> u128 {
+    part.saturating_mul(100).checked_div(whole).unwrap_or(0)
 }
 
 /// Writes what asks take, and how many calls four callers make in a second.
@@ -170,13 +185,17 @@ fn write_threads<R: Print>(rt: &R, times: ThreadTimes) -> io::Result<()> {
         four_ask,
         four_change,
     } = times;
-    println!(rt; "status: {} ns", ask_alone / u128::from(MEASURED.asks))?;
-    let percent = ask_alone.saturating_mul(400) / four_ask.max(1);
-    println!(rt; "status by four callers: {percent} percent of the asks of one")?;
-    let percent = ask_alone.saturating_mul(100) / ask_beside.max(1);
-    println!(rt; "status beside changes: {percent} percent of the asks alone")?;
-    let calls = u128::from(4 * 3 * 50 * MEASURED.rounds);
-    let a_second = calls * 1_000_000_000 / four_change.max(1);
+    println!(rt; "status: {} ns", each(ask_alone, MEASURED.asks))?;
+    let four = percent(ask_alone.saturating_mul(4), four_ask);
+    println!(rt; "status by four callers: {four} percent of the asks of one")?;
+    let beside = percent(ask_alone, ask_beside);
+    println!(rt; "status beside changes: {beside} percent of the asks alone")?;
+    let rounds = MEASURED.rounds.saturating_mul(4 * CHANGES);
+    let calls = u128::from(rounds.saturating_mul(3));
+    let a_second = calls
+        .saturating_mul(1_000_000_000)
+        .checked_div(four_change)
+        .unwrap_or(0);
     println!(rt; "create, get label and destroy by four callers: {a_second} calls a second")
 }
 

@@ -118,17 +118,6 @@ pub(crate) enum Round {
     Object,
 }
 
-impl Round {
-    /// How many calls a round has.
-    pub(crate) fn calls(self) -> u64 {
-        match self {
-            Round::SessionInfo => 1,
-            Round::OpenAndClose => 2,
-            Round::Object => 3,
-        }
-    }
-}
-
 fn object_round<T: Target>(target: &mut T, alloc: Global) -> Result<(), Failed> {
     let session = 1;
     let template = labelled(alloc)?;
