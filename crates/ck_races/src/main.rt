@@ -1,8 +1,8 @@
 //! Races of callers on a shared token. The program plays the races of the files that its arguments
 //! name: each by one thread, and by threads of its callers, in orders that a gate keeps and in
 //! none. Then a caller asks while another logs in. It writes a line for each file, and one for the
-//! asks. Where the first argument is `alone`, the steps of each race are made one after the other on
-//! a shared token, again where there was no memory, and the line says how many were.
+//! asks. Where the first argument is `alone`, the steps of each race are made one after the other
+//! on a shared token, again where there was no memory, and the line says how many were.
 #![tactic(auto)]
 
 mod asks;

@@ -2,7 +2,8 @@
 //! stand: `race limits SESSIONS OPENINGS CREATIONS LOGINS`. A step is a line of a script, an arrow
 //! and its reply: `1 OpenSession 6 -> 0 1`.
 //!
-//! - The steps before a line `cut` are made before the token is shared, and then its journal is cut.
+//! - The steps before a line `cut` are made before the token is shared, and then its journal is
+//!   cut.
 //! - The first steps behind it are made one after the other.
 //! - The steps behind `together` are made by callers in threads of their own. In the order in which
 //!   they stand they get these replies. Where `together in any order` stands, the replies come in

@@ -161,8 +161,8 @@ fn each(time: u128, count: u64) -> u128 {
     time.checked_div(u128::from(count)).unwrap_or(0)
 }
 
-/// Writes the nanoseconds of a call of the token itself and of one by the lock. A round that changes
-/// the board has two calls.
+/// Writes the nanoseconds of a call of the token itself and of one by the lock. A round that
+/// changes the board has two calls.
 fn write_calls<R: Print>(rt: &R, alone: CallTimes, locked: CallTimes) -> io::Result<()> {
     let rounds = MEASURED.rounds;
     let (direct, shared) = (each(alone.leaves, rounds), each(locked.leaves, rounds));

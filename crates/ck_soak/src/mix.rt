@@ -16,7 +16,7 @@ pub(crate) const FIRST_CALLS: &str = "InitToken 31323334; OpenSession 6 > $sessi
 /// Calls in a row that a caller draws. They stand in the language of scripts. `$session`, `$object`
 /// and `$key` are handles that all callers know, and behind `>` stands which one is replaced by the
 /// handle of the reply. Between two calls of a row come those of other callers.
-pub(crate) const ROWS: [&str; 46] = [
+pub(crate) const ROWS: [&str; 47] = [
     "OpenSession 6 > $session",
     "OpenSession 6 > $session",
     "OpenSession 4 > $session",
@@ -31,7 +31,7 @@ pub(crate) const ROWS: [&str; 46] = [
     "CreateObject $session 0=0000000000000000,3=61 > $object",
     "CreateObject $session 0=0000000000000000,3=61,1=01 > $object; DestroyObject $session $object",
     "CreateObject $session 0=0000000000000000,2=01,3=62 > $object",
-    "CreateObject $session 0=0000000000000000,3=61 > $object; GetAttributeValue $session $object 3:8",
+    "CreateObject $session 0=0000000000000000 > $object; GetAttributeValue $session $object 3:8",
     "CreateObject $session 0=0400000000000000,100=1000000000000000,11=4a656665,2=00 > $key",
     "CreateObject $session 0=0400000000000000,100=1000000000000000,11=4a656665 > $key",
     "GenerateKey $session 350 161=0400000000000000,2=00 01020304 > $key",
@@ -50,7 +50,7 @@ pub(crate) const ROWS: [&str; 46] = [
     "FindObjectsInit $session 3=61; FindObjects $session 1; FindObjects $session 9",
     "FindObjects $session 2",
     "FindObjectsFinal $session",
-    "DigestInit $session 250; DigestUpdate $session 61; DigestUpdate $session 6263; DigestFinal $session 32",
+    "DigestInit $session 250; DigestUpdate $session 61; DigestFinal $session 32",
     "DigestInit $session 260; Digest $session 616263 ?; Digest $session 616263 48",
     "DigestUpdate $session 64",
     "DigestFinal $session 64",
@@ -58,7 +58,11 @@ pub(crate) const ROWS: [&str; 46] = [
     "SignInit $session 252:0800000000000000 $key; Sign $session 6d 8",
     "SignUpdate $session 6e; SignUpdate $session 6f",
     "SignFinal $session 64",
-    "VerifyInit $session 251 $key; VerifyUpdate $session 6d; VerifyFinal $session 6d",
+    "VerifyInit $session 252:0800000000000000 $key; \
+        VerifyUpdate $session 7768617420646f2079612077616e7420666f72206e6f7468696e673f; \
+        VerifyFinal $session 5bdcc146bf60754e",
+    "VerifyInit $session 252:0800000000000000 $key; \
+        Verify $session 7768617420646f2079612077616e7420666f72206e6f7468696e673f 5bdcc146bf60754e",
     "VerifyInit $session 251 $key; Verify $session 6d 6d",
     "VerifyUpdate $session 6e",
     "VerifyFinal $session 6d",
