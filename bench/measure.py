@@ -1,15 +1,20 @@
 #!/usr/bin/env python3
 """Plays scripts of 1,000, 10,000 and 100,000 lines with the built program, and prints what a line takes. Then plays
 searches among 1,000, 10,000 and 50,000 objects, data objects and keys, and prints what an object takes in one search.
+Last it prints what calls and asks of a shared token take, each beside what is wanted of it.
 
 The program is crates/ck_run/out/ck_run, or the path that is given; it is built by `rt run` in crates/ck_run. Times are
 processor time, the best of several runs, and memory is the peak; those of an empty script are taken off both. Off the
-time of searches is taken that of a script that only makes their objects.
+time of searches is taken that of a script that only makes their objects. The figures of a shared token are those of
+crates/ck_shared_bench/out/ck_shared_bench, by the clock: they want four processors without other work. With the
+argument `shared` they alone are printed.
 
 A line, or an object in a search, may take at most 3 times as much time among the most as among the fewest. Where one
-takes more, the status is 1.
+takes more, or a figure of a shared token isn't as wanted, the status is 1.
 """
 import os
+import re
+import subprocess
 import sys
 import tempfile
 
@@ -20,7 +25,21 @@ OBJECT_COUNTS = [1_000, 10_000, 50_000]
 # A short run hardly differs from an empty one, so it is made often.
 RUNS = {0: 301, 1_000: 301, 10_000: 101, 50_000: 21, 100_000: 21}
 MOST_GROWTH = 3
-PROGRAM = os.path.join(os.path.dirname(__file__), "..", "crates", "ck_run", "out", "ck_run")
+CRATES = os.path.join(os.path.dirname(__file__), "..", "crates")
+PROGRAM = os.path.join(CRATES, "ck_run", "out", "ck_run")
+SHARED_PROGRAM = os.path.join(CRATES, "ck_shared_bench", "out", "ck_shared_bench")
+
+# What is wanted of a shared token: a line of its program, the figure that is made of the line's numbers, its unit, and
+# the least or the most that it may be.
+SHARED_FIGURES = [
+    (r"session info: (\d+) ns, by the lock (\d+) ns", lambda direct, locked: locked - direct, "ns more", None, 150),
+    (r"open and close, each: (\d+) ns, by the lock (\d+) ns", lambda direct, locked: locked - direct, "ns more", None,
+     400),
+    (r"status: (\d+) ns", lambda time: time, "ns", None, 25),
+    (r"status by four callers: (\d+) percent .*", lambda percent: percent, "percent", 300, None),
+    (r"status beside changes: (\d+) percent .*", lambda percent: percent, "percent", 90, None),
+    (r"create, get label and destroy by four callers: (\d+) .*", lambda calls: calls, "calls a second", 700_000, None),
+]
 
 
 def play(words, text):
@@ -95,7 +114,30 @@ def measure_searches(program, searches, creations, what):
     return is_within(searches, times, OBJECT_COUNTS)
 
 
+def is_figure_met(line, wanted):
+    """Prints a line of the program of the shared token beside what is wanted of it, and whether that is met."""
+    form, figure_of, unit, least, most = wanted
+    found = re.fullmatch(form, line)
+    if not found:
+        sys.exit(f"not a line of figures: {line}")
+    figure = figure_of(*map(int, found.groups()))
+    bound = f"at least {least:,}" if most is None else f"at most {most:,}"
+    is_met = (least is None or figure >= least) and (most is None or figure <= most)
+    print(f"{line} ({figure:,} {unit}; wanted: {bound}{'' if is_met else ', which is not met'})")
+    return is_met
+
+
+def measure_shared():
+    ended = subprocess.run([SHARED_PROGRAM, "measure"], stdout=subprocess.PIPE, check=True, text=True)
+    lines = ended.stdout.splitlines()
+    if len(lines) != len(SHARED_FIGURES):
+        sys.exit("not as many figures of the shared token as are wanted")
+    return [is_figure_met(line, wanted) for line, wanted in zip(lines, SHARED_FIGURES)]
+
+
 def main():
+    if sys.argv[1:] == ["shared"]:
+        return 0 if all(measure_shared()) else 1
     program = sys.argv[1] if len(sys.argv) > 1 else PROGRAM
     start_time = best_time(program, "", 0)
     start_memory = peak_memory(program, "")
@@ -103,6 +145,7 @@ def main():
     met = [measure(program, kind, start_time, start_memory) for kind in ROUNDS]
     met.append(measure_searches(program, "searches", "labels", "data objects"))
     met.append(measure_searches(program, "key-searches", "keys", "keys"))
+    met.extend(measure_shared())
     return 0 if all(met) else 1
 
 

@@ -1,0 +1,224 @@
+//! Measures a token that callers share, by its lock and in threads. With no argument it makes each
+//! kind of call a few times and writes nothing; with the argument `measure` it writes what calls
+//! and asks take by the clock, the best of some tries.
+#![tactic(auto)]
+
+ghost use Rattle.std.specs.Prelude.{◌≡◌, ℕ};
+ghost use Rattle.ck_journal.specs.Histories.{start};
+ghost use Rattle.ck_shared.specs.Accounts.{name_of};
+
+mod rounds;
+mod threads;
+
+use ck_shared::{BoardCopy, Ends, EntrySlot, NewIdentity, SharedToken, TokenId};
+use ck_token::Token;
+use ck_types::Limits;
+use rounds::{Direct, Failed, Locked, Round, Target, prepare, time_of_rounds};
+use std::alloc::Global;
+use std::env::Env;
+use std::marker::Brand;
+use std::process::ExitCode;
+use std::sync::Wait;
+use std::thread::Threads;
+use std::time::Clock;
+use std::{env, io};
+use threads::{Task, Worker, best_together};
+
+type Shared<K, R> = SharedToken<K, EntrySlot<K>, BoardCopy<K>, R>;
+
+/// How many asks and rounds are measured at once, and of how many tries the best is taken.
+#[derive(Clone, Copy)]
+struct Effort {
+    asks: u64,
+    rounds: u64,
+    tries: u64,
+}
+
+const MEASURED: Effort = Effort {
+    asks: 4_000_000,
+    rounds: 1_000,
+    tries: 20,
+};
+
+/// How many times as many objects as other rounds are made by callers in threads.
+const CHANGES: u64 = 50;
+
+const TRIED: Effort = Effort {
+    asks: 3,
+    rounds: 3,
+    tries: 1,
+};
+
+/// Nanoseconds of so many asks as are measured at once, and of rounds that four callers make.
+#[derive(Clone, Copy)]
+struct ThreadTimes {
+    ask_alone: u128,
+    ask_beside: u128,
+    four_ask: u128,
+    four_change: u128,
+}
+
+/// Nanoseconds of so many rounds as are measured at once, of those that leave the board and of
+/// those that change it.
+#[derive(Clone, Copy)]
+struct CallTimes {
+    leaves: u128,
+    changes: u128,
+}
+
+fn call_times<T: Target, C: Clock>(
+    clock: &C,
+    alloc: Global,
+    target: &mut T,
+    effort: Effort,
+) -> Result<CallTimes, Failed> {
+    let Effort { rounds, tries, .. } = effort;
+    let leaves = time_of_rounds(clock, alloc, target, Round::SessionInfo, rounds, tries)?;
+    let changes = time_of_rounds(clock, alloc, target, Round::OpenAndClose, rounds, tries)?;
+    Ok(CallTimes { leaves, changes })
+}
+
+/// The callers of the slice all get this task.
+fn give<K: TokenId>(workers: &mut [Worker<K>], task: Task) {
+    for worker in workers {
+        worker.task = task;
+    }
+}
+
+/// What four callers do in threads: first one of them alone, then beside one that changes the
+/// token, then all.
+fn thread_times<K: TokenId + Send + Sync, R: Clock + Threads + Wait + Drop + Send + Sync>(
+    rt: &R,
+    alloc: Global,
+    token: &Shared<K, R>,
+    workers: &mut [Worker<K>],
+    effort: Effort,
+) -> Result<ThreadTimes, Failed> {
+    let ask = Task::Ask(effort.asks);
+    let change = Task::Change(effort.rounds.saturating_mul(CHANGES));
+    give(workers, ask);
+    let first = workers.get_mut(..1).ok_or(Failed)?;
+    let ask_alone = best_together(rt, alloc, token, first, effort.tries)?;
+    let four_ask = best_together(rt, alloc, token, workers, effort.tries)?;
+    let second = workers.get_mut(1).ok_or(Failed)?;
+    second.task = Task::ChangeBeside;
+    let two = workers.get_mut(..2).ok_or(Failed)?;
+    let ask_beside = best_together(rt, alloc, token, two, effort.tries)?;
+    give(workers, change);
+    let four_change = best_together(rt, alloc, token, workers, effort.tries)?;
+    Ok(ThreadTimes {
+        ask_alone,
+        ask_beside,
+        four_ask,
+        four_change,
+    })
+}
+
+/// Shares the token among four callers, and measures their calls by the lock and in threads.
+fn times_shared<K: TokenId + Send + Sync, R: Clock + Threads + Wait + Copy + Drop + Send + Sync>(
+    rt: R,
+    alloc: Global,
+    token: Token,
+    identity: NewIdentity,
+    effort: Effort,
+) -> Result<(CallTimes, ThreadTimes), Failed>
+    requires history { token.history ≡ start K.base }
+    requires limits { token.limits ≡ K.limits }
+    requires callers { K.callers ≡ 4 }
+    requires book { identity.history.seen.book ≡ K.book }
+    requires ledgers { (n : ℕ) → K.ledger n ≡ name_of identity.ledgers n }
+{
+    let Ok(ends) = Shared::<K, R>::adopt(rt, alloc, token, 4, identity) else {
+        return Err(Failed);
+    };
+    let Ends { token, callers } = ends;
+    let mut workers = Vec::with_capacity(alloc, callers.len())?;
+    for caller in callers {
+        workers.push(Worker::new(caller))?;
+    }
+    let first = workers.first_mut().ok_or(Failed)?;
+    let mut target = Locked {
+        rt: &rt,
+        token: &token,
+        caller: &mut first.caller,
+    };
+    prepare(&mut target, alloc)?;
+    let calls = call_times(&rt, alloc, &mut target, effort)?;
+    let threads = thread_times(&rt, alloc, &token, workers.as_mut_slice(), effort)?;
+    Ok((calls, threads))
+}
+
+fn times_alone<C: Clock>(clock: &C, alloc: Global, effort: Effort) -> Result<CallTimes, Failed> {
+    let mut target = Direct {
+        token: Token::new(alloc, Limits::largest()),
+    };
+    prepare(&mut target, alloc)?;
+    call_times(clock, alloc, &mut target, effort)
+}
+
+/// The time of each of so many, 0 of none.
+fn each(time: u128, count: u64) -> u128 {
+    time.checked_div(u128::from(count)).unwrap_or(0)
+}
+
+/// Writes the nanoseconds of a call of the token itself and of one by the lock. A round that
+/// changes the board has two calls.
+fn write_calls<R: Print>(rt: &R, alone: CallTimes, locked: CallTimes) -> io::Result<()> {
+    let rounds = MEASURED.rounds;
+    let (direct, shared) = (each(alone.leaves, rounds), each(locked.leaves, rounds));
+    println!(rt; "session info: {direct} ns, by the lock {shared} ns")?;
+    let calls = rounds.saturating_mul(2);
+    let (direct, shared) = (each(alone.changes, calls), each(locked.changes, calls));
+    println!(rt; "open and close, each: {direct} ns, by the lock {shared} ns")
+}
+
+/// How many percent of a time another is, 0 where there is none.
+fn percent(part: u128, whole: u128) -> u128 {
+    part.saturating_mul(100).checked_div(whole).unwrap_or(0)
+}
+
+/// Writes what asks take, and how many calls four callers make in a second.
+fn write_threads<R: Print>(rt: &R, times: ThreadTimes) -> io::Result<()> {
+    let ThreadTimes {
+        ask_alone,
+        ask_beside,
+        four_ask,
+        four_change,
+    } = times;
+    println!(rt; "status: {} ns", each(ask_alone, MEASURED.asks))?;
+    let four = percent(ask_alone.saturating_mul(4), four_ask);
+    println!(rt; "status by four callers: {four} percent of the asks of one")?;
+    let beside = percent(ask_alone, ask_beside);
+    println!(rt; "status beside changes: {beside} percent of the asks alone")?;
+    let rounds = MEASURED.rounds.saturating_mul(4 * CHANGES);
+    let calls = u128::from(rounds.saturating_mul(3));
+    let a_second = calls
+        .saturating_mul(1_000_000_000)
+        .checked_div(four_change)
+        .unwrap_or(0);
+    println!(rt; "create, get label and destroy by four callers: {a_second} calls a second")
+}
+
+fn main(rt: HostRuntime) -> ExitCode {
+    let alloc = rt.alloc();
+    let Ok(mut words) = env::args(&rt) else {
+        return ExitCode::FAILURE;
+    };
+    let measures = words.nth(1).is_some_and(|word| word.as_str() == "measure");
+    let effort = if measures { MEASURED } else { TRIED };
+    let Ok(alone) = times_alone(&rt, alloc, effort) else {
+        return ExitCode::FAILURE;
+    };
+    let token = Token::new(alloc, Limits::largest());
+    let identity = NewIdentity::new();
+    let Ok((locked, threads)) = times_shared::<Brand, _>(rt, alloc, token, identity, effort) else {
+        return ExitCode::FAILURE;
+    };
+    if !measures {
+        return ExitCode::SUCCESS;
+    }
+    match write_calls(&rt, alone, locked).and_then(|()| write_threads(&rt, threads)) {
+        Ok(()) => ExitCode::SUCCESS,
+        Err(_) => ExitCode::FAILURE,
+    }
+}

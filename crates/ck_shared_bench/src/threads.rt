@@ -1,0 +1,145 @@
+//! Callers in threads of their own.
+use crate::Shared;
+use crate::rounds::{Failed, Locked, Round, make_round, make_rounds};
+use ck_journal::{Body, Reply};
+use ck_shared::{Ask, BoardCopy, Caller, Status, TokenId};
+use ck_types::Rv;
+use std::alloc::Global;
+use std::sync::Wait;
+use std::sync::atomic::{AtomicBool, Ordering};
+use std::thread;
+use std::thread::Threads;
+use std::time::{Clock, Instant};
+
+/// What a caller does in its thread.
+#[derive(Clone, Copy, Debug, PartialEq, Eq)]
+pub(crate) enum Task {
+    /// Asks so often for the state of session 1, without the lock.
+    Ask(u64),
+    /// Creates, reads and destroys an object so often.
+    Change(u64),
+    /// Creates, reads and destroys objects until another is done.
+    ChangeBeside,
+}
+
+/// A caller with its task, and the nanoseconds that it took.
+#[derive(Drop)]
+pub(crate) struct Worker<K: TokenId> {
+    pub(crate) caller: Caller<K, BoardCopy<K>>,
+    pub(crate) task: Task,
+    time: Result<u128, Failed>,
+}
+
+impl<K: TokenId> Worker<K> {
+    pub(crate) fn new(caller: Caller<K, BoardCopy<K>>) -> Worker<K> {
+        Worker {
+            caller,
+            task: Task::Ask(0),
+            time: Err(Failed),
+        }
+    }
+}
+
+/// Asks so often, and says whether each time the session was open.
+fn ask<K: TokenId>(caller: &mut Caller<K, BoardCopy<K>>, count: u64) -> Result<(), Failed> {
+    for _ in 0..count {
+        let Some(
+            Status::Reply(
+                Reply {
+                    rv: Rv::Ok,
+                    body: Body::Session { flags: 6, .. },
+                },
+            ),
+        ) = caller.status(Ask::Session(1))
+        else {
+            return Err(Failed);
+        };
+    }
+    Ok(())
+}
+
+/// Makes rounds until another caller is done.
+fn change_until<K: TokenId, R: Wait + Drop>(
+    target: &mut Locked<K, R>,
+    alloc: Global,
+    is_done: &AtomicBool,
+) -> Result<(), Failed> {
+    for _ in 0..u64::MAX {
+        if is_done.load(Ordering::SeqCst) {
+            return Ok(());
+        }
+        make_round(target, alloc, Round::Object)?;
+    }
+    Err(Failed)
+}
+
+/// Does the task of a caller, and says what it took.
+fn work<K: TokenId, R: Clock + Wait + Drop>(
+    rt: &R,
+    alloc: Global,
+    token: &Shared<K, R>,
+    worker: &mut Worker<K>,
+    is_done: &AtomicBool,
+) -> Result<u128, Failed> {
+    let caller = &mut worker.caller;
+    let before = Instant::now(rt)?;
+    match worker.task {
+        Task::Ask(count) => ask(caller, count)?,
+        Task::Change(count) => {
+            let mut target = Locked { rt, token, caller };
+            make_rounds(&mut target, alloc, Round::Object, count)?;
+        }
+        Task::ChangeBeside => {
+            let mut target = Locked { rt, token, caller };
+            change_until(&mut target, alloc, is_done)?;
+        }
+    }
+    Ok(before.elapsed(rt)?.as_nanos())
+}
+
+/// The nanoseconds that the slowest of the callers took, each in a thread of its own.
+fn time_together<K: TokenId + Send + Sync, R: Clock + Threads + Wait + Drop + Send + Sync>(
+    rt: &R,
+    alloc: Global,
+    token: &Shared<K, R>,
+    workers: &mut [Worker<K>],
+) -> Result<u128, Failed> {
+    let is_done = AtomicBool::new(false);
+    let most = workers.len();
+    if most == 0 {
+        return Err(Failed);
+    }
+    thread::for_each_mut(
+        rt,
+        workers,
+        most,
+        &|_: usize, worker: &mut Worker<K>| {
+            worker.time = work(rt, alloc, token, worker, &is_done);
+            is_done.store(true, Ordering::SeqCst);
+        },
+    );
+    let mut slowest = 0;
+    for worker in workers.iter() {
+        slowest = worker.time?.max(slowest);
+    }
+    Ok(slowest)
+}
+
+/// The least of so many tries, all callers with the same task but for a last one, which may have
+/// another.
+pub(crate) fn best_together<
+    K: TokenId + Send + Sync,
+    R: Clock + Threads + Wait + Drop + Send + Sync,
+>(
+    rt: &R,
+    alloc: Global,
+    token: &Shared<K, R>,
+    workers: &mut [Worker<K>],
+    tries: u64,
+) -> Result<u128, Failed> {
+    let mut best = u128::MAX;
+    for _ in 0..tries {
+        best = best.min(time_together(rt, alloc, token, workers)?);
+    }
+    Ok(best)
+}
