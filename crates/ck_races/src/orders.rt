@@ -1,6 +1,7 @@
 //! Orders of callers, and a gate that keeps one.
 use ck_journal::{Call, Reply};
-use ck_shared::{Ask, Caller, Gate, Status, TokenId};
+use ck_runs::Gate;
+use ck_shared::{Ask, Caller, Status, TokenId};
 use ck_types::NoMemory;
 use std::alloc::Global;
 use std::sync::Wait;

@@ -9,6 +9,7 @@ use crate::races::{Race, Step};
 use crate::texts::compare;
 use crate::tokens::token_of;
 use ck_journal::{Call, Reply};
+use ck_runs::{Script, run_scripts};
 use ck_shared::*;
 use ck_token::Token;
 use std::alloc::Global;
