@@ -139,7 +139,7 @@ fn check_ordered<R: Threads + Wait + Copy + Drop + Send + Sync>(
         let ran = run_race(rt, alloc, race, Some(order.as_slice()))?;
         let is_own = own.as_slice() == order.as_slice();
         check_run(alloc, race, ran, Some(order.as_slice()), is_own)?;
-        draws.shuffle(order.as_mut_slice());
+        draws.reorder(order.as_mut_slice());
     }
     Ok(())
 }

@@ -29,7 +29,7 @@ use std::thread::Threads;
 use std::{env, fs, io};
 
 /// How the races of a file are played.
-#[derive(Clone, Copy, Debug, PartialEq, Eq)]
+#[derive(Clone, Copy)]
 enum Mode {
     InThreads,
     Alone,

@@ -78,7 +78,7 @@ impl<'a, K: TokenId, T: Drop, G: Gate<K, T>> Gate<K, T> for OrderedGate<'a, G> {
 }
 
 /// A generator of orders, the same for the same seed (SplitMix64).
-#[derive(Clone, Copy, Debug)]
+#[derive(Clone, Copy)]
 pub(crate) struct Draws {
     state: u64,
 }
@@ -96,11 +96,11 @@ impl Draws {
         mixed ^ (mixed >> 31)
     }
 
-    /// Shuffles an order.
-    pub(crate) fn shuffle(&mut self, order: &mut [u32]) {
-        for place in 1..order.len() {
-            let other = self.next() as usize % (place + 1);
-            order.swap(place, other);
+    /// Turns a front of an order round, of a length that is drawn.
+    pub(crate) fn reorder(&mut self, order: &mut [u32]) {
+        let length = self.next() as usize % (order.len() + 1);
+        if let Some(front) = order.get_mut(..length) {
+            front.reverse();
         }
     }
 }

@@ -28,14 +28,14 @@ pub(crate) struct Step<'a> {
 }
 
 /// In which orders of the steps the replies are known.
-#[derive(Clone, Copy, Debug, PartialEq, Eq)]
+#[derive(Clone, Copy)]
 pub(crate) enum Known {
     InThisOrder,
     InAnyOrder,
 }
 
 /// The part of a race that the next step belongs to.
-#[derive(Clone, Copy, Debug, PartialEq, Eq)]
+#[derive(Clone, Copy)]
 enum Part {
     First,
     Together,

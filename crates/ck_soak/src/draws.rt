@@ -1,5 +1,5 @@
 /// A generator of numbers, the same for the same seed (SplitMix64).
-#[derive(Clone, Copy, Debug)]
+#[derive(Clone, Copy)]
 pub(crate) struct Draws {
     state: u64,
 }

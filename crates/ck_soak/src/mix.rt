@@ -77,7 +77,7 @@ pub(crate) const SELDOM: [&str; 3] = [
 ];
 
 /// What a word of a row may stand for.
-#[derive(Clone, Copy, Debug, PartialEq, Eq)]
+#[derive(Clone, Copy)]
 pub(crate) enum HandleKind {
     Session,
     Object,
