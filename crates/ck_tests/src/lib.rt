@@ -19,6 +19,8 @@ mod mechanisms;
 #[cfg(test)]
 mod operations;
 #[cfg(test)]
+mod replays;
+#[cfg(test)]
 mod replies;
 #[cfg(test)]
 mod sessions;
