@@ -175,6 +175,33 @@ module _ (objects : Slab ObjectRow) (index : List Place) (is_index : IsIndex obj
       subst (λ n. Contains index (place n key)) (eqb-true row.number number t)
       (is_index.named key row is)
 
+  -- an object that has the number is the only one
+  pub IsKeyOf-here : (k : ℕ) (found : ObjectRow) → get objects k ≡ Some found
+      → found.number ≡ number → IsKeyOf objects number (Some k)
+  IsKeyOf-here k found here is_number = record {
+    has = λ key is. (
+      found,
+      ap (get objects) (sym (same_Some k key is)) ∙ here,
+      ap (λ n. n == number) is_number ∙ same_number number,
+    );
+    only = λ key row is t.
+        let same : place found.number k ≡ place number key =
+        rises-once (λ (q : Place). q.number) index is_index.rises (place found.number k)
+        (place number key) (is_index.named k found here) (named_at key row is t) is_number in
+        ap (λ (q : Place). Some q.key) same;
+  }
+
+  pub IsKeyOf-at : (p : Place) → p.number ≡ number → true ≡ is_there objects p
+      → IsKeyOf objects number (Some p.key)
+  IsKeyOf-at p of_number t = by_case (object_at objects p) refl t
+    where
+      by_case : (o : Option ObjectRow) → object_at objects p ≡ o → true ≡ is_some o
+          → IsKeyOf objects number (Some p.key)
+      by_case None is e = absurd (cc)
+      by_case (Some row) is e =
+          let at = object_at-Some objects p row is in
+          IsKeyOf-here p.key row at.0 (at.1 ∙ of_number)
+
   -- no place has the number
   pub IsKeyOf-no_place : None ≡ position (is_at number) index → IsKeyOf objects number None
   IsKeyOf-no_place none = record {
@@ -208,21 +235,7 @@ module _ (objects : Slab ObjectRow) (index : List Place) (is_index : IsIndex obj
 
     -- a place has it, and its object is there
     pub IsKeyOf-there : true ≡ is_there objects p → IsKeyOf objects number (Some p.key)
-    IsKeyOf-there t = record {
-      has = λ key is.
-          let row = there_case (object_at objects p) refl t in
-          let at = object_at-Some objects p row.0 row.1 in (
-            row.0,
-            ap (get objects) (sym (same_Some p.key key is)) ∙ at.0,
-            ap (λ n. n == number) (at.1 ∙ is_number) ∙ same_number number,
-          );
-      only = λ key row is t. ap (λ (q : Place). Some q.key) (sym (here key row is t));
-    }
-      where
-        there_case : (o : Option ObjectRow) → object_at objects p ≡ o → true ≡ is_some o
-            → (row : ObjectRow) × (object_at objects p ≡ Some row)
-        there_case None is e = absurd (cc)
-        there_case (Some row) is e = (row, is)
+    IsKeyOf-there t = IsKeyOf-at p is_number t
 
     -- or has ended
     pub IsKeyOf-ended : false ≡ is_there objects p → IsKeyOf objects number None

@@ -71,10 +71,23 @@ fn position_of(index: &[Place], number: u64) -> Option<usize>
         .ok()
 }
 
+/// The place that the object of a number has where no object had ended before it was created. Among
+/// many objects the index is in no cache, so this place is tried first.
+fn guess_place(number: u64) -> Place
+    ensures { result.number ≡ number }
+{
+    let key = number.saturating_sub(1) as usize;
+    Place { number, key }
+}
+
 /// The key of the object that has the number.
 pub(crate) fn key_of(objects: &Slab<StoredObject>, index: &[Place], number: u64) -> Option<usize>
     ensures { IsIndex objects.now index.now → IsKeyOf objects.now number result }
 {
+    let guess = guess_place(number);
+    if is_there(objects, guess) {
+        return Some(guess.key);
+    }
     let place = index[position_of(index, number)?];
     if is_there(objects, place) {
         Some(place.key)
