@@ -1,4 +1,4 @@
-//! Objects of several sessions, as a token has them and as one that makes its journal's calls again.
+//! Objects of several sessions in a token, and in one that makes its journal's calls again.
 use ck_journal::{Answer, AttributeQuery, Body, Call};
 use ck_token::Token;
 use ck_types::{Bytes, Item, Limits, NoMemory, Pin, Sequence, Template};
