@@ -20,13 +20,13 @@ moved xs ys n = Unit {0}
 adds_goes : (log v : List Entry) (e : Entry) (old : ℕ) → old ≤ length v → IsPrefix v log
     → (b : Bool) → (length log == old) ≡ b
     → Goes IsKept shown moved 0 (v, (no_nib, None)) (λ n. either (n == old) (old + 1) n)
-        (Adds (step 0 old (old + 1) e) (v, (no_nib, None))) ((length log, true) ∷ (0, true) ∷ []) log
+    (Adds (step 0 old (old + 1) e) (v, (no_nib, None))) ((length log, true) ∷ (0, true) ∷ []) log
 adds_goes log v e old len pre true is =
     let here : length log ≡ old = grind (arith, nat_tests) in
     let same : v ≡ log = prefix_whole v log pre (omega arith) in
     let as_long : length v ≡ old = omega (arith, prefix_length v log pre) in
     let n : either (length log == old) (old + 1) (length log) ≡ length (log ++ e ∷ []) = rw is
-          (omega (arith, length-append log (e ∷ []))) in (
+    (omega (arith, length-append log (e ∷ []))) in (
       keeps,
       e ∷ [],
       None,
@@ -50,11 +50,11 @@ adds_goes log v e old len pre false is =
 -- whatever the book is, the exchange adds the entry to all that was seen, or finds another length
 pub adds_moves : (v : List Entry) (e : Entry) (old : ℕ) → old ≤ length v
     → Moves IsKept shown moved 0 (v, (no_nib, None)) (λ n. either (n == old) (old + 1) n)
-        (Adds (step 0 old (old + 1) e) (v, (no_nib, None)))
+    (Adds (step 0 old (old + 1) e) (v, (no_nib, None)))
 adds_moves v e old len cs log kept pre away =
     let P : List Cell → Type 0 = λ c. (0 < length c) × ((cell c 0).1 ≡ true) × Goes IsKept shown moved 0
-          (v, (no_nib, None)) (λ n. either (n == old) (old + 1) n)
-          (Adds (step 0 old (old + 1) e) (v, (no_nib, None))) c log in
+    (v, (no_nib, None)) (λ n. either (n == old) (old + 1) n)
+    (Adds (step 0 old (old + 1) e) (v, (no_nib, None))) c log in
     subst P (sym kept) (omega arith, refl, adds_goes log v e old len pre (length log == old) refl)
 
 -- where the length that was expected was found, the entry was added to all that had been seen

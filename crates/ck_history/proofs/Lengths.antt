@@ -20,7 +20,7 @@ module _ (b : Base) where
     pub shorter_begins : length one ≤ length two → IsFront g h
     shorter_begins len =
         subst (λ x. IsFront x h) is (subst (IsFront (history_of b one)) also
-            (front_of_prefix b one two (prefix_shorter one two all p q len)))
+        (front_of_prefix b one two (prefix_shorter one two all p q len)))
 
     pub as_long_same : length one ≡ length two → g ≡ h
     as_long_same len =

@@ -82,7 +82,7 @@ module _ (limits : Ranges) (h : History) (session : ℕ) where
       → refusal rv_error.SessionHandleInvalid ≡ answer limits h (call.GetSessionInfo session)
   info-closed none =
       let closed : is_open h session ≡ false = closed_case h (is_open h session) (row_of h session)
-            (sym (find-row h session) ∙ none) in
+      (sym (find-row h session) ∙ none) in
       ap (λ t. info_by t (state_of h session) (flags_of h session)) (sym closed)
 
   pub info-open : (row : ℕ × ℕ) (s : SessionState)
@@ -152,8 +152,14 @@ module _ (h : History) (e : Entry) (l : (effects_of (Some e.call)).sessions ≡ 
 
   status-stays : login_status (e ◁ h) ≡ login_status h
   status-stays =
-      rw (login-left e h done-left, tries-stay user.So, tries-stay user.User, is_initialized-left e h
-          done-left, user_pin-left e h done-left) refl
+      rw (
+        login-left e h done-left,
+        tries-stay user.So,
+        tries-stay user.User,
+        is_initialized-left e h
+            done-left,
+        user_pin-left e h done-left,
+      ) refl
 
   board-stays : (limits : Ranges) → board_of limits (e ◁ h) ≡ board_of limits h
   board-stays limits = rw (rows-stay, status-stays) refl

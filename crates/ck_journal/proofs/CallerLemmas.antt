@@ -21,7 +21,7 @@ shorter_before : (caller : ℕ) (g : History) (later : List Entry)
 shorter_before caller g [] = omega arith
 shorter_before caller g (e ∷ later) =
     shorter_step (e.caller == caller) (call_count caller g) e (entries_by caller (followed_by g later))
-        (shorter_before caller g later)
+    (shorter_before caller g later)
 
 same_step : (t : Bool) (old : List Entry) (e : Entry) (es : List Entry) → length old ≤ length es
     → (length es ≡ length old → es ≡ old)
@@ -35,7 +35,7 @@ same_before : (caller : ℕ) (g : History) (later : List Entry)
 same_before caller g [] counts = refl
 same_before caller g (e ∷ later) counts =
     same_step (e.caller == caller) (entries_by caller g) e (entries_by caller (followed_by g later))
-        (shorter_before caller g later) (same_before caller g later) counts
+    (shorter_before caller g later) (same_before caller g later) counts
 
 -- where a front has as many entries of the caller, they are the same
 pub entries_by-front : (caller : ℕ) (g h : History) → IsFront g h → call_count caller h ≡ call_count caller g

@@ -12,16 +12,16 @@ use Rattle.ck_journal.specs.Lists.{change_first}
 module _ {X : Type 0} (test : X → Bool) (change : X → X) where
   change_first-append_step : (t : Bool) (x : X) (xs ys : List X) → test x ≡ t
       → change_first test change (xs ++ ys) ≡ change_first test change xs ++ cond (list_any test xs) ys
-          (change_first test change ys)
+      (change_first test change ys)
       → cond t (change x ∷ (xs ++ ys)) (x ∷ change_first test change (xs ++ ys))
       ≡ cond t (change x ∷ xs) (x ∷ change_first test change xs) ++ cond (t || list_any test xs) ys
-          (change_first test change ys)
+      (change_first test change ys)
   change_first-append_step true x xs ys e later = refl
   change_first-append_step false x xs ys e later = ap (λ rest. x ∷ rest) later
 
   change_first-append : (xs ys : List X)
       → change_first test change (xs ++ ys) ≡ change_first test change xs ++ cond (list_any test xs) ys
-          (change_first test change ys)
+      (change_first test change ys)
   change_first-append [] ys = refl
   change_first-append (x ∷ xs) ys = change_first-append_step (test x) x xs ys refl (change_first-append xs ys)
 
@@ -36,7 +36,7 @@ module _ {X : Type 0} (test : X → Bool) (change : X → X) where
       ap (list_any test) (selected-suc passes row n)
       ∙ list_any-append test (selected passes row n) (last_row (passes (suc n)) (row (suc n)))
       ∙ rw (list_any-none passes row n (λ k h. fails k (omega arith)))
-          (list_any-last_row (passes (suc n)) (row (suc n)) (fails (suc n) (omega arith)))
+      (list_any-last_row (passes (suc n)) (row (suc n)) (fails (suc n) (omega arith)))
 
   module _ (passes : ℕ → Bool) (row row' : ℕ → X) where
     last_step : (p t any : Bool) (k : ℕ) → test (row k) ≡ t → (any ≡ true → t ≡ false)
@@ -65,7 +65,7 @@ module _ {X : Type 0} (test : X → Bool) (change : X → X) where
     fails_after n false unique e any = refl
     fails_after n true unique e any =
         absurd (false≢true (sym (list_any-none passes row n
-            (λ k below. below_fails n k (test (row k)) refl unique e below)) ∙ any))
+        (λ k below. below_fails n k (test (row k)) refl unique e below)) ∙ any))
 
     -- where at most one row passes, and the new rows are the old ones but for that one
     pub selected-replaced : (n : ℕ) → ((j k : ℕ) → j ≤ n → k ≤ n → test (row j) ≡ true → test (row k) ≡ true → j ≡ k)
@@ -77,10 +77,10 @@ module _ {X : Type 0} (test : X → Bool) (change : X → X) where
         ap (change_first test change) (selected-suc passes row n)
         ∙ change_first-append (selected passes row n) (last_row (passes (suc n)) (row (suc n)))
         ∙ ap (λ xs. xs ++ cond (list_any test (selected passes row n))
-            (last_row (passes (suc n)) (row (suc n))) (change_first test change
-            (last_row (passes (suc n)) (row (suc n)))))
+        (last_row (passes (suc n)) (row (suc n))) (change_first test change
+        (last_row (passes (suc n)) (row (suc n)))))
         (selected-replaced n (λ j k a b. unique j k (omega arith) (omega arith))
-            (λ k a. replaced k (omega arith)) (λ k a. same k (omega arith)))
+        (λ k a. replaced k (omega arith)) (λ k a. same k (omega arith)))
         ∙ ap (λ ys. selected passes row' n ++ ys)
         (last_step (passes (suc n)) (test (row (suc n))) (list_any test (selected passes row n)) (suc n) refl
         (fails_after n (test (row (suc n))) unique refl) (replaced (suc n) (omega arith)) (same (suc n) (omega arith)))
@@ -91,10 +91,10 @@ module _ {X : Type 0} (test : X → Bool) (change : X → X) where
 module _ {X : Type 0} (test : X → Bool) (change : X → X) where
   at_step : (t : Bool) (x : X) (xs : List X) (d : X)
       → (position_or_len test xs < length xs → set xs (position_or_len test xs)
-          (change (get_or xs (position_or_len test xs) d)) ≡ change_first test change xs)
+      (change (get_or xs (position_or_len test xs) d)) ≡ change_first test change xs)
       → cond (not t) (suc (position_or_len test xs)) 0 < suc (length xs)
       → set (x ∷ xs) (cond (not t) (suc (position_or_len test xs)) 0)
-          (change (get_or (x ∷ xs) (cond (not t) (suc (position_or_len test xs)) 0) d))
+      (change (get_or (x ∷ xs) (cond (not t) (suc (position_or_len test xs)) 0) d))
       ≡ cond t (change x ∷ xs) (x ∷ change_first test change xs)
   at_step true x xs d later within = refl
   at_step false x xs d later within = ap (λ rest. x ∷ rest) (later (omega arith))
@@ -144,4 +144,4 @@ module _ {X : Type 0} (test : X → Bool) (change : X → X) where
   pub change_first-no_place : (xs : List X) → None ≡ position test xs → xs ≡ change_first test change xs
   change_first-no_place xs none =
       change_first-past xs (ltb-false _ _ (none_cases (ltb (position_or_len test xs) (length xs))
-          (position_or_len test xs) (sym none)))
+      (position_or_len test xs) (sym none)))

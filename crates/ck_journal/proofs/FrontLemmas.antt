@@ -67,7 +67,7 @@ module _ (b : Base) where
   pub front_of_prefix : (log all : List Entry) → IsPrefix log all → IsFront (history_of b log) (history_of b all)
   front_of_prefix log all p =
       subst (λ x. IsFront (history_of b log) x) (sym (extended_by-append (start b) log p.0) ∙ ap
-          (history_of b) p.1) (front_extended (history_of b log) p.0)
+      (history_of b) p.1) (front_extended (history_of b log) p.0)
 
 -- a log and the same entries, the newest first
 pub extended_by-reverse : (h : History) (log : List Entry)

@@ -91,9 +91,9 @@ module _ (e : Entry) (h : History) where
     object_at-below : (k : ℕ) → k ≤ creations h → object_at (e ◁ h) k ≡ object_at h k
     object_at-below k below =
         ap (λ b. cond b (Some (creation_attributes (done e) (attributes_named h)))
-            (option_and_then (after k) (object_at h k))) (not_new k below)
+        (option_and_then (after k) (object_at h k))) (not_new k below)
         ∙ and_then-same (after k) (λ attributes. object_after-creation (done e) (view_of h) k (session_of h k)
-            attributes t) (object_at h k)
+        attributes t) (object_at h k)
 
     session_of-created : session_of (e ◁ h) (suc (creations h)) ≡ creation_session (done e)
     session_of-created = ap (λ b. cond b (creation_session (done e)) (session_of h (suc (creations h)))) is_new
@@ -103,12 +103,12 @@ module _ (e : Entry) (h : History) where
     object_at-created =
         let n = suc (creations h) in
         ap (λ b. cond b (Some (creation_attributes (done e) (attributes_named h)))
-            (option_and_then (after n) (object_at h n))) is_new
+        (option_and_then (after n) (object_at h n))) is_new
 
     -- the new object's row stands last
     pub object_rows-created : {X : Type 0} (row : ℕ → ℕ → List Item → X) →
         object_rows row (e ◁ h) ≡ object_rows row h ++ row (suc (creations h)) (creation_session (done e))
-            (creation_attributes (done e) (attributes_named h)) ∷ []
+        (creation_attributes (done e) (attributes_named h)) ∷ []
     object_rows-created row =
         let n = suc (creations h) in
         ap (λ count. filter_map (object_row_at row (e ◁ h)) (numbers count)) creations-created
@@ -118,7 +118,7 @@ module _ (e : Entry) (h : History) where
         (λ k below. row_at-same row k (object_at h k) (session_of-below k below) (object_at-below k below)))
         ∙ ap (λ found. object_rows row h ++ cons_option found [])
         (ap (λ s. option_map (row n s) (object_at (e ◁ h) n)) session_of-created ∙ ap
-            (option_map (row n (creation_session (done e)))) object_at-created)
+        (option_map (row n (creation_session (done e)))) object_at-created)
 
   -- ---- an entry that creates nothing
 
@@ -133,12 +133,12 @@ module _ (e : Entry) (h : History) where
     pub object_at-later : (k : ℕ) → object_at (e ◁ h) k ≡ option_and_then (after k) (object_at h k)
     object_at-later k =
         ap (λ t. cond (t && k == suc (creations h)) (Some (creation_attributes (done e) (attributes_named h)))
-            (option_and_then (after k) (object_at h k))) no_creation
+        (option_and_then (after k) (object_at h k))) no_creation
 
     change_step : {X : Type 0} (row : List Item → X) (after : List Item → Option (List Item))
         (change : X → Option X) (object : Option (List Item))
         → ((attributes : List Item) → object ≡ Some attributes → option_map row (after attributes) ≡ change
-            (row attributes))
+        (row attributes))
         → option_map row (option_and_then after object) ≡ option_and_then change (option_map row object)
     change_step row after change None changed = refl
     change_step row after change (Some attributes) changed = changed attributes refl
@@ -147,14 +147,14 @@ module _ (e : Entry) (h : History) where
     pub object_rows-later : {X : Type 0} (row : ℕ → ℕ → List Item → X) (change : X → Option X)
         → ((k : ℕ) (attributes : List Item) → object_at h k ≡ Some attributes
         → option_map (row k (session_of h k)) (object_after (done e) (view_of h) k (session_of h k)
-            attributes) ≡ change (row k (session_of h k) attributes))
+        attributes) ≡ change (row k (session_of h k) attributes))
         → object_rows row (e ◁ h) ≡ filter_map change (object_rows row h)
     object_rows-later row change changed =
         ap (λ count. filter_map (object_row_at row (e ◁ h)) (numbers count)) creations-same
         ∙ filter_map-same (object_row_at row (e ◁ h)) (λ k. option_and_then change (object_row_at row h k))
-            (creations h)
+        (creations h)
         (λ k below. row_at-same row k (option_and_then (after k) (object_at h k)) (session_of-later k)
-            (object_at-later k)
+        (object_at-later k)
         ∙ change_step (row k (session_of h k)) (after k) change (object_at h k) (changed k))
         ∙ sym (filter_map-then change (object_row_at row h) (numbers (creations h)))
 
@@ -168,7 +168,7 @@ module _ (e : Entry) (h : History) where
     object_at-left k =
         object_at-later (creates-left (done e) l) k
         ∙ and_then-same (after k) (λ attributes. object_after-left (done e) (view_of h) k (session_of h k)
-            attributes l) (object_at h k)
+        attributes l) (object_at h k)
 
     pub object_rows-left : {X : Type 0} (row : ℕ → ℕ → List Item → X) → object_rows row (e ◁ h) ≡ object_rows row h
     object_rows-left row =
@@ -190,13 +190,13 @@ kept_step creations n kept rest attributes false e created later is = later is
 
 kept-within : (creations n : ℕ) (attributes : List Item) (objects : List KeptObject) → All (IsCreated creations) objects
     → option_map (λ (kept : KeptObject). kept.attributes)
-        (find (λ (kept : KeptObject). kept.number == n) objects) ≡ Some attributes → (1 ≤ n) × (n ≤ creations)
+    (find (λ (kept : KeptObject). kept.number == n) objects) ≡ Some attributes → (1 ≤ n) × (n ≤ creations)
 kept-within creations n attributes [] created is = cc
 kept-within creations n attributes (kept ∷ objects) created is =
     kept_step creations n kept (find (λ (object : KeptObject). object.number == n) objects) attributes
-        (kept.number == n) refl
+    (kept.number == n) refl
     (All-head (IsCreated creations) kept objects created)
-        (kept-within creations n attributes objects (All-tail (IsCreated creations) kept objects created)) is
+    (kept-within creations n attributes objects (All-tail (IsCreated creations) kept objects created)) is
 
 within_step : (created same : Bool) (n count : ℕ) (fresh attributes : List Item)
     (after : List Item → Option (List Item)) (before : Option (List Item)) → n == suc count ≡ same
@@ -216,5 +216,5 @@ pub object_at-within : (h : History) → IsSound (start_of h) → (n : ℕ) (att
 object_at-within (start b) sound n attributes is = kept-within b.creations n attributes b.objects sound.numbers is
 object_at-within (e ◁ h) sound n attributes is =
     within_step (creates (done e)) (n == suc (creations h)) n (creations h)
-        (creation_attributes (done e) (attributes_named h)) attributes
+    (creation_attributes (done e) (attributes_named h)) attributes
     (object_after (done e) (view_of h) n (session_of h n)) (object_at h n) refl (object_at-within h sound n) is

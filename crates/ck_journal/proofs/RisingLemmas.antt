@@ -18,7 +18,7 @@ numbers-below : (n : ℕ) → All (λ k. k < suc n) (numbers n)
 numbers-below zero = λ k d within. absurd (omega arith)
 numbers-below (suc n) =
     All-push (λ k. k < suc (suc n)) (numbers n) (suc n) (λ k d within. omega
-        (arith, numbers-below n k d within)) (omega arith)
+    (arith, numbers-below n k d within)) (omega arith)
 
 -- each number is below all later ones
 pub AllPairs-numbers : (n : ℕ) → AllPairs (λ j k. j < k) (numbers n)
@@ -59,7 +59,7 @@ module _ (last : ℕ) where
   all_after [] after = refl
   all_after (k ∷ ks) after =
       ap (λ t. cond t (k ∷ filter (λ j. nat_lt last j) ks) (filter (λ j. nat_lt last j) ks))
-          (lt-ltb last k (leb-false k last (after 0 0 (omega arith) (omega arith))))
+      (lt-ltb last k (leb-false k last (after 0 0 (omega arith) (omega arith))))
       ∙ ap (λ rest. k ∷ rest) (all_after ks (λ i d low high. after (suc i) d (omega arith) (omega arith)))
 
   not_above : (k : ℕ) → nat_le k last ≡ true → nat_lt last k ≡ false
@@ -73,7 +73,9 @@ module _ (last : ℕ) where
   drop-filter [] (suc place) parted = refl
   drop-filter (k ∷ ks) zero parted = sym (all_after (k ∷ ks) parted.1)
   drop-filter (k ∷ ks) (suc place) parted =
-      drop-filter ks place ((λ i d low high. parted.0 (suc i) d (omega arith) (omega arith)),
-          (λ i d low high. parted.1 (suc i) d (omega arith) (omega arith)))
+      drop-filter ks place (
+        (λ i d low high. parted.0 (suc i) d (omega arith) (omega arith)),
+        (λ i d low high. parted.1 (suc i) d (omega arith) (omega arith)),
+      )
       ∙ sym (ap (λ t. cond t (k ∷ filter (λ j. nat_lt last j) ks) (filter (λ j. nat_lt last j) ks))
-          (not_above k (parted.0 0 0 (omega arith) (omega arith))))
+      (not_above k (parted.0 0 0 (omega arith) (omega arith))))

@@ -42,7 +42,7 @@ module _ (e : Entry) (h : History) (l : (effects e).searches ≡ false) (s : ℕ
   pub found_objects-left : found_objects (e ◁ h) s ≡ found_objects h s
   found_objects-left =
       ap (λ t. cond t (matching_objects (e ◁ h) (search_template (done e))) (found_objects h s))
-          (starts-left (done e) s l)
+      (starts-left (done e) s l)
 
   pub last_number-left : last_number (e ◁ h) s ≡ last_number h s
   last_number-left = rw (starts-left (done e) s l, asks-left (done e) s l) refl
@@ -60,7 +60,7 @@ module _ (e : Entry) (h : History) where
     pub matching_objects-left : (template : List Item) → matching_objects (e ◁ h) template ≡ matching_objects h template
     matching_objects-left template =
         ap (λ n. filter (λ k. is_some_with (is_match_with (view_of (e ◁ h)) template) (object_at (e ◁ h) k))
-            (numbers n)) (creations-left e h lo)
+        (numbers n)) (creations-left e h lo)
         ∙ filter_agree (λ k. is_some_with (is_match_with (view_of (e ◁ h)) template) (object_at (e ◁ h) k))
         (λ k. is_some_with (is_match_with (view_of h) template) (object_at h k))
         (λ k. ap (λ (v : View). is_some_with (is_match_with v template) (object_at (e ◁ h) k)) (view_of-left ls)

@@ -43,7 +43,7 @@ module _ {X : Type 0} where
   selected-same test test' row row' (suc n) tests rows =
       let below = selected-same test test' row row' n (λ k h. tests k (omega arith)) (λ k h. rows k (omega arith)) in
       let here : last_row (test (suc n)) (row (suc n)) ≡ last_row (test' (suc n)) (row' (suc n)) = rw
-            (tests (suc n) (omega arith), rows (suc n) (omega arith)) in
+      (tests (suc n) (omega arith), rows (suc n) (omega arith)) in
       selected-suc test row n ∙ ap (λ xs. xs ++ last_row (test (suc n)) (row (suc n))) below
       ∙ ap (λ xs. selected test' row' n ++ xs) here ∙ sym (selected-suc test' row' n)
 
@@ -58,7 +58,7 @@ module _ {X : Type 0} where
   filter-map_step : (again : X → Bool) (row : ℕ → X) (k : ℕ) (ks : List ℕ) (passes : Bool)
       → filter again (map row ks) ≡ map row (filter (λ j. again (row j)) ks)
       → cond passes (row k ∷ filter again (map row ks)) (filter again (map row ks)) ≡ map row
-          (cond passes (k ∷ filter (λ j. again (row j)) ks) (filter (λ j. again (row j)) ks))
+      (cond passes (k ∷ filter (λ j. again (row j)) ks) (filter (λ j. again (row j)) ks))
   filter-map_step again row k ks true later = ap (λ rows. row k ∷ rows) later
   filter-map_step again row k ks false later = later
 
@@ -141,8 +141,15 @@ list_any-at_step test s n true same within below =
     list_any_last (λ k. test k && k == s) n ∙ rw (list_any-past test s n (omega arith), same, e) (and-true (test s))
 list_any-at_step test s n false same within below =
     list_any_last (λ k. test k && k == s) n
-    ∙ rw (same, and-false, below (λ t. ((within t).0, ne_below s n (within t).1
-        (λ e. eqb-false (suc n) s same e)))) (or-false (test s))
+    ∙ rw (
+      same,
+      and-false,
+      below (λ t. (
+        (within t).0,
+        ne_below s n (within t).1
+            (λ e. eqb-false (suc n) s same e),
+      )),
+    ) (or-false (test s))
   where
     ne_below : (s n : ℕ) → s ≤ suc n → (suc n ≡ s → ⊥) → s ≤ n
     ne_below s n h other = omega arith
@@ -161,7 +168,7 @@ module _ {X : Type 0} where
   find-map_step : (wanted : X → Bool) (row : ℕ → X) (k : ℕ) (ks : List ℕ) (found : Bool)
       → find wanted (map row ks) ≡ option_map row (find (λ j. wanted (row j)) ks)
       → cond found (Some (row k)) (find wanted (map row ks)) ≡ option_map row
-          (cond found (Some k) (find (λ j. wanted (row j)) ks))
+      (cond found (Some k) (find (λ j. wanted (row j)) ks))
   find-map_step wanted row k ks true later = refl
   find-map_step wanted row k ks false later = later
 
@@ -183,9 +190,9 @@ module _ {X : Type 0} where
   selected-rows_same test row row' (suc n) same =
       selected-suc test row n
       ∙ ap (λ xs. xs ++ last_row (test (suc n)) (row (suc n)))
-          (selected-rows_same test row row' n (λ k h. same k (omega arith)))
+      (selected-rows_same test row row' n (λ k h. same k (omega arith)))
       ∙ ap (λ xs. selected test row' n ++ xs) (last_row-same (test (suc n)) (row (suc n)) (row' (suc n))
-          (same (suc n) (omega arith)))
+      (same (suc n) (omega arith)))
       ∙ sym (selected-suc test row' n)
 
 -- ---- what is found
@@ -309,7 +316,7 @@ module _ {X : Type 0} where
     found_step : (k : ℕ) (rest : Option ℕ) (rows : List X) → find wanted rows ≡ option_and_then row rest
         → (found : Option X) → row k ≡ found
         → find wanted (cons_option found rows) ≡ option_and_then row
-            (cond (option_map_or wanted found false) (Some k) rest)
+        (cond (option_map_or wanted found false) (Some k) rest)
     found_step k rest rows later None e = later
     found_step k rest rows later (Some x) e = wanted_found k x rest rows e later (wanted x)
 
@@ -319,7 +326,7 @@ module _ {X : Type 0} where
     find-filter_map [] = refl
     find-filter_map (k ∷ ks) =
         found_step k (find (λ j. option_map_or wanted (row j) false) ks) (filter_map row ks)
-            (find-filter_map ks) (row k) refl
+        (find-filter_map ks) (row k) refl
 
   module _ (P : X → Type 0) (row : ℕ → Option X) (each : (k : ℕ) (x : X) → row k ≡ Some x → P x) where
     All-last : (k : ℕ) (found : Option X) → row k ≡ found → All P (cons_option found [])
@@ -354,7 +361,7 @@ module _ {X : Type 0} where
     map-filter_map wanted [] = refl
     map-filter_map wanted (k ∷ ks) =
         number_step wanted k (filter (λ j. option_map_or wanted (row j) false) ks) (filter_map row ks)
-            (map-filter_map wanted ks) (row k) refl
+        (map-filter_map wanted ks) (row k) refl
 
     last_below : (n : ℕ) (found : Option X) → row (suc n) ≡ found
         → All (λ x. number x < suc (suc n)) (cons_option found [])
@@ -369,7 +376,7 @@ module _ {X : Type 0} where
         subst (All (λ x. number x < suc (suc n))) (sym (filter_map-suc row n))
         (All-append (λ x. number x < suc (suc n)) (filter_map row (numbers n)) (cons_option (row (suc n)) [])
         (All-weaker (λ x. number x < suc n) (λ x. number x < suc (suc n)) (λ x below. omega arith)
-            (filter_map row (numbers n)) (rows-below n))
+        (filter_map row (numbers n)) (rows-below n))
         (last_below n (row (suc n)) refl))
 
     push_case : (n : ℕ) (found : Option X) → row (suc n) ≡ found
@@ -380,11 +387,11 @@ module _ {X : Type 0} where
     push_case n (Some y) e rise =
         let same = numbered (suc n) y e in
         all_pairs_push (λ x y. number x < number y) (filter_map row (numbers n)) y rise
-            (λ k d within. omega (arith, rows-below n k d within))
+        (λ k d within. omega (arith, rows-below n k d within))
 
     -- the rows stand in the order of their numbers
     pub AllPairs-filter_map : (n : ℕ) → AllPairs (λ x y. number x < number y) (filter_map row (numbers n))
     AllPairs-filter_map zero = λ i j d low within. absurd (omega arith)
     AllPairs-filter_map (suc n) =
         subst (AllPairs (λ x y. number x < number y)) (sym (filter_map-suc row n))
-            (push_case n (row (suc n)) refl (AllPairs-filter_map n))
+        (push_case n (row (suc n)) refl (AllPairs-filter_map n))

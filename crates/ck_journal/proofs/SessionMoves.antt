@@ -64,7 +64,7 @@ module _ (e : Entry) (h : History) where
         ∙ selected-suc (is_open (e ◁ h)) (row (e ◁ h)) (openings h)
         ∙ rw is_open-opened
         (ap (λ rows. rows ++ row (e ◁ h) (suc (openings h)) ∷ [])
-            (selected-same (is_open (e ◁ h)) (is_open h) (row (e ◁ h)) (row h) (openings h) is_open-below same))
+        (selected-same (is_open (e ◁ h)) (is_open h) (row (e ◁ h)) (row h) (openings h) is_open-below same))
 
   -- ---- an entry that opens nothing
 
@@ -87,7 +87,7 @@ module _ (e : Entry) (h : History) where
     session_rows-later row same =
         ap (λ n. selected (is_open (e ◁ h)) (row (e ◁ h)) n) openings-later
         ∙ selected-same (is_open (e ◁ h)) (λ k. is_open h k && not (closes (done e) k)) (row (e ◁ h))
-            (row (e ◁ h)) (openings h) (λ k below. is_open-later k) (λ k below. refl)
+        (row (e ◁ h)) (openings h) (λ k below. is_open-later k) (λ k below. refl)
         ∙ selected-rows_same (λ k. is_open h k && not (closes (done e) k)) (row (e ◁ h)) (row h) (openings h) same
 
     -- where it closes nothing either all stay, with what it makes of their rows
@@ -97,7 +97,7 @@ module _ (e : Entry) (h : History) where
         ap (λ n. selected (is_open (e ◁ h)) (row (e ◁ h)) n) openings-later
         ∙ selected-same (is_open (e ◁ h)) (is_open h) (row (e ◁ h)) (row (e ◁ h)) (openings h)
         (λ k below. is_open-later k ∙ ap (λ t. is_open h k && not t) (no_closing k) ∙ and-true (is_open h k))
-            (λ k below. refl)
+        (λ k below. refl)
 
     pub session_rows-same : {X : Type 0} (row : History → ℕ → X) → ((k : ℕ) → row (e ◁ h) k ≡ row h k)
         → ((s : ℕ) → closes (done e) s ≡ false)

@@ -131,7 +131,7 @@ module _ (h : History) (old : OperationsState) (agree : OperationsAgree h old) (
   moves new move does same = record {
     each =
         λ k s. subst (OptionAgrees (find (is_operation k s) new.rows))
-            (sym (operation_at-moved k e h s (move k s) (does k s)))
+        (sym (operation_at-moved k e h s (move k s) (does k s)))
         (same k s);
   }
 
@@ -203,7 +203,7 @@ module _ (h : History) (old : OperationsState) (agree : OperationsAgree h old) (
           let both = and-both (same_kind kind k) (session == s) here in
           rw (← same_kind-eq kind k both.0, ← eqb-true session s both.1)
           (added-same (started_by h e) bytes (find (is_operation kind session) old.rows)
-              (find (is_operation kind session) new.rows)
+          (find (is_operation kind session) new.rows)
           (operation_at kind h session) is.added (agree.each kind session))
       added k s false there =
           subst (λ found. OptionAgrees found (operation_at k h s)) (sym (is.others k s there)) (agree.each k s)
@@ -233,7 +233,7 @@ module _ (h : History) (old : OperationsState) (agree : OperationsAgree h old) (
           let inactive : operation_at k h s ≡ None =
           rw (← same_kind-eq kind k both.0, ← eqb-true session s both.1) (idle-none kind h session idle) in
           let none : find p old.rows ≡ None = none-found (find p old.rows)
-                (subst (OptionAgrees (find p old.rows)) inactive (agree.each k s)) in
+          (subst (OptionAgrees (find p old.rows)) inactive (agree.each k s)) in
           let last : find p new.rows ≡ Some o =
           ap (find p) rows ∙ find-append p old.rows (o ∷ []) ∙ ap (λ found. option_or found (find p (o ∷ []))) none
           ∙ ap (λ t. cond t (Some o) None) here in

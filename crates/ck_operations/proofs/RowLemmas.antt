@@ -147,12 +147,12 @@ module _ (k : OperationKind) (session : ℕ) (bytes : List ℕ) (rows : List Ope
       record {
         added = has-added bytes old new _ _
             (find_at (is_operation k session) rows ∙ ap (slice_get rows) p.1 ∙ slice_get-get_or rows place old
-                at.0 ∙ ap Some (sym item))
+            at.0 ∙ ap Some (sym item))
             (find-set (is_operation k session) rows place new (sym p.1) at.0 passes-new)
             is;
         others = λ l s apart-from.
             ap (find (is_operation l s)) (change_first-place (is_operation k session) (λ o. new) rows place
-                old found item)
+            old found item)
             ∙ find-other (is_operation k session) new (is_operation l s) (apart k l session s apart-from new passes-new)
             (apart k l session s apart-from) rows;
       }

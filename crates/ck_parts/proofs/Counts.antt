@@ -55,7 +55,7 @@ set_pin-passed limits h session old new e =
     is_some-pin (present_pin owner h)
     (some_pin (is_none (present_pin owner h)) _
     (or_else-none (error_if (not (is_read_write h session)) rv_error.SessionReadOnly) _
-        (or_else-none (session_error h session) _ e).1).1)
+    (or_else-none (session_error h session) _ e).1).1)
 
 -- the hash function, the key and the length that a signing or verifying starts with
 pub started-injected : (k : OperationKind) (session : ℕ) (made : Hash) (number len : ℕ) (other : Hash) (n m : ℕ)

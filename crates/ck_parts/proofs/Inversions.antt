@@ -141,7 +141,7 @@ module _ (h : History) (b : Body) where
 
   pub of-LogIn : (c : Call) (u : UserType) → change.LogIn u ≡ change_of h c b
       → (session number : ℕ) × (pin : Pin) × (c ≡ call.Login session number pin) ×
-          (u ≡ unwrap_or (user_of number) user.User)
+      (u ≡ unwrap_or (user_of number) user.User)
   of-LogIn (call.Login session number pin) u e = (session, number, pin, refl, cc)
   of-LogIn other u e = cc
 
@@ -152,7 +152,7 @@ module _ (h : History) (b : Body) where
   pub of-CreateObject : (c : Call) (session : ℕ) (attributes : List Item)
       → change.CreateObject session attributes ≡ change_of h c b
       → (creates (Some c) ≡ true) × (session ≡ creation_session (Some c)) ×
-          (attributes ≡ creation_attributes (Some c) (attributes_named h))
+      (attributes ≡ creation_attributes (Some c) (attributes_named h))
   of-CreateObject (call.CreateObject other template) session attributes e = (refl, cc, cc)
   of-CreateObject (call.GenerateKey other mechanism template random) session attributes e = (refl, cc, cc)
   of-CreateObject (call.CopyObject other object template) session attributes e = (refl, cc, cc)
@@ -162,7 +162,7 @@ module _ (h : History) (b : Body) where
       → change.SetAttributes number attributes ≡ change_of h c b
       → (session object : ℕ) × (template : Template) × (c ≡ call.SetAttributeValue session object template)
       × (number ≡ unwrap_or (object_named h object) 0) ×
-          (attributes ≡ with_given template.items (named_attributes h object))
+      (attributes ≡ with_given template.items (named_attributes h object))
   of-SetAttributes (call.SetAttributeValue session object template) number attributes e =
       (session, object, template, refl, cc, cc)
   of-SetAttributes other number attributes e = cc
@@ -180,13 +180,13 @@ module _ (h : History) (b : Body) where
 
   pub of-StartSearch : (c : Call) (session : ℕ) (found : List ℕ) → change.StartSearch session found ≡ change_of h c b
       → (template : Template) × (c ≡ call.FindObjectsInit session template) ×
-          (found ≡ matching_objects h template.items)
+      (found ≡ matching_objects h template.items)
   of-StartSearch (call.FindObjectsInit other template) session found e = (template, cc, cc)
   of-StartSearch other session found e = cc
 
   pub of-AdvanceSearch : (c : Call) (session number : ℕ) → change.AdvanceSearch session number ≡ change_of h c b
       → (max : ℕ) × (c ≡ call.FindObjects session max) ×
-          (number ≡ last_or (last_number h session) (map number_of_handle (handles_in b)))
+      (number ≡ last_or (last_number h session) (map number_of_handle (handles_in b)))
   of-AdvanceSearch (call.FindObjects other max) session number e = (max, cc, cc)
   of-AdvanceSearch other session number e = cc
 

@@ -61,7 +61,7 @@ module _ (h : History) (e : Entry) (c : Call) (d : done e ≡ Some c) where
       → SessionsAgree h s → SessionsAgree (e ◁ h) s
   sessions-kept s fixed idle agree =
       sessions-left h s agree e (ap (λ o. (effects_of o).sessions) d ∙ fixed)
-          (ap (λ o. (effects_of o).searches) d ∙ idle)
+      (ap (λ o. (effects_of o).searches) d ∙ idle)
       (λ u. ap (is_about u h) (wrong_try-done e c d))
 
   pub objects-kept : (o : StoreState) → (effects_of (Some c)).objects ≡ false → StoreAgrees h o → StoreAgrees (e ◁ h) o
@@ -84,7 +84,7 @@ module _ (h : History) (e : Entry) (c : Call) (d : done e ≡ Some c) where
 module _ (h : History) where
   nothing_done : (c : Call) (b : Body) → change.Nothing ≡ change_of h c b
       → ((effects_of (Some c)).sessions ≡ false) × ((effects_of (Some c)).searches ≡ false) ×
-          ((effects_of (Some c)).objects ≡ false)
+      ((effects_of (Some c)).objects ≡ false)
   nothing_done (call.GetSessionInfo session) b is = (refl, refl, refl)
   nothing_done call.GetTokenInfo b is = (refl, refl, refl)
   nothing_done call.GetMechanismList b is = (refl, refl, refl)
@@ -111,9 +111,9 @@ module _ (h : History) where
 
   nothing_step : (c : Call) (v : Rv) (b : Body) → change.Nothing ≡ effect_by h c v b
       → ((effects_of (cond (is_ok v) (Some c) None)).sessions ≡ false) ×
-          ((effects_of (cond (is_ok v) (Some c) None)).searches ≡ false)
+      ((effects_of (cond (is_ok v) (Some c) None)).searches ≡ false)
       × ((effects_of (cond (is_ok v) (Some c) None)).objects ≡ false) ×
-          ((u : UserType) → is_about u h (cond (is_wrong_pin v) (Some c) None) ≡ false)
+      ((u : UserType) → is_about u h (cond (is_wrong_pin v) (Some c) None) ≡ false)
   nothing_step c rv.Ok b is = let n = nothing_done c b is in (n.0, n.1, n.2, λ u. refl)
   nothing_step c (rv.Error code) b is = (refl, refl, refl, λ u. nothing_refused code c u (operation_step c) refl is)
 
@@ -218,7 +218,7 @@ pub change-passed : (limits : Ranges) (h : History) (session object : ℕ) (temp
     → call_error limits h (call.SetAttributeValue session object template) ≡ None
     → (object_named h object ≡ Some (unwrap_or (object_named h object) 0))
     × (is_set (with_given template.items (named_attributes h object)) attribute.Token ≡ is_set
-        (named_attributes h object) attribute.Token)
+    (named_attributes h object) attribute.Token)
 change-passed limits h session object template e =
     let p = object-passed h session object _ e in
     let a = named_attributes h object in (
@@ -226,7 +226,7 @@ change-passed limits h session object template e =
       token-kept (class_of a) (protections_of a) template.items a
           (or_else-none (changed_error (class_of a) (protections_of a) template.items) None
           (later-passes (prohibited_error attribute.Modifiable a) _
-              (later-passes (read_only_session_error h session (placement_of a)) _ p.1))).0,
+          (later-passes (read_only_session_error h session (placement_of a)) _ p.1))).0,
     )
 
 pub destruction-passed : (limits : Ranges) (h : History) (session object : ℕ)

@@ -109,7 +109,7 @@ module _ (h : History) (old : SessionsState) (agree : SessionsAgree h old) (e : 
     rows-stay =
         agree.rows
         ∙ sym (session_rows-same e h no_opening session_row
-            (row-left e h no_opening (ap (λ o. (effects_of o).searches) d ∙ ls)) no_closing)
+        (row-left e h no_opening (ap (λ o. (effects_of o).searches) d ∙ ls)) no_closing)
 
     sessions-stay : open_sessions (e ◁ h) ≡ open_sessions h
     sessions-stay =
@@ -160,11 +160,17 @@ module _ (h : History) (old : SessionsState) (agree : SessionsAgree h old) (e : 
     login = log ∙ agree.login ∙ sym (login-left e h l);
     logins = logs ∙ agree.logins ∙ sym (user_logins-left e h l);
     so =
-        rw so (record { pin = agree.so.pin ∙ sym (so_pin-left e h l); tries = agree.so.tries ∙ sym
-            (tries-left e h l user.So (w user.So)) });
+        rw so (record {
+          pin = agree.so.pin ∙ sym (so_pin-left e h l);
+          tries = agree.so.tries ∙ sym
+              (tries-left e h l user.So (w user.So));
+        });
     user =
-        rw us (record { pin = agree.user.pin ∙ sym (user_pin-left e h l); tries = agree.user.tries ∙ sym
-            (tries-left e h l user.User (w user.User)) });
+        rw us (record {
+          pin = agree.user.pin ∙ sym (user_pin-left e h l);
+          tries = agree.user.tries ∙ sym
+              (tries-left e h l user.User (w user.User));
+        });
     initialized = ap (λ (c : Credential). is_some c.pin) so ∙ agree.initialized ∙ sym (is_initialized-left e h l);
   }
 
@@ -183,7 +189,7 @@ module _ (h : History) (old : SessionsState) (agree : SessionsAgree h old) (e : 
       → new.user ≡ old.user → SessionsAgree (e ◁ h) new
   SessionsAgree-searched c d l new rows count log logs so us =
       SessionsAgree-same (ap (λ o. (effects_of o).sessions) d ∙ l)
-          (λ u. ap (is_about u h) (wrong_try-done e c d)) new rows count log logs so us
+      (λ u. ap (is_about u h) (wrong_try-done e c d)) new rows count log logs so us
 
   -- ---- a wrong try
 
@@ -210,11 +216,17 @@ module _ (h : History) (old : SessionsState) (agree : SessionsAgree h old) (e : 
         login = login ∙ agree.login ∙ sym (login-left e h l);
         logins = logins ∙ agree.logins ∙ sym (user_logins-left e h l);
         so =
-            record { pin = so_pin ∙ agree.so.pin ∙ sym (so_pin-left e h l); tries = so_tries ∙ rw
-                agree.so.tries (sym (tries-wrong u user.So d a)) };
+            record {
+              pin = so_pin ∙ agree.so.pin ∙ sym (so_pin-left e h l);
+              tries = so_tries ∙ rw
+                  agree.so.tries (sym (tries-wrong u user.So d a));
+            };
         user =
-            record { pin = user_pin ∙ agree.user.pin ∙ sym (user_pin-left e h l); tries = user_tries ∙ rw
-                agree.user.tries (sym (tries-wrong u user.User d a)) };
+            record {
+              pin = user_pin ∙ agree.user.pin ∙ sym (user_pin-left e h l);
+              tries = user_tries ∙ rw
+                  agree.user.tries (sym (tries-wrong u user.User d a));
+            };
         initialized = ap is_some so_pin ∙ agree.initialized ∙ sym (is_initialized-left e h l);
       }
 
@@ -228,12 +240,12 @@ module _ (h : History) (old : SessionsState) (agree : SessionsAgree h old) (e : 
   SessionsAgree-opened flags new d none rows count log logs so us =
       let c = call.OpenSession flags in
       let all : session_rows session_row (e ◁ h) ≡ session_rows session_row h ++ record
-            { handle = suc (openings h); flags = flags; search = None } ∷ [] =
+      { handle = suc (openings h); flags = flags; search = None } ∷ [] =
       session_rows-opened e h flags d session_row (row-below e h flags d)
       ∙ ap (λ r. session_rows session_row h ++ r ∷ []) (row-opened e h flags d none) in
       let some : length (open_sessions (e ◁ h)) == 0 ≡ false =
       ne_eqb (length (open_sessions (e ◁ h))) 0 (λ z. more (session_rows session_row h)
-          (record { handle = suc (openings h); flags = flags; search = None })
+      (record { handle = suc (openings h); flags = flags; search = None })
       (sym (ap length all) ∙ length-session_rows session_row (e ◁ h) ∙ z)) in
       record {
         rows = rows ∙ rw (agree.rows, agree.openings, add-one) (sym all);
@@ -255,11 +267,11 @@ module _ (h : History) (old : SessionsState) (agree : SessionsAgree h old) (e : 
       log ∙ ap (λ rs. cond (length rs == 0) None old.login) rows
       ∙ ap (λ n. cond (n == 0) None old.login) (length-session_rows session_row (e ◁ h))
       ∙ ap (cond (length (open_sessions (e ◁ h)) == 0) None)
-          (agree.login ∙ sym (ap (λ x. login_after x (login h)) d ∙ left (login h)))
+      (agree.login ∙ sym (ap (λ x. login_after x (login h)) d ∙ left (login h)))
 
   pub SessionsAgree-closed : (session : ℕ) (new : SessionsState) → done e ≡ Some (call.CloseSession session)
       → new.rows ≡ filter (λ (row : SessionRow). not (is_session session row)) old.rows → new.openings ≡
-          old.openings → new.login ≡ cond (length new.rows == 0) None old.login
+      old.openings → new.login ≡ cond (length new.rows == 0) None old.login
       → new.logins ≡ old.logins → new.so ≡ old.so → new.user ≡ old.user → SessionsAgree (e ◁ h) new
   SessionsAgree-closed session new d rows count log logs so us =
       let c = call.CloseSession session in
@@ -267,7 +279,7 @@ module _ (h : History) (old : SessionsState) (agree : SessionsAgree h old) (e : 
       rows ∙ ap (filter (λ (row : SessionRow). not (is_session session row))) agree.rows
       ∙ filter-selected (λ (row : SessionRow). not (is_session session row)) (is_open h) (session_row h) (openings h)
       ∙ selected-same (λ k. is_open h k && not (k == session)) (λ k. is_open h k && not (closes (done e) k))
-          (session_row h) (session_row h) (openings h)
+      (session_row h) (session_row h) (openings h)
       (λ k below. ap (λ t. is_open h k && not t) (eqb-sym k session ∙ ap (λ x. closes x k) (sym d))) (λ k below. refl)
       ∙ sym (session_rows-later e h (ap opens d) session_row (λ k below passes. row-other e h session d k passes)) in
       record {
@@ -288,7 +300,7 @@ module _ (h : History) (old : SessionsState) (agree : SessionsAgree h old) (e : 
       let all : session_rows session_row (e ◁ h) ≡ [] =
       session_rows-later e h (ap opens d) session_row
       (λ k below passes. absurd (false≢true (sym (ap (λ x. is_open h k && not (closes x k)) d ∙ and-false
-          (is_open h k)) ∙ passes)))
+      (is_open h k)) ∙ passes)))
       ∙ selected-none (λ k. is_open h k && not (closes (done e) k)) (session_row h) (openings h)
       (λ k below. ap (λ x. is_open h k && not (closes x k)) d ∙ and-false (is_open h k)) in
       let none : length (open_sessions (e ◁ h)) == 0 ≡ true = rw (sym (length-session_rows session_row (e ◁ h)), all) in
@@ -330,13 +342,13 @@ module _ (h : History) (old : SessionsState) (agree : SessionsAgree h old) (e : 
           pin = so_pin ∙ agree.so.pin ∙ sym (so_pin-step e h (Some c) d);
           tries = so_tries ∙ ap (cond (same_user user.So u || false) 0) agree.so.tries
               ∙ sym (tries-done e h user.So c d ∙ ap (λ a. cond (is_user user.So a || false) 0
-                  (tries user.So h)) known);
+              (tries user.So h)) known);
         };
         user = record {
           pin = user_pin ∙ agree.user.pin ∙ sym (user_pin-step e h (Some c) d);
           tries = user_tries ∙ ap (cond (same_user user.User u || false) 0) agree.user.tries
               ∙ sym (tries-done e h user.User c d ∙ ap (λ a. cond (is_user user.User a || false) 0
-                  (tries user.User h)) known);
+              (tries user.User h)) known);
         };
         initialized = ap is_some so_pin ∙ initialized-stays c d refl;
       }
@@ -356,11 +368,17 @@ module _ (h : History) (old : SessionsState) (agree : SessionsAgree h old) (e : 
         login = log ∙ login-stays c d refl (λ s. refl) refl (λ before. refl);
         logins = logs ∙ logins-stay c d refl;
         so =
-            record { pin = so_pin ∙ rw agree.so.pin (sym (so_pin-step e h (Some c) d)); tries = so_tries ∙ sym
-                (tries-done e h user.So c d) };
+            record {
+              pin = so_pin ∙ rw agree.so.pin (sym (so_pin-step e h (Some c) d));
+              tries = so_tries ∙ sym
+                  (tries-done e h user.So c d);
+            };
         user =
-            record { pin = user_pin ∙ sym (user_pin-step e h (Some c) d); tries = user_tries ∙ sym
-                (tries-done e h user.User c d) };
+            record {
+              pin = user_pin ∙ sym (user_pin-step e h (Some c) d);
+              tries = user_tries ∙ sym
+                  (tries-done e h user.User c d);
+            };
         initialized = ap is_some so_pin ∙ some_after pin old.so.pin
             ∙ sym (ap (λ x. initializes x || is_initialized h) d);
       }
@@ -378,8 +396,11 @@ module _ (h : History) (old : SessionsState) (agree : SessionsAgree h old) (e : 
         logins = logs ∙ logins-stay c d refl;
         so = rw so (so-stays c d (λ owner before. refl) refl);
         user =
-            record { pin = user_pin ∙ sym (user_pin-step e h (Some c) d); tries = user_tries ∙ sym
-                (tries-done e h user.User c d) };
+            record {
+              pin = user_pin ∙ sym (user_pin-step e h (Some c) d);
+              tries = user_tries ∙ sym
+                  (tries-done e h user.User c d);
+            };
         initialized = ap (λ (c : Credential). is_some c.pin) so ∙ initialized-stays c d refl;
       }
 
@@ -402,7 +423,7 @@ module _ (h : History) (old : SessionsState) (agree : SessionsAgree h old) (e : 
         pin = so_pin ∙ sym (so_pin-step e h (Some c) d ∙ ap (λ o. so_pin_after (Some c) o (so_pin_of h)) owner);
         tries = so_tries
             ∙ sym (tries-done e h user.So c d ∙ ap (λ o. cond (is_user user.So (Some o) || false) 0
-                (tries user.So h)) owner);
+            (tries user.So h)) owner);
       };
       user = rw us (record {
         pin =
@@ -410,7 +431,7 @@ module _ (h : History) (old : SessionsState) (agree : SessionsAgree h old) (e : 
             ∙ sym (user_pin-step e h (Some c) d ∙ ap (λ o. user_pin_after (Some c) o (user_pin h)) owner);
         tries = agree.user.tries
             ∙ sym (tries-done e h user.User c d ∙ ap (λ o. cond (is_user user.User (Some o) || false) 0
-                (tries user.User h)) owner);
+            (tries user.User h)) owner);
       });
       initialized = ap is_some so_pin ∙ sym had ∙ initialized-stays c d refl;
     }
@@ -426,13 +447,13 @@ module _ (h : History) (old : SessionsState) (agree : SessionsAgree h old) (e : 
         pin = agree.so.pin ∙ sym (so_pin-step e h (Some c) d ∙ ap (λ o. so_pin_after (Some c) o (so_pin_of h)) owner);
         tries = agree.so.tries
             ∙ sym (tries-done e h user.So c d ∙ ap (λ o. cond (is_user user.So (Some o) || false) 0
-                (tries user.So h)) owner);
+            (tries user.So h)) owner);
       });
       user = record {
         pin = us_pin ∙ sym (user_pin-step e h (Some c) d ∙ ap (λ o. user_pin_after (Some c) o (user_pin h)) owner);
         tries = us_tries
             ∙ sym (tries-done e h user.User c d ∙ ap (λ o. cond (is_user user.User (Some o) || false) 0
-                (tries user.User h)) owner);
+            (tries user.User h)) owner);
       };
       initialized = ap (λ (c : Credential). is_some c.pin) so ∙ initialized-stays c d refl;
     }
@@ -446,11 +467,11 @@ module _ (h : History) (old : SessionsState) (agree : SessionsAgree h old) (e : 
         → done e ≡ Some (call.FindObjectsInit session template)
         → found ≡ matching_objects h template.items
         → new.rows ≡ change_first (is_session session) (with_search
-            (Some (record { found = found; last = 0 }))) old.rows → SessionsAgree (e ◁ h) new
+        (Some (record { found = found; last = 0 }))) old.rows → SessionsAgree (e ◁ h) new
     SessionsAgree-started session template found d matching rows =
         SessionsAgree-searched (call.FindObjectsInit session template) d refl new
         (rows ∙ ap (change_first (is_session session) (with_search
-            (Some (record { found = found; last = 0 })))) agree.rows
+        (Some (record { found = found; last = 0 })))) agree.rows
         ∙ session_rows-started e h session template found d matching) count log logs so us
 
     pub SessionsAgree-found : (session max number : ℕ) → done e ≡ Some (call.FindObjects session max)
@@ -467,7 +488,7 @@ module _ (h : History) (old : SessionsState) (agree : SessionsAgree h old) (e : 
     SessionsAgree-search_ended session d rows =
         SessionsAgree-searched (call.FindObjectsFinal session) d refl new
         (rows ∙ ap (change_first (is_session session) (with_search None)) agree.rows ∙ session_rows-ended e h
-            session d) count log logs so us
+        session d) count log logs so us
 
   -- a logout ends the login and all searches
   pub SessionsAgree-logged_out : (session : ℕ) (new : SessionsState) → done e ≡ Some (call.Logout session)
@@ -480,7 +501,7 @@ module _ (h : History) (old : SessionsState) (agree : SessionsAgree h old) (e : 
         rows =
             rows ∙ ap (map (with_search None)) agree.rows ∙ map-map (with_search None) (session_row h) (open_sessions h)
             ∙ selected-same (is_open h) (is_open h) (λ k. with_search None (session_row h k))
-                (session_row (e ◁ h)) (openings h) (λ k b. refl)
+            (session_row (e ◁ h)) (openings h) (λ k b. refl)
             (λ k b. sym (row-logged_out e h session d k))
             ∙ sym (session_rows-changed e h (ap opens d) session_row (λ s. ap (λ x. closes x s) d));
         openings = count ∙ openings-stay c d refl;

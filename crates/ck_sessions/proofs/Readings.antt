@@ -60,12 +60,12 @@ module _ (h : History) (s : SessionsState) (agree : SessionsAgree h s) where
   pub find-session : (session : ℕ) → find (is_session session) s.rows ≡ session_at h session
   find-session session =
       let found : find (is_session session) (session_rows session_row h) ≡ option_map row_of
-            (find (λ k. k == session) (open_sessions h)) =
+      (find (λ k. k == session) (open_sessions h)) =
       find-map (is_session session) row_of (open_sessions h) in
       ap (find (is_session session)) agree.rows ∙ found
       ∙ at_handle session (find (λ k. k == session) (open_sessions h)) refl
       (ap is_some (sym found) ∙ is_some-find (is_session session) (session_rows session_row h) ∙ list_any-open
-          h session)
+      h session)
 
 -- ---- the board
 

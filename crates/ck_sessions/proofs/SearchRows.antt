@@ -31,7 +31,7 @@ active_search active found last = cond active (Some (record { found = found; las
 abbrev search_step : Option Call → List ℕ → List ℕ → ℕ → Bool → List ℕ → ℕ → Option Search
 search_step o matching handles k active found last =
     active_search (cond (starts_search o k) true (cond (ends_search o k) false active))
-        (cond (starts_search o k) matching found)
+    (cond (starts_search o k) matching found)
     (cond (starts_search o k) 0 (last_or last (map number_of_handle (cond (asks_search o k) handles []))))
 
 abbrev row : ℕ → ℕ → Option Search → SessionRow
@@ -44,10 +44,10 @@ same_number k s false e = ne_eqb s k (λ same. eqb-false k s e (sym same))
 module _ (e : Entry) (h : History) where
   search_of-step : (k : ℕ) (o : Option Call) → done e ≡ o
       → search_of (e ◁ h) k ≡ search_step o (matching_objects (e ◁ h) (search_template o))
-          (handles_in e.reply.body) k (is_searching h k) (found_objects h k) (last_number h k)
+      (handles_in e.reply.body) k (is_searching h k) (found_objects h k) (last_number h k)
   search_of-step k o d =
       ap (λ x. search_step x (matching_objects (e ◁ h) (search_template x)) (handles_in e.reply.body) k
-          (is_searching h k) (found_objects h k) (last_number h k)) d
+      (is_searching h k) (found_objects h k) (last_number h k)) d
 
   search_of-left : (effects e).searches ≡ false → (k : ℕ) → search_of (e ◁ h) k ≡ search_of h k
   search_of-left l k =
@@ -80,14 +80,14 @@ module _ (e : Entry) (h : History) where
         let n = suc (openings h) in
         ap (λ f. row n f (search_of (e ◁ h) n)) (flags_of-opened e h flags d)
         ∙ ap (row n flags) (search_of-left (ap (λ o. (effects_of o).searches) d) n ∙ ap
-            (λ t. active_search t (found_objects h n) (last_number h n)) none)
+        (λ t. active_search t (found_objects h n) (last_number h n)) none)
 
   -- the closing of another session
   pub row-other : (session : ℕ) → done e ≡ Some (call.CloseSession session) → (k : ℕ)
       → (is_open h k && not (closes (done e) k)) ≡ true → session_row (e ◁ h) k ≡ session_row h k
   row-other session d k passes =
       let other : session == k ≡ false = not-true (session == k)
-            ((and_parts (is_open h k) _ (subst (λ o. (is_open h k && not (closes o k)) ≡ true) d passes)).1) in
+      ((and_parts (is_open h k) _ (subst (λ o. (is_open h k && not (closes o k)) ≡ true) d passes)).1) in
       row-moved k (search_of h k) (ap opens d)
       (search_of-step k (Some (call.CloseSession session)) d
       ∙ ap (λ t. active_search (cond t false (is_searching h k)) (found_objects h k) (last_number h k)) other)
@@ -121,8 +121,8 @@ module _ (e : Entry) (h : History) where
         row-moved k (Some (record { found = found; last = 0 })) (ap opens d)
         (search_of-step k (Some (call.FindObjectsInit session template)) d
         ∙ ap (λ t. active_search (cond t true (is_searching h k))
-            (cond t (matching_objects (e ◁ h) template.items) (found_objects h k))
-            (cond t 0 (last_number h k))) same
+        (cond t (matching_objects (e ◁ h) template.items) (found_objects h k))
+        (cond t 0 (last_number h k))) same
         ∙ ap (λ f. active_search true f 0) (sym matching))
 
     started-there : (k : ℕ) → session == k ≡ false → session_row (e ◁ h) k ≡ session_row h k
@@ -130,17 +130,17 @@ module _ (e : Entry) (h : History) where
         row-moved k (search_of h k) (ap opens d)
         (search_of-step k (Some (call.FindObjectsInit session template)) d
         ∙ ap (λ t. active_search (cond t true (is_searching h k))
-            (cond t (matching_objects (e ◁ h) template.items) (found_objects h k))
-            (cond t 0 (last_number h k))) other)
+        (cond t (matching_objects (e ◁ h) template.items) (found_objects h k))
+        (cond t 0 (last_number h k))) other)
 
     pub session_rows-started : found ≡ matching_objects h template.items
         → change_first (is_session session) (with_search (Some (record { found = found; last = 0 })))
-            (session_rows session_row h) ≡ session_rows session_row (e ◁ h)
+        (session_rows session_row h) ≡ session_rows session_row (e ◁ h)
     session_rows-started matching =
         session_rows-searched (call.FindObjectsInit session template) d refl (λ s. refl) session
-            (with_search (Some (record { found = found; last = 0 })))
+        (with_search (Some (record { found = found; last = 0 })))
         (started-here (matching ∙ sym (matching_objects-left e h (ap (λ o. (effects_of o).objects) d)
-            (ap (λ o. (effects_of o).sessions) d) template.items))) started-there
+        (ap (λ o. (effects_of o).sessions) d) template.items))) started-there
 
   -- ---- a search returns objects
 
@@ -154,7 +154,7 @@ module _ (e : Entry) (h : History) where
         row-moved k (search_of h k) (ap opens d)
         (search_of-step k (Some (call.FindObjects session max)) d
         ∙ ap (λ t. found_search t (is_searching h k) (handles_in e.reply.body) (found_objects h k)
-            (last_number h k)) other)
+        (last_number h k)) other)
 
     last_step : (active : Bool) (found : List ℕ) (last n after : ℕ) → after ≡ n
         → active_search active found after ≡ option_map (with_last n) (active_search active found last)
@@ -168,19 +168,19 @@ module _ (e : Entry) (h : History) where
         row-moved k (option_map (with_last n) (search_of h k)) (ap opens d)
         (search_of-step k (Some (call.FindObjects session max)) d
         ∙ ap (λ t. found_search t (is_searching h k) (handles_in e.reply.body) (found_objects h k)
-            (last_number h k)) same
+        (last_number h k)) same
         ∙ last_step (is_searching h k) (found_objects h k) (last_number h k) n
-            (last_or (last_number h k) (map number_of_handle (handles_in e.reply.body)))
+        (last_or (last_number h k) (map number_of_handle (handles_in e.reply.body)))
         (ap (λ s. last_or (last_number h s) (map number_of_handle (handles_in e.reply.body)))
-            (sym (eqb-true session k same)) ∙ sym last))
+        (sym (eqb-true session k same)) ∙ sym last))
 
     pub session_rows-found : (n : ℕ)
         → n ≡ last_or (last_number h session) (map number_of_handle (handles_in e.reply.body))
         → change_first (is_session session) (with_last_found n) (session_rows session_row h) ≡ session_rows
-            session_row (e ◁ h)
+        session_row (e ◁ h)
     session_rows-found n last =
         session_rows-searched (call.FindObjects session max) d refl (λ s. refl) session (with_last_found n)
-            (found-here n last) found-there
+        (found-here n last) found-there
 
   -- ---- a search ends
 
@@ -193,7 +193,7 @@ module _ (e : Entry) (h : History) where
       where
         ended_case : (t : Bool)
             → active_search (cond t false (is_searching h k)) (found_objects h k) (last_number h k) ≡ cond t
-                None (search_of h k)
+            None (search_of h k)
         ended_case true = refl
         ended_case false = refl
 
@@ -202,7 +202,7 @@ module _ (e : Entry) (h : History) where
     session_rows-ended =
         session_rows-searched (call.FindObjectsFinal session) d refl (λ s. refl) session (with_search None)
         (λ k same. row-moved k None (ap opens d) (ended_step k true same))
-            (λ k other. row-moved k (search_of h k) (ap opens d) (ended_step k false other))
+        (λ k other. row-moved k (search_of h k) (ap opens d) (ended_step k false other))
 
 -- all rows written over
 pub written_over : (change : SessionRow → SessionRow) (n : ℕ) (new old items : List SessionRow) → new ≡ map change old

@@ -9,7 +9,7 @@ pub all_here : (most : ℕ) (callers : List CallerState) (rest : Bool) → (most
 all_here zero callers rest some here is = absurd (some refl)
 all_here (suc n) callers rest some here is =
     let e : suc n - 1 ≡ n = omega arith in is ∙ ap (λ k. are_all k callers) e ∙ ap
-          (λ b. b && are_all n callers) (sym here)
+    (λ b. b && are_all n callers) (sym here)
 
 pub one_missing : (most : ℕ) (callers : List CallerState) → (most ≡ 0 → ⊥)
     → list_any (λ c. c.number == most) callers ≡ false → false ≡ are_all most callers

@@ -11,7 +11,7 @@ use Rattle.ck_shared.specs.Callers.{CallerState, IsSettled}
 
 pub settled : (h : History) (c : CallerState) (counts : List ℕ) → 1 ≤ c.number → c.number ≤ 8 → counts ≡ call_counts h
     → c.count ≡ slice_index counts (c.number - 1) → IsFront c.last c.seen → call_count c.number c.last ≡
-        c.count → IsFront c.seen h
+    c.count → IsFront c.seen h
     → IsSettled h c
 settled h c counts low high books same known made front =
     let count : call_count c.number h ≡ c.count =
@@ -35,7 +35,7 @@ pub settled_next : (g h : History) (c : CallerState) (left rest all : List Calle
 settled_next g h c left rest all same is one then others =
     subst (λ x. All (IsSettled x) all) (sym same)
     (then (subst (All (IsSettled h)) (sym is) (all_cons (IsSettled h) c rest one
-        (subst (λ x. All (IsSettled x) rest) same others))))
+    (subst (λ x. All (IsSettled x) rest) same others))))
 
 pub settled_last : (g h : History) (left all : List CallerState) → g ≡ h → length left ≡ 0
     → (All (IsSettled h) left → All (IsSettled h) all) → All (IsSettled g) all

@@ -24,7 +24,7 @@ module _ (h after : History) (number : ℕ) (call : Call) (reply : Reply)
 
   pub news : (limits own_limits : Ranges) (c : Change) (front : History) → own_limits ≡ limits → front ≡ after
       → entry_count after < 2 ^ 64 → board_after c (board_of own_limits h) ≡ board_of own_limits after →
-          HasNews limits number c front
+      HasNews limits number c front
   news limits own_limits c front same is room board = record {
     before = h;
     entry = entry_by number call reply;

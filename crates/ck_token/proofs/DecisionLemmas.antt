@@ -337,7 +337,7 @@ final-signature tag signature = cases (length signature == length tag) (same_byt
   where
     cases : (fits same : Bool)
         → is_final (cond fits (cond same None (Some rv_error.SignatureInvalid))
-            (Some rv_error.SignatureLenRange)) ≡ true
+        (Some rv_error.SignatureLenRange)) ≡ true
     cases true true = refl
     cases true false = refl
     cases false same = refl

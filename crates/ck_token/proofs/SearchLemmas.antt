@@ -56,7 +56,7 @@ module _ (h : History) where
     one_more : total ≡ handles ++ next h room (get_or numbers i 0 ∷ drop (i + 1) numbers)
     one_more =
         is ∙ ap (λ ns. handles ++ next h room ns) (drop-cons numbers i 0 below ∙ ap
-            (λ k. get_or numbers i 0 ∷ drop k numbers) (sym (add-one i)))
+        (λ k. get_or numbers i 0 ∷ drop k numbers) (sym (add-one i)))
 
     -- it is visible and is given
     pub given-next : (handles' : List ℕ) (room' handle : ℕ) → (room ≡ 0 → ⊥)
@@ -65,7 +65,7 @@ module _ (h : History) where
     given-next handles' room' handle some found more less =
         one_more
         ∙ ap (λ hs. handles ++ hs) (next-visible room (get_or numbers i 0) handle (drop (i + 1) numbers)
-            (omega arith) found)
+        (omega arith) found)
         ∙ append-one handles handle (next h (room - 1) (drop (i + 1) numbers))
         ∙ ap (λ r. (handles ++ handle ∷ []) ++ next h r (drop (i + 1) numbers)) (sym less)
         ∙ ap (λ hs. hs ++ next h room' (drop (i + 1) numbers)) (sym more)

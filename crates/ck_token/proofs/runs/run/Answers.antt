@@ -8,10 +8,10 @@ loop-caller-init c = Answers-none _ _ _ c.reverse.ensures.items c.journal-journa
 pub loop-caller-preserved : goal.loop-caller-preserved
 loop-caller-preserved c =
     Answers-more _ _ _ c.pop.new.self.items (c.in-Some.caller, c.in-Some.call) _ _ _ _ c.in-Some.ensures.items
-        c.loop-caller.invariant c.in-Ok.ensures.answered c.step.ensures.legal c.in-Ok.ensures.room
+    c.loop-caller.invariant c.in-Ok.ensures.answered c.step.ensures.legal c.in-Ok.ensures.room
 
 pub returns-in-Err-clause-succeeds : goal.returns-in-Err-clause-succeeds
 returns-in-Err-clause-succeeds c = λ enough free.
     let f = Answers-free _ _ _ c.pop.new.self.items (c.in-Some.caller, c.in-Some.call) _ _
-          c.in-Some.ensures.items c.loop-caller.invariant enough free in
+    c.in-Some.ensures.items c.loop-caller.invariant enough free in
     c.in-Err.ensures.succeeds f.0 (and_right _ _ f.1)

@@ -26,9 +26,9 @@ compare_exchange-found-requires g c =
     c.learn.ensures.0 ∙ ap (λ s. s.book) c.again-both.ensures ∙ c.self.invariant.1 ∙ sym (ap (λ w. w.book) h) in
     let p : IsPrefix c.self.inside.seen.log c.learn.new.self.log =
     subst (λ (l : List Entry). IsPrefix l c.learn.new.self.log) (ap (λ s. s.log) c.again-both.ensures)
-        c.learn.ensures.2 in
+    c.learn.ensures.2 in
     let len : c.self.inside.count ≤ length c.learn.new.self.log = omega
-          (arith, c.self.invariant.0, prefix_length _ _ p) in (
+    (arith, c.self.invariant.0, prefix_length _ _ p) in (
       ap (λ w. w.tracked) h,
       book,
       pen.0 ∙ book,
@@ -41,16 +41,22 @@ pub invariant_of-self : goal.invariant_of-self
 invariant_of-self g c =
     let p : IsPrefix c.self.inside.seen.log c.learn.new.self.log =
     subst (λ (l : List Entry). IsPrefix l c.learn.new.self.log) (ap (λ s. s.log) c.again-both.ensures)
-        c.learn.ensures.2 in
+    c.learn.ensures.2 in
     let q : IsPrefix c.other.inside.seen.log c.learn.new.self.log = c.learn.ensures.3 in
     let found = adds_found c.self.inside.count c.compare_exchange-found.result c.plain-offer.result.ask
-          c.learn.new.self.log c.compare_exchange-found.new.seen.log c.if-found-count.false
-          c.compare_exchange-found.ensures.7 in
+    c.learn.new.self.log c.compare_exchange-found.new.seen.log c.if-found-count.false
+    c.compare_exchange-found.ensures.7 in
     let added : c.compare_exchange-found.new.seen.log ≡ c.learn.new.self.log ++ c.args.entry.now ∷ [] =
     found.0 ∙ ap (λ (e : Entry). c.learn.new.self.log ++ e ∷ []) c.plain-offer.ensures.1 in
     let len : length c.learn.new.self.log ≡ length c.self.inside.seen.log = found.1 ∙ c.self.invariant.0 in (
-      omega (arith, c.self.invariant.0, found.1, ap length added, length-append c.learn.new.self.log
-          (c.args.entry.now ∷ [])),
+      omega (
+        arith,
+        c.self.invariant.0,
+        found.1,
+        ap length added,
+        length-append c.learn.new.self.log
+            (c.args.entry.now ∷ []),
+      ),
       c.compare_exchange-found.ensures.0 ∙ c.learn.ensures.0 ∙ ap (λ s. s.book) c.again-both.ensures
           ∙ c.self.invariant.1,
       added_legal _ c.self.inside.seen.log c.other.inside.seen.log c.learn.new.self.log
@@ -63,11 +69,11 @@ pub returns : goal.returns
 returns g c =
     let p : IsPrefix c.self.inside.seen.log c.learn.new.self.log =
     subst (λ (l : List Entry). IsPrefix l c.learn.new.self.log) (ap (λ s. s.log) c.again-both.ensures)
-        c.learn.ensures.2 in
+    c.learn.ensures.2 in
     let q : IsPrefix c.other.inside.seen.log c.learn.new.self.log = c.learn.ensures.3 in
     let found = adds_found c.self.inside.count c.compare_exchange-found.result c.plain-offer.result.ask
-          c.learn.new.self.log c.compare_exchange-found.new.seen.log c.if-found-count.false
-          c.compare_exchange-found.ensures.7 in
+    c.learn.new.self.log c.compare_exchange-found.new.seen.log c.if-found-count.false
+    c.compare_exchange-found.ensures.7 in
     let added : c.compare_exchange-found.new.seen.log ≡ c.learn.new.self.log ++ c.args.entry.now ∷ [] =
     found.0 ∙ ap (λ (e : Entry). c.learn.new.self.log ++ e ∷ []) c.plain-offer.ensures.1 in
     let len : length c.learn.new.self.log ≡ length c.self.inside.seen.log = found.1 ∙ c.self.invariant.0 in (

@@ -5,5 +5,5 @@ pub returns : goal.returns
 returns c = record {
   agree =
       λ h e does agree. operations-added h _ (rw (← c.self.view_is) at agree) e c.args.kind c.args.session
-          c.args.bytes.now does _ c.add_piece.ensures;
+      c.args.bytes.now does _ c.add_piece.ensures;
 }

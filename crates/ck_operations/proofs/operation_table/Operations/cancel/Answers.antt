@@ -5,5 +5,5 @@ pub returns : goal.returns
 returns c = record {
   agree = λ h e does agree.
       operations-cancelled h _ (rw (← c.self.view_is) at agree) e c.args.session c.args.flags does _
-          c.remove_named.ensures;
+      c.remove_named.ensures;
 }

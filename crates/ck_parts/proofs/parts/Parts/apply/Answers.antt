@@ -155,7 +155,7 @@ pub returns-in-CreateObject : goal.returns-in-CreateObject
 returns-in-CreateObject c = record {
   agree = λ limits h e legal is called agree.
       let made = done-of_call h e (change.CreateObject c.in-CreateObject.session c.in-CreateObject.attributes)
-            (sym c.in-CreateObject.is ∙ is) refl in
+      (sym c.in-CreateObject.is ∙ is) refl in
       let of = of-CreateObject h e.reply.body e.call c.in-CreateObject.session c.in-CreateObject.attributes made.1 in
       record {
         sessions = sessions-created h e e.call made.0 of.0 _ agree.sessions;
@@ -168,7 +168,7 @@ pub returns-in-SetAttributes : goal.returns-in-SetAttributes
 returns-in-SetAttributes c = record {
   agree = λ limits h e legal is called agree.
       let made = done-of_call h e (change.SetAttributes c.in-SetAttributes.number
-            c.in-SetAttributes.attributes) (sym c.in-SetAttributes.is ∙ is) refl in
+      c.in-SetAttributes.attributes) (sym c.in-SetAttributes.is ∙ is) refl in
       let of = of-SetAttributes h e.reply.body e.call c.in-SetAttributes.number c.in-SetAttributes.attributes made.1 in
       let d = made.0 ∙ ap Some of.3 in
       let p = change-passed limits h of.0 of.1 of.2 (passed-done limits e h legal _ d) in
@@ -177,7 +177,7 @@ returns-in-SetAttributes c = record {
         sessions = sessions-kept h e _ d _ refl refl agree.sessions;
         objects =
             c.set.ensures.agree h e of.0 of.1 of.2 d (p.0 ∙ ap Some (sym of.4)) new
-                (ap (λ (a : List Item). is_set a attribute.Token) new ∙ p.1) agree.objects;
+            (ap (λ (a : List Item). is_set a attribute.Token) new ∙ p.1) agree.objects;
         operations = operations-kept e _ d h _ refl refl agree.operations;
       };
 }
@@ -195,7 +195,7 @@ returns-in-SetKeyState c = record {
         sessions = sessions-kept h e _ d _ refl refl agree.sessions;
         objects =
             c.set_state.ensures.agree h e of.0 of.1 of.2 d (p.1 ∙ ap Some (sym of.5))
-                (p.0 ∙ ap Some (sym of.4)) agree.objects;
+            (p.0 ∙ ap Some (sym of.4)) agree.objects;
         operations = operations-kept e _ d h _ refl refl agree.operations;
       };
 }
@@ -204,7 +204,7 @@ pub returns-in-DestroyObject : goal.returns-in-DestroyObject
 returns-in-DestroyObject c = record {
   agree = λ limits h e legal is called agree.
       let made = done-of_call h e (change.DestroyObject c.in-DestroyObject.number)
-            (sym c.in-DestroyObject.is ∙ is) refl in
+      (sym c.in-DestroyObject.is ∙ is) refl in
       let of = of-DestroyObject h e.reply.body e.call c.in-DestroyObject.number made.1 in
       let d = made.0 ∙ ap Some of.2 in
       let p = destruction-passed limits h of.0 of.1 (passed-done limits e h legal _ d) in
@@ -219,7 +219,7 @@ pub returns-in-StartSearch : goal.returns-in-StartSearch
 returns-in-StartSearch c = record {
   agree = λ limits h e legal is called agree.
       let made = done-of_call h e (change.StartSearch c.in-StartSearch.session c.in-StartSearch.found)
-            (sym c.in-StartSearch.is ∙ is) refl in
+      (sym c.in-StartSearch.is ∙ is) refl in
       let of = of-StartSearch h e.reply.body e.call c.in-StartSearch.session c.in-StartSearch.found made.1 in
       let d = made.0 ∙ ap Some of.1 in
       record {
@@ -233,7 +233,7 @@ pub returns-in-AdvanceSearch : goal.returns-in-AdvanceSearch
 returns-in-AdvanceSearch c = record {
   agree = λ limits h e legal is called agree.
       let made = done-of_call h e (change.AdvanceSearch c.in-AdvanceSearch.session c.in-AdvanceSearch.number)
-            (sym c.in-AdvanceSearch.is ∙ is) refl in
+      (sym c.in-AdvanceSearch.is ∙ is) refl in
       let of = of-AdvanceSearch h e.reply.body e.call c.in-AdvanceSearch.session c.in-AdvanceSearch.number made.1 in
       let d = made.0 ∙ ap Some of.1 in
       record {

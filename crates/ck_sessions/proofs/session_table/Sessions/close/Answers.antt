@@ -3,13 +3,17 @@ use Rattle.ck_sessions.proofs.Moves.{SessionsAgree-closed}
 use Rattle.ck_sessions.proofs.session_table.Sessions.close.Goals as goal
 
 pub returns-then-is_empty : goal.returns-then-is_empty
-returns-then-is_empty c = record { agree = λ h e d agree. SessionsAgree-closed h _
-    (rw (← c.self.view_is) at agree) e c.args.session _ d c.remove_session.ensures refl
-    (sym (ap (λ t. cond t None c.self.inside.login) (rw c.as_slice.ensures.value at
-    (sym c.is_empty.ensures ∙ c.if-is_empty.true)))) refl refl refl }
+returns-then-is_empty c = record {
+  agree = λ h e d agree. SessionsAgree-closed h _
+      (rw (← c.self.view_is) at agree) e c.args.session _ d c.remove_session.ensures refl
+      (sym (ap (λ t. cond t None c.self.inside.login) (rw c.as_slice.ensures.value at
+      (sym c.is_empty.ensures ∙ c.if-is_empty.true)))) refl refl refl;
+}
 
 pub returns-else-is_empty : goal.returns-else-is_empty
-returns-else-is_empty c = record { agree = λ h e d agree. SessionsAgree-closed h _
-    (rw (← c.self.view_is) at agree) e c.args.session _ d c.remove_session.ensures refl
-    (sym (ap (λ t. cond t None c.self.inside.login) (rw c.as_slice.ensures.value at
-    (sym c.is_empty.ensures ∙ c.if-is_empty.false)))) refl refl refl }
+returns-else-is_empty c = record {
+  agree = λ h e d agree. SessionsAgree-closed h _
+      (rw (← c.self.view_is) at agree) e c.args.session _ d c.remove_session.ensures refl
+      (sym (ap (λ t. cond t None c.self.inside.login) (rw c.as_slice.ensures.value at
+      (sym c.is_empty.ensures ∙ c.if-is_empty.false)))) refl refl refl;
+}

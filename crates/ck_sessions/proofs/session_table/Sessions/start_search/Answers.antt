@@ -6,6 +6,6 @@ pub returns : goal.returns
 returns c = record {
   agree = λ h e template d matching agree.
       SessionsAgree-started h _ (rw (← c.self.view_is) at agree) e _ refl refl refl refl refl c.args.session
-          template c.args.found.items d matching
+      template c.args.found.items d matching
       (rw c.new.ensures at c.set_search.ensures);
 }

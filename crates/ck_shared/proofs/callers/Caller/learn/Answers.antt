@@ -7,6 +7,6 @@ pub invariant_of-self : goal.invariant_of-self
 invariant_of-self g c = (
   subst (IsFront c.self.inside.last) (sym c.duplicate.ensures)
       (front_trans c.self.inside.last c.self.inside.seen c.news.inside.front c.self.invariant.0
-          (c.begins-2.ensures.front c.if-begins-2.true)),
+      (c.begins-2.ensures.front c.if-begins-2.true)),
   c.self.invariant.1,
 )

@@ -12,5 +12,5 @@ invariant_of-self-2 g c = (
 pub returns-clause-own : goal.returns-clause-own
 returns-clause-own g c =
     own_same c.self.inside.account.number c.self.inside.account.count c.self.inside.last c.self.inside.seen
-        c.in_ok-status.front c.self.invariant.0
+    c.in_ok-status.front c.self.invariant.0
     c.in_ok-status.ensures.front c.self.invariant.1 c.in_ok-status.ensures.count

@@ -11,6 +11,6 @@ returns-clause-settled g c =
       last = c.caller.inside.last;
       seen = c.caller.inside.seen;
     }) c.self.inside.books c.compare.ensures.range.0 c.compare.ensures.range.1 c.self.invariant.0.books
-        c.compare.ensures.same
+    c.compare.ensures.same
     c.caller.invariant.0 c.caller.invariant.1 (subst (IsFront c.caller.inside.seen) c.self.invariant.0.front
-        c.await_front.ensures))
+    c.await_front.ensures))

@@ -21,7 +21,7 @@ count-requires g c =
     let room : entry_count c.call.new.self.history < 2 ^ 64 =
     omega (arith, c.len-bound.ensures, ap entry_count c.journal.ensures.history, c.len-bound.type_inv) in
     count_fits h c.call.new.self.history number c.args.call c.in-Ok.reply entered low high c.self.inside.books
-        c.self.invariant.0.books room
+    c.self.invariant.0.books room
 
 pub fill-requires : goal.fill-requires
 fill-requires g c =
@@ -33,9 +33,9 @@ fill-requires g c =
     let room : entry_count c.call.new.self.history < 2 ^ 64 =
     omega (arith, c.len-bound.ensures, ap entry_count c.journal.ensures.history, c.len-bound.type_inv) in
     news h c.call.new.self.history number c.args.call c.in-Ok.reply entered c.number-number.ensures.range.0
-        c.number-number.ensures.range.1
+    c.number-number.ensures.range.1
     _ c.call.new.self.limits c.change_of.result c.extend.new.front (told.limits ∙ c.self.invariant.0.limits)
-        c.extend.ensures.0 room
+    c.extend.ensures.0 room
     (c.change_of.ensures h (entry_by number c.args.call c.in-Ok.reply) entered c.leaves_board-leaves.ensures.leaves)
 
 pub invariant_of-caller : goal.invariant_of-caller
@@ -66,9 +66,14 @@ returns-clause-called g c =
     let low : 1 ≤ number = omega (arith, c.number-number.ensures.value, c.number-number.ensures.range.0) in
     let high : number ≤ 8 = omega (arith, c.number-number.ensures.value, c.number-number.ensures.range.1) in
     let front : IsFront c.caller.inside.seen h = subst (IsFront c.caller.inside.seen) c.self.invariant.0.front
-          c.extend.ensures.1 in
-    rw (← c.caller.view_is, c.duplicate.ensures, c.duplicate-2.ensures, c.extend.ensures.0,
-        c.count.ensures.account) (record {
+    c.extend.ensures.1 in
+    rw (
+      ← c.caller.view_is,
+      c.duplicate.ensures,
+      c.duplicate-2.ensures,
+      c.extend.ensures.0,
+      c.count.ensures.account,
+    ) (record {
       number = refl;
       count = refl;
       legal = subst (λ l. IsLegal l c.call.new.self.history) (told.limits ∙ c.self.invariant.0.limits)
@@ -80,7 +85,7 @@ returns-clause-called g c =
       own = own_next h c.call.new.self.history number c.args.call c.in-Ok.reply entered low high
           ∙ ap (λ es. entry_by number c.args.call c.in-Ok.reply ∷ es)
           (own_before h c.call.new.self.history number c.args.call c.in-Ok.reply entered low high
-              c.self.inside.books c.self.invariant.0.books
+          c.self.inside.books c.self.invariant.0.books
           c.caller.inside.account.count c.count.ensures.same c.caller.inside.last c.caller.inside.seen
-              c.caller.invariant.0 front c.caller.invariant.1);
+          c.caller.invariant.0 front c.caller.invariant.1);
     })

@@ -8,4 +8,4 @@ abbrev pub invariant-loop-caller : goal.invariant-loop-caller
 invariant-loop-caller g l =
     (goal.iterator-loop-caller g).can_next l.caller-iterator × (goal.iterator-loop-caller g).is_finite l.caller-iterator
     × (All (IsSettled l.locked.history) (into_iter_items l.caller-iterator) → All (IsSettled l.locked.history)
-        (vec_items l.fn.callers))
+    (vec_items l.fn.callers))

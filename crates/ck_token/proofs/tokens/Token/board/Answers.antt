@@ -13,7 +13,7 @@ board-requires c =
     let rows : length c.self.inside.parts.sessions.rows ≡ length (open_sessions h) =
     ap length agree.parts.sessions.rows ∙ length-map (open_sessions h) (session_row h) in
     let few : length (open_sessions h) ≤ c.self.inside.limits.sessions = open-bound c.self.inside.limits h
-          agree.legal in
+    agree.legal in
     let most : c.self.inside.limits.sessions ≤ 64 = agree.ranges.1 in
     omega (arith, rows, few, most)
 
@@ -21,4 +21,4 @@ pub returns : goal.returns
 returns c =
     let agree = c.self.invariant in
     rw (← c.self.view_is) (c.board.ensures c.self.inside.limits c.self.inside.journal.history
-        agree.parts.sessions c.sessions.ensures.value)
+    agree.parts.sessions c.sessions.ensures.value)

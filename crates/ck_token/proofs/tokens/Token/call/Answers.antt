@@ -38,12 +38,12 @@ whole c =
     let d = c.in-Ok.field-0 in
     let with_body : Body → Reply = λ b. record { rv = d.rv; body = b } in
     entered-agrees c.self.inside.limits h c.self.inside.parts agree c.args.caller c.args.call (reply_of d)
-        c.reply_with.result
+    c.reply_with.result
     d.change c.apply.new.self c.push_reserved.new.self.history answered
-        (c.reply_with.ensures ∙ ap with_body c.in-Ok-prepare.ensures.copy) is
+    (c.reply_with.ensures ∙ ap with_body c.in-Ok-prepare.ensures.copy) is
     (c.push_reserved.ensures.history ∙ rw c.prepare.ensures.history)
     (λ e legal change called. c.apply.ensures.agree c.self.inside.limits h e legal change called
-        (c.prepare.ensures.agree h agree.parts))
+    (c.prepare.ensures.agree h agree.parts))
 
 pub invariant_of-self-2 : goal.invariant_of-self-2
 invariant_of-self-2 c = whole c

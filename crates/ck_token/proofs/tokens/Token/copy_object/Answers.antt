@@ -20,7 +20,7 @@ returns-in_err-check_copy c =
     let code = c.in_err-check_copy.field-0.0 in
     let source = c.in_ok-source.source.now in
     let allowed = check_of-ok (prohibited_error attribute.Copyable source) _
-          (sym c.check_flag.ensures ∙ c.in_ok-check_flag.was) in
+    (sym c.check_flag.ensures ∙ c.in_ok-check_flag.was) in
     let fails = check_of-err (copied_error (class_of source) (protections_of source) c.args.template.now.items) code
     (sym c.check_copy.ensures ∙ c.in_err-check_copy.was) in
     refused-decision c.args.self.now.limits h (call.CopyObject c.args.session c.args.object c.args.template.now) _ code
@@ -34,7 +34,7 @@ returns-in_err-check_placement c =
     let code = c.in_err-check_placement.field-0.0 in
     let source = c.in_ok-source.source.now in
     let allowed = check_of-ok (prohibited_error attribute.Copyable source) _
-          (sym c.check_flag.ensures ∙ c.in_ok-check_flag.was) in
+    (sym c.check_flag.ensures ∙ c.in_ok-check_flag.was) in
     let copied = check_of-ok (copied_error (class_of source) (protections_of source) c.args.template.now.items) _
     (sym c.check_copy.ensures ∙ c.in_ok-check_copy.was) in
     let fails = check_of-err (placement_error h c.args.session c.copy_placement.result) code
@@ -51,7 +51,7 @@ returns-in_err-number c =
     let code = c.in_err-number.field-0.0 in
     let source = c.in_ok-source.source.now in
     let allowed = check_of-ok (prohibited_error attribute.Copyable source) _
-          (sym c.check_flag.ensures ∙ c.in_ok-check_flag.was) in
+    (sym c.check_flag.ensures ∙ c.in_ok-check_flag.was) in
     let copied = check_of-ok (copied_error (class_of source) (protections_of source) c.args.template.now.items) _
     (sym c.check_copy.ensures ∙ c.in_ok-check_copy.was) in
     let placed = check_of-ok (placement_error h c.args.session c.copy_placement.result) _
@@ -61,14 +61,14 @@ returns-in_err-number c =
     (object-checks h c.args.session c.args.object _ source _ c.in_ok-row.ensures.open c.in_ok-source.ensures.attributes
     (fourth-fails _ _ _ _ _ code allowed copied
     (ap (λ (p : Placement). placement_error h c.args.session p) (sym c.copy_placement.ensures) ∙ placed)
-        c.in_err-number.ensures.used_up)) refl
+    c.in_err-number.ensures.used_up)) refl
 
 pub returns-in_err-made : goal.returns-in_err-made
 returns-in_err-made c =
     let h = c.args.self.now.history in
     let source = c.in_ok-source.source.now in
     let allowed = check_of-ok (prohibited_error attribute.Copyable source) _
-          (sym c.check_flag.ensures ∙ c.in_ok-check_flag.was) in
+    (sym c.check_flag.ensures ∙ c.in_ok-check_flag.was) in
     let copied = check_of-ok (copied_error (class_of source) (protections_of source) c.args.template.now.items) _
     (sym c.check_copy.ensures ∙ c.in_ok-check_copy.was) in
     let placed = check_of-ok (placement_error h c.args.session c.copy_placement.result) _
@@ -78,14 +78,14 @@ returns-in_err-made c =
     (object-checks h c.args.session c.args.object _ source _ c.in_ok-row.ensures.open c.in_ok-source.ensures.attributes
     (four-pass _ _ _ _ allowed copied
     (ap (λ (p : Placement). placement_error h c.args.session p) (sym c.copy_placement.ensures) ∙ placed)
-        c.in_ok-number.ensures.free)) refl
+    c.in_ok-number.ensures.free)) refl
 
 pub returns-in_err-attributes : goal.returns-in_err-attributes
 returns-in_err-attributes c =
     let h = c.args.self.now.history in
     let source = c.in_ok-source.source.now in
     let allowed = check_of-ok (prohibited_error attribute.Copyable source) _
-          (sym c.check_flag.ensures ∙ c.in_ok-check_flag.was) in
+    (sym c.check_flag.ensures ∙ c.in_ok-check_flag.was) in
     let copied = check_of-ok (copied_error (class_of source) (protections_of source) c.args.template.now.items) _
     (sym c.check_copy.ensures ∙ c.in_ok-check_copy.was) in
     let placed = check_of-ok (placement_error h c.args.session c.copy_placement.result) _
@@ -95,14 +95,14 @@ returns-in_err-attributes c =
     (object-checks h c.args.session c.args.object _ source _ c.in_ok-row.ensures.open c.in_ok-source.ensures.attributes
     (four-pass _ _ _ _ allowed copied
     (ap (λ (p : Placement). placement_error h c.args.session p) (sym c.copy_placement.ensures) ∙ placed)
-        c.in_ok-number.ensures.free)) refl
+    c.in_ok-number.ensures.free)) refl
 
 pub returns : goal.returns
 returns c =
     let h = c.args.self.now.history in
     let source = c.in_ok-source.source.now in
     let allowed = check_of-ok (prohibited_error attribute.Copyable source) _
-          (sym c.check_flag.ensures ∙ c.in_ok-check_flag.was) in
+    (sym c.check_flag.ensures ∙ c.in_ok-check_flag.was) in
     let copied = check_of-ok (copied_error (class_of source) (protections_of source) c.args.template.now.items) _
     (sym c.check_copy.ensures ∙ c.in_ok-check_copy.was) in
     let placed = check_of-ok (placement_error h c.args.session c.copy_placement.result) _
@@ -110,11 +110,11 @@ returns c =
     let made = c.in_ok-attributes.ensures
     ∙ c.in_ok-made.ensures
     ∙ ap (λ found. with_given c.args.template.now.items (unwrap_or found []))
-        (sym c.in_ok-source.ensures.attributes) in (
+    (sym c.in_ok-source.ensures.attributes) in (
       object-checks h c.args.session c.args.object _ source _ c.in_ok-row.ensures.open c.in_ok-source.ensures.attributes
           (four-pass _ _ _ _ allowed copied
           (ap (λ (p : Placement). placement_error h c.args.session p) (sym c.copy_placement.ensures) ∙ placed)
-              c.in_ok-number.ensures.free),
+          c.in_ok-number.ensures.free),
       c.creation.ensures.reply ∙ ap (λ (a : List Item). ok (body.Handle (new_handle h a))) made,
       c.creation.ensures.change ∙ ap (λ (a : List Item). change.CreateObject c.args.session a) made,
     )

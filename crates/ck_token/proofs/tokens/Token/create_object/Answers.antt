@@ -16,9 +16,9 @@ returns-in_err-check_creation c =
     let h = c.args.self.now.history in
     let code = c.in_err-check_creation.field-0.0 in
     let fails = check_of-err (created_error c.args.template.now.items) code
-          (sym c.check_creation.ensures ∙ c.in_err-check_creation.was) in
+    (sym c.check_creation.ensures ∙ c.in_err-check_creation.was) in
     refused-decision c.args.self.now.limits h (call.CreateObject c.args.session c.args.template.now) _ code
-        c.from_residual-in_err-check_creation.ensures.1
+    c.from_residual-in_err-check_creation.ensures.1
     (second-fails _ _ _ code (session-passes h c.args.session c.in_ok-row.ensures.open) fails) refl
 
 pub returns-in_err-check_placement : goal.returns-in_err-check_placement
@@ -26,11 +26,11 @@ returns-in_err-check_placement c =
     let h = c.args.self.now.history in
     let code = c.in_err-check_placement.field-0.0 in
     let made = check_of-ok (created_error c.args.template.now.items) _
-          (sym c.check_creation.ensures ∙ c.in_ok-check_creation.was) in
+    (sym c.check_creation.ensures ∙ c.in_ok-check_creation.was) in
     let fails = check_of-err (placement_error h c.args.session c.creation_placement.result) code
     (sym (c.check_placement.ensures c.args.session c.in_ok-row.ensures.row) ∙ c.in_err-check_placement.was) in
     refused-decision c.args.self.now.limits h (call.CreateObject c.args.session c.args.template.now) _ code
-        c.from_residual-in_err-check_placement.ensures.1
+    c.from_residual-in_err-check_placement.ensures.1
     (third-fails _ _ _ _ code (session-passes h c.args.session c.in_ok-row.ensures.open) made
     (ap (λ (p : Placement). placement_error h c.args.session p) (sym c.creation_placement.ensures) ∙ fails)) refl
 
@@ -38,7 +38,7 @@ pub returns-in_err-attributes : goal.returns-in_err-attributes
 returns-in_err-attributes c =
     let h = c.args.self.now.history in
     let made = check_of-ok (created_error c.args.template.now.items) _
-          (sym c.check_creation.ensures ∙ c.in_ok-check_creation.was) in
+    (sym c.check_creation.ensures ∙ c.in_ok-check_creation.was) in
     let placed = check_of-ok (placement_error h c.args.session c.creation_placement.result) _
     (sym (c.check_placement.ensures c.args.session c.in_ok-row.ensures.row) ∙ c.in_ok-check_placement.was) in
     memory-decision c.args.self.now.limits h (call.CreateObject c.args.session c.args.template.now) _
@@ -51,16 +51,16 @@ pub returns : goal.returns
 returns c =
     let h = c.args.self.now.history in
     let made = check_of-ok (created_error c.args.template.now.items) _
-          (sym c.check_creation.ensures ∙ c.in_ok-check_creation.was) in
+    (sym c.check_creation.ensures ∙ c.in_ok-check_creation.was) in
     let placed = check_of-ok (placement_error h c.args.session c.creation_placement.result) _
     (sym (c.check_placement.ensures c.args.session c.in_ok-row.ensures.row) ∙ c.in_ok-check_placement.was) in (
       four-pass _ _ _ _ (session-passes h c.args.session c.in_ok-row.ensures.open) made
           (ap (λ (p : Placement). placement_error h c.args.session p) (sym c.creation_placement.ensures) ∙
-              placed) c.in_ok-number.ensures.free,
+          placed) c.in_ok-number.ensures.free,
       c.creation.ensures.reply
           ∙ ap (λ (a : List Item). ok (body.Handle (new_handle h a)))
-              (c.in_ok-attributes.ensures ∙ c.in_ok-made.ensures),
+          (c.in_ok-attributes.ensures ∙ c.in_ok-made.ensures),
       c.creation.ensures.change
           ∙ ap (λ (a : List Item). change.CreateObject c.args.session a)
-              (c.in_ok-attributes.ensures ∙ c.in_ok-made.ensures),
+          (c.in_ok-attributes.ensures ∙ c.in_ok-made.ensures),
     )

@@ -17,7 +17,7 @@ returns c =
     let h = c.args.self.now.history in
     let s = c.args.session in
     let rest = left-found (is_searching h s) c.in-Some.numbers.now (remaining_objects h s)
-          (c.in-Some.ensures h s c.in_ok-row.ensures.row) in
+    (c.in-Some.ensures h s c.in_ok-row.ensures.row) in
     let items = c.in_ok-handles.handles.items in
     let given = c.in_ok-handles.ensures
     ∙ ap (λ (numbers : List ℕ). map (handle_of h) (take c.args.max (filter (is_visible h) numbers))) rest.1 in
@@ -26,7 +26,7 @@ returns c =
       | in-Some-last w ↦
           w.number-is ∙ w.number_of_handle-number.ensures
           ∙ sym (last_or-some items w.in-Some-last.handle.now (last_number h s)
-              (rw c.deref.ensures.value at w.in-Some-last.ensures.value))
+          (rw c.deref.ensures.value at w.in-Some-last.ensures.value))
       | in-None w ↦
           w.number-is ∙ w.last_found-number.ensures.last h s c.in_ok-row.ensures.row rest.0
           ∙ sym (last_or-none items (last_number h s) (rw c.deref.ensures.value at w.in-None.ensures.value))
@@ -36,5 +36,5 @@ returns c =
       ap (λ (handles : List ℕ). ok (body.Handles handles)) (c.from_vec.ensures ∙ given),
       ap (change.AdvanceSearch s) (number
           ∙ ap (λ (handles : List ℕ). last_or (last_number h s) (map number_of_handle handles))
-              (sym c.from_vec.ensures)),
+          (sym c.from_vec.ensures)),
     )

@@ -24,7 +24,7 @@ returns-in_err-check_generation c =
     ap (λ t. error_if (not t) rv_error.MechanismInvalid) (sym c.is_key_generator-generates.ensures)
     ∙ check_of-ok _ _ (sym c.error_if.ensures ∙ c.in_ok-error_if.was) in
     let bare = check_of-ok (parameter_error mechanism) _
-          (sym c.check_no_parameter.ensures ∙ c.in_ok-check_no_parameter.was) in
+    (sym c.check_no_parameter.ensures ∙ c.in_ok-check_no_parameter.was) in
     let code = c.in_err-check_generation.field-0.0 in
     let fails = check_of-err (generated_error items random) code
     (sym c.check_generation.ensures ∙ c.in_err-check_generation.was) in
@@ -43,9 +43,9 @@ returns-in_err-check_placement c =
     ap (λ t. error_if (not t) rv_error.MechanismInvalid) (sym c.is_key_generator-generates.ensures)
     ∙ check_of-ok _ _ (sym c.error_if.ensures ∙ c.in_ok-error_if.was) in
     let bare = check_of-ok (parameter_error mechanism) _
-          (sym c.check_no_parameter.ensures ∙ c.in_ok-check_no_parameter.was) in
+    (sym c.check_no_parameter.ensures ∙ c.in_ok-check_no_parameter.was) in
     let template = check_of-ok (generated_error items random) _
-          (sym c.check_generation.ensures ∙ c.in_ok-check_generation.was) in
+    (sym c.check_generation.ensures ∙ c.in_ok-check_generation.was) in
     let code = c.in_err-check_placement.field-0.0 in
     let fails =
     ap (λ (p : Placement). placement_error h c.args.session p) (sym (c.generation_placement.ensures random))
@@ -66,9 +66,9 @@ returns-in_err-number c =
     ap (λ t. error_if (not t) rv_error.MechanismInvalid) (sym c.is_key_generator-generates.ensures)
     ∙ check_of-ok _ _ (sym c.error_if.ensures ∙ c.in_ok-error_if.was) in
     let bare = check_of-ok (parameter_error mechanism) _
-          (sym c.check_no_parameter.ensures ∙ c.in_ok-check_no_parameter.was) in
+    (sym c.check_no_parameter.ensures ∙ c.in_ok-check_no_parameter.was) in
     let template = check_of-ok (generated_error items random) _
-          (sym c.check_generation.ensures ∙ c.in_ok-check_generation.was) in
+    (sym c.check_generation.ensures ∙ c.in_ok-check_generation.was) in
     let placed =
     ap (λ (p : Placement). placement_error h c.args.session p) (sym (c.generation_placement.ensures random))
     ∙ check_of-ok (placement_error h c.args.session c.generation_placement.result) _
@@ -90,9 +90,9 @@ returns-in_err-made c =
     ap (λ t. error_if (not t) rv_error.MechanismInvalid) (sym c.is_key_generator-generates.ensures)
     ∙ check_of-ok _ _ (sym c.error_if.ensures ∙ c.in_ok-error_if.was) in
     let bare = check_of-ok (parameter_error mechanism) _
-          (sym c.check_no_parameter.ensures ∙ c.in_ok-check_no_parameter.was) in
+    (sym c.check_no_parameter.ensures ∙ c.in_ok-check_no_parameter.was) in
     let template = check_of-ok (generated_error items random) _
-          (sym c.check_generation.ensures ∙ c.in_ok-check_generation.was) in
+    (sym c.check_generation.ensures ∙ c.in_ok-check_generation.was) in
     let placed =
     ap (λ (p : Placement). placement_error h c.args.session p) (sym (c.generation_placement.ensures random))
     ∙ check_of-ok (placement_error h c.args.session c.generation_placement.result) _
@@ -113,9 +113,9 @@ returns-in_err-attributes c =
     ap (λ t. error_if (not t) rv_error.MechanismInvalid) (sym c.is_key_generator-generates.ensures)
     ∙ check_of-ok _ _ (sym c.error_if.ensures ∙ c.in_ok-error_if.was) in
     let bare = check_of-ok (parameter_error mechanism) _
-          (sym c.check_no_parameter.ensures ∙ c.in_ok-check_no_parameter.was) in
+    (sym c.check_no_parameter.ensures ∙ c.in_ok-check_no_parameter.was) in
     let template = check_of-ok (generated_error items random) _
-          (sym c.check_generation.ensures ∙ c.in_ok-check_generation.was) in
+    (sym c.check_generation.ensures ∙ c.in_ok-check_generation.was) in
     let placed =
     ap (λ (p : Placement). placement_error h c.args.session p) (sym (c.generation_placement.ensures random))
     ∙ check_of-ok (placement_error h c.args.session c.generation_placement.result) _
@@ -136,9 +136,9 @@ returns c =
     ap (λ t. error_if (not t) rv_error.MechanismInvalid) (sym c.is_key_generator-generates.ensures)
     ∙ check_of-ok _ _ (sym c.error_if.ensures ∙ c.in_ok-error_if.was) in
     let bare = check_of-ok (parameter_error mechanism) _
-          (sym c.check_no_parameter.ensures ∙ c.in_ok-check_no_parameter.was) in
+    (sym c.check_no_parameter.ensures ∙ c.in_ok-check_no_parameter.was) in
     let template = check_of-ok (generated_error items random) _
-          (sym c.check_generation.ensures ∙ c.in_ok-check_generation.was) in
+    (sym c.check_generation.ensures ∙ c.in_ok-check_generation.was) in
     let placed =
     ap (λ (p : Placement). placement_error h c.args.session p) (sym (c.generation_placement.ensures random))
     ∙ check_of-ok (placement_error h c.args.session c.generation_placement.result) _

@@ -24,13 +24,13 @@ returns-in_err-check_flag c =
     let writable = check_of-ok (read_only_session_error h c.args.session c.placement.result) _
     (sym (c.check_writable.ensures c.args.session c.in_ok-row.ensures.row) ∙ c.in_ok-check_writable.was) in
     let fails = check_of-err (prohibited_error attribute.Modifiable present) code
-          (sym c.check_flag.ensures ∙ c.in_err-check_flag.was) in
+    (sym c.check_flag.ensures ∙ c.in_err-check_flag.was) in
     refused-decision c.args.self.now.limits h (call.SetAttributeValue c.args.session c.args.object
-        c.args.template.now) _ code
+    c.args.template.now) _ code
     c.from_residual-in_err-check_flag.ensures.1
     (object-checks h c.args.session c.args.object _ present _ c.in_ok-row.ensures.open c.in_ok-number.ensures.attributes
     (second-fails _ _ _ code (ap (λ (p : Placement). read_only_session_error h c.args.session p)
-        (sym c.placement.ensures) ∙ writable) fails)) refl
+    (sym c.placement.ensures) ∙ writable) fails)) refl
 
 pub returns-in_err-check_change : goal.returns-in_err-check_change
 returns-in_err-check_change c =
@@ -40,15 +40,15 @@ returns-in_err-check_change c =
     let writable = check_of-ok (read_only_session_error h c.args.session c.placement.result) _
     (sym (c.check_writable.ensures c.args.session c.in_ok-row.ensures.row) ∙ c.in_ok-check_writable.was) in
     let allowed = check_of-ok (prohibited_error attribute.Modifiable present) _
-          (sym c.check_flag.ensures ∙ c.in_ok-check_flag.was) in
+    (sym c.check_flag.ensures ∙ c.in_ok-check_flag.was) in
     let fails = check_of-err (changed_error (class_of present) (protections_of present) c.args.template.now.items) code
     (sym c.check_change.ensures ∙ c.in_err-check_change.was) in
     refused-decision c.args.self.now.limits h (call.SetAttributeValue c.args.session c.args.object
-        c.args.template.now) _ code
+    c.args.template.now) _ code
     c.from_residual-in_err-check_change.ensures.1
     (object-checks h c.args.session c.args.object _ present _ c.in_ok-row.ensures.open c.in_ok-number.ensures.attributes
     (third-fails _ _ _ _ code (ap (λ (p : Placement). read_only_session_error h c.args.session p)
-        (sym c.placement.ensures) ∙ writable) allowed fails)) refl
+    (sym c.placement.ensures) ∙ writable) allowed fails)) refl
 
 pub returns-in_err-made : goal.returns-in_err-made
 returns-in_err-made c =
@@ -57,14 +57,14 @@ returns-in_err-made c =
     let writable = check_of-ok (read_only_session_error h c.args.session c.placement.result) _
     (sym (c.check_writable.ensures c.args.session c.in_ok-row.ensures.row) ∙ c.in_ok-check_writable.was) in
     let allowed = check_of-ok (prohibited_error attribute.Modifiable present) _
-          (sym c.check_flag.ensures ∙ c.in_ok-check_flag.was) in
+    (sym c.check_flag.ensures ∙ c.in_ok-check_flag.was) in
     let changed = check_of-ok (changed_error (class_of present) (protections_of present) c.args.template.now.items) _
     (sym c.check_change.ensures ∙ c.in_ok-check_change.was) in
     memory-decision c.args.self.now.limits h (call.SetAttributeValue c.args.session c.args.object c.args.template.now) _
     c.from_residual-in_err-made.ensures.1
     (object-checks h c.args.session c.args.object _ present _ c.in_ok-row.ensures.open c.in_ok-number.ensures.attributes
     (three-pass _ _ _ (ap (λ (p : Placement). read_only_session_error h c.args.session p)
-        (sym c.placement.ensures) ∙ writable) allowed changed)) refl
+    (sym c.placement.ensures) ∙ writable) allowed changed)) refl
 
 pub returns-in_err-attributes : goal.returns-in_err-attributes
 returns-in_err-attributes c =
@@ -73,14 +73,14 @@ returns-in_err-attributes c =
     let writable = check_of-ok (read_only_session_error h c.args.session c.placement.result) _
     (sym (c.check_writable.ensures c.args.session c.in_ok-row.ensures.row) ∙ c.in_ok-check_writable.was) in
     let allowed = check_of-ok (prohibited_error attribute.Modifiable present) _
-          (sym c.check_flag.ensures ∙ c.in_ok-check_flag.was) in
+    (sym c.check_flag.ensures ∙ c.in_ok-check_flag.was) in
     let changed = check_of-ok (changed_error (class_of present) (protections_of present) c.args.template.now.items) _
     (sym c.check_change.ensures ∙ c.in_ok-check_change.was) in
     memory-decision c.args.self.now.limits h (call.SetAttributeValue c.args.session c.args.object c.args.template.now) _
     c.from_residual-in_err-attributes.ensures.1
     (object-checks h c.args.session c.args.object _ present _ c.in_ok-row.ensures.open c.in_ok-number.ensures.attributes
     (three-pass _ _ _ (ap (λ (p : Placement). read_only_session_error h c.args.session p)
-        (sym c.placement.ensures) ∙ writable) allowed changed)) refl
+    (sym c.placement.ensures) ∙ writable) allowed changed)) refl
 
 pub returns : goal.returns
 returns c =
@@ -89,18 +89,18 @@ returns c =
     let writable = check_of-ok (read_only_session_error h c.args.session c.placement.result) _
     (sym (c.check_writable.ensures c.args.session c.in_ok-row.ensures.row) ∙ c.in_ok-check_writable.was) in
     let allowed = check_of-ok (prohibited_error attribute.Modifiable present) _
-          (sym c.check_flag.ensures ∙ c.in_ok-check_flag.was) in
+    (sym c.check_flag.ensures ∙ c.in_ok-check_flag.was) in
     let changed = check_of-ok (changed_error (class_of present) (protections_of present) c.args.template.now.items) _
     (sym c.check_change.ensures ∙ c.in_ok-check_change.was) in
     let checks = object-checks h c.args.session c.args.object _ present _ c.in_ok-row.ensures.open
-          c.in_ok-number.ensures.attributes
+    c.in_ok-number.ensures.attributes
     (three-pass _ _ _ (ap (λ (p : Placement). read_only_session_error h c.args.session p)
-        (sym c.placement.ensures) ∙ writable) allowed changed) in
+    (sym c.placement.ensures) ∙ writable) allowed changed) in
     let number = ap (λ found. unwrap_or found 0) (sym c.in_ok-number.ensures.number) in
     let made = c.in_ok-attributes.ensures
     ∙ c.in_ok-made.ensures
     ∙ ap (λ found. with_given c.args.template.now.items (unwrap_or found []))
-        (sym c.in_ok-number.ensures.attributes) in (
+    (sym c.in_ok-number.ensures.attributes) in (
       checks,
       ap reply_of c.of_change.ensures,
       ap (λ (d : Decision). d.change) c.of_change.ensures

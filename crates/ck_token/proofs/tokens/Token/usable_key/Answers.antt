@@ -9,7 +9,7 @@ use Rattle.ck_token.proofs.tokens.Token.usable_key.Goals as goal
 pub returns-clause-passes : goal.returns-clause-passes
 returns-clause-passes c =
     ap (λ o. option_map_or (usage_error c.args.kind) o (Some rv_error.KeyHandleInvalid))
-        c.in_ok-number.ensures.attributes
+    c.in_ok-number.ensures.attributes
     ∙ check_of-ok (usage_error c.args.kind c.in_ok-number.attributes.now) _
     (sym c.check_usage.ensures ∙ c.in_ok-check_usage.was)
 
@@ -18,6 +18,6 @@ returns-in_err-check_usage-clause-fails c =
     let code = c.in_err-check_usage.field-0.0 in
     of-err _ code _ c.from_residual-in_err-check_usage.ensures.1
     (ap (λ o. option_map_or (usage_error c.args.kind) o (Some rv_error.KeyHandleInvalid))
-        c.in_ok-number.ensures.attributes
+    c.in_ok-number.ensures.attributes
     ∙ check_of-err (usage_error c.args.kind c.in_ok-number.attributes.now) code
     (sym c.check_usage.ensures ∙ c.in_err-check_usage.was))

@@ -8,5 +8,5 @@ returns-clause-bound c =
     let agree = c.self.invariant in
     let h = c.self.inside.journal.history in
     let below : user_logins h < 2147483648 = user_logins-bound c.self.inside.limits agree.ranges h
-          agree.parts.objects.sound agree.legal in
+    agree.parts.objects.sound agree.legal in
     rw (c.logins.ensures.logins h agree.parts.sessions) below

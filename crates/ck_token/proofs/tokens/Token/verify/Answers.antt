@@ -22,5 +22,5 @@ returns-in-Ok c =
     let passes = check_of-ok (verify_error h c.args.session c.args.bytes.now c.args.signature.now) _
     (sym c.check_whole.ensures ∙ c.in-Ok.is) in
     ends-decision c.args.session c.of_change.result c.finish.result
-        (verify_error h c.args.session c.args.bytes.now c.args.signature.now)
+    (verify_error h c.args.session c.args.bytes.now c.args.signature.now)
     c.of_change.ensures c.finish.ensures passes
