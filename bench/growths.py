@@ -1,5 +1,5 @@
 #!/usr/bin/env python3
-"""Refuses each growth of memory in turn, of the programs that play cases, scripts and the races of a shared token.
+"""Refuses each growth of memory in turn, of the program that plays cases and of the one that plays scripts.
 
 Each case of the files in crates/ck_cases/data, or of the files that are named, is played once for each growth of
 memory, which is refused. What finds no memory, a call, a run or a cut, the program of cases makes again after a look at
@@ -8,13 +8,8 @@ script: all replies are written, or whole lines at their front, and then the pro
 Where anything else comes, it is printed, and the status is 1. Bad lines are left out: they make no call, and without
 memory one may have another reason.
 
-The calls of each race in crates/ck_races/data are made one after the other, by callers of a shared token. Where one
-finds no memory, its caller knows and sees what it did before, and the next call of another caller adds one entry; then
-it is made again. With the argument `shared` these alone are played.
-
-The programs are crates/ck_cases/out/ck_cases, crates/ck_run/out/ck_run and crates/ck_races/out/ck_races, built by
-`rt run` in their folders. This needs Linux with the GNU C library, and a C compiler, `cc`, for growths.c beside this
-file.
+The programs are crates/ck_cases/out/ck_cases and crates/ck_run/out/ck_run, built by `rt run` in their folders. This
+needs Linux with the GNU C library, and a C compiler, `cc`, for growths.c beside this file.
 """
 import collections
 import concurrent.futures
@@ -28,8 +23,6 @@ HERE = os.path.dirname(os.path.abspath(__file__))
 CRATES = os.path.join(HERE, "..", "crates")
 CASES = os.path.join(CRATES, "ck_cases", "out", "ck_cases")
 SCRIPTS = os.path.join(CRATES, "ck_run", "out", "ck_run")
-RACES = os.path.join(CRATES, "ck_races", "out", "ck_races")
-RACES_DATA = os.path.join(CRATES, "ck_races", "data", "callers.races")
 DATA = os.path.join(CRATES, "ck_cases", "data", "*.cases")
 LARGEST = "limits largest"
 BAD_LINE = " -> bad script: "
@@ -77,19 +70,6 @@ def cases_in(path):
     return cases
 
 
-def races_in(path):
-    """The races of a file: of each its lines, and the number of the first."""
-    races = []
-    with open(path, encoding="utf-8", newline="\n") as file:
-        for number, line in enumerate(file, 1):
-            line = line.rstrip("\n")
-            if line.startswith("race"):
-                races.append((number, []))
-            if races:
-                races[-1][1].append(line)
-    return races
-
-
 def calls_in(case):
     """The calls of a case, each with its reply."""
     steps = [line.split(" -> ", 1) for line in case[1:]]
@@ -111,12 +91,12 @@ def is_script_right(ended, plain):
     return is_front and ended.status == 3 and ended.errors == b"ck_run: out of memory\n"
 
 
-def check_case(library, command, name, lines):
+def check_case(library, name, lines):
     """How many growths the case makes, after how many something was made again, and what was wrong."""
     with tempfile.NamedTemporaryFile("w", suffix=".cases", encoding="utf-8", newline="\n") as file:
         file.write("\n".join(lines) + "\n")
         file.flush()
-        words = [*command, file.name]
+        words = [CASES, file.name]
         plain = play(library, words, b"", 0)
         if plain.output != f"{file.name}: 1 passed\n".encode():
             return 0, 0, [f"{name}: {plain.output}"]
@@ -145,19 +125,16 @@ def check_script(library, name, lines):
     return plain.growths, 0, faults
 
 
-def main(paths, races):
+def main(paths):
     with tempfile.TemporaryDirectory() as folder, concurrent.futures.ThreadPoolExecutor(os.cpu_count()) as pool:
         library = build(folder)
         checks = []
         for path in paths:
             for number, lines in cases_in(path):
                 name = f"{os.path.basename(path)}, line {number}"
-                checks.append(pool.submit(check_case, library, [CASES], name, lines))
+                checks.append(pool.submit(check_case, library, name, lines))
                 if lines[0] == LARGEST:
                     checks.append(pool.submit(check_script, library, name, lines))
-        for number, lines in races:
-            name = f"{os.path.basename(RACES_DATA)}, line {number}"
-            checks.append(pool.submit(check_case, library, [RACES, "alone"], name, lines))
         results = [check.result() for check in checks]
     faults = [fault for _, _, of_case in results for fault in of_case]
     print("\n".join(faults))
@@ -167,8 +144,4 @@ def main(paths, races):
 
 
 if __name__ == "__main__":
-    if sys.argv[1:] == ["shared"]:
-        sys.exit(main([], races_in(RACES_DATA)))
-    if sys.argv[1:]:
-        sys.exit(main(sys.argv[1:], []))
-    sys.exit(main(sorted(glob.glob(DATA)), races_in(RACES_DATA)))
+    sys.exit(main(sys.argv[1:] or sorted(glob.glob(DATA))))
