@@ -16,7 +16,7 @@ mod programs;
 mod thread_plays;
 
 pub use devices::{ReadSource, Sink, Source, WriteSink};
-pub use faults::{CallersFault, PlayFault};
+pub use faults::PlayFault;
 pub use memory_devices::{MemorySink, MemorySource};
 pub use options::{ArgumentFault, Callers, Options, given_options, options_of};
 pub use plays::{play, play_with};

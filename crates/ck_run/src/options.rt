@@ -64,9 +64,11 @@ fn command<'a>(alloc: Global) -> Result<Command<'a>, Error> {
         .long("callers")
         .value_name("N")
         .help("Play each caller's lines in a thread of its own; N is 1 to 8");
-    Ok(Command::new(alloc, "ck_run")
-        .about("Plays a script of PKCS #11 calls, read from standard input, on a new token")
-        .arg(callers)?)
+    Ok(
+        Command::new(alloc, "ck_run")
+            .about("Plays a script of PKCS #11 calls, read from standard input, on a new token")
+            .arg(callers)?,
+    )
 }
 
 /// A number of callers: one digit from 1 to 8.

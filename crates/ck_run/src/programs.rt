@@ -1,13 +1,18 @@
-//! The program over any arguments, reader and writer.
-ghost use Rattle.std.specs.Prelude.{◌≡◌, ◌⊎◌, ◌↔◌, ℕ, Ok, Err, true, IsTrue};
+//! The program over any options, reader and writer.
+ghost use Rattle.std.specs.Prelude.{◌≡◌, ◌⊎◌, ◌↔◌, ◌≤◌, Ok, Err};
+ghost use Rattle.ck_run.specs.CallerScripts.{IsPlayedInThreads};
+ghost use Rattle.ck_run.specs.Devices.{Reading, Writing};
+ghost use Rattle.ck_run.specs.Faults.{status_of};
+ghost use Rattle.ck_run.specs.Programs.{IsDone};
+ghost use Rattle.ck_run.specs.declared.faults.PlayFault.{PlayFault};
 
-use crate::caller_scripts::{calls_of, read_script};
+use crate::caller_scripts::read_calls;
 use crate::devices::{Sink, Source};
-use crate::faults::{CallersFault, PlayFault};
+use crate::faults::PlayFault;
 use crate::options::{ArgumentFault, Callers, Options};
 use crate::players::write_all;
 use crate::plays::{TURNS, play};
-use crate::thread_plays::{play_calls, summary_of};
+use crate::thread_plays::play_calls;
 use ck_types::Limits;
 use std::alloc::Global;
 use std::sync::Wait;
@@ -16,63 +21,76 @@ use std::thread::Threads;
 /// The status of arguments that aren't the program's.
 const BAD_ARGUMENTS: u8 = 2;
 
-/// Reads a script whole, plays the lines of so many callers, those of each in a thread of its own,
-/// and writes how many entries the journal has, and what its audit finds.
-pub fn play_threads<
-    R: Source,
-    W: Sink,
-    RT: Threads + Wait + Copy + Drop + Send + Sync,
->(
+/// Reads a script whole in at most so many reads as `turns`, plays the lines of so many callers on
+/// a new token, those of each in a thread of its own, and writes how many entries the journal has
+/// and what its audit finds.
+pub fn play_threads<R: Source, W: Sink, RT: Threads + Wait + Copy + Drop + Send + Sync>(
     rt: RT,
     alloc: Global,
     limits: Limits,
     callers: Callers,
     reader: &mut R,
     writer: &mut W,
-) -> Result<(), CallersFault> {
-    let script = read_script(alloc, reader, TURNS)?;
-    let calls = calls_of(alloc, script.as_slice(), callers.count)?;
-    let token = play_calls(rt, alloc, limits, callers.count, calls.as_slice())?;
-    let summary = summary_of(alloc, &token)?;
-    write_all(writer, summary.as_bytes())?;
-    Ok(())
+    turns: u64,
+) -> Result<(), PlayFault>
+    ensures { (read : Reading) (written : Writing)
+        → R.is_read reader.old read → W.is_written writer.old written
+        → IsPlayedInThreads limits callers.count turns read written
+        (R.is_read reader.new) (W.is_written writer.new) result }
+{
+    let calls = read_calls(alloc, reader, callers.count, turns)?;
+    let summary = play_calls(rt, alloc, limits, callers, calls.as_slice())?;
+    write_all(writer, summary.as_bytes())
 }
 
 /// Does what the options say with the largest limits.
-fn play_options<
-    R: Source,
-    W: Sink,
-    RT: Threads + Wait + Copy + Drop + Send + Sync,
->(
+fn play_options<R: Source, W: Sink, RT: Threads + Wait + Copy + Drop + Send + Sync>(
     rt: RT,
     alloc: Global,
     options: Options,
     reader: &mut R,
     writer: &mut W,
-) -> Result<(), CallersFault> {
+) -> Result<(), PlayFault>
+    ensures { (read : Reading) (written : Writing)
+        → R.is_read reader.old read → W.is_written writer.old written
+        → IsDone options read written (R.is_read reader.new) (W.is_written writer.new) result }
+{
+    let limits = Limits::largest();
     match options {
-        Options::InTurn => Ok(play(alloc, Limits::largest(), reader, writer)?),
+        Options::InTurn => play(alloc, limits, reader, writer),
         Options::InThreads(callers) => {
-            play_threads(rt, alloc, Limits::largest(), callers, reader, writer)
+            play_threads(rt, alloc, limits, callers, reader, writer, TURNS)
         }
-        Options::Help(text) => Ok(write_all(writer, text.as_bytes())?),
+        Options::Help(text) => write_all(writer, text.as_bytes()),
     }
 }
 
-/// Does what the options say with the largest limits, and says with which status the program ends: 0 where it
-/// was done, 1 at a bad line, 3 after another fault, and 2 where the arguments aren't the
-/// program's. What went wrong is a line on standard error.
-pub fn run<
-    R: Source,
-    W: Sink,
-    RT: Eprint + Threads + Wait + Copy + Drop + Send + Sync,
->(
+/// Does what the options say with the largest limits, and says with which status the program ends:
+/// 0 where it was done, 1 at a bad line, 3 after another fault, and 2 where the arguments aren't
+/// the program's. What went wrong is a line on standard error.
+pub fn run<R: Source, W: Sink, RT: Eprint + Threads + Wait + Copy + Drop + Send + Sync>(
     rt: RT,
     alloc: Global,
     options: Result<Options, ArgumentFault>,
     reader: &mut R,
     writer: &mut W,
-) -> u8 {
+) -> u8
+    ensures status { (result ≡ 0) ⊎ (result ≡ 1) ⊎ (result ≡ 2) ⊎ (result ≡ 3) }
+    ensures bad_arguments { result ≡ 2 ↔ options ≡ Err ArgumentFault.Bad }
+    ensures untouched { result ≡ 2
+        → (reader.new ≡ reader.old) × (writer.new ≡ writer.old) }
+    ensures played { (chosen : Options) → options ≡ Ok chosen → result ≡ 0
+        → (read : Reading) (written : Writing)
+        → R.is_read reader.old read → W.is_written writer.old written
+        → IsDone chosen read written
+        (R.is_read reader.new) (W.is_written writer.new) (Ok tt) }
+    ensures stopped { (chosen : Options) → options ≡ Ok chosen → (result ≡ 1) ⊎ (result ≡ 3)
+        → (fault : PlayFault) × (status_of fault ≡ result)
+        × ((read : Reading) (written : Writing)
+        → R.is_read reader.old read → W.is_written writer.old written
+        → IsDone chosen read written
+        (R.is_read reader.new) (W.is_written writer.new) (Err fault)) }
+{
     match options {
         Ok(options) => match play_options(rt, alloc, options, reader, writer) {
             Ok(()) => 0,

@@ -1,4 +1,10 @@
 //! Callers that play their calls in threads.
+ghost use Rattle.std.specs.Prelude.{◌≡◌, ◌≤◌, ℕ, IfOk, string_bytes};
+ghost use Rattle.ck_journal.specs.Bases.{empty_base};
+ghost use Rattle.ck_shared.specs.Accounts.{name_of};
+ghost use Rattle.ck_run.specs.CallerScripts.{IsSummary};
+
+use crate::options::Callers;
 use ck_audit::{Verdict, audit_token};
 use ck_journal::Call;
 use ck_shared::{
@@ -67,7 +73,7 @@ fn play_scripts<K: TokenId + Send + Sync, R: Threads + Wait + Copy + Drop + Send
     callers_of(alloc, scripts)
 }
 
-/// Shares a token among so many callers, which play their calls, and takes it back.
+/// Shares a new token among so many callers, which play their calls, and takes it back.
 fn play_shared<K: TokenId + Send + Sync, R: Threads + Wait + Copy + Drop + Send + Sync>(
     rt: R,
     alloc: Global,
@@ -75,7 +81,14 @@ fn play_shared<K: TokenId + Send + Sync, R: Threads + Wait + Copy + Drop + Send 
     callers: u32,
     identity: NewIdentity,
     calls: &[(u32, Call)],
-) -> Result<Token, NoMemory> {
+) -> Result<Token, NoMemory>
+    requires base { K.base ≡ empty_base }
+    requires limits { limits ≡ K.limits }
+    requires callers { (1 ≤ callers) × (callers ≤ 8) × (callers ≡ K.callers) }
+    requires book { identity.history.seen.book ≡ K.book }
+    requires ledgers { (n : ℕ) → K.ledger n ≡ name_of identity.ledgers n }
+    ensures { IfOk result (λ token. token.limits ≡ limits) }
+{
     let Ends { token, callers } = Shared::<K, R>::open(rt, alloc, limits, callers, identity)?;
     let callers = play_scripts(rt, alloc, &token, callers, calls)?;
     match token.close(&rt, callers) {
@@ -84,22 +97,29 @@ fn play_shared<K: TokenId + Send + Sync, R: Threads + Wait + Copy + Drop + Send 
     }
 }
 
-/// Plays the calls of so many callers on a new token, those of each in a thread of its own.
-pub(crate) fn play_calls<R: Threads + Wait + Copy + Drop + Send + Sync>(
-    rt: R,
-    alloc: Global,
-    limits: Limits,
-    callers: u32,
-    calls: &[(u32, Call)],
-) -> Result<Token, NoMemory> {
-    play_shared::<Brand, R>(rt, alloc, limits, callers, NewIdentity::new(), calls)
-}
-
 /// How many entries the token's journal has, and what its audit finds, each on a line.
-pub(crate) fn summary_of(alloc: Global, token: &Token) -> Result<String, NoMemory> {
+fn summary_of(alloc: Global, token: &Token) -> Result<String, NoMemory>
+    ensures { IfOk result (λ text. IsSummary token.now.limits (string_bytes text)) }
+{
     let entries = token.journal().len();
     match audit_token(alloc, token)? {
         Verdict::Legal => Ok(format!(in alloc; "entries {entries}\naudit ok\n")?),
         Verdict::Wrong(number) => Ok(format!(in alloc; "entries {entries}\naudit {number}\n")?),
     }
+}
+
+/// Plays the calls of so many callers on a new token, those of each in a thread of its own. Gives
+/// how many entries the journal then has, and what its audit finds, each on a line.
+pub(crate) fn play_calls<R: Threads + Wait + Copy + Drop + Send + Sync>(
+    rt: R,
+    alloc: Global,
+    limits: Limits,
+    callers: Callers,
+    calls: &[(u32, Call)],
+) -> Result<String, NoMemory>
+    ensures { IfOk result (λ text. IsSummary limits (string_bytes text)) }
+{
+    let identity = NewIdentity::new();
+    let token = play_shared::<Brand, R>(rt, alloc, limits, callers.count, identity, calls)?;
+    summary_of(alloc, &token)
 }
