@@ -1,5 +1,7 @@
 pub mod LineLemmas
 pub mod ReplyLemmas
 pub mod WriteLemmas
+pub mod ReadingLemmas
+pub mod CallerScriptLemmas
 pub mod PlayLemmas
 pub mod PlayerLemmas

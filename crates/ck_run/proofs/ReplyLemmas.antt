@@ -17,7 +17,7 @@ with_call-append (Some (line.Called caller call)) cs ds = refl
 with_call-append (Some line.Skipped) cs ds = refl
 with_call-append None cs ds = refl
 
-calls_in-append : (lines more : List (List ℕ))
+pub calls_in-append : (lines more : List (List ℕ))
     → calls_in (lines ++ more) ≡ calls_in lines ++ calls_in more
 calls_in-append [] more = refl
 calls_in-append (l ∷ lines) more =

@@ -1,8 +1,14 @@
--- What the program does with its argument, its reader and its writer
-use Rattle.std.specs.Prelude.{◌^◌, ◌-◌, ℕ, Bool, true, false, Result, Err}
-use Rattle.std.specs.declared.env.FillError.{FillError}
-use Rattle.std.specs.declared.env.FillError.TheVariants as fill
+-- What the program does by its options with its reader and its writer
+use Rattle.std.specs.Prelude.{◌≡◌, ◌^◌, ◌-◌, ℕ, List, Result, Ok, Err, string_bytes}
 use Rattle.ck_types.specs.TokenLimits.{Ranges}
+use Rattle.ck_run.specs.CallerScripts.{IsPlayedInThreads}
+use Rattle.ck_run.specs.Devices.{Reading, Writing, wrote}
+use Rattle.ck_run.specs.Players.{IsUnwritten}
+use Rattle.ck_run.specs.Plays.{IsPlayed}
+use Rattle.ck_run.specs.declared.faults.PlayFault.{PlayFault}
+use Rattle.ck_run.specs.declared.options.Options.{Options}
+use Rattle.ck_run.specs.declared.options.Options.TheVariants as option
+use Rattle.ck_run.specs.declared.plays.TheConstants.{TURNS}
 
 abbrev pub largest_limits : Ranges
 largest_limits = record {
@@ -12,7 +18,17 @@ largest_limits = record {
   logins = 2 ^ 31 - 1;
 }
 
--- whether there is an argument, by what the environment answers of the first one
-abbrev pub has_argument : Result ℕ FillError → Bool
-has_argument (Err fill.NotPresent) = false
-has_argument other = true
+-- a text is written, or the writer failed
+abbrev pub IsWritten : List ℕ → Writing → (Writing → Type 0) → Result (Unit {0}) PlayFault → Type 0
+IsWritten text written is_written (Ok u) = is_written (wrote written text)
+IsWritten text written is_written (Err fault) = IsUnwritten is_written written text fault
+
+-- what was read and written by these options, and how that ended
+abbrev pub IsDone : Options → Reading → Writing → (Reading → Type 0) → (Writing → Type 0)
+    → Result (Unit {0}) PlayFault → Type 0
+IsDone option.InTurn read written is_read is_written result =
+    IsPlayed largest_limits TURNS read written is_read is_written result
+IsDone (option.InThreads callers) read written is_read is_written result =
+    IsPlayedInThreads largest_limits callers.count TURNS read written is_read is_written result
+IsDone (option.Help text) read written is_read is_written result =
+    is_read read × IsWritten (string_bytes text) written is_written result

@@ -1,12 +1,13 @@
 //! Scripts that are cut, and readers and writers that fail.
 use crate::play_tests::{Devices, transcript};
 use crate::players::write_all;
-use crate::{MemorySink, MemorySource, PlayFault, run};
+use crate::{ArgumentFault, MemorySink, MemorySource, Options, PlayFault, options_of, run};
 use ck_script::{Arity, BadLine, CallName};
 use std::alloc::Global;
-use std::env::FillError;
 use std::process::Abort;
+use std::sync::Wait;
 use std::test::Fail;
+use std::thread::Threads;
 
 /// A script, each line of which is bad where it is cut.
 const SCRIPT: &str = "1 InitToken 31\n1 OpenSession 6\n1 CloseSession 7\n";
@@ -137,40 +138,60 @@ fn faults_have_their_texts_and_statuses(rt: HostRuntime) -> Result<(), Fail> {
     Ok(())
 }
 
+/// What the program is asked to do by these words behind its name.
+fn asked(alloc: Global, words: &str) -> Result<Result<Options, ArgumentFault>, Fail> {
+    let mut all = vec![in alloc; String::from_str(alloc, "ck_run")?]?;
+    for word in words.split_whitespace() {
+        all.push(String::from_str(alloc, word)?)?;
+    }
+    Ok(options_of(alloc, all.as_slice()))
+}
+
 /// With which status the program ends, and what it writes. The devices move single bytes.
-fn ended<E: Eprint>(
-    errors: &E,
+fn ended<RT: Eprint + Threads + Wait + Copy + Drop + Send + Sync>(
+    rt: RT,
     alloc: Global,
-    argument: Result<usize, FillError>,
+    words: &str,
     script: &str,
     fails_at: (u64, u64),
 ) -> Result<String, Fail> {
     let mut reader = MemorySource::new(script.as_bytes(), 1, fails_at.0);
     let mut writer = MemorySink::new(alloc, 1, fails_at.1, 0);
-    let status = run(alloc, argument, &mut reader, &mut writer, errors);
+    let options = asked(alloc, words)?;
+    let status = run(rt, alloc, options, &mut reader, &mut writer);
     let text = String::from_utf8_lossy(alloc, writer.as_slice())?;
     Ok(format!(in alloc; "{text}{status}")?)
 }
 
 #[test]
 fn the_program_ends_with_a_status(rt: HostRuntime) -> Result<(), Fail> {
-    let none = Err(FillError::NotPresent);
+    let two = "1 InitToken 31323334\n1 OpenSession 6\n2 CloseSession 7\n";
     let rows = [
-        (none, "", (0, 0), "0"),
-        (none, "1 InitToken 31323334", (0, 0), "0\n0"),
-        (none, "1 InitToken 31\n1 Login", (0, 0), "a2\n1"),
-        (none, "Nope\n", (6, 0), "1"),
-        (none, "Nope\n", (5, 0), "3"),
-        (none, "Nope", (5, 0), "3"),
-        (none, "1 InitToken 31\n", (16, 0), "a2\n3"),
-        (none, "1 InitToken 31\n", (0, 2), "a3"),
-        (Ok(0), "1 InitToken 31\n", (0, 0), "2"),
-        (Ok(1), "", (0, 0), "2"),
-        (Err(FillError::TooLong), "", (0, 0), "2"),
+        ("", "", (0, 0), "0"),
+        ("", "1 InitToken 31323334", (0, 0), "0\n0"),
+        ("", "1 InitToken 31\n1 Login", (0, 0), "a2\n1"),
+        ("", "Nope\n", (6, 0), "1"),
+        ("", "Nope\n", (5, 0), "3"),
+        ("", "Nope", (5, 0), "3"),
+        ("", "1 InitToken 31\n", (16, 0), "a2\n3"),
+        ("", "1 InitToken 31\n", (0, 2), "a3"),
+        ("x", "1 InitToken 31\n", (0, 0), "2"),
+        ("--callers", "", (0, 0), "2"),
+        ("--callers 0", "", (0, 0), "2"),
+        ("--callers 9", "", (0, 0), "2"),
+        ("--callers 02", "", (0, 0), "2"),
+        ("--callers x", "", (0, 0), "2"),
+        ("--callers 2 --callers 2", "", (0, 0), "2"),
+        ("--callers 8", "", (0, 0), "entries 0\naudit ok\n0"),
+        ("--callers=2", two, (0, 0), "entries 3\naudit ok\n0"),
+        ("--callers 1", two, (0, 0), "1"),
+        ("--callers 2", "1 GetTokenInfo\n1 Nope\n", (0, 0), "1"),
+        ("--callers 2", two, (5, 0), "3"),
+        ("--callers 2", two, (0, 2), "e3"),
     ];
-    for (argument, script, fails_at, want) in rows {
-        let text = ended(&rt, rt.alloc(), argument, script, fails_at)?;
-        assert_eq!(rt; text.as_str(), want, "{script}");
+    for (words, script, fails_at, want) in rows {
+        let text = ended(rt, rt.alloc(), words, script, fails_at)?;
+        assert_eq!(rt; text.as_str(), want, "{words}, {script}");
     }
     Ok(())
 }

@@ -63,7 +63,7 @@ pub fn play_with<R: Source, W: Sink>(
     )
 }
 
-fn new_buffer(alloc: Global) -> Result<Vec<u8>, NoMemory>
+pub(crate) fn new_buffer(alloc: Global) -> Result<Vec<u8>, NoMemory>
     ensures { IfOk result (λ buffer. length buffer.items ≡ CHUNK) }
 {
     let buffer = vec![in alloc; 0u8; CHUNK]?;
@@ -131,7 +131,7 @@ fn take_turn<R: Source, W: Sink>(
 }
 
 /// Reads once, or answers that the reader failed. No bytes are the end.
-fn read_some<R: Source>(reader: &mut R, buffer: &mut [u8]) -> Result<usize, PlayFault>
+pub(crate) fn read_some<R: Source>(reader: &mut R, buffer: &mut [u8]) -> Result<usize, PlayFault>
     requires room { 0 < length buffer.old }
     ensures bound { IfOk result (λ count. count ≤ length buffer.new) }
     ensures ok { IfOk result (λ count. (r : Reading) → R.is_read reader.old r

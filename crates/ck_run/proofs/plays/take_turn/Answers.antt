@@ -1,7 +1,8 @@
 use Rattle.std.proofs.Common.{refl, ◌∙◌, true, [], take}
 use Rattle.std.proofs.lemmas.Result.{err_from_is_err_and}
 use Rattle.ck_run.proofs.PlayLemmas.{played-read_failed, played-ended, played-ended_stopped}
-use Rattle.ck_run.proofs.PlayLemmas.{played-fed_stopped, reading-so_far, not_zero}
+use Rattle.ck_run.proofs.PlayLemmas.{played-fed_stopped, reading-so_far}
+use Rattle.ck_run.proofs.ReadingLemmas.{not_zero}
 use Rattle.ck_run.proofs.plays.take_turn.Goals as goal
 
 pub returns-in_err-count-clause-err : goal.returns-in_err-count-clause-err
