@@ -1,32 +1,16 @@
 //! Plays a script of calls on a token, from standard input to standard output.
 #![tactic(auto)]
 
-#[cfg(test)]
-mod device_tests;
-mod devices;
-mod faults;
-mod memory_devices;
-#[cfg(test)]
-mod play_tests;
-mod players;
-mod plays;
-mod programs;
-
-pub use devices::{ReadSource, Sink, Source, WriteSink};
-pub use faults::PlayFault;
-pub use memory_devices::{MemorySink, MemorySource};
-pub use plays::{play, play_with};
-pub use programs::run;
-use std::env::Env;
+use ck_play::{ReadSource, WriteSink, given_options, run};
 use std::io;
 use std::process::ExitCode;
 
 fn main(rt: HostRuntime) -> ExitCode {
     ExitCode::from(run(
+        rt,
         rt.alloc(),
-        rt.arg(1, &mut []),
+        given_options(&rt),
         &mut ReadSource(rt.reader()),
         &mut WriteSink(io::writer(&rt)),
-        &rt,
     ))
 }

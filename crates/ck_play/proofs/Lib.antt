@@ -1,0 +1,8 @@
+pub mod LineLemmas
+pub mod ReplyLemmas
+pub mod WriteLemmas
+pub mod ReadingLemmas
+pub mod CallerScriptLemmas
+pub mod ThreadPlayLemmas
+pub mod PlayLemmas
+pub mod PlayerLemmas

@@ -1,0 +1,35 @@
+-- Writing bytes piece by piece
+use Rattle.std.proofs.Common.{◌≡◌, ℕ, ◌+◌, ◌-◌, List, ◌++◌, length, take, drop, ap, ap₂, sym, ◌∙◌}
+use Rattle.std.proofs.Common.{subst, arith, append_assoc}
+use Rattle.std.proofs.lemmas.List.{take-append-drop, take-take, drop-take, take_rest}
+use Rattle.ck_play.specs.Devices.{Writing, wrote, failed_write}
+use Rattle.ck_play.specs.declared.faults.PlayFault.{PlayFault}
+use Rattle.ck_play.specs.declared.faults.PlayFault.TheVariants as fault
+use Rattle.ck_play.specs.Players.{IsUnwritten}
+
+taken : (xs : List ℕ) (at count : ℕ) → take at xs ++ take count (drop at xs) ≡ take (at + count) xs
+taken xs at count =
+    ap₂ ◌++◌ (sym (take-take at (at + count) xs (omega arith))) (sym (drop-take at count xs))
+    ∙ take-append-drop at (take (at + count) xs)
+
+-- bytes and further bytes
+pub wrote-wrote : (w : Writing) (xs ys : List ℕ) → wrote (wrote w xs) ys ≡ wrote w (xs ++ ys)
+wrote-wrote w xs ys =
+    ap (λ (bytes : List ℕ). (let r : Writing = record { bytes = bytes; failures = w.failures } in
+    r)) (append_assoc w.bytes xs ys)
+
+-- one more write of some of the bytes that are left
+pub wrote-more : (P : Writing → Type 0) (w : Writing) (xs : List ℕ) (at count : ℕ)
+    → P (wrote (wrote w (take at xs)) (take count (take (length xs - at) (drop at xs))))
+    → P (wrote w (take (at + count) xs))
+wrote-more P w xs at count h =
+    subst P (wrote-wrote w (take at xs) _
+    ∙ ap (wrote w) (ap (λ (ys : List ℕ). take at xs ++ take count ys) (take_rest xs at)
+    ∙ taken xs at count)) h
+
+-- a failed write
+pub broken : (P : Writing → Type 0) (w : Writing) (xs : List ℕ) (at : ℕ) (f : PlayFault)
+    → f ≡ fault.Write → P (failed_write (wrote w (take at xs))) → IsUnwritten P w xs f
+broken P w xs at f e h =
+    subst (IsUnwritten P w xs) (sym e) (record
+    { part = take at xs; rest = drop at xs; parts = sym (take-append-drop at xs); writer = h })

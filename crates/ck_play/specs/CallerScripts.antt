@@ -1,0 +1,147 @@
+-- Scripts that are read whole, and played by so many callers
+use Rattle.std.specs.Prelude.{◌≡◌, ◌&&◌, ℕ, suc, Bool, true, false, not, nat_le, List, [], ◌∷◌}
+use Rattle.std.specs.Prelude.{◌++◌, Option, Some, None, Result, Ok, Err, length, codes, decimal}
+use Rattle.ck_types.specs.TokenLimits.{Ranges}
+use Rattle.ck_journal.specs.Answers.{IsLegal}
+use Rattle.ck_journal.specs.Histories.{History, entry_count}
+use Rattle.ck_journal.specs.declared.calls.Call.{Call}
+use Rattle.ck_script.specs.Lines.{lines_in, meaning}
+use Rattle.ck_script.specs.declared.lines.Line.{Line}
+use Rattle.ck_script.specs.declared.lines.Line.TheVariants as line
+use Rattle.ck_script.specs.declared.lines.TheConstants.{LINE_END}
+use Rattle.ck_play.specs.Devices.{Reading, Writing, IsCount, wrote}
+use Rattle.ck_play.specs.Players.{WriteFailed}
+use Rattle.ck_play.specs.Plays.{calls_in, one_if, failed_reads, AreReads}
+use Rattle.ck_play.specs.Plays.{after_reads}
+use Rattle.ck_play.specs.declared.faults.PlayFault.{PlayFault}
+use Rattle.ck_play.specs.declared.faults.PlayFault.TheVariants as fault
+
+-- ---- the lines of so many callers
+
+-- a line is bad where it means nothing, or its caller is none of 1 to so many
+abbrev pub is_bad_for : ℕ → Option Line → Bool
+is_bad_for callers None = true
+is_bad_for callers (Some line.Skipped) = false
+is_bad_for callers (Some (line.Called caller call)) =
+    not (nat_le 1 caller && nat_le caller callers)
+
+-- no line is bad
+abbrev pub AreGoodFor : ℕ → List (List ℕ) → Type 0
+AreGoodFor callers [] = Unit {0}
+AreGoodFor callers (l ∷ lines) =
+    (is_bad_for callers (meaning l) ≡ false) × AreGoodFor callers lines
+
+-- the line of this number is the first bad one
+pub record IsFirstBadFor (callers : ℕ) (lines : List (List ℕ)) (number : ℕ) : Type 0 where
+  pub before : List (List ℕ)
+  pub bad : List ℕ
+  pub later : List (List ℕ)
+  pub parts : lines ≡ before ++ bad ∷ later
+  pub good : AreGoodFor callers before
+  pub refused : is_bad_for callers (meaning bad) ≡ true
+  pub bad_number : IsCount number (suc (length before))
+
+-- no line is bad, and these are their calls
+pub record AreCallsOf (callers : ℕ) (lines : List (List ℕ)) (calls : List (ℕ × Call)) : Type 0 where
+  pub good : AreGoodFor callers lines
+  pub all : calls ≡ calls_in lines
+
+-- why the calls of lines aren't had: a line is bad, or there is no memory
+abbrev pub IsRefusedFor : ℕ → List (List ℕ) → PlayFault → Type 0
+IsRefusedFor callers lines (fault.Line number reason) = IsFirstBadFor callers lines number
+IsRefusedFor callers lines fault.Memory = Unit {0}
+IsRefusedFor callers lines other = ⊥
+
+-- why the line of this number isn't taken: it is bad, or there is no memory
+abbrev pub IsRefusedLine : ℕ → Option Line → ℕ → PlayFault → Type 0
+IsRefusedLine callers m number (fault.Line n reason) =
+    (n ≡ number) × (is_bad_for callers m ≡ true)
+IsRefusedLine callers m number fault.Memory = Unit {0}
+IsRefusedLine callers m number other = ⊥
+
+-- ---- reading to the end
+
+-- what was read: all of the script, or a part of it where a fault came before the end
+abbrev pub HasReadTo : Bool → List ℕ → List ℕ → Result (Unit {0}) PlayFault → Type 0
+HasReadTo ended script bytes (Ok u) = (ended ≡ true) × (bytes ≡ script)
+HasReadTo ended script bytes (Err fault.Read) = ended ≡ false
+HasReadTo ended script bytes (Err fault.Memory) = ended ≡ false
+HasReadTo ended script bytes (Err fault.Turns) = ended ≡ false
+HasReadTo ended script bytes other = ⊥
+
+-- a script is read to its end, in so many turns at most, or up to a fault
+pub record IsReadWhole (turns : ℕ) (read : Reading) (is_read : Reading → Type 0) (bytes : List ℕ)
+    (result : Result (Unit {0}) PlayFault) : Type 0 where
+  pub script : List ℕ
+  pub earlier : List ℕ
+  pub ended : Bool
+  pub reads : ℕ
+  pub reader : is_read (after_reads read script earlier reads
+      (one_if ended read.ends) (failed_reads read.failures result))
+  pub within : AreReads turns reads result
+  pub outcome : HasReadTo ended script bytes result
+
+-- so many reads were made, and gave these bytes
+pub record HasReadSoFar (read : Reading) (is_read : Reading → Type 0) (bytes : List ℕ) (reads : ℕ)
+    : Type 0 where
+  pub earlier : List ℕ
+  pub reader : is_read (after_reads read bytes earlier reads read.ends read.failures)
+
+-- ---- what is played in threads
+
+-- the text of a journal of so many entries, and of an audit that finds it legal
+abbrev pub summary_text : ℕ → List ℕ
+summary_text entries =
+    codes "entries " ++ decimal entries ++ LINE_END ∷ codes "audit ok" ++ LINE_END ∷ []
+
+-- this is the text of a legal journal, whose entries are by so many callers
+pub record IsSummary (limits : Ranges) (text : List ℕ) : Type 0 where
+  pub history : History
+  pub legal : IsLegal limits history
+  pub is_text : text ≡ summary_text (entry_count history)
+
+-- the whole script was read, and none of its lines is bad
+pub record HasGoodScript (callers turns : ℕ) (read : Reading) (is_read : Reading → Type 0)
+    : Type 0 where
+  pub script : List ℕ
+  pub whole : IsReadWhole turns read is_read script (Ok tt)
+  pub good : AreGoodFor callers (lines_in script)
+
+-- the whole script was read, and this is its first bad line
+pub record HasBadScript (callers turns : ℕ) (read : Reading) (is_read : Reading → Type 0)
+    (number : ℕ) : Type 0 where
+  pub script : List ℕ
+  pub whole : IsReadWhole turns read is_read script (Ok tt)
+  pub bad : IsFirstBadFor callers (lines_in script) number
+
+-- why there are no calls: reading stopped, or a line is bad, or there is no memory
+abbrev pub HasNoCalls : ℕ → ℕ → Reading → (Reading → Type 0) → PlayFault → Type 0
+HasNoCalls callers turns read is_read (fault.Line number reason) =
+    HasBadScript callers turns read is_read number
+HasNoCalls callers turns read is_read fault.Read =
+    (bytes : List ℕ) × IsReadWhole turns read is_read bytes (Err fault.Read)
+HasNoCalls callers turns read is_read fault.Turns =
+    (bytes : List ℕ) × IsReadWhole turns read is_read bytes (Err fault.Turns)
+HasNoCalls callers turns read is_read fault.Memory = Unit {0}
+HasNoCalls callers turns read is_read fault.Write = ⊥
+
+-- what was read and written where a script is played in threads, by how that ends
+abbrev pub IsPlayedInThreads : Ranges → ℕ → ℕ → Reading → Writing → (Reading → Type 0)
+    → (Writing → Type 0) → Result (Unit {0}) PlayFault → Type 0
+IsPlayedInThreads limits callers turns read written is_read is_written (Ok u) =
+    HasGoodScript callers turns read is_read
+    × ((text : List ℕ) × IsSummary limits text × is_written (wrote written text))
+IsPlayedInThreads limits callers turns read written is_read is_written
+    (Err (fault.Line number reason)) =
+    HasBadScript callers turns read is_read number × is_written written
+IsPlayedInThreads limits callers turns read written is_read is_written (Err fault.Read) =
+    ((bytes : List ℕ) × IsReadWhole turns read is_read bytes (Err fault.Read))
+    × is_written written
+IsPlayedInThreads limits callers turns read written is_read is_written (Err fault.Turns) =
+    ((bytes : List ℕ) × IsReadWhole turns read is_read bytes (Err fault.Turns))
+    × is_written written
+IsPlayedInThreads limits callers turns read written is_read is_written (Err fault.Memory) =
+    is_written written
+IsPlayedInThreads limits callers turns read written is_read is_written (Err fault.Write) =
+    HasGoodScript callers turns read is_read
+    × ((text : List ℕ) × IsSummary limits text × WriteFailed is_written written text)

@@ -1,5 +1,0 @@
-pub mod LineLemmas
-pub mod ReplyLemmas
-pub mod WriteLemmas
-pub mod PlayLemmas
-pub mod PlayerLemmas

@@ -1,0 +1,14 @@
+use Rattle.ck_journal.specs.Histories.{start_of}
+use Rattle.ck_shared.specs.Accounts.{name_of}
+use Rattle.ck_soak.proofs.main.Given as goal
+
+-- the token that was just made
+abbrev pub ghosts-soak-K-TokenId : goal.ghosts-soak-K-TokenId
+ghosts-soak-K-TokenId g a = record { ledger = name_of a.identity.ledgers; callers = 8 }
+
+abbrev pub ghosts-soak-K-HistoryId : goal.ghosts-soak-K-HistoryId
+ghosts-soak-K-HistoryId g a = record {
+  book = a.identity.history.seen.book;
+  base = start_of a.token.history;
+  limits = a.token.limits;
+}

@@ -1,0 +1,171 @@
+//! The mix of calls: what the callers draw from, and how a call is made of a drawn line.
+use crate::errors::SoakError;
+use ck_journal::Call;
+use ck_script::Line;
+use std::alloc::Global;
+use std::sync::atomic::{AtomicU64, Ordering};
+
+/// How many handles of each kind the callers have between them.
+pub(crate) const PLACES: usize = 4;
+
+/// What a new token is called with before all callers begin.
+pub(crate) const FIRST_CALLS: &str = "InitToken 31323334; OpenSession 6 > $session; \
+    Login $session 0 31323334; InitPIN $session 75736572; Logout $session; \
+    Login $session 1 75736572";
+
+/// Calls in a row that a caller draws. They stand in the language of scripts. `$session`, `$object`
+/// and `$key` are handles that all callers know, and behind `>` stands which one is replaced by the
+/// handle of the reply. Between two calls of a row come those of other callers.
+pub(crate) const ROWS: [&str; 47] = [
+    "OpenSession 6 > $session",
+    "OpenSession 6 > $session",
+    "OpenSession 4 > $session",
+    "CloseSession $session; OpenSession 6 > $session",
+    "GetSessionInfo $session; GetTokenInfo; GetMechanismList",
+    "Login $session 1 75736572",
+    "Login $session 1 75736572; GetSessionInfo $session",
+    "Login $session 1 75736572; FindObjectsInit $session -; FindObjects $session 5",
+    "Logout $session; Login $session 1 75736572",
+    "Logout $session; Login $session 0 31323334; InitPIN $session 75736572; Logout $session",
+    "SetPIN $session 75736572 75736572",
+    "CreateObject $session 0=0000000000000000,3=61 > $object",
+    "CreateObject $session 0=0000000000000000,3=61,1=01 > $object; DestroyObject $session $object",
+    "CreateObject $session 0=0000000000000000,2=01,3=62 > $object",
+    "CreateObject $session 0=0000000000000000 > $object; GetAttributeValue $session $object 3:8",
+    "CreateObject $session 0=0400000000000000,100=1000000000000000,11=4a656665,2=00 > $key",
+    "CreateObject $session 0=0400000000000000,100=1000000000000000,11=4a656665 > $key",
+    "GenerateKey $session 350 161=0400000000000000,2=00 01020304 > $key",
+    "CopyObject $session $object 3=63 > $object",
+    "CopyObject $session $key 3=63 > $key",
+    "GetAttributeValue $session $object 3:8,11:?",
+    "GetAttributeValue $session $key 80000001:8,11:64",
+    "SetAttributeValue $session $object 3=64",
+    "SetAttributeValue $session $key 108=00",
+    "SetKeyState $session $key 2",
+    "SetKeyState $session $key 5; SetKeyState $session $key 1",
+    "SetKeyState $session $key 3",
+    "SetKeyState $session $key 4",
+    "DestroyObject $session $object",
+    "DestroyObject $session $key",
+    "FindObjectsInit $session 3=61; FindObjects $session 1; FindObjects $session 9",
+    "FindObjects $session 2",
+    "FindObjectsFinal $session",
+    "DigestInit $session 250; DigestUpdate $session 61; DigestFinal $session 32",
+    "DigestInit $session 260; Digest $session 616263 ?; Digest $session 616263 48",
+    "DigestUpdate $session 64",
+    "DigestFinal $session 64",
+    "SignInit $session 251 $key; SignUpdate $session 6d; SignFinal $session 32",
+    "SignInit $session 252:0800000000000000 $key; Sign $session 6d 8",
+    "SignUpdate $session 6e; SignUpdate $session 6f",
+    "SignFinal $session 64",
+    "VerifyInit $session 252:0800000000000000 $key; \
+        VerifyUpdate $session 7768617420646f2079612077616e7420666f72206e6f7468696e673f; \
+        VerifyFinal $session 5bdcc146bf60754e",
+    "VerifyInit $session 252:0800000000000000 $key; \
+        Verify $session 7768617420646f2079612077616e7420666f72206e6f7468696e673f 5bdcc146bf60754e",
+    "VerifyInit $session 251 $key; Verify $session 6d 6d",
+    "VerifyUpdate $session 6e",
+    "VerifyFinal $session 6d",
+    "SessionCancel $session 2c00",
+];
+
+/// Rows that are drawn seldom: afterwards most calls are refused, until others have called more.
+pub(crate) const SELDOM: [&str; 3] = [
+    "CloseAllSessions; OpenSession 6 > $session",
+    "CloseAllSessions; InitToken 31323334; OpenSession 6 > $session",
+    "Login $session 1 39393939",
+];
+
+/// What a word of a row may stand for.
+#[derive(Clone, Copy)]
+pub(crate) enum HandleKind {
+    Session,
+    Object,
+    Key,
+}
+
+impl HandleKind {
+    /// The kind that a word stands for.
+    pub(crate) fn named(word: &str) -> Option<HandleKind> {
+        match word {
+            "$session" => Some(HandleKind::Session),
+            "$object" => Some(HandleKind::Object),
+            "$key" => Some(HandleKind::Key),
+            _ => None,
+        }
+    }
+}
+
+/// The handles that all callers know, each kind in places of its own.
+#[derive(Drop)]
+pub(crate) struct Handles {
+    sessions: [AtomicU64; PLACES],
+    objects: [AtomicU64; PLACES],
+    keys: [AtomicU64; PLACES],
+}
+
+fn no_handles() -> [AtomicU64; PLACES] {
+    [
+        AtomicU64::new(0),
+        AtomicU64::new(0),
+        AtomicU64::new(0),
+        AtomicU64::new(0),
+    ]
+}
+
+impl Handles {
+    pub(crate) fn new() -> Handles {
+        Handles {
+            sessions: no_handles(),
+            objects: no_handles(),
+            keys: no_handles(),
+        }
+    }
+
+    fn place(&self, kind: HandleKind, number: u64) -> Option<&AtomicU64> {
+        let places = match kind {
+            HandleKind::Session => &self.sessions,
+            HandleKind::Object => &self.objects,
+            HandleKind::Key => &self.keys,
+        };
+        places.get(number as usize % PLACES)
+    }
+
+    /// The handle of the place of this number, 0 where there was none yet.
+    pub(crate) fn get(&self, kind: HandleKind, number: u64) -> u64 {
+        match self.place(kind, number) {
+            Some(place) => place.load(Ordering::SeqCst),
+            None => 0,
+        }
+    }
+
+    pub(crate) fn replace(&self, kind: HandleKind, number: u64, handle: u64) {
+        if let Some(place) = self.place(kind, number) {
+            place.store(handle, Ordering::SeqCst);
+        }
+    }
+}
+
+/// The call that a line stands for, with the handles of the places of this number.
+pub(crate) fn call_of(
+    alloc: Global,
+    handles: &Handles,
+    number: u64,
+    text: &str,
+) -> Result<Call, SoakError> {
+    let mut line = format!(in alloc; "1")?;
+    for word in text.split(' ') {
+        line.push(' ')?;
+        match HandleKind::named(word) {
+            Some(kind) => {
+                let handle = handles.get(kind, number);
+                line.push_str(format!(in alloc; "{handle}")?.as_str())?;
+            }
+            None => line.push_str(word)?,
+        }
+    }
+    match Line::parse(alloc, line.as_bytes())? {
+        Line::Called { call, .. } => Ok(call),
+        Line::Skipped => Err(SoakError::BadLine),
+    }
+}
