@@ -3,6 +3,5 @@ pub mod ReplyLemmas
 pub mod WriteLemmas
 pub mod ReadingLemmas
 pub mod CallerScriptLemmas
-pub mod ThreadPlayLemmas
 pub mod PlayLemmas
 pub mod PlayerLemmas

@@ -8,7 +8,6 @@ use Rattle.ck_journal.specs.declared.calls.Call.{Call}
 use Rattle.ck_script.specs.Lines.{lines_in, meaning}
 use Rattle.ck_script.specs.declared.lines.Line.{Line}
 use Rattle.ck_script.specs.declared.lines.Line.TheVariants as line
-use Rattle.ck_script.specs.declared.lines.TheConstants.{LINE_END}
 use Rattle.ck_play.specs.Devices.{Reading, Writing, IsCount, wrote}
 use Rattle.ck_play.specs.Players.{WriteFailed}
 use Rattle.ck_play.specs.Plays.{calls_in, one_if, failed_reads, AreReads}
@@ -91,8 +90,7 @@ pub record HasReadSoFar (read : Reading) (is_read : Reading → Type 0) (bytes :
 
 -- the text of a journal of so many entries, and of an audit that finds it legal
 abbrev pub summary_text : ℕ → List ℕ
-summary_text entries =
-    codes "entries " ++ decimal entries ++ LINE_END ∷ codes "audit ok" ++ LINE_END ∷ []
+summary_text entries = codes "entries " ++ (decimal entries ++ codes "\naudit ok\n")
 
 -- this is the text of a legal journal, whose entries are by so many callers
 pub record IsSummary (limits : Ranges) (text : List ℕ) : Type 0 where

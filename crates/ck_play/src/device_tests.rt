@@ -166,6 +166,9 @@ fn ended<RT: Eprint + Threads + Wait + Copy + Drop + Send + Sync>(
 #[test]
 fn the_program_ends_with_a_status(rt: HostRuntime) -> Result<(), Fail> {
     let two = "1 InitToken 31323334\n1 OpenSession 6\n2 CloseSession 7\n";
+    let closed_twice = "1 InitToken 31323334\n1 OpenSession 6\n\
+        1 CreateObject 1 0=0000000000000000,3=6162\n1 GetAttributeValue 1 1 3:8,11:?\n\
+        1 DestroyObject 1 1\n1 GetAttributeValue 1 1 3:8\n2 CloseSession 1\n2 CloseSession 1\n";
     let rows = [
         ("", "", (0, 0), "0"),
         ("", "1 InitToken 31323334", (0, 0), "0\n0"),
@@ -184,6 +187,12 @@ fn the_program_ends_with_a_status(rt: HostRuntime) -> Result<(), Fail> {
         ("--callers 2 --callers 2", "", (0, 0), "2"),
         ("--callers 8", "", (0, 0), "entries 0\naudit ok\n0"),
         ("--callers=2", two, (0, 0), "entries 3\naudit ok\n0"),
+        (
+            "--callers 2",
+            closed_twice,
+            (0, 0),
+            "entries 8\naudit ok\n0",
+        ),
         ("--callers 1", two, (0, 0), "1"),
         ("--callers 2", "1 GetTokenInfo\n1 Nope\n", (0, 0), "1"),
         ("--callers 2", two, (5, 0), "3"),
