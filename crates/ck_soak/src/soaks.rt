@@ -20,7 +20,7 @@ use std::thread;
 use std::thread::Threads;
 
 /// How many calls each caller makes.
-const CALLS: usize = 1_000;
+const CALLS: usize = 5_000;
 
 /// How many calls were made, and how many entries the journal has.
 #[derive(Clone, Copy)]
