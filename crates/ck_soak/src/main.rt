@@ -7,6 +7,7 @@
 #![tactic(auto)]
 
 mod asks;
+mod drawing_callers;
 mod errors;
 mod journals;
 mod mix;
@@ -15,7 +16,6 @@ mod plays;
 mod races;
 mod retries;
 mod runs;
-mod soakers;
 mod soaks;
 mod texts;
 mod tokens;

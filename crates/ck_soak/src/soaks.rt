@@ -5,10 +5,10 @@ ghost use Rattle.std.specs.Prelude.{◌≡◌, ℕ};
 ghost use Rattle.ck_journal.specs.Histories.{start};
 ghost use Rattle.ck_shared.specs.Accounts.{name_of};
 
+use crate::drawing_callers::{DrawingCaller, Target};
 use crate::errors::SoakError;
 use crate::journals::{CallerReplies, check_audit, check_count, check_replay, check_replies};
 use crate::mix::{FIRST_CALLS, Handles, NEXT_CALLS, PLACES};
-use crate::soakers::{Soaker, Target};
 use crate::tokens::{Board, Finished, Shared};
 use ck_shared::{Caller, Ends, NewIdentity, TokenId};
 use ck_token::Token;
@@ -29,24 +29,24 @@ pub(crate) struct Counts {
     pub(crate) entries: u64,
 }
 
-fn soakers_of<K: TokenId>(
+fn drawing_callers_of<K: TokenId>(
     alloc: Global,
     callers: Vec<Caller<K, Board<K>>>,
-) -> Result<Vec<Soaker<K>>, SoakError> {
-    let mut soakers = Vec::with_capacity(alloc, callers.len())?;
+) -> Result<Vec<DrawingCaller<K>>, SoakError> {
+    let mut drawing_callers = Vec::with_capacity(alloc, callers.len())?;
     for caller in callers {
-        soakers.push(Soaker::new(alloc, caller))?;
+        drawing_callers.push(DrawingCaller::new(alloc, caller))?;
     }
-    Ok(soakers)
+    Ok(drawing_callers)
 }
 
 /// The first caller makes the first calls, until each place has its session.
 fn prepare<K: TokenId, R: Wait + Drop>(
     alloc: Global,
     target: &Target<K, R>,
-    soakers: &mut [Soaker<K>],
+    drawing_callers: &mut [DrawingCaller<K>],
 ) -> Result<(), SoakError> {
-    if let Some(first) = soakers.first_mut() {
+    if let Some(first) = drawing_callers.first_mut() {
         first.make_row(alloc, target, 0, FIRST_CALLS)?;
         for place in 1..PLACES {
             first.make_row(alloc, target, place as u64, NEXT_CALLS)?;
@@ -60,7 +60,7 @@ fn soak_together<K: TokenId + Send + Sync, R: Threads + Wait + Drop + Send + Syn
     rt: &R,
     alloc: Global,
     token: &Shared<K, R>,
-    soakers: &mut [Soaker<K>],
+    drawing_callers: &mut [DrawingCaller<K>],
 ) -> Result<(), SoakError> {
     let target = Target {
         rt,
@@ -68,27 +68,32 @@ fn soak_together<K: TokenId + Send + Sync, R: Threads + Wait + Drop + Send + Syn
         handles: Handles::new(),
         most: CALLS,
     };
-    prepare(alloc, &target, soakers)?;
+    prepare(alloc, &target, drawing_callers)?;
     thread::for_each_mut(
         rt,
-        soakers,
+        drawing_callers,
         8,
-        &|_: usize, soaker: &mut Soaker<K>| { soaker.soak(alloc, &target) },
+        &|_: usize, drawing_caller: &mut DrawingCaller<K>| {
+            drawing_caller.make_calls(alloc, &target)
+        },
     );
     Ok(())
 }
 
 /// Takes the callers and their replies apart, where each has made its calls.
-fn finish<K: TokenId>(alloc: Global, soakers: Vec<Soaker<K>>) -> Result<Finished<K>, SoakError> {
-    let mut callers = Vec::with_capacity(alloc, soakers.len())?;
-    let mut all = Vec::with_capacity(alloc, soakers.len())?;
-    for soaker in soakers {
-        let Soaker {
+fn finish<K: TokenId>(
+    alloc: Global,
+    drawing_callers: Vec<DrawingCaller<K>>,
+) -> Result<Finished<K>, SoakError> {
+    let mut callers = Vec::with_capacity(alloc, drawing_callers.len())?;
+    let mut all = Vec::with_capacity(alloc, drawing_callers.len())?;
+    for drawing_caller in drawing_callers {
+        let DrawingCaller {
             caller,
             replies,
             outcome,
             ..
-        } = soaker;
+        } = drawing_caller;
         outcome?;
         let number = caller.number();
         callers.push(caller)?;
@@ -130,9 +135,9 @@ fn soak_shared<K: TokenId + Send + Sync, R: Threads + Wait + Copy + Drop + Send 
         return Err(SoakError::Memory);
     };
     let Ends { token, callers } = ends;
-    let mut soakers = soakers_of(alloc, callers)?;
-    soak_together(&rt, alloc, &token, soakers.as_mut_slice())?;
-    let (callers, all) = finish(alloc, soakers)?;
+    let mut drawing_callers = drawing_callers_of(alloc, callers)?;
+    soak_together(&rt, alloc, &token, drawing_callers.as_mut_slice())?;
+    let (callers, all) = finish(alloc, drawing_callers)?;
     match token.close(&rt, callers) {
         Ok(token) => check_all(alloc, &token, all.as_slice()),
         Err(_) => Err(SoakError::NotClosed),

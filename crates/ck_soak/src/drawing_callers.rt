@@ -24,7 +24,7 @@ pub(crate) struct Target<'a, K: TokenId, R: Wait + Drop> {
 
 /// A caller with its draws and all replies that it got.
 #[derive(Drop)]
-pub(crate) struct Soaker<K: TokenId> {
+pub(crate) struct DrawingCaller<K: TokenId> {
     pub(crate) caller: Caller<K, Board<K>>,
     pub(crate) replies: Vec<Reply>,
     pub(crate) outcome: Result<(), SoakError>,
@@ -50,11 +50,11 @@ fn handle_in(reply: &Reply) -> Option<u64> {
     }
 }
 
-impl<K: TokenId> Soaker<K> {
+impl<K: TokenId> DrawingCaller<K> {
     /// The draws follow from the caller's number.
-    pub(crate) fn new(alloc: Global, caller: Caller<K, Board<K>>) -> Soaker<K> {
+    pub(crate) fn new(alloc: Global, caller: Caller<K, Board<K>>) -> DrawingCaller<K> {
         let seed = u64::from(caller.number());
-        Soaker {
+        DrawingCaller {
             caller,
             replies: Vec::new(alloc),
             outcome: Ok(()),
@@ -129,7 +129,7 @@ impl<K: TokenId> Soaker<K> {
     }
 
     /// Draws calls and makes them, and keeps how it ended.
-    pub(crate) fn soak<R: Wait + Drop>(&mut self, alloc: Global, target: &Target<K, R>) {
+    pub(crate) fn make_calls<R: Wait + Drop>(&mut self, alloc: Global, target: &Target<K, R>) {
         self.outcome = self.draw_rows(alloc, target);
     }
 }
