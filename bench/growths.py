@@ -1,5 +1,5 @@
 #!/usr/bin/env python3
-"""Refuses each growth of memory in turn, of the program that plays cases and of the one that plays scripts.
+"""Refuses each growth of memory in turn, of the programs that play cases, scripts and the races of a shared token.
 
 Each case of the files in crates/ck_cases/data, or of the files that are named, is played once for each growth of
 memory, which is refused. What finds no memory, a call, a run or a cut, the program of cases makes again after a look at
@@ -8,8 +8,13 @@ script: all replies are written, or whole lines at their front, and then the pro
 Where anything else comes, it is printed, and the status is 1. Bad lines are left out: they make no call, and without
 memory one may have another reason.
 
-The programs are crates/ck_cases/out/ck_cases and crates/ck_run/out/ck_run, built by `rt run` in their folders. This
-needs Linux with the GNU C library, and a C compiler, `cc`, for growths.c beside this file.
+The calls of each race in crates/ck_soak/data are made one after the other, by callers of a shared token. Where one
+finds no memory, its caller knows and sees what it did before, and the next call of another caller adds one entry; then
+it is made again. With the argument `shared` these alone are played.
+
+The programs are crates/ck_cases/out/ck_cases, crates/ck_run/out/ck_run and crates/ck_soak/out/ck_soak, built by
+`rt run` in their folders. This needs Linux with the GNU C library, and a C compiler, `cc`, for growths.c beside this
+file.
 """
 import collections
 import concurrent.futures
@@ -23,6 +28,8 @@ HERE = os.path.dirname(os.path.abspath(__file__))
 CRATES = os.path.join(HERE, "..", "crates")
 CASES = os.path.join(CRATES, "ck_cases", "out", "ck_cases")
 SCRIPTS = os.path.join(CRATES, "ck_run", "out", "ck_run")
+RACES = os.path.join(CRATES, "ck_soak", "out", "ck_soak")
+RACES_DATA = os.path.join(CRATES, "ck_soak", "data", "callers.races")
 DATA = os.path.join(CRATES, "ck_cases", "data", "*.cases")
 LARGEST = "limits largest"
 BAD_LINE = " -> bad script: "
@@ -70,6 +77,19 @@ def cases_in(path):
     return cases
 
 
+def races_in(path):
+    """The races of a file: of each its lines, and the number of the first."""
+    races = []
+    with open(path, encoding="utf-8", newline="\n") as file:
+        for number, line in enumerate(file, 1):
+            line = line.rstrip("\n")
+            if line.startswith("race"):
+                races.append((number, []))
+            if races:
+                races[-1][1].append(line)
+    return races
+
+
 def calls_in(case):
     """The calls of a case, each with its reply."""
     steps = [line.split(" -> ", 1) for line in case[1:]]
@@ -80,7 +100,8 @@ def is_case_right(ended, name, plain):
     """The case passes, or the program itself is out of memory."""
     if ended.output == plain.output or ended.output == f"{name}: 1 passed, 1 made again\n".encode():
         return ended.status == 0
-    return ended.status == 1 and ended.output in (b"", f"{name}: out of memory\n".encode())
+    without_memory = (b"", f"{name}: out of memory\n".encode(), f"{name}, the race of line 1: out of memory\n".encode())
+    return ended.status == 1 and ended.output in without_memory
 
 
 def is_script_right(ended, plain):
@@ -91,12 +112,12 @@ def is_script_right(ended, plain):
     return is_front and ended.status == 3 and ended.errors == b"ck_run: out of memory\n"
 
 
-def check_case(library, name, lines):
+def check_case(library, command, name, lines):
     """How many growths the case makes, after how many something was made again, and what was wrong."""
     with tempfile.NamedTemporaryFile("w", suffix=".cases", encoding="utf-8", newline="\n") as file:
         file.write("\n".join(lines) + "\n")
         file.flush()
-        words = [CASES, file.name]
+        words = [*command, file.name]
         plain = play(library, words, b"", 0)
         if plain.output != f"{file.name}: 1 passed\n".encode():
             return 0, 0, [f"{name}: {plain.output}"]
@@ -125,16 +146,19 @@ def check_script(library, name, lines):
     return plain.growths, 0, faults
 
 
-def main(paths):
+def main(paths, races):
     with tempfile.TemporaryDirectory() as folder, concurrent.futures.ThreadPoolExecutor(os.cpu_count()) as pool:
         library = build(folder)
         checks = []
         for path in paths:
             for number, lines in cases_in(path):
                 name = f"{os.path.basename(path)}, line {number}"
-                checks.append(pool.submit(check_case, library, name, lines))
+                checks.append(pool.submit(check_case, library, [CASES], name, lines))
                 if lines[0] == LARGEST:
                     checks.append(pool.submit(check_script, library, name, lines))
+        for number, lines in races:
+            name = f"{os.path.basename(RACES_DATA)}, line {number}"
+            checks.append(pool.submit(check_case, library, [RACES, "alone"], name, lines))
         results = [check.result() for check in checks]
     faults = [fault for _, _, of_case in results for fault in of_case]
     print("\n".join(faults))
@@ -144,4 +168,8 @@ def main(paths):
 
 
 if __name__ == "__main__":
-    sys.exit(main(sys.argv[1:] or sorted(glob.glob(DATA))))
+    if sys.argv[1:] == ["shared"]:
+        sys.exit(main([], races_in(RACES_DATA)))
+    if sys.argv[1:]:
+        sys.exit(main(sys.argv[1:], []))
+    sys.exit(main(sorted(glob.glob(DATA)), races_in(RACES_DATA)))

@@ -1,147 +1,155 @@
-//! Eight callers in threads of their own make drawn calls of one token at once, until each has made
-//! its number. Then the token is closed, and its journal is compared with what each caller got,
-//! audited, and made again by one thread. What is written is the same in every order of the calls.
+//! What threads of callers do to a shared token. The program plays the races of the files that its
+//! arguments name: each by one thread, and by threads of its callers, in orders that a gate keeps
+//! and in none. Then a caller asks while another logs in. Then eight callers make drawn calls at
+//! once. What it writes is the same in every order of the calls. Where the first argument is
+//! `alone`, the steps of each race are made one after the other on a shared token, again where there
+//! was no memory, and the line of a file says how many were.
 #![tactic(auto)]
 
-ghost use Rattle.std.specs.Prelude.{◌≡◌, ℕ};
-ghost use Rattle.ck_journal.specs.Histories.{start};
-ghost use Rattle.ck_shared.specs.Accounts.{name_of};
-
-mod checks;
-mod draws;
+mod asks;
+mod drawing_callers;
 mod errors;
+mod journals;
 mod mix;
-mod soakers;
+mod orders;
+mod plays;
+mod races;
+mod retries;
+mod runs;
+mod soaks;
+mod texts;
+mod tokens;
 
-use checks::{check_audit, check_entries, check_replay};
-use ck_journal::Reply;
-use ck_shared::{BoardCopy, Caller, Ends, EntrySlot, NewIdentity, SharedToken, TokenId};
-use ck_token::Token;
-use ck_types::Limits;
+use asks::{RUNS, run_asks};
 use errors::SoakError;
-use mix::{FIRST_CALLS, Handles, PLACES};
-use soakers::Soaker;
+use plays::check_race;
+use races::{Race, races_in};
+use retries::retry_race;
+use soaks::{Counts, soak_once};
 use std::alloc::Global;
-use std::marker::Brand;
+use std::env::Env;
+use std::fs::Files;
 use std::process::ExitCode;
 use std::sync::Wait;
 use std::thread::Threads;
-use std::{io, thread};
+use std::{env, fs, io};
 
-type Shared<K, R> = SharedToken<K, EntrySlot<K>, BoardCopy<K>, R>;
-
-/// How many calls each caller makes.
-const CALLS: usize = 1_000;
-
-/// The callers with their draws. The first has made the first calls, and each place has its
-/// handles.
-fn soakers_of<K: TokenId, R: Wait + Drop>(
-    rt: &R,
-    alloc: Global,
-    token: &Shared<K, R>,
-    handles: &Handles,
-    callers: Vec<Caller<K, BoardCopy<K>>>,
-) -> Result<Vec<Soaker<K>>, SoakError> {
-    let mut soakers = Vec::with_capacity(alloc, callers.len())?;
-    for caller in callers {
-        soakers.push(Soaker::new(alloc, caller))?;
-    }
-    if let Some(first) = soakers.first_mut() {
-        first.make_row(rt, alloc, token, handles, 0, FIRST_CALLS, CALLS)?;
-        for place in 1..PLACES {
-            let row = "OpenSession 6 > $session";
-            first.make_row(rt, alloc, token, handles, place as u64, row, CALLS)?;
-        }
-    }
-    Ok(soakers)
+/// How the races of a file are played.
+#[derive(Clone, Copy, PartialEq, Eq)]
+enum Mode {
+    InThreads,
+    Alone,
 }
 
-/// What the callers have when they are done: themselves, and the replies of each by its number.
-type Finished<K> = (Vec<Caller<K, BoardCopy<K>>>, Vec<(u32, Vec<Reply>)>);
-
-/// Takes the callers and their replies apart, where each has made its calls.
-fn finish<K: TokenId>(alloc: Global, soakers: Vec<Soaker<K>>) -> Result<Finished<K>, SoakError> {
-    let mut callers = Vec::with_capacity(alloc, soakers.len())?;
-    let mut replies = Vec::with_capacity(alloc, soakers.len())?;
-    for soaker in soakers {
-        soaker.outcome?;
-        replies.push((soaker.caller.number(), soaker.replies))?;
-        callers.push(soaker.caller)?;
-    }
-    Ok((callers, replies))
-}
-
-/// Checks the journal against the replies of all callers, and gives the number of its entries.
-fn check_all(
-    alloc: Global,
-    token: &Token,
-    replies: &[(u32, Vec<Reply>)],
-) -> Result<(u64, u64), SoakError> {
-    let journal = token.journal();
-    let mut calls = 0u64;
-    for (number, replies) in replies {
-        check_entries(alloc, journal, *number, replies.as_slice())?;
-        calls = calls.saturating_add(replies.len() as u64);
-    }
-    let came = journal.len();
-    if came != calls {
-        return Err(SoakError::Entries { calls, came });
-    }
-    check_audit(alloc, token)?;
-    check_replay(alloc, token)?;
-    Ok((calls, came))
-}
-
-/// Shares the token among eight callers, and takes it back where all are done. Gives how many calls
-/// they made, and how many entries the journal has.
-fn soak<K: TokenId + Send + Sync, R: Threads + Wait + Copy + Drop + Send + Sync>(
+/// Plays a race, and says how often a call was made again that had found no memory.
+fn play_race<R: Threads + Wait + Copy + Drop + Send + Sync>(
     rt: R,
     alloc: Global,
-    token: Token,
-    identity: NewIdentity,
-) -> Result<(u64, u64), SoakError>
-    requires history { token.history ≡ start K.base }
-    requires limits { token.limits ≡ K.limits }
-    requires callers { K.callers ≡ 8 }
-    requires book { identity.history.seen.book ≡ K.book }
-    requires ledgers { (n : ℕ) → K.ledger n ≡ name_of identity.ledgers n }
-{
-    let Ok(ends) = Shared::<K, R>::adopt(rt, alloc, token, 8, identity) else {
-        return Err(SoakError::Memory);
-    };
-    let Ends { token, callers } = ends;
-    let handles = Handles::new();
-    let mut soakers = soakers_of(&rt, alloc, &token, &handles, callers)?;
-    thread::for_each_mut(
-        &rt,
-        soakers.as_mut_slice(),
-        8,
-        &|_: usize, soaker: &mut Soaker<K>| { soaker.soak(&rt, alloc, &token, &handles, CALLS) },
-    );
-    let (callers, replies) = finish(alloc, soakers)?;
-    let Ok(token) = token.close(&rt, callers) else {
-        return Err(SoakError::NotClosed);
-    };
-    check_all(alloc, &token, replies.as_slice())
+    mode: Mode,
+    race: &Race,
+) -> Result<u64, SoakError> {
+    match mode {
+        Mode::InThreads => check_race(rt, alloc, race).map(|()| 0),
+        Mode::Alone => retry_race(rt, alloc, race),
+    }
 }
 
-fn write_counts<R: Print>(rt: &R, calls: u64, entries: u64) -> io::Result<()> {
-    println!(rt; "calls: {calls}")?;
-    println!(rt; "entries: {entries}")?;
-    println!(rt; "audit ok")
+/// Plays races, and says whether they pass.
+fn play_races<R: Print + AllocGlobal + Threads + Wait + Copy + Drop + Send + Sync>(
+    rt: R,
+    mode: Mode,
+    name: &str,
+    races: &[Race],
+) -> io::Result<bool> {
+    let mut retries = 0u64;
+    for race in races {
+        match play_race(rt, rt.alloc(), mode, race) {
+            Ok(count) => retries = retries.saturating_add(count),
+            Err(error) => {
+                println!(rt; "{name}, the race of line {}: {error}", race.line)?;
+                return Ok(false);
+            }
+        }
+    }
+    let passed = races.len();
+    if retries == 0 {
+        println!(rt; "{name}: {passed} passed")?;
+    } else {
+        println!(rt; "{name}: {passed} passed, {retries} made again")?;
+    }
+    Ok(true)
+}
+
+/// Plays the races of the file of this name, and says whether they pass.
+fn play_file<R: Files + Print + AllocGlobal + Threads + Wait + Copy + Drop + Send + Sync>(
+    rt: R,
+    mode: Mode,
+    name: &str,
+) -> io::Result<bool> {
+    let text = fs::read_to_string(&rt, name)?;
+    match races_in(rt.alloc(), text.as_str()) {
+        Ok(races) => play_races(rt, mode, name, races.as_slice()),
+        Err(error) => {
+            println!(rt; "{name}: {error}")?;
+            Ok(false)
+        }
+    }
+}
+
+/// Asks while another logs in, and says whether all answers were right.
+fn play_asks<R: Print + AllocGlobal + Threads + Wait + Copy + Drop + Send + Sync>(
+    rt: R,
+) -> io::Result<bool> {
+    match run_asks(rt, rt.alloc()) {
+        Ok(()) => {
+            println!(rt; "asks: {RUNS} passed")?;
+            Ok(true)
+        }
+        Err(error) => {
+            println!(rt; "asks: {error}")?;
+            Ok(false)
+        }
+    }
+}
+
+/// Makes the drawn calls, and says whether the journal is right.
+fn play_soak<R: Print + AllocGlobal + Threads + Wait + Copy + Drop + Send + Sync>(
+    rt: R,
+) -> io::Result<bool> {
+    match soak_once(rt, rt.alloc()) {
+        Ok(Counts { calls, entries }) => {
+            println!(rt; "calls: {calls}")?;
+            println!(rt; "entries: {entries}")?;
+            println!(rt; "audit ok")?;
+            Ok(true)
+        }
+        Err(error) => {
+            println!(rt; "calls: {error}")?;
+            Ok(false)
+        }
+    }
+}
+
+fn play_all<R: Env + Files + Print + AllocGlobal + Threads + Wait + Copy + Drop + Send + Sync>(
+    rt: R,
+) -> io::Result<bool> {
+    let mut mode = Mode::InThreads;
+    let mut all_pass = true;
+    for word in env::args(&rt)?.skip(1) {
+        match word.as_str() {
+            "alone" => mode = Mode::Alone,
+            name => all_pass = play_file(rt, mode, name)? && all_pass,
+        }
+    }
+    match mode {
+        Mode::InThreads => Ok(play_asks(rt)? && play_soak(rt)? && all_pass),
+        Mode::Alone => Ok(all_pass),
+    }
 }
 
 fn main(rt: HostRuntime) -> ExitCode {
-    let alloc = rt.alloc();
-    let token = Token::new(alloc, Limits::largest());
-    match soak::<Brand, _>(rt, alloc, token, NewIdentity::new()) {
-        Ok((calls, entries)) => match write_counts(&rt, calls, entries) {
-            Ok(()) => ExitCode::SUCCESS,
-            Err(_) => ExitCode::from(3),
-        },
-        Err(error) => {
-            let _ = eprintln!(rt; "ck_soak: {error}");
-            ExitCode::from(error.status())
-        }
+    match play_all(rt) {
+        Ok(true) => ExitCode::SUCCESS,
+        Ok(false) | Err(_) => ExitCode::FAILURE,
     }
 }

@@ -13,6 +13,9 @@ pub(crate) const FIRST_CALLS: &str = "InitToken 31323334; OpenSession 6 > $sessi
     Login $session 0 31323334; InitPIN $session 75736572; Logout $session; \
     Login $session 1 75736572";
 
+/// What it is then called with for each place that has no session yet.
+pub(crate) const NEXT_CALLS: &str = "OpenSession 6 > $session";
+
 /// Calls in a row that a caller draws. They stand in the language of scripts. `$session`, `$object`
 /// and `$key` are handles that all callers know, and behind `>` stands which one is replaced by the
 /// handle of the reply. Between two calls of a row come those of other callers.
@@ -166,6 +169,6 @@ pub(crate) fn call_of(
     }
     match Line::parse(alloc, line.as_bytes())? {
         Line::Called { call, .. } => Ok(call),
-        Line::Skipped => Err(SoakError::BadLine),
+        Line::Skipped => Err(SoakError::BadRow),
     }
 }

@@ -3,6 +3,8 @@ use ck_journal::{Call, Reply};
 use ck_runs::Gate;
 use ck_shared::{Ask, Caller, Status, TokenId};
 use ck_types::NoMemory;
+use rand_core::Rng;
+use rand_xoshiro::Xoshiro256PlusPlus;
 use std::alloc::Global;
 use std::sync::Wait;
 use std::sync::atomic::{AtomicBool, AtomicU64, Ordering};
@@ -77,30 +79,10 @@ impl<'a, K: TokenId, T: Drop, G: Gate<K, T>> Gate<K, T> for OrderedGate<'a, G> {
     }
 }
 
-/// A generator of orders, the same for the same seed (SplitMix64).
-#[derive(Clone, Copy)]
-pub(crate) struct Draws {
-    state: u64,
-}
-
-impl Draws {
-    pub(crate) fn new(seed: u64) -> Draws {
-        Draws { state: seed }
-    }
-
-    fn next(&mut self) -> u64 {
-        self.state = self.state.wrapping_add(0x9e37_79b9_7f4a_7c15);
-        let mixed = self.state;
-        let mixed = (mixed ^ (mixed >> 30)).wrapping_mul(0xbf58_476d_1ce4_e5b9);
-        let mixed = (mixed ^ (mixed >> 27)).wrapping_mul(0x94d0_49bb_1331_11eb);
-        mixed ^ (mixed >> 31)
-    }
-
-    /// Turns a front of an order round, of a length that is drawn.
-    pub(crate) fn reorder(&mut self, order: &mut [u32]) {
-        let length = self.next() as usize % (order.len() + 1);
-        if let Some(front) = order.get_mut(..length) {
-            front.reverse();
-        }
+/// Turns a front of an order round, of a length that is drawn.
+pub(crate) fn reorder(draws: &mut Xoshiro256PlusPlus, order: &mut [u32]) {
+    let length = draws.next_u64() as usize % (order.len() + 1);
+    if let Some(front) = order.get_mut(..length) {
+        front.reverse();
     }
 }

@@ -11,7 +11,7 @@
 //! - The steps behind `afterwards` are made where these replies have come.
 //!
 //! Empty lines and lines that begin with `#` are skipped.
-use crate::errors::RaceError;
+use crate::errors::SoakError;
 use ck_journal::Call;
 use ck_script::{Line, LineError};
 use ck_types::Limits;
@@ -68,7 +68,7 @@ impl<'a> Race<'a> {
         }
     }
 
-    fn add(&mut self, step: Step<'a>) -> Result<(), RaceError> {
+    fn add(&mut self, step: Step<'a>) -> Result<(), SoakError> {
         match self.part {
             Part::First => self.first.push(step)?,
             Part::Together => self.together.push(step)?,
@@ -91,8 +91,8 @@ fn limits_in(text: &str) -> Option<Limits> {
     Limits::of(sessions, openings, creations, logins)
 }
 
-fn step_in<'a>(alloc: Global, line: u64, text: &'a str) -> Result<Step<'a>, RaceError> {
-    let (text, reply) = text.split_once(" -> ").ok_or(RaceError::NoRace(line))?;
+fn step_in<'a>(alloc: Global, line: u64, text: &'a str) -> Result<Step<'a>, SoakError> {
+    let (text, reply) = text.split_once(" -> ").ok_or(SoakError::NoRace(line))?;
     match Line::parse(alloc, text.as_bytes()) {
         Ok(Line::Called { caller, call }) => Ok(Step {
             line,
@@ -100,8 +100,8 @@ fn step_in<'a>(alloc: Global, line: u64, text: &'a str) -> Result<Step<'a>, Race
             call,
             reply,
         }),
-        Err(LineError::Memory) => Err(RaceError::Memory),
-        Ok(Line::Skipped) | Err(LineError::Bad(_)) => Err(RaceError::NoRace(line)),
+        Err(LineError::Memory) => Err(SoakError::Memory),
+        Ok(Line::Skipped) | Err(LineError::Bad(_)) => Err(SoakError::NoRace(line)),
     }
 }
 
@@ -111,16 +111,16 @@ fn add_line<'a>(
     races: &mut Vec<Race<'a>>,
     line: u64,
     text: &'a str,
-) -> Result<(), RaceError> {
+) -> Result<(), SoakError> {
     if text.is_empty() || text.starts_with('#') {
         return Ok(());
     }
     if let Some(limits) = text.strip_prefix("race") {
-        let limits = limits_in(limits).ok_or(RaceError::NoRace(line))?;
+        let limits = limits_in(limits).ok_or(SoakError::NoRace(line))?;
         races.push(Race::new(alloc, line, limits))?;
         return Ok(());
     }
-    let race = races.last_mut().ok_or(RaceError::NoRace(line))?;
+    let race = races.last_mut().ok_or(SoakError::NoRace(line))?;
     match text {
         "cut" => race.earlier = mem::replace(&mut race.first, Vec::new(alloc)),
         "together" => race.part = Part::Together,
@@ -135,7 +135,7 @@ fn add_line<'a>(
 }
 
 /// The races of a file.
-pub(crate) fn races_in<'a>(alloc: Global, text: &'a str) -> Result<Vec<Race<'a>>, RaceError> {
+pub(crate) fn races_in<'a>(alloc: Global, text: &'a str) -> Result<Vec<Race<'a>>, SoakError> {
     let mut races = Vec::new(alloc);
     let mut line = 0u64;
     for text in text.lines() {

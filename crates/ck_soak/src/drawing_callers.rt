@@ -1,24 +1,34 @@
 //! A caller that draws its calls.
-use crate::Shared;
-use crate::draws::Draws;
 use crate::errors::SoakError;
 use crate::mix::{HandleKind, Handles, ROWS, SELDOM, call_of};
+use crate::tokens::{Board, Shared};
 use ck_journal::{Body, Reply};
-use ck_shared::{Ask, BoardCopy, Caller, TokenId};
+use ck_shared::{Ask, Caller, TokenId};
 use ck_types::Rv;
+use rand_core::{Rng, SeedableRng};
+use rand_xoshiro::Xoshiro256PlusPlus;
 use std::alloc::Global;
 use std::sync::Wait;
 
 /// Of how many rows one is drawn of those that are drawn seldom.
 const SELDOM_IN: u64 = 256;
 
+/// What all callers call, the handles that they know, and how many calls each makes.
+#[derive(Drop)]
+pub(crate) struct Target<'a, K: TokenId, R: Wait + Drop> {
+    pub(crate) rt: &'a R,
+    pub(crate) token: &'a Shared<K, R>,
+    pub(crate) handles: Handles,
+    pub(crate) most: usize,
+}
+
 /// A caller with its draws and all replies that it got.
 #[derive(Drop)]
-pub(crate) struct Soaker<K: TokenId> {
-    pub(crate) caller: Caller<K, BoardCopy<K>>,
+pub(crate) struct DrawingCaller<K: TokenId> {
+    pub(crate) caller: Caller<K, Board<K>>,
     pub(crate) replies: Vec<Reply>,
     pub(crate) outcome: Result<(), SoakError>,
-    draws: Draws,
+    draws: Xoshiro256PlusPlus,
 }
 
 /// The row that a number stands for.
@@ -40,25 +50,23 @@ fn handle_in(reply: &Reply) -> Option<u64> {
     }
 }
 
-impl<K: TokenId> Soaker<K> {
+impl<K: TokenId> DrawingCaller<K> {
     /// The draws follow from the caller's number.
-    pub(crate) fn new(alloc: Global, caller: Caller<K, BoardCopy<K>>) -> Soaker<K> {
+    pub(crate) fn new(alloc: Global, caller: Caller<K, Board<K>>) -> DrawingCaller<K> {
         let seed = u64::from(caller.number());
-        Soaker {
+        DrawingCaller {
             caller,
             replies: Vec::new(alloc),
             outcome: Ok(()),
-            draws: Draws::new(seed),
+            draws: Xoshiro256PlusPlus::seed_from_u64(seed),
         }
     }
 
-    /// Makes one call of a row, and keeps its reply.
+    /// Makes one call of a row with the handles of the places of this number, and keeps its reply.
     fn make_call<R: Wait + Drop>(
         &mut self,
-        rt: &R,
         alloc: Global,
-        token: &Shared<K, R>,
-        handles: &Handles,
+        target: &Target<K, R>,
         number: u64,
         step: &str,
     ) -> Result<(), SoakError> {
@@ -66,29 +74,26 @@ impl<K: TokenId> Soaker<K> {
             Some((text, word)) => (text, HandleKind::named(word)),
             None => (step, None),
         };
-        let call = call_of(alloc, handles, number, text)?;
-        let reply = token.call(rt, alloc, &mut self.caller, call)?;
+        let call = call_of(alloc, &target.handles, number, text)?;
+        let reply = target.token.call(target.rt, alloc, &mut self.caller, call)?;
         if let (Some(kind), Some(handle)) = (kept, handle_in(&reply)) {
-            handles.replace(kind, number, handle);
+            target.handles.replace(kind, number, handle);
         }
         self.replies.push(reply)?;
         Ok(())
     }
 
-    /// Makes the calls of a row, up to so many replies in all.
+    /// Makes the calls of a row, as long as the caller has calls to make.
     pub(crate) fn make_row<R: Wait + Drop>(
         &mut self,
-        rt: &R,
         alloc: Global,
-        token: &Shared<K, R>,
-        handles: &Handles,
+        target: &Target<K, R>,
         number: u64,
         row: &str,
-        most: usize,
     ) -> Result<(), SoakError> {
         for step in row.split("; ") {
-            if self.replies.len() < most {
-                self.make_call(rt, alloc, token, handles, number, step)?;
+            if self.replies.len() < target.most {
+                self.make_call(alloc, target, number, step)?;
             }
         }
         Ok(())
@@ -105,36 +110,26 @@ impl<K: TokenId> Soaker<K> {
         Ok(())
     }
 
-    /// Draws rows and makes their calls, until there are so many replies.
+    /// Draws rows and makes their calls, until the caller has made all.
     fn draw_rows<R: Wait + Drop>(
         &mut self,
-        rt: &R,
         alloc: Global,
-        token: &Shared<K, R>,
-        handles: &Handles,
-        most: usize,
+        target: &Target<K, R>,
     ) -> Result<(), SoakError> {
-        for _ in 0..most {
-            if self.replies.len() >= most {
+        for _ in 0..target.most {
+            if self.replies.len() >= target.most {
                 break;
             }
-            let row = row_of(self.draws.next());
-            let place = self.draws.next();
-            self.make_row(rt, alloc, token, handles, place, row, most)?;
-            self.ask(handles.get(HandleKind::Session, place))?;
+            let row = row_of(self.draws.next_u64());
+            let number = self.draws.next_u64();
+            self.make_row(alloc, target, number, row)?;
+            self.ask(target.handles.get(HandleKind::Session, number))?;
         }
         Ok(())
     }
 
-    /// Draws calls until there are so many replies, and keeps how it ended.
-    pub(crate) fn soak<R: Wait + Drop>(
-        &mut self,
-        rt: &R,
-        alloc: Global,
-        token: &Shared<K, R>,
-        handles: &Handles,
-        most: usize,
-    ) {
-        self.outcome = self.draw_rows(rt, alloc, token, handles, most);
+    /// Draws calls and makes them, and keeps how it ended.
+    pub(crate) fn make_calls<R: Wait + Drop>(&mut self, alloc: Global, target: &Target<K, R>) {
+        self.outcome = self.draw_rows(alloc, target);
     }
 }

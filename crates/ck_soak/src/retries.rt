@@ -3,12 +3,11 @@ ghost use Rattle.std.specs.Prelude.{◌≡◌, ℕ};
 ghost use Rattle.ck_journal.specs.Histories.{start};
 ghost use Rattle.ck_shared.specs.Accounts.{name_of};
 
-use crate::errors::RaceError;
+use crate::errors::SoakError;
+use crate::journals::{check_audit, check_count};
 use crate::races::{Race, Step};
-use crate::runs::{Board, Shared};
 use crate::texts::{compare, reply_text};
-use crate::tokens::token_of;
-use ck_audit::{Verdict, audit_token};
+use crate::tokens::{Board, Shared, token_of};
 use ck_journal::{Call, Reply};
 use ck_shared::{Ask, Caller, Ends, NewIdentity, Status, TokenId};
 use ck_token::Token;
@@ -50,7 +49,7 @@ fn status_text<K: TokenId>(
     alloc: Global,
     caller: &mut Caller<K, Board<K>>,
     ask: Ask,
-) -> Result<String, RaceError> {
+) -> Result<String, SoakError> {
     match caller.status(ask) {
         Some(Status::Reply(reply)) => reply_text(alloc, &reply),
         _ => Ok(String::new(alloc)),
@@ -58,7 +57,7 @@ fn status_text<K: TokenId>(
 }
 
 /// What a caller sees. It asks before it counts what it knows.
-fn view<K: TokenId>(alloc: Global, caller: &mut Caller<K, Board<K>>) -> Result<View, RaceError> {
+fn view_of<K: TokenId>(alloc: Global, caller: &mut Caller<K, Board<K>>) -> Result<View, SoakError> {
     let session = status_text(alloc, caller, Ask::Session(1))?;
     let token = status_text(alloc, caller, Ask::Token)?;
     Ok(View {
@@ -70,27 +69,27 @@ fn view<K: TokenId>(alloc: Global, caller: &mut Caller<K, Board<K>>) -> Result<V
 }
 
 impl<'a, K: TokenId, R: Wait + Drop> Retrying<'a, K, R> {
-    fn caller(&mut self, number: u32, line: u64) -> Result<&mut Caller<K, Board<K>>, RaceError> {
+    fn caller(&mut self, number: u32, line: u64) -> Result<&mut Caller<K, Board<K>>, SoakError> {
         let mut all = self.callers.iter_mut();
         let found = all.find(|caller| caller.number() == number);
-        found.ok_or(RaceError::NoRace(line))
+        found.ok_or(SoakError::NoRace(line))
     }
 
     /// A call of the step's caller, and whether it found no memory.
-    fn call(&mut self, alloc: Global, step: &Step) -> Result<Result<Reply, NoMemory>, RaceError> {
+    fn call(&mut self, alloc: Global, step: &Step) -> Result<Result<Reply, NoMemory>, SoakError> {
         let (rt, token) = (self.rt, self.token);
         let call = step.call.duplicate(alloc)?;
         let caller = self.caller(step.caller, step.line)?;
-        let before = view(alloc, caller)?;
+        let before = view_of(alloc, caller)?;
         let reply = token.call(rt, alloc, caller, call);
-        if reply.is_err() && !view(alloc, caller)?.is_same(&before) {
-            return Err(RaceError::Changed(step.line));
+        if reply.is_err() && !view_of(alloc, caller)?.is_same(&before) {
+            return Err(SoakError::Changed(step.line));
         }
         Ok(reply)
     }
 
     /// The next call of another caller adds one entry to those that were there.
-    fn call_by_another(&mut self, alloc: Global, step: &Step) -> Result<(), RaceError> {
+    fn call_by_another(&mut self, alloc: Global, step: &Step) -> Result<(), SoakError> {
         let (rt, token) = (self.rt, self.token);
         let number = if step.caller == 8 { 7 } else { 8 };
         let other = self.caller(number, step.line)?;
@@ -98,13 +97,13 @@ impl<'a, K: TokenId, R: Wait + Drop> Retrying<'a, K, R> {
         let seen = other.seen();
         self.answered = self.answered.saturating_add(1);
         if seen != self.answered {
-            return Err(RaceError::Changed(step.line));
+            return Err(SoakError::Changed(step.line));
         }
         Ok(())
     }
 
     /// Makes a step, again where it finds no memory.
-    fn make(&mut self, alloc: Global, step: &Step) -> Result<(), RaceError> {
+    fn make(&mut self, alloc: Global, step: &Step) -> Result<(), SoakError> {
         let reply = match self.call(alloc, step)? {
             Ok(reply) => reply,
             Err(NoMemory) => {
@@ -117,28 +116,17 @@ impl<'a, K: TokenId, R: Wait + Drop> Retrying<'a, K, R> {
         compare(alloc, step, &reply)
     }
 
-    fn make_all(&mut self, alloc: Global, steps: &[Step]) -> Result<(), RaceError> {
+    fn make_all(&mut self, alloc: Global, steps: &[Step]) -> Result<(), SoakError> {
         for step in steps {
             self.make(alloc, step)?;
         }
         Ok(())
     }
-}
 
-/// The journal has so many entries, and an audit finds it legal.
-fn check_journal(alloc: Global, race: &Race, token: &Token, entries: u64) -> Result<(), RaceError> {
-    let came = token.journal().len();
-    if came != entries {
-        let race = race.line;
-        return Err(RaceError::Entries {
-            race,
-            entries,
-            came,
-        });
-    }
-    match audit_token(alloc, token)? {
-        Verdict::Legal => Ok(()),
-        Verdict::Wrong(_) => Err(RaceError::Wrong(race.line)),
+    fn make_race(&mut self, alloc: Global, race: &Race) -> Result<(), SoakError> {
+        self.make_all(alloc, race.first.as_slice())?;
+        self.make_all(alloc, race.together.as_slice())?;
+        self.make_all(alloc, race.afterwards.as_slice())
     }
 }
 
@@ -150,7 +138,7 @@ fn retry_shared<K: TokenId, R: Wait + Copy + Drop>(
     token: Token,
     identity: NewIdentity,
     race: &Race,
-) -> Result<u64, RaceError>
+) -> Result<u64, SoakError>
     requires history { token.history ≡ start K.base }
     requires limits { token.limits ≡ K.limits }
     requires callers { K.callers ≡ 8 }
@@ -158,7 +146,7 @@ fn retry_shared<K: TokenId, R: Wait + Copy + Drop>(
     requires ledgers { (n : ℕ) → K.ledger n ≡ name_of identity.ledgers n }
 {
     let Ok(ends) = Shared::<K, R>::adopt(rt, alloc, token, 8, identity) else {
-        return Err(RaceError::Memory);
+        return Err(SoakError::Memory);
     };
     let Ends { token, callers } = ends;
     let mut retrying = Retrying {
@@ -168,19 +156,20 @@ fn retry_shared<K: TokenId, R: Wait + Copy + Drop>(
         answered: 0,
         retries: 0,
     };
-    retrying.make_all(alloc, race.first.as_slice())?;
-    retrying.make_all(alloc, race.together.as_slice())?;
-    retrying.make_all(alloc, race.afterwards.as_slice())?;
+    let outcome = retrying.make_race(alloc, race);
     let Retrying {
         callers,
         answered,
         retries,
         ..
     } = retrying;
-    match token.close(&rt, callers) {
-        Ok(token) => check_journal(alloc, race, &token, answered).map(|()| retries),
-        Err(_) => Err(RaceError::NotClosed(race.line)),
-    }
+    let Ok(token) = token.close(&rt, callers) else {
+        return Err(SoakError::NotClosed);
+    };
+    outcome?;
+    check_count(&token, answered)?;
+    check_audit(alloc, &token)?;
+    Ok(retries)
 }
 
 /// Makes the steps of a race one after the other on a shared token, and says how often one was made
@@ -189,7 +178,7 @@ pub(crate) fn retry_race<R: Wait + Copy + Drop>(
     rt: R,
     alloc: Global,
     race: &Race,
-) -> Result<u64, RaceError> {
+) -> Result<u64, SoakError> {
     let token = token_of(alloc, race)?;
     retry_shared::<Brand, R>(rt, alloc, token, NewIdentity::new(), race)
 }

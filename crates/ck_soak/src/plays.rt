@@ -1,13 +1,15 @@
 //! A race in one thread, in orders that a gate keeps, and in none.
-use crate::errors::RaceError;
-use crate::orders::Draws;
+use crate::errors::SoakError;
+use crate::journals::{check_audit, check_replies};
+use crate::orders::reorder;
 use crate::races::{Known, Race, Step};
-use crate::runs::{Got, Ran, run_race};
+use crate::runs::{Ran, run_race};
 use crate::texts::{compare, reply_text};
 use crate::tokens::{make_steps, token_of};
-use ck_audit::{Verdict, audit_token};
 use ck_journal::Entry;
 use ck_token::Token;
+use rand_core::SeedableRng;
+use rand_xoshiro::Xoshiro256PlusPlus;
 use std::alloc::Global;
 use std::sync::Wait;
 use std::thread::Threads;
@@ -16,7 +18,7 @@ use std::thread::Threads;
 const RUNS: u64 = 100;
 
 /// Makes all steps of a race on a token by one thread.
-fn check_alone(alloc: Global, race: &Race) -> Result<(), RaceError> {
+fn check_alone(alloc: Global, race: &Race) -> Result<(), SoakError> {
     let mut token = token_of(alloc, race)?;
     make_steps(alloc, &mut token, race.first.as_slice())?;
     make_steps(alloc, &mut token, race.together.as_slice())?;
@@ -24,7 +26,7 @@ fn check_alone(alloc: Global, race: &Race) -> Result<(), RaceError> {
 }
 
 /// The callers of the steps, in their order.
-fn callers_of(alloc: Global, steps: &[Step]) -> Result<Vec<u32>, RaceError> {
+fn callers_of(alloc: Global, steps: &[Step]) -> Result<Vec<u32>, SoakError> {
     let mut callers = Vec::with_capacity(alloc, steps.len())?;
     for step in steps {
         callers.push(step.caller)?;
@@ -38,24 +40,8 @@ fn entries_of<'a>(token: &'a Token, race: &Race) -> &'a [Entry] {
     entries.get(race.first.len()..).unwrap_or(&[])
 }
 
-/// What a caller got are the replies of its entries, in their order.
-fn check_got(alloc: Global, race: &Race, entries: &[Entry], got: &Got) -> Result<(), RaceError> {
-    let mut left = got.replies.iter();
-    for entry in entries.iter().filter(|entry| entry.caller == got.caller) {
-        let reply = left.next().ok_or(RaceError::Replies(race.line))?;
-        let (came, entered) = (reply_text(alloc, reply)?, reply_text(alloc, &entry.reply)?);
-        if came.as_str() != entered.as_str() {
-            return Err(RaceError::Replies(race.line));
-        }
-    }
-    match left.next() {
-        Some(_) => Err(RaceError::Replies(race.line)),
-        None => Ok(()),
-    }
-}
-
 /// The calls were made in this order of their callers.
-fn check_order(race: &Race, entries: &[Entry], order: &[u32]) -> Result<(), RaceError> {
+fn check_order(entries: &[Entry], order: &[u32]) -> Result<(), SoakError> {
     let is_kept = entries.len() == order.len()
         && entries
             .iter()
@@ -64,12 +50,26 @@ fn check_order(race: &Race, entries: &[Entry], order: &[u32]) -> Result<(), Race
     if is_kept {
         return Ok(());
     }
-    Err(RaceError::Order(race.line))
+    Err(SoakError::Order)
 }
 
-/// The replies are those of the steps, where they are known in the order in which they came.
-fn check_known(alloc: Global, race: &Race, entries: &[Entry]) -> Result<(), RaceError> {
-    for (entry, step) in entries.iter().zip(race.together.iter()) {
+/// Whether the replies of the steps are known, where a gate kept this order of their callers, or
+/// none.
+fn are_known(race: &Race, order: Option<&[u32]>) -> bool {
+    match (race.known, order) {
+        (Known::InAnyOrder, _) => true,
+        (Known::InThisOrder, None) => false,
+        (Known::InThisOrder, Some(order)) => race
+            .together
+            .iter()
+            .zip(order)
+            .all(|(step, caller)| step.caller == *caller),
+    }
+}
+
+/// The replies are those of the steps, in their order.
+fn check_in_order(alloc: Global, steps: &[Step], entries: &[Entry]) -> Result<(), SoakError> {
+    for (entry, step) in entries.iter().zip(steps) {
         compare(alloc, step, &entry.reply)?;
     }
     Ok(())
@@ -81,7 +81,7 @@ fn count_in(steps: &[Step], text: &str) -> usize {
 }
 
 /// The replies are those of the steps, to whichever callers: each as often.
-fn check_any_order(alloc: Global, race: &Race, entries: &[Entry]) -> Result<(), RaceError> {
+fn check_in_any(alloc: Global, steps: &[Step], entries: &[Entry]) -> Result<(), SoakError> {
     let mut texts = Vec::with_capacity(alloc, entries.len())?;
     for entry in entries {
         texts.push(reply_text(alloc, &entry.reply)?)?;
@@ -91,39 +91,50 @@ fn check_any_order(alloc: Global, race: &Race, entries: &[Entry]) -> Result<(), 
             .iter()
             .filter(|other| other.as_str() == text.as_str())
             .count();
-        if came != count_in(race.together.as_slice(), text.as_str()) {
-            return Err(RaceError::Replies(race.line));
+        if came != count_in(steps, text.as_str()) {
+            return Err(SoakError::Replies);
         }
     }
     Ok(())
 }
 
-/// Checks a run against the race. `order` is the one that the gate kept, `is_own` says that it is
-/// the order of the steps.
+/// Checks the entries of the steps that were made together.
+fn check_entries(
+    alloc: Global,
+    race: &Race,
+    ran: &Ran,
+    order: Option<&[u32]>,
+) -> Result<(), SoakError> {
+    let entries = entries_of(&ran.token, race);
+    for replies in ran.replies.iter() {
+        check_replies(alloc, entries, replies)?;
+    }
+    if let Some(order) = order {
+        check_order(entries, order)?;
+    }
+    if !are_known(race, order) {
+        return Ok(());
+    }
+    let steps = race.together.as_slice();
+    match race.known {
+        Known::InThisOrder => check_in_order(alloc, steps, entries),
+        Known::InAnyOrder => check_in_any(alloc, steps, entries),
+    }
+}
+
+/// Checks a run against the race, where a gate kept this order, or none.
 fn check_run(
     alloc: Global,
     race: &Race,
-    ran: Ran,
+    ran: &mut Ran,
     order: Option<&[u32]>,
-    is_own: bool,
-) -> Result<(), RaceError> {
-    let Ran { mut token, got } = ran;
-    let entries = entries_of(&token, race);
-    for got in got.iter() {
-        check_got(alloc, race, entries, got)?;
+) -> Result<(), SoakError> {
+    check_entries(alloc, race, ran, order)?;
+    check_audit(alloc, &ran.token)?;
+    if are_known(race, order) {
+        make_steps(alloc, &mut ran.token, race.afterwards.as_slice())?;
     }
-    if let Some(order) = order {
-        check_order(race, entries, order)?;
-    }
-    if audit_token(alloc, &token)? != Verdict::Legal {
-        return Err(RaceError::Wrong(race.line));
-    }
-    match race.known {
-        Known::InThisOrder if is_own => check_known(alloc, race, entries)?,
-        Known::InThisOrder => return Ok(()),
-        Known::InAnyOrder => check_any_order(alloc, race, entries)?,
-    }
-    make_steps(alloc, &mut token, race.afterwards.as_slice())
+    Ok(())
 }
 
 /// Runs a race in its own order and in drawn ones, which a gate keeps.
@@ -131,15 +142,13 @@ fn check_ordered<R: Threads + Wait + Copy + Drop + Send + Sync>(
     rt: R,
     alloc: Global,
     race: &Race,
-) -> Result<(), RaceError> {
-    let own = callers_of(alloc, race.together.as_slice())?;
+) -> Result<(), SoakError> {
     let mut order = callers_of(alloc, race.together.as_slice())?;
-    let mut draws = Draws::new(race.line);
+    let mut draws = Xoshiro256PlusPlus::seed_from_u64(race.line);
     for _ in 0..RUNS {
-        let ran = run_race(rt, alloc, race, Some(order.as_slice()))?;
-        let is_own = own.as_slice() == order.as_slice();
-        check_run(alloc, race, ran, Some(order.as_slice()), is_own)?;
-        draws.reorder(order.as_mut_slice());
+        let mut ran = run_race(rt, alloc, race, Some(order.as_slice()))?;
+        check_run(alloc, race, &mut ran, Some(order.as_slice()))?;
+        reorder(&mut draws, order.as_mut_slice());
     }
     Ok(())
 }
@@ -149,10 +158,10 @@ fn check_free<R: Threads + Wait + Copy + Drop + Send + Sync>(
     rt: R,
     alloc: Global,
     race: &Race,
-) -> Result<(), RaceError> {
+) -> Result<(), SoakError> {
     for _ in 0..RUNS {
-        let ran = run_race(rt, alloc, race, None)?;
-        check_run(alloc, race, ran, None, false)?;
+        let mut ran = run_race(rt, alloc, race, None)?;
+        check_run(alloc, race, &mut ran, None)?;
     }
     Ok(())
 }
@@ -162,7 +171,7 @@ pub(crate) fn check_race<R: Threads + Wait + Copy + Drop + Send + Sync>(
     rt: R,
     alloc: Global,
     race: &Race,
-) -> Result<(), RaceError> {
+) -> Result<(), SoakError> {
     check_alone(alloc, race)?;
     check_ordered(rt, alloc, race)?;
     check_free(rt, alloc, race)

@@ -1,19 +1,28 @@
-//! Tokens before they are shared.
+//! The token of a race, before and while it is shared.
 ghost use Rattle.std.specs.Prelude.{◌≡◌, IfOk};
 ghost use Rattle.ck_journal.specs.Histories.{start, start_of};
 
-use crate::errors::RaceError;
+use crate::errors::SoakError;
+use crate::journals::CallerReplies;
 use crate::races::{Race, Step};
 use crate::texts::compare;
+use ck_shared::{BoardCopy, Caller, EntrySlot, SharedToken};
 use ck_token::{Token, Uncut};
 use std::alloc::Global;
+
+pub(crate) type Shared<K, R> = SharedToken<K, EntrySlot<K>, BoardCopy<K>, R>;
+
+pub(crate) type Board<K> = BoardCopy<K>;
+
+/// What there is when all callers are done: themselves, and what each got.
+pub(crate) type Finished<K> = (Vec<Caller<K, Board<K>>>, Vec<CallerReplies>);
 
 /// Makes steps one after the other.
 pub(crate) fn make_steps(
     alloc: Global,
     token: &mut Token,
     steps: &[Step],
-) -> Result<(), RaceError> {
+) -> Result<(), SoakError> {
     for step in steps {
         let reply = token.call(alloc, step.caller, step.call.duplicate(alloc)?)?;
         compare(alloc, step, &reply)?;
@@ -22,14 +31,14 @@ pub(crate) fn make_steps(
 }
 
 /// The token of a race: its earlier steps are made, and its journal is cut.
-pub(crate) fn token_of(alloc: Global, race: &Race) -> Result<Token, RaceError>
+pub(crate) fn token_of(alloc: Global, race: &Race) -> Result<Token, SoakError>
     ensures { IfOk result (λ token. token.history ≡ start (start_of token.history)) }
 {
     let mut token = Token::new(alloc, race.limits);
     make_steps(alloc, &mut token, race.earlier.as_slice())?;
     match token.cut(alloc) {
         Ok(_) => Ok(token),
-        Err(Uncut::Memory) => Err(RaceError::Memory),
-        Err(Uncut::Session) => Err(RaceError::NoRace(race.line)),
+        Err(Uncut::Memory) => Err(SoakError::Memory),
+        Err(Uncut::Session) => Err(SoakError::NoRace(race.line)),
     }
 }
