@@ -8,7 +8,7 @@ use Rattle.ck_shared.specs.declared.slots.Change.{Change}
 use Rattle.ck_shared.specs.declared.slots.Change.TheVariants as change
 
 abbrev pub board_after : Change → BoardState → BoardState
-board_after (change.Board board) before = board
+board_after (change.Board board) before = board.value
 board_after change.Count before = before
 
 -- the history ends with an entry of this caller, which changes the board so

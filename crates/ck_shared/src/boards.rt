@@ -2,10 +2,9 @@ ghost use Rattle.std.specs.Prelude.{◌≡◌, ◌≤◌};
 ghost use Rattle.ck_journal.specs.Boards.{board_of};
 ghost use Rattle.ck_journal.specs.Callers.{call_count};
 ghost use Rattle.ck_journal.specs.Histories.{History, start};
-ghost use Rattle.ck_shared.specs.News.{board_after};
 
 use crate::identity::TokenId;
-use crate::slots::{Change, EntrySlot, NewEntry};
+use crate::slots::{EntrySlot, NewEntry};
 use ck_history::Front;
 use ck_journal::TokenBoard;
 use left_right::Absorb;
@@ -65,16 +64,6 @@ impl<K: TokenId> Model for BoardCopy<K> {
         × (b.calls ≡ call_counts b.front) };
 }
 
-/// The board after a change.
-fn board_after(before: &TokenBoard, change: &Change) -> TokenBoard
-    ensures { result ≡ board_after change.now before.now }
-{
-    match change {
-        Change::Board(board) => board.duplicate(),
-        Change::Count => before.duplicate(),
-    }
-}
-
 impl<K: TokenId> BoardCopy<K> {
     ghost use Rattle.std.specs.Prelude.{◌≡◌};
     ghost use Rattle.ck_journal.specs.Boards.{board_of};
@@ -99,7 +88,7 @@ impl<K: TokenId> BoardCopy<K> {
             return;
         }
         self.calls[(new.caller - 1) as usize] += 1;
-        self.board = board_after(&self.board, &new.change);
+        new.change.apply(&mut self.board);
         self.front = new.front.duplicate();
     }
 }

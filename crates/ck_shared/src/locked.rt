@@ -1,4 +1,4 @@
-ghost use Rattle.std.specs.Prelude.{◌≡◌, [], ◌<◌, ◌-◌, ◌^◌, IsTrue};
+ghost use Rattle.std.specs.Prelude.{◌≡◌, [], ◌<◌, ◌-◌, ◌^◌, IfNone, IfOk};
 ghost use Rattle.left_right.specs.Handles.{published, pending};
 ghost use Rattle.ck_journal.specs.Fronts.{IsFront};
 ghost use Rattle.ck_journal.specs.Boards.{board_of, LeavesBoard};
@@ -12,7 +12,7 @@ use crate::identity::TokenId;
 use crate::ledgers::CallBooks;
 use crate::slots::{Change, Slot};
 use ck_history::{Front, Head};
-use ck_journal::{Call, Reply};
+use ck_journal::{Call, Reply, TokenBoard};
 use ck_token::Token;
 use ck_types::NoMemory;
 use left_right::{Absorb, WriteHandle};
@@ -90,17 +90,32 @@ fn extend<K: TokenId, W: Wait>(
     unreachable!()
 }
 
-/// What the token's newest entry does to the board, where it is known whether its call leaves it.
-fn change_of(token: &Token, leaves: bool) -> Change
+/// A place for the board after a call, where the call may change the board.
+fn place_for(alloc: Global, token: &Token, call: &Call) -> Result<Option<Box<TokenBoard>>, NoMemory>
+    ensures { IfOk result (λ place. IfNone place (LeavesBoard call.now)) }
+{
+    if call.leaves_board() {
+        return Ok(None);
+    }
+    match Box::new(alloc, token.board()) {
+        Ok(place) => Ok(Some(place)),
+        Err(_) => Err(NoMemory),
+    }
+}
+
+/// What the token's newest entry does to the board, which it leaves where there is no place for one.
+fn change_of(token: &Token, place: Option<Box<TokenBoard>>) -> Change
     ensures { (h : History) (e : Entry) → token.now.history ≡ e ◁ h
-        → (IsTrue leaves → LeavesBoard e.call)
+        → IfNone place (LeavesBoard e.call)
         → board_after result (board_of token.now.limits h)
         ≡ board_of token.now.limits token.now.history }
 {
-    if leaves {
-        Change::Count
-    } else {
-        Change::Board(token.board())
+    match place {
+        None => Change::Count,
+        Some(mut board) => {
+            *board = token.board();
+            Change::Board(board)
+        }
     }
 }
 
@@ -188,7 +203,7 @@ impl<K: TokenId, O: Slot<K>, T: Absorb<O> + ReadBoard<K> + Drop, R: Wait + Drop>
         ensures caller { OnErr result (caller.new ≡ caller.old) }
     {
         let number = caller.account.number();
-        let leaves = call.leaves_board();
+        let place = place_for(alloc, &self.token, &call)?;
         let (slot, empty) = O::vacant(alloc)?;
         if self.writer.append(empty).is_err() {
             return Err(NoMemory);
@@ -201,7 +216,7 @@ impl<K: TokenId, O: Slot<K>, T: Absorb<O> + ReadBoard<K> + Drop, R: Wait + Drop>
         let _bound = self.token.journal().len();
         self.books.count(&mut caller.account);
         extend(rt, &mut self.front, &self.head, &caller.seen, &self.token);
-        slot.fill(number, change_of(&self.token, leaves), &self.front);
+        slot.fill(number, change_of(&self.token, place), &self.front);
         show(rt, &mut self.writer, &self.front);
         caller.last = self.front.duplicate();
         caller.seen = self.front.duplicate();

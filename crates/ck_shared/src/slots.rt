@@ -1,5 +1,5 @@
 ghost use Rattle.std.specs.Prelude.{◌≡◌};
-ghost use Rattle.ck_shared.specs.News.{HasNews};
+ghost use Rattle.ck_shared.specs.News.{HasNews, board_after};
 
 use crate::identity::TokenId;
 use ck_history::Front;
@@ -10,11 +10,22 @@ use std::marker::Model;
 use std::sync::{Arc, OnceLock};
 
 /// What an answered call does to the board: the board after it, or no more than that the caller has
-/// one more call.
+/// one more call. A board is large, so it has a place of its own.
 #[derive(Drop)]
 pub enum Change {
-    Board(TokenBoard),
+    Board(Box<TokenBoard>),
     Count,
+}
+
+impl Change {
+    /// Carries the change out.
+    pub(crate) fn apply(&self, board: &mut TokenBoard)
+        ensures { board.new ≡ board_after self.now board.old }
+    {
+        if let Change::Board(after) = self {
+            *board = after.duplicate();
+        }
+    }
 }
 
 /// An answered call, as the board takes it in. Contracts see the history that ends with its entry.

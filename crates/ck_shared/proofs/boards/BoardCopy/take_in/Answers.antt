@@ -25,7 +25,7 @@ invariant_of-self g c =
     omega (arith, le, c.if-len-ne1.false, c.len.ensures.length, c.len-else-not-begins.ensures.length) in
     let begins = c.begins.ensures.front c.if-not-begins.false in
     rw c.duplicate.ensures (
-      c.board_after-self-inside.ensures
+      c.apply.ensures
           ∙ ap (board_after c.new.inside.change) c.self.invariant.0
           ∙ next_board _ c.new.inside.caller c.new.inside.change c.self.inside.front c.new.inside.front
           c.new.invariant begins one,

@@ -36,7 +36,7 @@ fill-requires g c =
     c.number-number.ensures.range.1
     _ c.call.new.self.limits c.change_of.result c.extend.new.front (told.limits ∙ c.self.invariant.0.limits)
     c.extend.ensures.0 room
-    (c.change_of.ensures h (entry_by number c.args.call c.in-Ok.reply) entered c.leaves_board-leaves.ensures.leaves)
+    (c.change_of.ensures h (entry_by number c.args.call c.in-Ok.reply) entered c.in_ok-place.ensures)
 
 pub invariant_of-caller : goal.invariant_of-caller
 invariant_of-caller g c =
