@@ -4,14 +4,8 @@ use Rattle.ck_journal.specs.declared.calls.Entry.{Entry}
 use Rattle.ck_journal.specs.Fronts.{IsFront}
 use Rattle.ck_journal.specs.Histories.{History, start, ◌◁◌, followed_by, entry_count, entry_at}
 use Rattle.ck_journal.proofs.NumberTests.{below_suc, same_number}
+use Rattle.ck_shared.proofs.KnownLemmas.{longer_later}
 use Rattle.ck_runs.specs.Steps.{front_at}
-
-longer_later : (g : History) (later : List Entry) → entry_count g ≤ entry_count (followed_by g later)
-longer_later g [] = omega arith
-longer_later g (e ∷ later) = let below = longer_later g later in omega arith
-
-pub longer_front : (g h : History) → IsFront g h → entry_count g ≤ entry_count h
-longer_front g h f = let longer = longer_later g f.0 in omega (arith, ap entry_count f.1)
 
 -- ---- entries
 

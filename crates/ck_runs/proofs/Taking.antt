@@ -22,7 +22,8 @@ use Rattle.ck_runs.specs.declared.steps.Answered.{Answered}
 use Rattle.ck_runs.specs.declared.steps.Answered.TheVariants as answered
 use Rattle.ck_runs.specs.declared.steps.Step.{Step}
 use Rattle.ck_runs.specs.declared.steps.Step.TheVariants as step
-use Rattle.ck_runs.proofs.Places.{longer_front, entry_at-front, front_at-front}
+use Rattle.ck_shared.proofs.KnownLemmas.{longer_front}
+use Rattle.ck_runs.proofs.Places.{entry_at-front, front_at-front}
 use Rattle.ck_runs.proofs.Playing.{played_none, played_call}
 
 -- ---- where no step is answered

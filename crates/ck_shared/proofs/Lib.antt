@@ -1,5 +1,5 @@
 pub mod AllCallers
 pub mod Asked
+pub mod KnownLemmas
 pub mod Settling
 pub mod Steps
-pub mod TakenIn

@@ -1,8 +1,6 @@
 -- One call of a caller under the lock
 use Rattle.std.proofs.Common.{◌≡◌, ℕ, ◌+◌, ◌-◌, ◌<◌, ◌≤◌, ◌^◌, List, [], ◌∷◌, length, slice_index}
-use Rattle.std.proofs.Common.{slice_set, refl, sym, ap, ◌∙◌, subst, arith}
-use Rattle.ck_types.specs.TokenLimits.{Ranges}
-use Rattle.ck_journal.specs.Boards.{board_of}
+use Rattle.std.proofs.Common.{slice_set, refl, sym, ap, ◌∙◌, arith}
 use Rattle.ck_journal.specs.Callers.{entries_by, call_count, call_counts}
 use Rattle.ck_journal.specs.Fronts.{IsFront}
 use Rattle.ck_journal.specs.Histories.{History, ◌◁◌, entry_count}
@@ -12,8 +10,6 @@ use Rattle.ck_journal.proofs.CallerLemmas.{entries_by-own, entries_by-front, cal
 use Rattle.ck_journal.proofs.CallerLemmas.{call_counts-at, call_counts-next}
 use Rattle.ck_journal.proofs.FrontLemmas.{front_trans}
 use Rattle.ck_shared.specs.Callers.{entry_by}
-use Rattle.ck_shared.specs.News.{board_after, HasNews}
-use Rattle.ck_shared.specs.declared.slots.Change.{Change}
 
 module _ (h after : History) (number : ℕ) (call : Call) (reply : Reply)
     (entered : after ≡ entry_by number call reply ◁ h)
@@ -21,19 +17,6 @@ module _ (h after : History) (number : ℕ) (call : Call) (reply : Reply)
   -- the caller's entries are those from before and this one
   pub own_next : entries_by number after ≡ entry_by number call reply ∷ entries_by number h
   own_next = ap (entries_by number) entered ∙ entries_by-own (entry_by number call reply) h
-
-  pub news : (limits own_limits : Ranges) (c : Change) (front : History) → own_limits ≡ limits → front ≡ after
-      → entry_count after < 2 ^ 64 → board_after c (board_of own_limits h) ≡ board_of own_limits after →
-      HasNews limits number c front
-  news limits own_limits c front same is room board = record {
-    before = h;
-    entry = entry_by number call reply;
-    next = is ∙ entered;
-    caller = refl;
-    range = (low, high);
-    room = omega (arith, ap entry_count is, room);
-    board = subst (λ l. board_after c (board_of l h) ≡ board_of l after) same board ∙ ap (board_of limits) (sym is);
-  }
 
   module _ (counts : List ℕ) (books : counts ≡ call_counts h) where
     known_count : slice_index counts (number - 1) ≡ call_count number h

@@ -1,6 +1,6 @@
 pub mod Accounts
 pub mod Asks
 pub mod Callers
+pub mod KnownHistories
 pub mod Locked
-pub mod News
 pub mod Shares

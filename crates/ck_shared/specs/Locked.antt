@@ -3,14 +3,15 @@ use Rattle.std.specs.Prelude.{◌≡◌, ℕ, List}
 use Rattle.ck_types.specs.TokenLimits.{Ranges}
 use Rattle.ck_journal.specs.Callers.{call_counts, AreCallers}
 use Rattle.ck_journal.specs.Histories.{History}
+use Rattle.ck_shared.specs.KnownHistories.{KnownState, Covers}
 use Rattle.ck_token.specs.TokenStates.{TokenState}
 
--- the token has these limits and no other callers; the books, the front and what was published are
--- of its history
+-- the token has these limits and no other callers; the books and what is known are of its history,
+-- and what was published has the same board
 pub record IsTied (range : Ranges) (most : ℕ) (token : TokenState) (counts : List ℕ)
-    (known shown : History) : Type 0 where
+    (known : KnownState) (shown : History) : Type 0 where
   pub limits : token.limits ≡ range
   pub callers : AreCallers most token.history
   pub books : counts ≡ call_counts token.history
-  pub front : known ≡ token.history
-  pub published : shown ≡ token.history
+  pub history : known.history ≡ token.history
+  pub published : Covers known shown

@@ -1,12 +1,10 @@
-ghost use Rattle.std.specs.Prelude.{◌≡◌, ◌≤◌};
+ghost use Rattle.std.specs.Prelude.{◌≡◌};
 ghost use Rattle.ck_journal.specs.Boards.{board_of};
-ghost use Rattle.ck_journal.specs.Callers.{call_count};
 ghost use Rattle.ck_journal.specs.Histories.{History, start};
-ghost use Rattle.ck_shared.specs.News.{board_after};
 
 use crate::identity::TokenId;
-use crate::slots::{Change, EntrySlot, NewEntry};
-use ck_history::Front;
+use crate::known_histories::KnownHistory;
+use crate::slots::EntrySlot;
 use ck_journal::TokenBoard;
 use left_right::Absorb;
 use std::alloc::AllocError;
@@ -21,22 +19,16 @@ pub trait ReadBoard<K: TokenId> {
     fn board(&self) -> &TokenBoard
         ensures { result.now ≡ board_of K.limits (history self.now) };
 
-    /// How many calls of the caller were answered.
-    fn calls(&self, caller: u32) -> u64
-        requires { (1 ≤ caller) × (caller ≤ 8) }
-        ensures { result ≡ call_count caller (history self.now) };
-
-    fn front(&self) -> &Front<K>
-        ensures { result.now ≡ history self.now };
+    fn known(&self) -> &KnownHistory<K>
+        ensures { result.now.history ≡ history self.now };
 }
 
 /// A board that there are two copies of, of which readers see one.
 pub trait WriteBoard<K: TokenId, O: Drop>: Absorb<O> + ReadBoard<K> {
     /// The two copies, before the first entry.
-    fn pair(board: &TokenBoard, front: &Front<K>) -> (Self, Self)
-        requires front { front.now ≡ start K.base }
-        requires board { board.now ≡ board_of K.limits front.now }
-        ensures published { Self.history result.0 ≡ front.now }
+    fn pair(board: &TokenBoard, known: &KnownHistory<K>) -> (Self, Self)
+        requires { board.now ≡ board_of K.limits known.now.history }
+        ensures published { Self.history result.0 ≡ known.now.history }
         ensures alike { Self.state result.0 ≡ Self.state result.1 };
 }
 
@@ -44,14 +36,12 @@ pub trait WriteBoard<K: TokenId, O: Drop>: Absorb<O> + ReadBoard<K> {
 #[derive(Drop)]
 pub struct BoardCopy<K: TokenId> {
     board: TokenBoard,
-    calls: [u64; 8],
-    front: Front<K>,
+    known: KnownHistory<K>,
 }
 
 impl<K: TokenId> Model for BoardCopy<K> {
     ghost use Rattle.std.specs.Prelude.{◌≡◌};
     ghost use Rattle.ck_journal.specs.Boards.{board_of};
-    ghost use Rattle.ck_journal.specs.Callers.{call_counts};
     ghost use Rattle.ck_journal.specs.Histories.{History};
     ghost use Rattle.ck_journal.specs.HistoryCode.{history_code};
 
@@ -59,48 +49,29 @@ impl<K: TokenId> Model for BoardCopy<K> {
 
     ghost coded = { history_code };
 
-    ghost view = { λ b. b.front };
+    ghost view = { λ b. b.known.history };
 
-    ghost invariant = { λ b. (b.board ≡ board_of K.limits b.front)
-        × (b.calls ≡ call_counts b.front) };
-}
-
-/// The board after a change.
-fn board_after(before: &TokenBoard, change: &Change) -> TokenBoard
-    ensures { result ≡ board_after change.now before.now }
-{
-    match change {
-        Change::Board(board) => board.duplicate(),
-        Change::Count => before.duplicate(),
-    }
+    ghost invariant = { λ b. b.board ≡ board_of K.limits b.known.history };
 }
 
 impl<K: TokenId> BoardCopy<K> {
-    ghost use Rattle.std.specs.Prelude.{◌≡◌};
-    ghost use Rattle.ck_journal.specs.Boards.{board_of};
-    ghost use Rattle.ck_journal.specs.Histories.{start};
-
-    /// The board of a history without entries.
-    fn new(board: &TokenBoard, front: &Front<K>) -> BoardCopy<K>
-        requires front { front.now ≡ start K.base }
-        requires board { board.now ≡ board_of K.limits front.now }
-        ensures { result ≡ front.now }
+    pub(crate) fn new(board: TokenBoard, known: &KnownHistory<K>) -> BoardCopy<K>
+        requires { board ≡ board_of K.limits known.now.history }
+        ensures { result ≡ known.now.history }
     {
         BoardCopy {
-            board: board.duplicate(),
-            calls: [0; 8],
-            front: front.duplicate(),
+            board,
+            known: known.duplicate(),
         }
     }
 
-    /// Takes in an entry where it is the next one of the board's history.
-    fn take_in(&mut self, new: &NewEntry<K>) {
-        if !self.front.begins(&new.front) || new.front.len() - self.front.len() != 1 {
-            return;
+    fn duplicate(&self) -> BoardCopy<K>
+        ensures { result ≡ self.now }
+    {
+        BoardCopy {
+            board: self.board.duplicate(),
+            known: self.known.duplicate(),
         }
-        self.calls[(new.caller - 1) as usize] += 1;
-        self.board = board_after(&self.board, &new.change);
-        self.front = new.front.duplicate();
     }
 }
 
@@ -111,12 +82,8 @@ impl<K: TokenId> ReadBoard<K> for BoardCopy<K> {
         &self.board
     }
 
-    fn calls(&self, caller: u32) -> u64 {
-        self.calls[(caller - 1) as usize]
-    }
-
-    fn front(&self) -> &Front<K> {
-        &self.front
+    fn known(&self) -> &KnownHistory<K> {
+        &self.known
     }
 }
 
@@ -137,14 +104,17 @@ impl<K: TokenId> Absorb<EntrySlot<K>> for BoardCopy<K> {
         _other: &BoardCopy<K>,
     ) -> Result<(), AllocError> {
         if let Some(new) = slot.cell.get() {
-            self.take_in(new);
+            *self = new.duplicate();
         }
         Ok(())
     }
 }
 
 impl<K: TokenId> WriteBoard<K, EntrySlot<K>> for BoardCopy<K> {
-    fn pair(board: &TokenBoard, front: &Front<K>) -> (BoardCopy<K>, BoardCopy<K>) {
-        (BoardCopy::new(board, front), BoardCopy::new(board, front))
+    fn pair(board: &TokenBoard, known: &KnownHistory<K>) -> (BoardCopy<K>, BoardCopy<K>) {
+        (
+            BoardCopy::new(board.duplicate(), known),
+            BoardCopy::new(board.duplicate(), known),
+        )
     }
 }

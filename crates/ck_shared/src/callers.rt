@@ -7,6 +7,7 @@ ghost use Rattle.ck_shared.specs.Asks.{call_of, reply_of};
 use crate::asks::{Ask, Status, status_on};
 use crate::boards::ReadBoard;
 use crate::identity::TokenId;
+use crate::known_histories::KnownHistory;
 use crate::ledgers::Account;
 use ck_history::Front;
 use left_right::ReadHandle;
@@ -18,7 +19,7 @@ use std::marker::Model;
 pub struct Caller<K: TokenId, T: Drop> {
     pub(crate) account: Account<K>,
     pub(crate) last: Front<K>,
-    pub(crate) seen: Front<K>,
+    pub(crate) seen: KnownHistory<K>,
     pub(crate) reader: ReadHandle<T>,
 }
 
@@ -38,10 +39,10 @@ impl<K: TokenId, T: Drop> Model for Caller<K, T> {
       number = c.account.number;
       count = c.account.count;
       last = c.last;
-      seen = c.seen;
+      seen = c.seen.history;
     } };
 
-    ghost invariant = { λ c. IsFront c.last c.seen
+    ghost invariant = { λ c. IsFront c.last c.seen.history
         × (call_count c.account.number c.last ≡ c.account.count) };
 }
 
@@ -53,15 +54,19 @@ impl<K: TokenId, T: Drop> Caller<K, T> {
     ghost use Rattle.ck_shared.specs.Callers.{new_caller};
 
     /// A caller that has made no call.
-    pub(crate) fn new(account: Account<K>, front: &Front<K>, reader: ReadHandle<T>) -> Caller<K, T>
+    pub(crate) fn new(
+        account: Account<K>,
+        known: &KnownHistory<K>,
+        reader: ReadHandle<T>,
+    ) -> Caller<K, T>
         requires count { account.count ≡ 0 }
-        requires front { front.now ≡ start K.base }
+        requires known { known.now.history ≡ start K.base }
         ensures { result ≡ new_caller K.base account }
     {
         Caller {
             account,
-            last: front.duplicate(),
-            seen: front.duplicate(),
+            last: known.front().duplicate(),
+            seen: known.duplicate(),
             reader,
         }
     }
@@ -84,7 +89,7 @@ impl<K: TokenId, T: Drop> Caller<K, T> {
         ensures length { result ≡ entry_count self.now.seen }
         ensures legal { IsLegal K.limits self.now.seen }
     {
-        self.seen.len()
+        self.seen.front().len()
     }
 
     /// What the caller knows of the history, for others to learn.
@@ -92,7 +97,7 @@ impl<K: TokenId, T: Drop> Caller<K, T> {
         ensures { result ≡ self.now.seen }
     {
         News {
-            front: self.seen.duplicate(),
+            known: self.seen.duplicate(),
         }
     }
 
@@ -103,37 +108,37 @@ impl<K: TokenId, T: Drop> Caller<K, T> {
         ensures news { IsFront news.now self.new.seen }
         ensures same { self.new ≡ record self.old { seen = self.new.seen } }
     {
-        if news.front.begins(&self.seen) {
+        if news.known.front().begins(self.seen.front()) {
             return;
         }
-        if self.seen.begins(&news.front) {
-            self.seen = news.front.duplicate();
+        if self.seen.front().begins(news.known.front()) {
+            self.seen = news.known.duplicate();
         }
     }
 }
 
-/// What a board answers, and its history, where the history is no shorter than all that the caller
-/// knows and has all entries of the caller.
+/// What a board answers, and a history which that is the answer of: it is no shorter than all that
+/// the caller knows and has all entries of the caller.
 fn look<K: TokenId, T: ReadBoard<K>>(
     board: &T,
     account: &Account<K>,
-    seen: &Front<K>,
+    seen: &KnownHistory<K>,
     ask: Ask,
-) -> Option<(Status, Front<K>)>
-    ensures front { IfSome result (λ found. IsFront seen.now found.1) }
+) -> Option<(Status, KnownHistory<K>)>
+    ensures front { IfSome result (λ found. IsFront seen.now.history found.1.history) }
     ensures count { IfSome result (λ found.
-        call_count account.now.number found.1 ≡ account.now.count) }
-    ensures legal { IfSome result (λ found. IsLegal K.limits found.1) }
+        call_count account.now.number found.1.history ≡ account.now.count) }
+    ensures legal { IfSome result (λ found. IsLegal K.limits found.1.history) }
     ensures answer { IfSome result (λ found.
-        reply_of found.0 ≡ answer K.limits found.1 (call_of ask)) }
+        reply_of found.0 ≡ answer K.limits found.1.history (call_of ask)) }
 {
-    let front = board.front();
-    if !seen.begins(front) || board.calls(account.number()) != account.count() {
+    let newest = seen.newest(board.known())?;
+    if newest.calls(account.number()) != account.count() {
         return None;
     }
     // Tells the prover that the history is legal.
-    let _entries = front.len();
-    Some((status_on(board.board(), ask), front.duplicate()))
+    let _entries = newest.front().len();
+    Some((status_on(board.board(), ask), newest.duplicate()))
 }
 
 impl<K: TokenId, T: ReadBoard<K> + Drop> Caller<K, T> {
@@ -159,8 +164,8 @@ impl<K: TokenId, T: ReadBoard<K> + Drop> Caller<K, T> {
         let board = self.reader.enter()?;
         let found = look(&*board, &self.account, &self.seen, ask);
         drop(board);
-        let (status, front) = found?;
-        self.seen = front;
+        let (status, known) = found?;
+        self.seen = known;
         Some(status)
     }
 }
@@ -168,7 +173,7 @@ impl<K: TokenId, T: ReadBoard<K> + Drop> Caller<K, T> {
 /// A history that a caller knows, which may go to another caller.
 #[derive(Drop)]
 pub struct News<K: TokenId> {
-    front: Front<K>,
+    known: KnownHistory<K>,
 }
 
 impl<K: TokenId> Model for News<K> {
@@ -179,7 +184,7 @@ impl<K: TokenId> Model for News<K> {
 
     ghost coded = { history_code };
 
-    ghost view = { λ n. n.front };
+    ghost view = { λ n. n.known.history };
 }
 
 impl<K: TokenId> News<K> {
@@ -190,6 +195,6 @@ impl<K: TokenId> News<K> {
     pub fn seen(&self) -> u64
         ensures { result ≡ entry_count self.now }
     {
-        self.front.len()
+        self.known.front().len()
     }
 }

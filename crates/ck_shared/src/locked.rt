@@ -1,16 +1,16 @@
-ghost use Rattle.std.specs.Prelude.{◌≡◌, [], ◌<◌, ◌-◌, ◌^◌, IsTrue};
+ghost use Rattle.std.specs.Prelude.{◌≡◌, [], ◌<◌, ◌-◌, ◌^◌, IfNone, IfOk, IsTrue, OnErr};
 ghost use Rattle.left_right.specs.Handles.{published, pending};
 ghost use Rattle.ck_journal.specs.Fronts.{IsFront};
-ghost use Rattle.ck_journal.specs.Boards.{board_of, LeavesBoard};
 ghost use Rattle.ck_journal.specs.Histories.{History, ◌◁◌, entry_count};
-ghost use Rattle.ck_shared.specs.News.{board_after};
+ghost use Rattle.ck_shared.specs.KnownHistories.{Covers};
 ghost use Rattle.ck_journal.specs.declared.calls.Entry.{Entry};
 
 use crate::boards::ReadBoard;
 use crate::callers::Caller;
 use crate::identity::TokenId;
+use crate::known_histories::KnownHistory;
 use crate::ledgers::CallBooks;
-use crate::slots::{Change, Slot};
+use crate::slots::Slot;
 use ck_history::{Front, Head};
 use ck_journal::{Call, Reply};
 use ck_token::Token;
@@ -26,7 +26,7 @@ use std::sync::Wait;
 pub struct Locked<K: TokenId, O: Slot<K>, T: Absorb<O> + ReadBoard<K> + Drop, R: Wait + Drop> {
     token: Token,
     books: CallBooks<K>,
-    front: Front<K>,
+    known: KnownHistory<K>,
     head: Head<K>,
     writer: WriteHandle<T, O, R>,
 }
@@ -46,25 +46,67 @@ impl<K: TokenId, O: Slot<K>, T: Absorb<O> + ReadBoard<K> + Drop, R: Wait + Drop>
 
     ghost view = { λ l. l.token };
 
-    ghost invariant = { λ l. IsTied K.limits K.callers l.token l.books l.front
+    ghost invariant = { λ l. IsTied K.limits K.callers l.token l.books l.known
         (T.history (published l.writer)) × (pending l.writer ≡ []) };
 }
 
-/// Publishes what is pending, until what is published is of this history.
+/// Makes a slot for a call that may change the board, one handle of which is then pending.
+fn add_slot<K: TokenId, O: Slot<K>, T: Absorb<O> + ReadBoard<K> + Drop, R: Wait + Drop>(
+    alloc: Global,
+    writer: &mut WriteHandle<T, O, R>,
+    leaves: bool,
+) -> Result<Option<O>, NoMemory>
+    ensures published { published writer.new ≡ published writer.old }
+    ensures unchanged { OnErr result (pending writer.new ≡ pending writer.old) }
+    ensures none { IfOk result (λ slot. IfNone slot
+        (IsTrue leaves × (pending writer.new ≡ pending writer.old))) }
+{
+    if leaves {
+        return Ok(None);
+    }
+    let (slot, pending) = O::vacant(alloc)?;
+    match writer.append(pending) {
+        Ok(()) => Ok(Some(slot)),
+        Err(_) => Err(NoMemory),
+    }
+}
+
+/// Publishes what is pending, until the board that is published is that of the known history.
 fn show<K: TokenId, O: Slot<K>, T: Absorb<O> + ReadBoard<K> + Drop, R: Wait + Drop, W: Wait>(
     rt: &W,
     writer: &mut WriteHandle<T, O, R>,
-    front: &Front<K>,
+    known: &KnownHistory<K>,
 )
-    ensures board { T.history (published writer.new) ≡ front.now }
+    ensures board { Covers known.now (T.history (published writer.new)) }
     ensures pending { pending writer.new ≡ [] }
 {
     for _ in rt.forever() {
-        if writer.publish().is_ok() && writer.published().front().is_same(front) {
+        if writer.publish().is_ok() && known.covers(writer.published().known()) {
             return;
         }
     }
     unreachable!()
+}
+
+/// Shows the token's board by way of a slot. Where there is none, it is shown already.
+fn show_by<K: TokenId, O: Slot<K>, T: Absorb<O> + ReadBoard<K> + Drop, R: Wait + Drop, W: Wait>(
+    rt: &W,
+    writer: &mut WriteHandle<T, O, R>,
+    slot: Option<O>,
+    token: &Token,
+    known: &KnownHistory<K>,
+)
+    requires limits { token.now.limits ≡ K.limits }
+    requires history { known.now.history ≡ token.now.history }
+    requires shown { IfNone slot (Covers known.now (T.history (published writer.old))
+        × (pending writer.old ≡ [])) }
+    ensures board { Covers known.now (T.history (published writer.new)) }
+    ensures pending { pending writer.new ≡ [] }
+{
+    if let Some(slot) = slot {
+        slot.fill(token.board(), known);
+        show(rt, writer, known);
+    }
 }
 
 /// Adds the token's newest entry to the history. The other front is then one of the history before.
@@ -88,20 +130,6 @@ fn extend<K: TokenId, W: Wait>(
         }
     }
     unreachable!()
-}
-
-/// What the token's newest entry does to the board, where it is known whether its call leaves it.
-fn change_of(token: &Token, leaves: bool) -> Change
-    ensures { (h : History) (e : Entry) → token.now.history ≡ e ◁ h
-        → (IsTrue leaves → LeavesBoard e.call)
-        → board_after result (board_of token.now.limits h)
-        ≡ board_of token.now.limits token.now.history }
-{
-    if leaves {
-        Change::Count
-    } else {
-        Change::Board(token.board())
-    }
 }
 
 /// Waits until the history is no shorter than another front of it.
@@ -133,11 +161,11 @@ impl<K: TokenId, O: Slot<K>, T: Absorb<O> + ReadBoard<K> + Drop, R: Wait + Drop>
     pub(crate) fn new(
         token: Token,
         books: CallBooks<K>,
-        front: Front<K>,
+        known: KnownHistory<K>,
         head: Head<K>,
         writer: WriteHandle<T, O, R>,
     ) -> Locked<K, O, T, R>
-        requires tied { IsTied K.limits K.callers token books front
+        requires tied { IsTied K.limits K.callers token books known
             (T.history (published writer)) }
         requires pending { pending writer ≡ [] }
         ensures { result ≡ token }
@@ -145,7 +173,7 @@ impl<K: TokenId, O: Slot<K>, T: Absorb<O> + ReadBoard<K> + Drop, R: Wait + Drop>
         Locked {
             token,
             books,
-            front,
+            known,
             head,
             writer,
         }
@@ -158,7 +186,7 @@ impl<K: TokenId, O: Slot<K>, T: Absorb<O> + ReadBoard<K> + Drop, R: Wait + Drop>
     {
         let mut caller = caller;
         self.books.compare(&mut caller.account);
-        await_front(rt, &caller.seen, &self.front);
+        await_front(rt, caller.seen.front(), self.known.front());
     }
 
     /// The token without its lock. It waits for those who still read the board.
@@ -189,22 +217,20 @@ impl<K: TokenId, O: Slot<K>, T: Absorb<O> + ReadBoard<K> + Drop, R: Wait + Drop>
     {
         let number = caller.account.number();
         let leaves = call.leaves_board();
-        let (slot, empty) = O::vacant(alloc)?;
-        if self.writer.append(empty).is_err() {
-            return Err(NoMemory);
-        }
+        let slot = add_slot(alloc, &mut self.writer, leaves)?;
         let Ok(reply) = self.token.call(alloc, number, call) else {
-            show(rt, &mut self.writer, &self.front);
+            show(rt, &mut self.writer, &self.known);
             return Err(NoMemory);
         };
         // Tells the prover that one more entry can be counted.
         let _bound = self.token.journal().len();
         self.books.count(&mut caller.account);
-        extend(rt, &mut self.front, &self.head, &caller.seen, &self.token);
-        slot.fill(number, change_of(&self.token, leaves), &self.front);
-        show(rt, &mut self.writer, &self.front);
-        caller.last = self.front.duplicate();
-        caller.seen = self.front.duplicate();
+        let mut front = self.known.front().duplicate();
+        extend(rt, &mut front, &self.head, caller.seen.front(), &self.token);
+        self.known.follow(&front, number, leaves);
+        show_by(rt, &mut self.writer, slot, &self.token, &self.known);
+        caller.last = front;
+        caller.seen = self.known.duplicate();
         Ok(reply)
     }
 }

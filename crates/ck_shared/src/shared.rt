@@ -9,10 +9,11 @@ ghost use Rattle.ck_shared.specs.Callers.{are_all, new_caller, new_callers};
 use crate::boards::{ReadBoard, WriteBoard};
 use crate::callers::Caller;
 use crate::identity::{CallerCount, NewIdentity, TokenId};
+use crate::known_histories::KnownHistory;
 use crate::ledgers::{Account, CallBooks};
 use crate::locked::Locked;
 use crate::slots::Slot;
-use ck_history::{Front, Head};
+use ck_history::Head;
 use ck_journal::{Call, Reply, TokenBoard};
 use ck_token::Token;
 use ck_types::{Limits, NoMemory};
@@ -38,7 +39,7 @@ pub struct Ends<K: TokenId, O: Slot<K>, T: Absorb<O> + ReadBoard<K> + Drop, R: W
 #[derive(Drop)]
 struct Opened<K: TokenId, O: Slot<K>, T: Absorb<O> + ReadBoard<K> + Drop, R: Wait + Drop> {
     books: CallBooks<K>,
-    front: Front<K>,
+    known: KnownHistory<K>,
     head: Head<K>,
     writer: WriteHandle<T, O, R>,
     callers: Vec<Caller<K, T>>,
@@ -48,16 +49,16 @@ struct Opened<K: TokenId, O: Slot<K>, T: Absorb<O> + ReadBoard<K> + Drop, R: Wai
 fn callers_of<K: TokenId, O: Slot<K>, T: Absorb<O> + ReadBoard<K> + Drop, R: Wait + Drop>(
     alloc: Global,
     accounts: Vec<Account<K>>,
-    front: &Front<K>,
+    known: &KnownHistory<K>,
     writer: &WriteHandle<T, O, R>,
 ) -> Result<Vec<Caller<K, T>>, NoMemory>
     requires counts { AreNew accounts.items }
-    requires front { front.now ≡ start K.base }
+    requires known { known.now.history ≡ start K.base }
     ensures { IfOk result (λ callers. callers.items ≡ map (new_caller K.base) accounts.items) }
 {
     let mut callers = Vec::with_capacity(alloc, accounts.len())?;
     for account in accounts {
-        callers.push(Caller::new(account, front, writer.handle()?))?;
+        callers.push(Caller::new(account, known, writer.handle()?))?;
     }
     Ok(callers)
 }
@@ -75,7 +76,8 @@ fn prepare<K: TokenId, O: Slot<K>, T: WriteBoard<K, O> + Drop, R: Wait + Drop>(
     requires history { identity.history.seen.book ≡ K.book }
     requires ledgers { (n : ℕ) → K.ledger n ≡ name_of identity.ledgers n }
     ensures books { IfOk result (λ opened. opened.books ≡ no_calls) }
-    ensures front { IfOk result (λ opened. opened.front ≡ start K.base) }
+    ensures history { IfOk result (λ opened. opened.known.history ≡ start K.base) }
+    ensures changed { IfOk result (λ opened. opened.known.changed ≡ start K.base) }
     ensures published { IfOk result (λ opened. T.history (published opened.writer) ≡ start K.base) }
     ensures pending { IfOk result (λ opened. pending opened.writer ≡ []) }
     ensures callers { IfOk result (λ opened. opened.callers.items ≡ new_callers K.base callers) }
@@ -83,12 +85,13 @@ fn prepare<K: TokenId, O: Slot<K>, T: WriteBoard<K, O> + Drop, R: Wait + Drop>(
     let NewIdentity { history, ledgers } = identity;
     let (head, front) = history.named::<K>();
     let (books, accounts) = ledgers.named::<K>(alloc, callers)?;
-    let (shown, hidden) = T::pair(&board, &front);
+    let known = KnownHistory::new(&front);
+    let (shown, hidden) = T::pair(&board, &known);
     let writer = WriteHandle::new(alloc, rt, shown, hidden, callers as usize)?;
-    let callers = callers_of(alloc, accounts, &front, &writer)?;
+    let callers = callers_of(alloc, accounts, &known, &writer)?;
     Ok(Opened {
         books,
-        front,
+        known,
         head,
         writer,
         callers,
@@ -138,7 +141,7 @@ impl<K: TokenId, O: Slot<K>, T: WriteBoard<K, O> + Drop, R: Wait + Drop> SharedT
                     lock: Mutex::new(Locked::new(
                         token,
                         opened.books,
-                        opened.front,
+                        opened.known,
                         opened.head,
                         opened.writer,
                     )),

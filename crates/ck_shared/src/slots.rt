@@ -1,58 +1,27 @@
 ghost use Rattle.std.specs.Prelude.{◌≡◌};
-ghost use Rattle.ck_shared.specs.News.{HasNews};
+ghost use Rattle.ck_journal.specs.Boards.{board_of};
 
+use crate::boards::BoardCopy;
 use crate::identity::TokenId;
-use ck_history::Front;
+use crate::known_histories::KnownHistory;
 use ck_journal::TokenBoard;
 use ck_types::NoMemory;
 use std::alloc::Global;
-use std::marker::Model;
 use std::sync::{Arc, OnceLock};
 
-/// What an answered call does to the board: the board after it, or no more than that the caller has
-/// one more call.
-#[derive(Drop)]
-pub enum Change {
-    Board(TokenBoard),
-    Count,
-}
-
-/// An answered call, as the board takes it in. Contracts see the history that ends with its entry.
-#[derive(Drop)]
-pub struct NewEntry<K: TokenId> {
-    pub(crate) caller: u32,
-    pub(crate) change: Change,
-    pub(crate) front: Front<K>,
-}
-
-impl<K: TokenId> Model for NewEntry<K> {
-    ghost use Rattle.std.specs.Coded.{codes};
-    ghost use Rattle.ck_journal.specs.Histories.{History};
-    ghost use Rattle.ck_journal.specs.HistoryCode.{history_code};
-    ghost use Rattle.ck_shared.specs.News.{HasNews};
-
-    ghost Value = { History };
-
-    ghost coded = { history_code };
-
-    ghost view = { λ n. n.front };
-
-    ghost invariant = { λ n. HasNews K.limits n.caller n.change n.front };
-}
-
-/// A place for what a call does to the board, which is made before the call is answered and filled
-/// once it is. It has two handles: one is appended to the board's operations.
+/// A place for the board after a call, which is made before the call is answered and filled once it
+/// is. It has two handles: one is appended to the board's operations.
 pub trait Slot<K: TokenId>: Drop {
     /// The two handles of a slot that is not filled.
     fn vacant(alloc: Global) -> Result<(Self, Self), NoMemory>;
 
-    fn fill(&self, caller: u32, change: Change, front: &Front<K>)
-        requires { HasNews K.limits caller change front.now };
+    fn fill(&self, board: TokenBoard, known: &KnownHistory<K>)
+        requires { board ≡ board_of K.limits known.now.history };
 }
 
 #[derive(Drop)]
 pub struct EntrySlot<K: TokenId> {
-    pub(crate) cell: Arc<OnceLock<NewEntry<K>>>,
+    pub(crate) cell: Arc<OnceLock<BoardCopy<K>>>,
 }
 
 impl<K: TokenId> Slot<K> for EntrySlot<K> {
@@ -62,12 +31,7 @@ impl<K: TokenId> Slot<K> for EntrySlot<K> {
         Ok((EntrySlot { cell }, EntrySlot { cell: other }))
     }
 
-    fn fill(&self, caller: u32, change: Change, front: &Front<K>) {
-        let entry = NewEntry {
-            caller,
-            change,
-            front: front.duplicate(),
-        };
-        let _ = self.cell.try_set(entry);
+    fn fill(&self, board: TokenBoard, known: &KnownHistory<K>) {
+        let _ = self.cell.try_set(BoardCopy::new(board, known));
     }
 }

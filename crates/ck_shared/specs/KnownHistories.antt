@@ -1,0 +1,30 @@
+-- What is known of a history beside its entries: since when its board is the same
+use Rattle.std.specs.Prelude.{◌≡◌, ℕ, ◌≤◌, ◌<◌, ◌^◌, Bool, IsTrue}
+use Rattle.ck_types.specs.TokenLimits.{Ranges}
+use Rattle.ck_journal.specs.Boards.{LeavesBoard, board_of}
+use Rattle.ck_journal.specs.Fronts.{IsFront}
+use Rattle.ck_journal.specs.Histories.{History, ◌◁◌, entry_count}
+use Rattle.ck_journal.specs.declared.calls.Entry.{Entry}
+
+-- a history, and a front of it since which no entry has changed the board
+pub record KnownState : Type 0 where
+  pub history : History
+  pub changed : History
+
+-- the board of the history is that of each of its fronts from this one on
+abbrev pub KeepsBoard : Ranges → History → History → Type 0
+KeepsBoard limits changed history =
+    (h : History) → IsFront changed h → IsFront h history → board_of limits h ≡ board_of limits history
+
+-- the board of what was shown is that of the known history
+abbrev pub Covers : KnownState → History → Type 0
+Covers k shown = IsFront k.changed shown × IsFront shown k.history
+
+-- the history ends with an entry of this caller, whose call leaves the board or may change it
+pub record HasNext (number : ℕ) (leaves : Bool) (before h : History) : Type 0 where
+  pub entry : Entry
+  pub next : h ≡ entry ◁ before
+  pub caller : entry.caller ≡ number
+  pub range : (1 ≤ number) × (number ≤ 8)
+  pub room : entry_count h < 2 ^ 64
+  pub same_board : IsTrue leaves → LeavesBoard entry.call
