@@ -1,12 +1,12 @@
 #!/usr/bin/env python3
 """Refuses each growth of memory in turn, of the program that plays cases and of the one that plays scripts.
 
-Each case of the files in crates/ck_cases/data, or of the files that are named, is played once for each growth of
-memory, which is refused. What finds no memory, a call, a run or a cut, the program of cases makes again after a look at
-the journal: so the case passes, or the program itself is out of memory. The calls of a case are also played as a
-script: all replies are written, or whole lines at their front, and then the program says that it is out of memory.
-Where anything else comes, it is printed, and the status is 1. Bad lines are left out: they make no call, and without
-memory one may have another reason.
+Each case of the files in crates/ck_cases/data but of many_objects.cases, which has too many growths, or of the files
+that are named, is played once for each growth of memory, which is refused. What finds no memory, a call, a run or a
+cut, the program of cases makes again after a look at the journal: so the case passes, or the program itself is out of
+memory. The calls of a case are also played as a script: all replies are written, or whole lines at their front, and
+then the program says that it is out of memory. Where anything else comes, it is printed, and the status is 1. Bad lines
+are left out: they make no call, and without memory one may have another reason. Changed journals aren't audited.
 
 The programs are crates/ck_cases/out/ck_cases and crates/ck_run/out/ck_run, built by `rt run` in their folders. This
 needs Linux with the GNU C library, and a C compiler, `cc`, for growths.c beside this file.
@@ -24,6 +24,7 @@ CRATES = os.path.join(HERE, "..", "crates")
 CASES = os.path.join(CRATES, "ck_cases", "out", "ck_cases")
 SCRIPTS = os.path.join(CRATES, "ck_run", "out", "ck_run")
 DATA = os.path.join(CRATES, "ck_cases", "data", "*.cases")
+LONG = os.path.join(CRATES, "ck_cases", "data", "many_objects.cases")
 LARGEST = "limits largest"
 BAD_LINE = " -> bad script: "
 
@@ -73,7 +74,7 @@ def cases_in(path):
 def calls_in(case):
     """The calls of a case, each with its reply."""
     steps = [line.split(" -> ", 1) for line in case[1:]]
-    return [step for step in steps if step[0] != "cut"]
+    return [step for step in steps if step[0] != "cut" and not step[0].startswith("audit ")]
 
 
 def is_case_right(ended, name, plain):
@@ -144,4 +145,4 @@ def main(paths):
 
 
 if __name__ == "__main__":
-    sys.exit(main(sys.argv[1:] or sorted(glob.glob(DATA))))
+    sys.exit(main(sys.argv[1:] or sorted(set(glob.glob(DATA)) - {LONG})))
