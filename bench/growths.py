@@ -1,12 +1,12 @@
 #!/usr/bin/env python3
 """Refuses each growth of memory in turn, of the programs that play cases, scripts and the races of a shared token.
 
-Each case of the files in crates/ck_cases/data, or of the files that are named, is played once for each growth of
-memory, which is refused. What finds no memory, a call, a run or a cut, the program of cases makes again after a look at
-the journal: so the case passes, or the program itself is out of memory. The calls of a case are also played as a
-script: all replies are written, or whole lines at their front, and then the program says that it is out of memory.
-Where anything else comes, it is printed, and the status is 1. Bad lines are left out: they make no call, and without
-memory one may have another reason.
+Each case of the files in crates/ck_cases/data but of many_objects.cases, which has too many growths, or of the files
+that are named, is played once for each growth of memory, which is refused. What finds no memory, a call, a run or a
+cut, the program of cases makes again after a look at the journal: so the case passes, or the program itself is out of
+memory. The calls of a case are also played as a script: all replies are written, or whole lines at their front, and
+then the program says that it is out of memory. Where anything else comes, it is printed, and the status is 1. Bad lines
+are left out: they make no call, and without memory one may have another reason. Changed journals aren't audited.
 
 The calls of each race in crates/ck_soak/data are made one after the other, by callers of a shared token. Where one
 finds no memory, its caller knows and sees what it did before, and the next call of another caller adds one entry; then
@@ -31,6 +31,7 @@ SCRIPTS = os.path.join(CRATES, "ck_run", "out", "ck_run")
 RACES = os.path.join(CRATES, "ck_soak", "out", "ck_soak")
 RACES_DATA = os.path.join(CRATES, "ck_soak", "data", "callers.races")
 DATA = os.path.join(CRATES, "ck_cases", "data", "*.cases")
+LONG = os.path.join(CRATES, "ck_cases", "data", "many_objects.cases")
 LARGEST = "limits largest"
 BAD_LINE = " -> bad script: "
 
@@ -93,7 +94,7 @@ def races_in(path):
 def calls_in(case):
     """The calls of a case, each with its reply."""
     steps = [line.split(" -> ", 1) for line in case[1:]]
-    return [step for step in steps if step[0] != "cut"]
+    return [step for step in steps if step[0] != "cut" and not step[0].startswith("audit ")]
 
 
 def is_case_right(ended, name, plain):
@@ -172,4 +173,4 @@ if __name__ == "__main__":
         sys.exit(main([], races_in(RACES_DATA)))
     if sys.argv[1:]:
         sys.exit(main(sys.argv[1:], []))
-    sys.exit(main(sorted(glob.glob(DATA)), races_in(RACES_DATA)))
+    sys.exit(main(sorted(set(glob.glob(DATA)) - {LONG}), races_in(RACES_DATA)))

@@ -5,9 +5,9 @@ Last it prints what calls and asks of a shared token take, each beside what is w
 
 The program is crates/ck_run/out/ck_run, or the path that is given; it is built by `rt run` in crates/ck_run. Times are
 processor time, the best of several runs, and memory is the peak; those of an empty script are taken off both. Off the
-time of searches is taken that of a script that only makes their objects. The figures of a shared token are those of
-crates/ck_shared_bench/out/ck_shared_bench, by the clock: they want four processors without other work. With the
-argument `shared` they alone are printed.
+time of searches is taken that of a script that only makes their objects. The figures of a shared token are among those
+of crates/ck_bench/out/ck_bench, by the clock: they want four processors without other work. With the argument `shared`
+they alone are printed.
 
 A line, or an object in a search, may take at most 3 times as much time among the most as among the fewest. Where one
 takes more, or a figure of a shared token isn't as wanted, the status is 1.
@@ -27,7 +27,7 @@ RUNS = {0: 301, 1_000: 301, 10_000: 101, 50_000: 21, 100_000: 21}
 MOST_GROWTH = 3
 CRATES = os.path.join(os.path.dirname(__file__), "..", "crates")
 PROGRAM = os.path.join(CRATES, "ck_run", "out", "ck_run")
-SHARED_PROGRAM = os.path.join(CRATES, "ck_shared_bench", "out", "ck_shared_bench")
+FIGURES_PROGRAM = os.path.join(CRATES, "ck_bench", "out", "ck_bench")
 
 # What is wanted of a shared token: a line of its program, the figure that is made of the line's numbers, its unit, and
 # the least or the most that it may be.
@@ -114,12 +114,13 @@ def measure_searches(program, searches, creations, what):
     return is_within(searches, times, OBJECT_COUNTS)
 
 
-def is_figure_met(line, wanted):
-    """Prints a line of the program of the shared token beside what is wanted of it, and whether that is met."""
+def is_figure_met(output, wanted):
+    """Prints the line of a figure of the shared token beside what is wanted of it, and whether that is met."""
     form, figure_of, unit, least, most = wanted
-    found = re.fullmatch(form, line)
+    found = re.search(f"^{form}$", output, re.MULTILINE)
     if not found:
-        sys.exit(f"not a line of figures: {line}")
+        sys.exit(f"no line of figures is as this: {form}")
+    line = found.group()
     figure = figure_of(*map(int, found.groups()))
     bound = f"at least {least:,}" if most is None else f"at most {most:,}"
     is_met = (least is None or figure >= least) and (most is None or figure <= most)
@@ -128,11 +129,8 @@ def is_figure_met(line, wanted):
 
 
 def measure_shared():
-    ended = subprocess.run([SHARED_PROGRAM, "measure"], stdout=subprocess.PIPE, check=True, text=True)
-    lines = ended.stdout.splitlines()
-    if len(lines) != len(SHARED_FIGURES):
-        sys.exit("not as many figures of the shared token as are wanted")
-    return [is_figure_met(line, wanted) for line, wanted in zip(lines, SHARED_FIGURES)]
+    ended = subprocess.run([FIGURES_PROGRAM, "measure"], stdout=subprocess.PIPE, check=True, text=True)
+    return [is_figure_met(ended.stdout, wanted) for wanted in SHARED_FIGURES]
 
 
 def main():

@@ -6,15 +6,21 @@ use std::alloc::Global;
 use std::io;
 use std::time::CpuClock;
 
-/// A token that has answered so many calls of all kinds of rounds, or a few more.
-fn token_after(alloc: Global, entries: u64) -> Result<Token, Failed> {
-    let mut token = prepared(alloc)?;
+/// Makes rounds of all kinds, until the journal has so many entries or a few more.
+fn fill(token: &mut Token, alloc: Global, entries: u64) -> Result<(), Failed> {
     for number in 0..entries {
         if token.journal().len() >= entries {
             break;
         }
-        round(&mut token, alloc, KINDS[(number % 10) as usize])?;
+        round(token, alloc, KINDS[(number % 10) as usize])?;
     }
+    Ok(())
+}
+
+/// A token with a journal of so many entries.
+fn token_after(alloc: Global, entries: u64) -> Result<Token, Failed> {
+    let mut token = prepared(alloc)?;
+    fill(&mut token, alloc, entries)?;
     Ok(token)
 }
 

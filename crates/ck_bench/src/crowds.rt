@@ -68,21 +68,27 @@ impl Phase {
     }
 }
 
-/// A token with a user PIN and so many session objects of session 2, beside what `prepared` makes.
-/// Their numbers begin with 3, and each has its number as its label.
-fn crowded(alloc: Global, objects: u32) -> Result<Token, Failed> {
-    let mut token = prepared(alloc)?;
+/// Makes a user PIN and so many session objects of session 2. Their numbers begin with 3, and each
+/// has its number as its label.
+fn crowd(token: &mut Token, alloc: Global, objects: u32) -> Result<(), Failed> {
     let pin = Pin::of(b"1234");
     let user = 0;
     let session = 1;
-    call(&mut token, alloc, Call::Login { session, user, pin })?;
+    call(token, alloc, Call::Login { session, user, pin })?;
     let pin = Pin::of(b"1234");
-    call(&mut token, alloc, Call::InitPin { session, pin })?;
-    call(&mut token, alloc, Call::Logout { session })?;
-    call(&mut token, alloc, Call::OpenSession { flags: 6 })?;
+    call(token, alloc, Call::InitPin { session, pin })?;
+    call(token, alloc, Call::Logout { session })?;
+    call(token, alloc, Call::OpenSession { flags: 6 })?;
     for object in 0..u64::from(objects) {
-        create(&mut token, alloc, 2, object)?;
+        create(token, alloc, 2, object)?;
     }
+    Ok(())
+}
+
+/// A token with a user PIN and so many session objects of session 2, beside what `prepared` makes.
+fn crowded(alloc: Global, objects: u32) -> Result<Token, Failed> {
+    let mut token = prepared(alloc)?;
+    crowd(&mut token, alloc, objects)?;
     Ok(token)
 }
 

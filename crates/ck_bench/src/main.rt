@@ -1,20 +1,26 @@
-//! Measures what single calls of a token take, without a script. With no argument it makes each
-//! kind of call a few times and writes nothing; with the argument `measure` it writes nanoseconds a
-//! call: processor time, the best of many short runs.
+//! Measures what calls of a token take, without a script. With no argument it makes each kind of
+//! call a few times and writes nothing. With the argument `measure` it writes, by the clock, what
+//! calls and asks of a token take that callers share, and then, in processor time, what single calls
+//! of a token alone take: each the best of some tries.
 #![tactic(auto)]
 
 mod audits;
 mod crowds;
 mod long_digests;
 mod rounds;
+mod shared;
+mod threads;
 
 use audits::audit_time;
 use crowds::{PHASES, times_among};
 use long_digests::best_times;
-use rounds::{KINDS, Kind, calls_in, prepared, round};
+use rounds::{KINDS, Kind, calls_in, make_rounds, prepared};
+use shared::measure_shared;
 use std::env::Env;
 use std::process::ExitCode;
-use std::time::{CpuClock, Duration};
+use std::sync::Wait;
+use std::thread::Threads;
+use std::time::{Clock, CpuClock, Duration};
 use std::{env, io};
 
 /// How often a round is made in one run, and how many runs the best is taken of.
@@ -35,17 +41,15 @@ const AUDITS: u64 = 7;
 fn run_time<R: CpuClock + AllocGlobal>(
     rt: &R,
     kind: Kind,
-    rounds: u64,
+    count: u64,
 ) -> io::Result<Option<Duration>> {
     let alloc = rt.alloc();
     let Ok(mut token) = prepared(alloc) else {
         return Ok(None);
     };
     let before = rt.process_cpu_time()?;
-    for _ in 0..rounds {
-        if round(&mut token, alloc, kind).is_err() {
-            return Ok(None);
-        }
+    if make_rounds(&mut token, alloc, kind, count).is_err() {
+        return Ok(None);
     }
     let after = rt.process_cpu_time()?;
     Ok(after.checked_sub(before))
@@ -122,11 +126,8 @@ fn measure_audit<R: CpuClock + Print + AllocGlobal>(
     Ok(true)
 }
 
-/// Makes each kind of round, and measures it where that is asked for.
-fn run<R: Env + CpuClock + Print + AllocGlobal>(rt: &R) -> io::Result<bool> {
-    let measures = env::args(rt)?
-        .nth(1)
-        .is_some_and(|word| word.as_str() == "measure");
+/// Makes each kind of round on tokens of one caller, and measures it where that is asked for.
+fn measure_alone<R: CpuClock + Print + AllocGlobal>(rt: &R, measures: bool) -> io::Result<bool> {
     for kind in KINDS {
         let is_good = if measures {
             measure(rt, kind)?
@@ -150,8 +151,17 @@ fn run<R: Env + CpuClock + Print + AllocGlobal>(rt: &R) -> io::Result<bool> {
     )
 }
 
+fn run<
+    R: Env + Clock + CpuClock + Print + AllocGlobal + Threads + Wait + Copy + Drop + Send + Sync,
+>(rt: R) -> io::Result<bool> {
+    let measures = env::args(&rt)?
+        .nth(1)
+        .is_some_and(|word| word.as_str() == "measure");
+    Ok(measure_shared(rt, measures)? && measure_alone(&rt, measures)?)
+}
+
 fn main(rt: HostRuntime) -> ExitCode {
-    match run(&rt) {
+    match run(rt) {
         Ok(true) => ExitCode::SUCCESS,
         Ok(false) | Err(_) => ExitCode::FAILURE,
     }

@@ -1,10 +1,11 @@
 //! The calls that are measured.
 ghost use Rattle.std.specs.Prelude.{◌≤◌};
 
-use ck_journal::{AttributeQuery, Body, Call};
+use ck_journal::{AttributeQuery, Body, Call, Reply};
 use ck_token::Token;
 use ck_types::{Bytes, Item, Limits, Mechanism, NoMemory, Pin, Rv, Sequence, Template};
 use std::alloc::Global;
+use std::io;
 
 /// CKA_CLASS, CKA_PRIVATE, CKA_LABEL, CKA_VALUE and CKA_KEY_TYPE.
 const CLASS: u64 = 0;
@@ -86,8 +87,8 @@ pub(crate) fn calls_in(kind: Kind) -> u64
     }
 }
 
-/// A call that was answered otherwise than it must be, or found no memory.
-#[derive(Debug, Drop)]
+/// A call that was answered otherwise than it must be, or found no memory, or a clock that failed.
+#[derive(Clone, Copy, Debug, Drop)]
 pub(crate) struct Failed;
 
 impl From<NoMemory> for Failed {
@@ -96,10 +97,29 @@ impl From<NoMemory> for Failed {
     }
 }
 
+impl From<io::Error> for Failed {
+    fn from(_error: io::Error) -> Failed {
+        Failed
+    }
+}
+
+/// What answers calls.
+pub(crate) trait Target {
+    fn call(&mut self, alloc: Global, call: Call) -> Result<Reply, NoMemory>;
+}
+
+/// A token of one caller.
+impl Target for Token {
+    #[inline(always)]
+    fn call(&mut self, alloc: Global, call: Call) -> Result<Reply, NoMemory> {
+        Token::call(self, alloc, 1, call)
+    }
+}
+
 /// Makes a call that must be answered OK, and gives its handle, 0 where it has none.
 #[inline(always)]
-pub(crate) fn call(token: &mut Token, alloc: Global, call: Call) -> Result<u64, Failed> {
-    let reply = token.call(alloc, 1, call)?;
+pub(crate) fn call<T: Target>(target: &mut T, alloc: Global, call: Call) -> Result<u64, Failed> {
+    let reply = target.call(alloc, call)?;
     match (&reply.rv, &reply.body) {
         (Rv::Ok, Body::Handle(handle)) => Ok(*handle),
         (Rv::Ok, _) => Ok(0),
@@ -179,53 +199,60 @@ fn secret_key(alloc: Global) -> Result<Call, NoMemory> {
     )
 }
 
-/// A token with an open read/write session, an object of number 1 and a key of number 2.
+/// The first calls of a token: afterwards it has an open read/write session, an object of number 1
+/// and a key of number 2.
+pub(crate) fn prepare<T: Target>(target: &mut T, alloc: Global) -> Result<(), Failed> {
+    let pin = Pin::of(b"1234");
+    call(target, alloc, Call::InitToken { pin })?;
+    call(target, alloc, Call::OpenSession { flags: 6 })?;
+    call(target, alloc, labelled(alloc)?)?;
+    call(target, alloc, secret_key(alloc)?)?;
+    Ok(())
+}
+
+/// A token that has answered the first calls.
 pub(crate) fn prepared(alloc: Global) -> Result<Token, Failed> {
     let mut token = Token::new(alloc, Limits::largest());
-    let pin = Pin::of(b"1234");
-    call(&mut token, alloc, Call::InitToken { pin })?;
-    call(&mut token, alloc, Call::OpenSession { flags: 6 })?;
-    call(&mut token, alloc, labelled(alloc)?)?;
-    call(&mut token, alloc, secret_key(alloc)?)?;
+    prepare(&mut token, alloc)?;
     Ok(token)
 }
 
 #[inline(never)]
-fn session_info(token: &mut Token, alloc: Global) -> Result<(), Failed> {
-    call(token, alloc, Call::GetSessionInfo { session: 1 })?;
+fn session_info<T: Target>(target: &mut T, alloc: Global) -> Result<(), Failed> {
+    call(target, alloc, Call::GetSessionInfo { session: 1 })?;
     Ok(())
 }
 
 #[inline(never)]
-fn token_info(token: &mut Token, alloc: Global) -> Result<(), Failed> {
-    call(token, alloc, Call::GetTokenInfo)?;
+fn token_info<T: Target>(target: &mut T, alloc: Global) -> Result<(), Failed> {
+    call(target, alloc, Call::GetTokenInfo)?;
     Ok(())
 }
 
 #[inline(never)]
-fn open_and_close(token: &mut Token, alloc: Global) -> Result<(), Failed> {
-    let session = call(token, alloc, Call::OpenSession { flags: 6 })?;
-    call(token, alloc, Call::CloseSession { session })?;
+fn open_and_close<T: Target>(target: &mut T, alloc: Global) -> Result<(), Failed> {
+    let session = call(target, alloc, Call::OpenSession { flags: 6 })?;
+    call(target, alloc, Call::CloseSession { session })?;
     Ok(())
 }
 
 #[inline(never)]
-fn refusal(token: &mut Token, alloc: Global) -> Result<(), Failed> {
-    token.call(alloc, 1, Call::GetSessionInfo { session: 0 })?;
+fn refusal<T: Target>(target: &mut T, alloc: Global) -> Result<(), Failed> {
+    target.call(alloc, Call::GetSessionInfo { session: 0 })?;
     Ok(())
 }
 
 #[inline(never)]
-fn get_label(token: &mut Token, alloc: Global, object: u64) -> Result<(), Failed> {
-    call(token, alloc, read_label(alloc, object)?)?;
+fn get_label<T: Target>(target: &mut T, alloc: Global, object: u64) -> Result<(), Failed> {
+    call(target, alloc, read_label(alloc, object)?)?;
     Ok(())
 }
 
 #[inline(never)]
-fn create_and_destroy(token: &mut Token, alloc: Global) -> Result<(), Failed> {
-    let object = call(token, alloc, labelled(alloc)?)?;
-    get_label(token, alloc, object)?;
-    call(token, alloc, Call::DestroyObject { session: 1, object })?;
+fn create_and_destroy<T: Target>(target: &mut T, alloc: Global) -> Result<(), Failed> {
+    let object = call(target, alloc, labelled(alloc)?)?;
+    get_label(target, alloc, object)?;
+    call(target, alloc, Call::DestroyObject { session: 1, object })?;
     Ok(())
 }
 
@@ -251,16 +278,16 @@ pub(crate) fn digest(bytes: Bytes) -> Call {
 }
 
 #[inline(never)]
-fn short_digest(token: &mut Token, alloc: Global) -> Result<(), Failed> {
-    call(token, alloc, start_digest(alloc))?;
+fn short_digest<T: Target>(target: &mut T, alloc: Global) -> Result<(), Failed> {
+    call(target, alloc, start_digest(alloc))?;
     let bytes = Bytes::from_slice(alloc, [7; 64].as_slice())?;
-    call(token, alloc, digest(bytes))?;
+    call(target, alloc, digest(bytes))?;
     Ok(())
 }
 
 /// A signature of 64 bytes by HMAC-SHA-256 under the key of number 2.
 #[inline(never)]
-fn short_hmac(token: &mut Token, alloc: Global) -> Result<(), Failed> {
+fn short_hmac<T: Target>(target: &mut T, alloc: Global) -> Result<(), Failed> {
     let mechanism = Mechanism {
         kind: 0x251,
         parameter: Bytes::new(alloc),
@@ -270,45 +297,58 @@ fn short_hmac(token: &mut Token, alloc: Global) -> Result<(), Failed> {
         mechanism,
         key: 2,
     };
-    call(token, alloc, start)?;
+    call(target, alloc, start)?;
     let sign = Call::Sign {
         session: 1,
         bytes: Bytes::from_slice(alloc, [7; 64].as_slice())?,
         room: Some(32),
     };
-    call(token, alloc, sign)?;
+    call(target, alloc, sign)?;
     Ok(())
 }
 
-fn create_and_end(token: &mut Token, alloc: Global, create: Call) -> Result<(), Failed> {
-    let object = call(token, alloc, create)?;
-    call(token, alloc, Call::DestroyObject { session: 1, object })?;
+fn create_and_end<T: Target>(target: &mut T, alloc: Global, create: Call) -> Result<(), Failed> {
+    let object = call(target, alloc, create)?;
+    call(target, alloc, Call::DestroyObject { session: 1, object })?;
     Ok(())
 }
 
 #[inline(never)]
-fn create_data(token: &mut Token, alloc: Global) -> Result<(), Failed> {
-    create_and_end(token, alloc, data_object(alloc)?)
+fn create_data<T: Target>(target: &mut T, alloc: Global) -> Result<(), Failed> {
+    create_and_end(target, alloc, data_object(alloc)?)
 }
 
 #[inline(never)]
-fn create_key(token: &mut Token, alloc: Global) -> Result<(), Failed> {
-    create_and_end(token, alloc, secret_key(alloc)?)
+fn create_key<T: Target>(target: &mut T, alloc: Global) -> Result<(), Failed> {
+    create_and_end(target, alloc, secret_key(alloc)?)
 }
 
 /// One round of the kind. Each kind has a function of its own, so that a round takes no time for
 /// what another kind would need.
-pub(crate) fn round(token: &mut Token, alloc: Global, kind: Kind) -> Result<(), Failed> {
+pub(crate) fn round<T: Target>(target: &mut T, alloc: Global, kind: Kind) -> Result<(), Failed> {
     match kind {
-        Kind::SessionInfo => session_info(token, alloc),
-        Kind::TokenInfo => token_info(token, alloc),
-        Kind::OpenAndClose => open_and_close(token, alloc),
-        Kind::Refusal => refusal(token, alloc),
-        Kind::ReadLabel => get_label(token, alloc, 1),
-        Kind::CreateReadDestroy => create_and_destroy(token, alloc),
-        Kind::ShortDigest => short_digest(token, alloc),
-        Kind::ShortHmac => short_hmac(token, alloc),
-        Kind::CreateData => create_data(token, alloc),
-        Kind::CreateKey => create_key(token, alloc),
+        Kind::SessionInfo => session_info(target, alloc),
+        Kind::TokenInfo => token_info(target, alloc),
+        Kind::OpenAndClose => open_and_close(target, alloc),
+        Kind::Refusal => refusal(target, alloc),
+        Kind::ReadLabel => get_label(target, alloc, 1),
+        Kind::CreateReadDestroy => create_and_destroy(target, alloc),
+        Kind::ShortDigest => short_digest(target, alloc),
+        Kind::ShortHmac => short_hmac(target, alloc),
+        Kind::CreateData => create_data(target, alloc),
+        Kind::CreateKey => create_key(target, alloc),
     }
+}
+
+/// Makes so many rounds of the kind.
+pub(crate) fn make_rounds<T: Target>(
+    target: &mut T,
+    alloc: Global,
+    kind: Kind,
+    count: u64,
+) -> Result<(), Failed> {
+    for _ in 0..count {
+        round(target, alloc, kind)?;
+    }
+    Ok(())
 }

@@ -16,6 +16,9 @@ pub(crate) enum CaseError {
     NoEntry(u64),
     #[error("the audit finds entry {0} wrong")]
     Wrong(u64),
+    /// The reply of the entry was changed.
+    #[error("the audit doesn't find that entry {0} is changed")]
+    ChangeNotFound(u64),
     /// What found no memory isn't in the journal.
     #[error("out of memory, and the journal has {came} entries in place of {entries}")]
     Entered { entries: u64, came: u64 },

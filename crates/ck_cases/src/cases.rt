@@ -7,6 +7,8 @@
 //! - `1 OpenSession E -> bad script: ..`: a line that is none of a script's, and why.
 //! - `cut -> entries 2`: the token's journal is cut, and so many entries are taken out.
 //! - `cut -> a session is open`: it isn't cut, and why.
+//! - `audit 1 9 9 9 -> entry 3 is wrong`: the journal is audited as one of a token of these limits,
+//!   and its first reply that isn't such a token's is that of this entry; or `-> legal`.
 use crate::case_errors::CaseError;
 use ck_journal::Call;
 use ck_script::{BadLine, Line, LineError};
@@ -20,6 +22,8 @@ pub(crate) enum Action {
     /// Nothing: the line is bad.
     BadLine(BadLine),
     Cut,
+    /// An audit under these limits.
+    Audit(Limits),
 }
 
 /// A step of a case, with the number of its line.
@@ -36,7 +40,7 @@ impl<'a> Step<'a> {
     pub(crate) fn call(&self) -> Option<(u32, &Call)> {
         match &self.action {
             Action::Call { caller, call } => Some((*caller, call)),
-            Action::BadLine(_) | Action::Cut => None,
+            Action::BadLine(_) | Action::Cut | Action::Audit(_) => None,
         }
     }
 
@@ -78,6 +82,10 @@ fn limits_in(text: &str) -> Option<Limits> {
 fn action_in(alloc: Global, number: u64, text: &str) -> Result<Action, CaseError> {
     if text == "cut" {
         return Ok(Action::Cut);
+    }
+    if let Some(limits) = text.strip_prefix("audit ") {
+        let limits = limits_in(limits).ok_or(CaseError::NoCase(number))?;
+        return Ok(Action::Audit(limits));
     }
     match Line::parse(alloc, text.as_bytes()) {
         Ok(Line::Called { caller, call }) => Ok(Action::Call { caller, call }),

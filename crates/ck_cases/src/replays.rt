@@ -1,6 +1,7 @@
 //! Cases that are played on a token.
 use crate::case_errors::CaseError;
 use crate::cases::{Action, Case, Step, cases_in};
+use crate::changed_journals::check_changes;
 use crate::retries::RetryingToken;
 use ck_audit::Verdict;
 use ck_journal::{Journal, Reply};
@@ -31,6 +32,13 @@ fn cut_text(alloc: Global, cut: Result<Journal, Uncut>) -> Result<String, CaseEr
     }
 }
 
+fn verdict_text(alloc: Global, verdict: Verdict) -> Result<String, CaseError> {
+    match verdict {
+        Verdict::Legal => Ok(String::from_str(alloc, "legal")?),
+        Verdict::Wrong(number) => Ok(format!(in alloc; "entry {number} is wrong")?),
+    }
+}
+
 /// What comes of an action.
 fn outcome_of(
     alloc: Global,
@@ -46,6 +54,10 @@ fn outcome_of(
         Action::Cut => {
             let cut = token.cut(alloc)?;
             cut_text(alloc, cut)
+        }
+        Action::Audit(limits) => {
+            let verdict = token.audit(alloc, *limits)?;
+            verdict_text(alloc, verdict)
         }
     }
 }
@@ -99,29 +111,32 @@ fn compare_entries(
 }
 
 /// Makes the calls of a case up to each cut by one run, looks for the replies in the journal, and
-/// audits it.
-fn play_by_runs(alloc: Global, case: &Case) -> Result<u64, CaseError> {
+/// audits it; where that is asked for, with each of its first replies changed too.
+fn play_by_runs(alloc: Global, case: &Case, changes: bool) -> Result<u64, CaseError> {
     let mut token = RetryingToken::new(alloc, case.limits);
     for steps in case.steps.split(|step| step.is_cut()) {
         let before = token.journal().len();
         token.run(alloc, steps)?;
         compare_entries(alloc, token.journal(), before, steps)?;
-        if let Verdict::Wrong(number) = token.audit(alloc)? {
+        if let Verdict::Wrong(number) = token.audit(alloc, case.limits)? {
             return Err(CaseError::Wrong(number));
+        }
+        if changes {
+            check_changes(alloc, token.journal(), case.limits)?;
         }
         let _cut = token.cut(alloc)?;
     }
     Ok(token.retries())
 }
 
-/// Plays the cases of a file.
-pub(crate) fn play_text(alloc: Global, text: &str) -> Result<Passed, CaseError> {
+/// Plays the cases of a file, and audits changed journals too where that is asked for.
+pub(crate) fn play_text(alloc: Global, text: &str, changes: bool) -> Result<Passed, CaseError> {
     let cases = cases_in(alloc, text)?;
     let mut retries = 0u64;
     for case in cases.iter() {
         let by_steps = play_by_steps(alloc, case)?;
         let with_cuts = play_with_cuts(alloc, case)?;
-        let by_runs = play_by_runs(alloc, case)?;
+        let by_runs = play_by_runs(alloc, case, changes)?;
         retries = retries
             .saturating_add(by_steps)
             .saturating_add(with_cuts)

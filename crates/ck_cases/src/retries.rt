@@ -83,18 +83,14 @@ impl RetryingToken {
         }
     }
 
-    fn verdict(&self, alloc: Global) -> Result<Verdict, NoMemory> {
-        audit(alloc, self.token.journal(), self.token.limits())
-    }
-
-    /// Audits the journal.
-    pub(crate) fn audit(&mut self, alloc: Global) -> Result<Verdict, CaseError> {
+    /// Audits the journal as one of a token of these limits.
+    pub(crate) fn audit(&mut self, alloc: Global, limits: Limits) -> Result<Verdict, CaseError> {
         let entries = self.token.journal().len();
-        if let Ok(verdict) = self.verdict(alloc) {
+        if let Ok(verdict) = audit(alloc, self.token.journal(), limits) {
             return Ok(verdict);
         }
         self.retry(entries)?;
-        Ok(self.verdict(alloc)?)
+        Ok(audit(alloc, self.token.journal(), limits)?)
     }
 
     /// Cuts the journal, or says why it isn't cut.

@@ -1,12 +1,10 @@
-//! Tests of values, computations, definitions and scripts: vectors and rows from outside, and each
-//! public function once. They stand apart from what they test, since a crate with tests is proved a
-//! second time with them.
+//! Tests of values, computations, definitions and scripts: vectors and rows from outside, and what
+//! calls of a token don't show. They stand apart from what they test, since a crate with tests is
+//! proved a second time with them.
 #![tactic(auto)]
 
 #[cfg(test)]
 mod history;
-#[cfg(test)]
-mod journal;
 #[cfg(test)]
 mod line_tables;
 #[cfg(test)]

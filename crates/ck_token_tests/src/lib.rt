@@ -1,9 +1,5 @@
-//! Tests of a token, and of audits and replays of its journal.
+//! Tests of a token.
 #![tactic(auto)]
 
-#[cfg(test)]
-mod audit;
-#[cfg(test)]
-mod replays;
 #[cfg(test)]
 mod token;

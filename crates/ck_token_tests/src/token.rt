@@ -44,15 +44,20 @@ fn stopped_runs_are_printed(rt: HostRuntime) -> Result<(), Fail> {
     Ok(())
 }
 
-#[test]
-fn room_for_entries(rt: HostRuntime) -> Result<(), Fail> {
-    let mut token = Token::new(rt.alloc(), Limits::largest());
+fn check_room(rt: &impl Abort, alloc: Global, token: &mut Token) -> Result<(), NoMemory> {
     assert_eq!(rt; token.spare(), 0);
     token.reserve(3)?;
     assert!(rt; token.spare() >= 3);
     assert_eq!(rt; token.journal().len(), 0);
-    token.call(rt.alloc(), 1, Call::CloseAllSessions)?;
+    token.call(alloc, 1, Call::CloseAllSessions)?;
     assert!(rt; token.spare() >= 2);
+    Ok(())
+}
+
+#[test]
+fn room_for_entries(rt: HostRuntime) -> Result<(), Fail> {
+    let mut token = Token::new(rt.alloc(), Limits::largest());
+    check_room(&rt, rt.alloc(), &mut token)?;
     Ok(())
 }
 
@@ -68,33 +73,54 @@ const MILLION: [u8; 32] = [
     0xf1, 0x80, 0x9a, 0x48, 0xa4, 0x97, 0x20, 0x0e, 0x04, 0x6d, 0x39, 0xcc, 0xc7, 0x11, 0x2c, 0xd0,
 ];
 
-/// A token with a session and a digest in it.
-fn digesting(alloc: Global) -> Result<Token, NoMemory> {
-    let mut token = Token::new(alloc, Limits::largest());
-    token.call(alloc, 1, Call::InitToken { pin: so_pin() })?;
-    token.call(alloc, 1, Call::OpenSession { flags: 6 })?;
-    token.call(alloc, 1, start_sha256(alloc))?;
-    Ok(token)
+/// Makes a call that must be answered with this code, and gives the body of the reply.
+fn answered(
+    rt: &impl Abort,
+    alloc: Global,
+    token: &mut Token,
+    call: Call,
+    rv: Rv,
+) -> Result<Body, NoMemory> {
+    let reply = token.call(alloc, 1, call)?;
+    assert_eq!(rt; reply.rv, rv);
+    Ok(reply.body)
 }
 
-/// A long message, a piece that is as long as one may be, and one that is longer.
+/// A message that is one long piece.
+fn check_million(rt: &impl Abort, alloc: Global, token: &mut Token) -> Result<(), Fail> {
+    answered(rt, alloc, token, start_sha256(alloc), Rv::Ok)?;
+    let message = filled(alloc, 1_000_000)?;
+    answered(rt, alloc, token, update(message), Rv::Ok)?;
+    let Body::Bytes(digest) = answered(rt, alloc, token, finish(32), Rv::Ok)? else {
+        return Err(Fail::new("no digest"));
+    };
+    assert_eq!(rt; digest.as_slice(), MILLION.as_slice());
+    Ok(())
+}
+
+/// A piece that is as long as one may be, and one that is longer.
+fn check_longest(rt: &impl Abort, alloc: Global, token: &mut Token) -> Result<(), NoMemory> {
+    answered(rt, alloc, token, start_sha256(alloc), Rv::Ok)?;
+    let longest = filled(alloc, 0x10_0000)?;
+    answered(rt, alloc, token, update(longest), Rv::Ok)?;
+    let longer = filled(alloc, 0x10_0001)?;
+    let refused = Rv::Error(RvError::DataLenRange);
+    answered(rt, alloc, token, update(longer), refused)?;
+    let ended = Rv::Error(RvError::OperationNotInitialized);
+    answered(rt, alloc, token, finish(32), ended)?;
+    Ok(())
+}
+
+fn check_pieces(rt: &impl Abort, alloc: Global, token: &mut Token) -> Result<(), Fail> {
+    answered(rt, alloc, token, Call::InitToken { pin: so_pin() }, Rv::Ok)?;
+    answered(rt, alloc, token, Call::OpenSession { flags: 6 }, Rv::Ok)?;
+    check_million(rt, alloc, token)?;
+    check_longest(rt, alloc, token)?;
+    Ok(())
+}
+
 #[test]
 fn long_pieces(rt: HostRuntime) -> Result<(), Fail> {
-    let alloc = rt.alloc();
-    let mut token = digesting(alloc)?;
-    let reply = token.call(alloc, 1, update(filled(alloc, 1_000_000)?))?;
-    assert_eq!(rt; reply.rv, Rv::Ok);
-    let reply = token.call(alloc, 1, finish(32))?;
-    match reply.body {
-        Body::Bytes(bytes) => assert_eq!(rt; bytes.as_slice(), MILLION.as_slice()),
-        _ => return Err(Fail::new("no digest")),
-    }
-    token.call(alloc, 1, start_sha256(alloc))?;
-    let reply = token.call(alloc, 1, update(filled(alloc, 0x10_0000)?))?;
-    assert_eq!(rt; reply.rv, Rv::Ok);
-    let reply = token.call(alloc, 1, update(filled(alloc, 0x10_0001)?))?;
-    assert_eq!(rt; reply.rv, Rv::Error(RvError::DataLenRange));
-    let reply = token.call(alloc, 1, finish(32))?;
-    assert_eq!(rt; reply.rv, Rv::Error(RvError::OperationNotInitialized));
-    Ok(())
+    let mut token = Token::new(rt.alloc(), Limits::largest());
+    check_pieces(&rt, rt.alloc(), &mut token)
 }

@@ -1,30 +1,20 @@
-//! Measures a token that callers share, by its lock and in threads. With no argument it makes each
-//! kind of call a few times and writes nothing; with the argument `measure` it writes what calls
-//! and asks take by the clock, the best of some tries.
-#![tactic(auto)]
-
+//! A token that callers share: its calls by the lock beside those of a token alone, and what four
+//! callers do in threads.
 ghost use Rattle.std.specs.Prelude.{◌≡◌, ℕ};
 ghost use Rattle.ck_journal.specs.Histories.{start};
 ghost use Rattle.ck_shared.specs.Accounts.{name_of};
 
-mod rounds;
-mod threads;
-
-use ck_shared::{BoardCopy, Ends, EntrySlot, NewIdentity, SharedToken, TokenId};
+use crate::rounds::{Failed, Kind, Target, make_rounds, prepare};
+use crate::threads::{Locked, Shared, Task, Worker, best_together};
+use ck_shared::{BoardCopy, Caller, Ends, NewIdentity, TokenId};
 use ck_token::Token;
-use ck_types::Limits;
-use rounds::{Direct, Failed, Locked, Round, Target, prepare, time_of_rounds};
+use ck_types::{Limits, NoMemory};
 use std::alloc::Global;
-use std::env::Env;
+use std::io;
 use std::marker::Brand;
-use std::process::ExitCode;
 use std::sync::Wait;
 use std::thread::Threads;
-use std::time::Clock;
-use std::{env, io};
-use threads::{Task, Worker, best_together};
-
-type Shared<K, R> = SharedToken<K, EntrySlot<K>, BoardCopy<K>, R>;
+use std::time::{Clock, Instant};
 
 /// How many asks and rounds are measured at once, and of how many tries the best is taken.
 #[derive(Clone, Copy)]
@@ -66,15 +56,32 @@ struct CallTimes {
     changes: u128,
 }
 
+/// The nanoseconds of so many rounds, the least of so many tries.
+fn time_of_rounds<T: Target, C: Clock>(
+    clock: &C,
+    alloc: Global,
+    target: &mut T,
+    kind: Kind,
+    effort: Effort,
+) -> Result<u128, Failed> {
+    let mut best = u128::MAX;
+    for _ in 0..effort.tries {
+        let before = Instant::now(clock)?;
+        make_rounds(target, alloc, kind, effort.rounds)?;
+        best = best.min(before.elapsed(clock)?.as_nanos());
+    }
+    Ok(best)
+}
+
 fn call_times<T: Target, C: Clock>(
     clock: &C,
     alloc: Global,
     target: &mut T,
     effort: Effort,
 ) -> Result<CallTimes, Failed> {
-    let Effort { rounds, tries, .. } = effort;
-    let leaves = time_of_rounds(clock, alloc, target, Round::SessionInfo, rounds, tries)?;
-    let changes = time_of_rounds(clock, alloc, target, Round::OpenAndClose, rounds, tries)?;
+    prepare(target, alloc)?;
+    let leaves = time_of_rounds(clock, alloc, target, Kind::SessionInfo, effort)?;
+    let changes = time_of_rounds(clock, alloc, target, Kind::OpenAndClose, effort)?;
     Ok(CallTimes { leaves, changes })
 }
 
@@ -114,6 +121,33 @@ fn thread_times<K: TokenId + Send + Sync, R: Clock + Threads + Wait + Drop + Sen
     })
 }
 
+/// The callers' calls by the lock, and what they do in threads.
+fn times_of<K: TokenId + Send + Sync, R: Clock + Threads + Wait + Drop + Send + Sync>(
+    rt: &R,
+    alloc: Global,
+    token: &Shared<K, R>,
+    workers: &mut [Worker<K>],
+    effort: Effort,
+) -> Result<(CallTimes, ThreadTimes), Failed> {
+    let first = workers.first_mut().ok_or(Failed)?;
+    let caller = &mut first.caller;
+    let mut target = Locked { rt, token, caller };
+    let calls = call_times(rt, alloc, &mut target, effort)?;
+    let threads = thread_times(rt, alloc, token, workers, effort)?;
+    Ok((calls, threads))
+}
+
+fn workers_of<K: TokenId>(
+    alloc: Global,
+    callers: Vec<Caller<K, BoardCopy<K>>>,
+) -> Result<Vec<Worker<K>>, NoMemory> {
+    let mut workers = Vec::with_capacity(alloc, callers.len())?;
+    for caller in callers {
+        workers.push(Worker::new(caller))?;
+    }
+    Ok(workers)
+}
+
 /// Shares the token among four callers, and measures their calls by the lock and in threads.
 fn times_shared<K: TokenId + Send + Sync, R: Clock + Threads + Wait + Copy + Drop + Send + Sync>(
     rt: R,
@@ -132,28 +166,8 @@ fn times_shared<K: TokenId + Send + Sync, R: Clock + Threads + Wait + Copy + Dro
         return Err(Failed);
     };
     let Ends { token, callers } = ends;
-    let mut workers = Vec::with_capacity(alloc, callers.len())?;
-    for caller in callers {
-        workers.push(Worker::new(caller))?;
-    }
-    let first = workers.first_mut().ok_or(Failed)?;
-    let mut target = Locked {
-        rt: &rt,
-        token: &token,
-        caller: &mut first.caller,
-    };
-    prepare(&mut target, alloc)?;
-    let calls = call_times(&rt, alloc, &mut target, effort)?;
-    let threads = thread_times(&rt, alloc, &token, workers.as_mut_slice(), effort)?;
-    Ok((calls, threads))
-}
-
-fn times_alone<C: Clock>(clock: &C, alloc: Global, effort: Effort) -> Result<CallTimes, Failed> {
-    let mut target = Direct {
-        token: Token::new(alloc, Limits::largest()),
-    };
-    prepare(&mut target, alloc)?;
-    call_times(clock, alloc, &mut target, effort)
+    let mut workers = workers_of(alloc, callers)?;
+    times_of(&rt, alloc, &token, workers.as_mut_slice(), effort)
 }
 
 /// The time of each of so many, 0 of none.
@@ -199,26 +213,25 @@ fn write_threads<R: Print>(rt: &R, times: ThreadTimes) -> io::Result<()> {
     println!(rt; "create, get label and destroy by four callers: {a_second} calls a second")
 }
 
-fn main(rt: HostRuntime) -> ExitCode {
+/// Makes calls and asks of a shared token, and writes what they take by the clock where that is
+/// asked for.
+pub(crate) fn measure_shared<
+    R: Clock + Print + AllocGlobal + Threads + Wait + Copy + Drop + Send + Sync,
+>(rt: R, measures: bool) -> io::Result<bool> {
     let alloc = rt.alloc();
-    let Ok(mut words) = env::args(&rt) else {
-        return ExitCode::FAILURE;
-    };
-    let measures = words.nth(1).is_some_and(|word| word.as_str() == "measure");
     let effort = if measures { MEASURED } else { TRIED };
-    let Ok(alone) = times_alone(&rt, alloc, effort) else {
-        return ExitCode::FAILURE;
+    let mut direct = Token::new(alloc, Limits::largest());
+    let Ok(alone) = call_times(&rt, alloc, &mut direct, effort) else {
+        return Ok(false);
     };
     let token = Token::new(alloc, Limits::largest());
     let identity = NewIdentity::new();
     let Ok((locked, threads)) = times_shared::<Brand, _>(rt, alloc, token, identity, effort) else {
-        return ExitCode::FAILURE;
+        return Ok(false);
     };
-    if !measures {
-        return ExitCode::SUCCESS;
+    if measures {
+        write_calls(&rt, alone, locked)?;
+        write_threads(&rt, threads)?;
     }
-    match write_calls(&rt, alone, locked).and_then(|()| write_threads(&rt, threads)) {
-        Ok(()) => ExitCode::SUCCESS,
-        Err(_) => ExitCode::FAILURE,
-    }
+    Ok(true)
 }

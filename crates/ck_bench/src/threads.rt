@@ -1,15 +1,30 @@
-//! Callers in threads of their own.
-use crate::Shared;
-use crate::rounds::{Failed, Locked, Round, make_round, make_rounds};
-use ck_journal::{Body, Reply};
-use ck_shared::{Ask, BoardCopy, Caller, Status, TokenId};
-use ck_types::Rv;
+//! Callers of a shared token, in threads of their own.
+use crate::rounds::{Failed, Kind, Target, make_rounds, round};
+use ck_journal::{Body, Call, Reply};
+use ck_shared::{Ask, BoardCopy, Caller, EntrySlot, SharedToken, Status, TokenId};
+use ck_types::{NoMemory, Rv};
 use std::alloc::Global;
 use std::sync::Wait;
 use std::sync::atomic::{AtomicBool, Ordering};
 use std::thread;
 use std::thread::Threads;
 use std::time::{Clock, Instant};
+
+pub(crate) type Shared<K, R> = SharedToken<K, EntrySlot<K>, BoardCopy<K>, R>;
+
+/// A shared token and one of its callers.
+#[derive(Drop)]
+pub(crate) struct Locked<'a, K: TokenId, R: Wait + Drop> {
+    pub(crate) rt: &'a R,
+    pub(crate) token: &'a Shared<K, R>,
+    pub(crate) caller: &'a mut Caller<K, BoardCopy<K>>,
+}
+
+impl<'a, K: TokenId, R: Wait + Drop> Target for Locked<'a, K, R> {
+    fn call(&mut self, alloc: Global, call: Call) -> Result<Reply, NoMemory> {
+        self.token.call(self.rt, alloc, self.caller, call)
+    }
+}
 
 /// What a caller does in its thread.
 #[derive(Clone, Copy, Debug, PartialEq, Eq)]
@@ -68,7 +83,7 @@ fn change_until<K: TokenId, R: Wait + Drop>(
         if is_done.load(Ordering::SeqCst) {
             return Ok(());
         }
-        make_round(target, alloc, Round::Object)?;
+        round(target, alloc, Kind::CreateReadDestroy)?;
     }
     Err(Failed)
 }
@@ -87,7 +102,7 @@ fn work<K: TokenId, R: Clock + Wait + Drop>(
         Task::Ask(count) => ask(caller, count)?,
         Task::Change(count) => {
             let mut target = Locked { rt, token, caller };
-            make_rounds(&mut target, alloc, Round::Object, count)?;
+            make_rounds(&mut target, alloc, Kind::CreateReadDestroy, count)?;
         }
         Task::ChangeBeside => {
             let mut target = Locked { rt, token, caller };

@@ -1,6 +1,6 @@
 use Rattle.ck_journal.specs.Histories.{start_of}
 use Rattle.ck_shared.specs.Accounts.{name_of}
-use Rattle.ck_shared_bench.proofs.main.Given as goal
+use Rattle.ck_bench.proofs.shared.measure_shared.Given as goal
 
 -- the token that was just made
 abbrev pub ghosts-times_shared-K-TokenId : goal.ghosts-times_shared-K-TokenId
