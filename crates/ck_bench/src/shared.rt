@@ -130,7 +130,7 @@ fn times_of<K: TokenId + Send + Sync, R: Clock + Threads + Wait + Drop + Send + 
     effort: Effort,
 ) -> Result<(CallTimes, ThreadTimes), Failed> {
     let first = workers.first_mut().ok_or(Failed)?;
-    let caller = &mut first.caller;
+    let caller = &mut *first.caller;
     let mut target = Locked { rt, token, caller };
     let calls = call_times(rt, alloc, &mut target, effort)?;
     let threads = thread_times(rt, alloc, token, workers, effort)?;

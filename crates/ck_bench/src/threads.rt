@@ -3,6 +3,7 @@ use crate::rounds::{Failed, Kind, Target, make_rounds, round};
 use ck_journal::{Body, Call, Reply};
 use ck_shared::{Ask, BoardCopy, Caller, EntrySlot, SharedToken, Status, TokenId};
 use ck_types::{NoMemory, Rv};
+use crossbeam_utils::CachePadded;
 use std::alloc::Global;
 use std::sync::Wait;
 use std::sync::atomic::{AtomicBool, Ordering};
@@ -37,10 +38,11 @@ pub(crate) enum Task {
     ChangeBeside,
 }
 
-/// A caller with its task, and the nanoseconds that it took.
+/// A caller with its task, and the nanoseconds that it took. It has cache lines of its own, as it
+/// would have where its thread owns it.
 #[derive(Drop)]
 pub(crate) struct Worker<K: TokenId> {
-    pub(crate) caller: Caller<K, BoardCopy<K>>,
+    pub(crate) caller: CachePadded<Caller<K, BoardCopy<K>>>,
     pub(crate) task: Task,
     time: Result<u128, Failed>,
 }
@@ -48,7 +50,7 @@ pub(crate) struct Worker<K: TokenId> {
 impl<K: TokenId> Worker<K> {
     pub(crate) fn new(caller: Caller<K, BoardCopy<K>>) -> Worker<K> {
         Worker {
-            caller,
+            caller: CachePadded::new(caller),
             task: Task::Ask(0),
             time: Err(Failed),
         }
@@ -96,7 +98,7 @@ fn work<K: TokenId, R: Clock + Wait + Drop>(
     worker: &mut Worker<K>,
     is_done: &AtomicBool,
 ) -> Result<u128, Failed> {
-    let caller = &mut worker.caller;
+    let caller = &mut *worker.caller;
     let before = Instant::now(rt)?;
     match worker.task {
         Task::Ask(count) => ask(caller, count)?,
