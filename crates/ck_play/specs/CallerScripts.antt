@@ -1,13 +1,17 @@
 -- Scripts that are read whole, and played by so many callers
-use Rattle.std.specs.Prelude.{◌≡◌, ◌&&◌, ℕ, suc, Bool, true, false, not, nat_le, List, [], ◌∷◌}
+use Rattle.std.specs.Prelude.{◌≡◌, ◌≤◌, ◌&&◌, ℕ, suc, Bool, true, false, not, nat_le, List, [], ◌∷◌}
 use Rattle.std.specs.Prelude.{◌++◌, Option, Some, None, Result, Ok, Err, length, codes, decimal}
 use Rattle.ck_types.specs.TokenLimits.{Ranges}
 use Rattle.ck_journal.specs.Answers.{IsLegal}
-use Rattle.ck_journal.specs.Histories.{History, entry_count}
+use Rattle.ck_journal.specs.Bases.{empty_base}
+use Rattle.ck_journal.specs.Callers.{AreCallers}
+use Rattle.ck_journal.specs.Fronts.{IsFront}
+use Rattle.ck_journal.specs.Histories.{History, start, entry_count}
 use Rattle.ck_journal.specs.declared.calls.Call.{Call}
 use Rattle.ck_script.specs.Lines.{lines_in, meaning}
 use Rattle.ck_script.specs.declared.lines.Line.{Line}
 use Rattle.ck_script.specs.declared.lines.Line.TheVariants as line
+use Rattle.ck_play.specs.CallerCalls.{HasEntriesOf}
 use Rattle.ck_play.specs.Devices.{Reading, Writing, IsCount, wrote}
 use Rattle.ck_play.specs.Players.{WriteFailed}
 use Rattle.ck_play.specs.Plays.{calls_in, one_if, failed_reads, AreReads}
@@ -92,18 +96,30 @@ pub record HasReadSoFar (read : Reading) (is_read : Reading → Type 0) (bytes :
 abbrev pub summary_text : ℕ → List ℕ
 summary_text entries = codes "entries " ++ (decimal entries ++ codes "\naudit ok\n")
 
--- this is the text of a legal journal, whose entries are by so many callers
-pub record IsSummary (limits : Ranges) (text : List ℕ) : Type 0 where
+-- this is the text of the legal journal of a new token, in which each of so many callers has made
+-- its calls
+pub record IsSummary (limits : Ranges) (callers : ℕ) (calls : List (ℕ × Call)) (text : List ℕ)
+    : Type 0 where
   pub history : History
+  pub new : IsFront (start empty_base) history
   pub legal : IsLegal limits history
+  pub only : AreCallers callers history
+  pub all : (number : ℕ) → 1 ≤ number → number ≤ callers → HasEntriesOf calls number history
   pub is_text : text ≡ summary_text (entry_count history)
 
--- the whole script was read, and none of its lines is bad
+-- the whole script was read, none of its lines is bad, and these are their calls
 pub record HasGoodScript (callers turns : ℕ) (read : Reading) (is_read : Reading → Type 0)
-    : Type 0 where
+    (calls : List (ℕ × Call)) : Type 0 where
   pub script : List ℕ
   pub whole : IsReadWhole turns read is_read script (Ok tt)
-  pub good : AreGoodFor callers (lines_in script)
+  pub lines : AreCallsOf callers (lines_in script) calls
+
+-- the whole script was read, and its calls were made, of which this is the text
+pub record WasPlayed (limits : Ranges) (callers turns : ℕ) (read : Reading)
+    (is_read : Reading → Type 0) (text : List ℕ) : Type 0 where
+  pub calls : List (ℕ × Call)
+  pub good : HasGoodScript callers turns read is_read calls
+  pub summary : IsSummary limits callers calls text
 
 -- the whole script was read, and this is its first bad line
 pub record HasBadScript (callers turns : ℕ) (read : Reading) (is_read : Reading → Type 0)
@@ -127,8 +143,8 @@ HasNoCalls callers turns read is_read fault.Write = ⊥
 abbrev pub IsPlayedInThreads : Ranges → ℕ → ℕ → Reading → Writing → (Reading → Type 0)
     → (Writing → Type 0) → Result (Unit {0}) PlayFault → Type 0
 IsPlayedInThreads limits callers turns read written is_read is_written (Ok u) =
-    HasGoodScript callers turns read is_read
-    × ((text : List ℕ) × IsSummary limits text × is_written (wrote written text))
+    (text : List ℕ) × WasPlayed limits callers turns read is_read text
+    × is_written (wrote written text)
 IsPlayedInThreads limits callers turns read written is_read is_written
     (Err (fault.Line number reason)) =
     HasBadScript callers turns read is_read number × is_written written
@@ -141,5 +157,5 @@ IsPlayedInThreads limits callers turns read written is_read is_written (Err faul
 IsPlayedInThreads limits callers turns read written is_read is_written (Err fault.Memory) =
     is_written written
 IsPlayedInThreads limits callers turns read written is_read is_written (Err fault.Write) =
-    HasGoodScript callers turns read is_read
-    × ((text : List ℕ) × IsSummary limits text × WriteFailed is_written written text)
+    (text : List ℕ) × WasPlayed limits callers turns read is_read text
+    × WriteFailed is_written written text

@@ -1,5 +1,6 @@
 pub use Rattle.ck_script.specs.Lines
 pub use Rattle.ck_token.specs.TokenStates
+pub mod CallerCalls
 pub mod CallerScripts
 pub mod Devices
 pub mod Faults

@@ -50,7 +50,7 @@ fn add_call(
     ensures err { IfErr result (IsRefusedLine callers (Some (Line.Called caller call)) number) }
 {
     if caller < 1 || callers < caller {
-        return Err(PlayFault::Line(number, BadLine::CallerAbove(caller, callers)));
+        return Err(PlayFault::Line(number, BadLine::CallerAbove(callers)));
     }
     match calls.push((caller, call)) {
         Ok(()) => Ok(()),
@@ -104,8 +104,8 @@ pub(crate) fn read_calls<R: Source>(
     callers: u32,
     turns: u64,
 ) -> Result<Vec<(u32, Call)>, PlayFault>
-    ensures ok { OnOk result ((read : Reading) → R.is_read reader.old read
-        → HasGoodScript callers turns read (R.is_read reader.new)) }
+    ensures ok { IfOk result (λ calls. (read : Reading) → R.is_read reader.old read
+        → HasGoodScript callers turns read (R.is_read reader.new) calls.items) }
     ensures err { IfErr result (λ fault. (read : Reading) → R.is_read reader.old read
         → HasNoCalls callers turns read (R.is_read reader.new) fault) }
 {

@@ -126,6 +126,10 @@ fn faults_have_their_texts_and_statuses(rt: HostRuntime) -> Result<(), Fail> {
             "line 18446744073709551615: bad script: a line is a caller, a call and its \
              arguments, 1",
         ),
+        (
+            PlayFault::Line(3, BadLine::CallerAbove(2)),
+            "line 3: bad script: the caller is a number from 1 to 2, 1",
+        ),
         (PlayFault::Read, "read fault, 3"),
         (PlayFault::Write, "write fault, 3"),
         (PlayFault::Memory, "out of memory, 3"),
@@ -163,6 +167,17 @@ fn ended<RT: Eprint + Threads + Wait + Copy + Drop + Send + Sync>(
     Ok(format!(in alloc; "{text}{status}")?)
 }
 
+/// What the program writes of how it is used, and its status.
+const HELP_AND_STATUS: &str = "\
+Plays a script of PKCS #11 calls, read from standard input, on a new token
+
+Usage: ck_run [OPTIONS]
+
+Options:
+      --callers <N>  Play each caller's lines in a thread of its own; N is 1 to 8
+  -h, --help         Print help
+0";
+
 #[test]
 fn the_program_ends_with_a_status(rt: HostRuntime) -> Result<(), Fail> {
     let two = "1 InitToken 31323334\n1 OpenSession 6\n2 CloseSession 7\n";
@@ -183,6 +198,10 @@ fn the_program_ends_with_a_status(rt: HostRuntime) -> Result<(), Fail> {
         ("--callers 0", "", (0, 0), "2"),
         ("--callers 9", "", (0, 0), "2"),
         ("--callers 02", "", (0, 0), "2"),
+        ("--callers +2", "", (0, 0), "2"),
+        ("--callers 2 x", "", (0, 0), "2"),
+        ("--help", "", (0, 0), HELP_AND_STATUS),
+        ("--help", "", (0, 1), "3"),
         ("--callers x", "", (0, 0), "2"),
         ("--callers 2 --callers 2", "", (0, 0), "2"),
         ("--callers 8", "", (0, 0), "entries 0\naudit ok\n0"),

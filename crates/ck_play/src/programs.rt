@@ -1,5 +1,5 @@
 //! The program over any options, reader and writer.
-ghost use Rattle.std.specs.Prelude.{◌≡◌, ◌⊎◌, ◌↔◌, ◌≤◌, Ok, Err};
+ghost use Rattle.std.specs.Prelude.{◌≡◌, ◌⊎◌, ◌↔◌, Ok, Err};
 ghost use Rattle.ck_play.specs.CallerScripts.{IsPlayedInThreads};
 ghost use Rattle.ck_play.specs.Devices.{Reading, Writing};
 ghost use Rattle.ck_play.specs.Faults.{status_of};
@@ -79,6 +79,8 @@ pub fn run<R: Source, W: Sink, RT: Eprint + Threads + Wait + Copy + Drop + Send 
     ensures bad_arguments { result ≡ 2 ↔ options ≡ Err ArgumentFault.Bad }
     ensures untouched { result ≡ 2
         → (reader.new ≡ reader.old) × (writer.new ≡ writer.old) }
+    ensures without_memory { options ≡ Err ArgumentFault.Memory
+        → (result ≡ 3) × (reader.new ≡ reader.old) × (writer.new ≡ writer.old) }
     ensures played { (chosen : Options) → options ≡ Ok chosen → result ≡ 0
         → (read : Reading) (written : Writing)
         → R.is_read reader.old read → W.is_written writer.old written

@@ -37,9 +37,9 @@ pub enum BadLine {
     NoCall,
     #[error("the caller is a number from 1 to 8")]
     UnknownCaller,
-    /// A caller above those that play the script: its number, and how many they are.
-    #[error("caller {0} of {1}")]
-    CallerAbove(u32, u32),
+    /// A caller above so many, who play the script.
+    #[error("the caller is a number from 1 to {0}")]
+    CallerAbove(u32),
     #[error("no call has this name")]
     UnknownCall,
     /// The call that was probably meant.

@@ -1,7 +1,8 @@
 -- What is known of a caller that is given back
-use Rattle.std.proofs.Common.{◌≡◌, ℕ, zero, suc, ◌-◌, ◌≤◌, List, [], ◌∷◌, length, slice_index, sym, ap}
+use Rattle.std.proofs.Common.{◌≡◌, ℕ, ◌-◌, ◌≤◌, List, [], ◌∷◌, length, slice_index, sym, ap}
 use Rattle.std.proofs.Common.{◌∙◌, subst, arith}
 use Rattle.std.specs.Prelude.{All}
+use Rattle.std.proofs.lemmas.List.Elements.{All-cons}
 use Rattle.ck_journal.specs.Callers.{call_count, call_counts}
 use Rattle.ck_journal.specs.Fronts.{IsFront}
 use Rattle.ck_journal.specs.Histories.{History}
@@ -24,17 +25,13 @@ settled h c counts low high books same known made front =
 
 -- ---- one caller after the other
 
-all_cons : {X : Type 0} (P : X → Type 0) (x : X) (xs : List X) → P x → All P xs → All P (x ∷ xs)
-all_cons P x xs first rest zero d below = first
-all_cons P x xs first rest (suc k) d below = rest k d (omega arith)
-
 -- where all that are left but one are settled, and so is that one, all are
 pub settled_next : (g h : History) (c : CallerState) (left rest all : List CallerState) → g ≡ h → left ≡ c ∷
     rest → IsSettled h c
     → (All (IsSettled h) left → All (IsSettled h) all) → All (IsSettled g) rest → All (IsSettled g) all
 settled_next g h c left rest all same is one then others =
     subst (λ x. All (IsSettled x) all) (sym same)
-    (then (subst (All (IsSettled h)) (sym is) (all_cons (IsSettled h) c rest one
+    (then (subst (All (IsSettled h)) (sym is) (All-cons (IsSettled h) c rest one
     (subst (λ x. All (IsSettled x) rest) same others))))
 
 pub settled_last : (g h : History) (left all : List CallerState) → g ≡ h → length left ≡ 0

@@ -6,7 +6,7 @@ use Rattle.ck_journal.specs.Fronts.{IsFront}
 use Rattle.ck_journal.specs.Histories.{History, ◌◁◌, entry_count}
 use Rattle.ck_journal.specs.declared.calls.Entry.{Entry}
 
--- a history, and a front of it since which no entry has changed the board
+-- a history, and a front of it
 pub record KnownState : Type 0 where
   pub history : History
   pub changed : History
@@ -16,7 +16,7 @@ abbrev pub KeepsBoard : Ranges → History → History → Type 0
 KeepsBoard limits changed history =
     (h : History) → IsFront changed h → IsFront h history → board_of limits h ≡ board_of limits history
 
--- the board of what was shown is that of the known history
+-- what was shown is a front of the known history that has all entries which changed the board
 abbrev pub Covers : KnownState → History → Type 0
 Covers k shown = IsFront k.changed shown × IsFront shown k.history
 

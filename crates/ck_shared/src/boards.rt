@@ -1,6 +1,6 @@
 ghost use Rattle.std.specs.Prelude.{◌≡◌};
 ghost use Rattle.ck_journal.specs.Boards.{board_of};
-ghost use Rattle.ck_journal.specs.Histories.{History, start};
+ghost use Rattle.ck_journal.specs.Histories.{History};
 
 use crate::identity::TokenId;
 use crate::known_histories::KnownHistory;

@@ -150,7 +150,7 @@ impl<K: TokenId, T: ReadBoard<K> + Drop> Caller<K, T> {
 
     /// What the token's state was when it had answered the calls that the caller then knows. It
     /// takes neither the lock nor memory and waits for nobody. `None` where the board can't be
-    /// read, or doesn't show all that the caller knows.
+    /// read, or lacks an entry that the caller knows and that may have changed it.
     pub fn status(&mut self, ask: Ask) -> Option<Status>
         ensures answer { IfSome result (λ status.
             reply_of status ≡ answer K.limits self.new.seen (call_of ask)) }

@@ -1,4 +1,4 @@
-ghost use Rattle.std.specs.Prelude.{◌≡◌, ◌≤◌, IfSome, IsTrue, if◌then◌else◌};
+ghost use Rattle.std.specs.Prelude.{◌≡◌, ◌≤◌, ◌↔◌, IfNone, IfSome, IsTrue, if◌then◌else◌};
 ghost use Rattle.ck_journal.specs.Boards.{board_of};
 ghost use Rattle.ck_journal.specs.Callers.{call_count};
 ghost use Rattle.ck_journal.specs.Fronts.{IsFront};
@@ -88,7 +88,7 @@ impl<K: TokenId> KnownHistory<K> {
 
     /// Whether another history is a front of this one that has all entries which changed the board.
     pub fn covers(&self, other: &KnownHistory<K>) -> bool
-        ensures { IsTrue result → Covers self.now other.now.history }
+        ensures { IsTrue result ↔ Covers self.now other.now.history }
     {
         self.changed.begins(&other.front) && other.front.begins(&self.front)
     }
@@ -99,6 +99,7 @@ impl<K: TokenId> KnownHistory<K> {
         ensures front { IfSome result (λ newest. IsFront self.now.history newest.now.history) }
         ensures board { IfSome result (λ newest. board_of K.limits other.now.history
             ≡ board_of K.limits newest.now.history) }
+        ensures none { IfNone result (Covers self.now other.now.history → ⊥) }
     {
         if self.front.begins(&other.front) {
             return Some(other);

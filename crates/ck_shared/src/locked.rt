@@ -1,7 +1,7 @@
 ghost use Rattle.std.specs.Prelude.{◌≡◌, [], ◌<◌, ◌-◌, ◌^◌, IfNone, IfOk, IsTrue, OnErr};
 ghost use Rattle.left_right.specs.Handles.{published, pending};
 ghost use Rattle.ck_journal.specs.Fronts.{IsFront};
-ghost use Rattle.ck_journal.specs.Histories.{History, ◌◁◌, entry_count};
+ghost use Rattle.ck_journal.specs.Histories.{◌◁◌, entry_count};
 ghost use Rattle.ck_shared.specs.KnownHistories.{Covers};
 ghost use Rattle.ck_journal.specs.declared.calls.Entry.{Entry};
 
@@ -198,8 +198,8 @@ impl<K: TokenId, O: Slot<K>, T: Absorb<O> + ReadBoard<K> + Drop, R: Wait + Drop>
         self.token
     }
 
-    /// One call of a caller. Where there is no memory for it, nothing has changed. It may wait for
-    /// those who still read the board from before the last call.
+    /// One call of a caller. Where there is no memory for it, nothing has changed. Where the call may
+    /// change the board or finds no memory, it may wait for those who still read an older copy.
     pub fn step<W: Wait>(
         &mut self,
         rt: &W,

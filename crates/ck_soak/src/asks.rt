@@ -23,6 +23,9 @@ const ASKS: u32 = 1_000;
 /// How often each caller then calls.
 const CALLS: u32 = 20;
 
+/// How many calls prepare the token.
+const FIRST_CALLS: u64 = 5;
+
 /// What C_GetMechanismList gives.
 const MECHANISMS: [u64; 13] = [
     0x250, 0x251, 0x252, 0x255, 0x256, 0x257, 0x260, 0x261, 0x262, 0x270, 0x271, 0x272, 0x350,
@@ -56,7 +59,7 @@ fn call<K: TokenId, R: Wait + Drop>(
     expect(reply.rv == Rv::Ok)
 }
 
-/// The first five calls: the user has a PIN, session 1 is open, and nobody is logged in.
+/// The first calls: the user has a PIN, session 1 is open, and nobody is logged in.
 fn prepare<K: TokenId, R: Wait + Drop>(
     rt: &R,
     alloc: Global,
@@ -182,8 +185,8 @@ fn check_asks<K: TokenId + Send + Sync, R: Threads + Wait + Drop + Send + Sync>(
     prepare(rt, alloc, token, one)?;
     let before = one.news();
     two.learn(&before);
-    check_known(one, 5, 5)?;
-    check_known(two, 5, 0)?;
+    check_known(one, FIRST_CALLS, FIRST_CALLS)?;
+    check_known(two, FIRST_CALLS, 0)?;
     let (logged_in, asked) = thread::join(
         rt,
         || log_in_and_ask(rt, alloc, token, one),
@@ -193,8 +196,8 @@ fn check_asks<K: TokenId + Send + Sync, R: Threads + Wait + Drop + Send + Sync>(
     asked?;
     await_login(two)?;
     two.learn(&before);
-    check_known(one, 6, 6)?;
-    check_known(two, 6, 0)?;
+    check_known(one, FIRST_CALLS + 1, FIRST_CALLS + 1)?;
+    check_known(two, FIRST_CALLS + 1, 0)?;
     two.learn(&one.news());
     check_login(two)
 }
@@ -256,7 +259,7 @@ fn ask_shared<K: TokenId + Send + Sync, R: Threads + Wait + Copy + Drop + Send +
     expect(callers.len() == 1)?;
     callers.push(two)?;
     match token.close(&rt, callers) {
-        Ok(token) => expect(token.journal().len() == 46),
+        Ok(token) => expect(token.journal().len() == FIRST_CALLS + 1 + 2 * u64::from(CALLS)),
         Err(_) => Err(SoakError::NotClosed),
     }
 }

@@ -10,7 +10,7 @@ use rand_xoshiro::Xoshiro256PlusPlus;
 use std::alloc::Global;
 use std::sync::Wait;
 
-/// Of how many rows one is drawn of those that are drawn seldom.
+/// One row in so many is one of those that are drawn seldom.
 const SELDOM_IN: u64 = 256;
 
 /// What all callers call, the handles that they know, and how many calls each makes.

@@ -31,7 +31,7 @@ pub(crate) enum SoakError {
     Wrong(u64),
     #[error("entry {0} is answered otherwise by one thread")]
     Replayed(u64),
-    #[error("a session's state is asked for, and the answer is wrong")]
+    #[error("a check of calls and asks by two callers fails")]
     Asked,
     #[error("caller {0} knows less than before, or another count of its calls")]
     LessKnown(u32),
