@@ -3,7 +3,7 @@ ghost use Rattle.std.specs.Prelude.{◌≤◌};
 
 use ck_journal::{AttributeQuery, Body, Call, Reply};
 use ck_token::Token;
-use ck_types::{Bytes, Item, Limits, Mechanism, NoMemory, Pin, Rv, Sequence, Template};
+use ck_types::{AttributeValue, Bytes, Item, Limits, Mechanism, NoMemory, Pin, Rv, Sequence, Template};
 use std::alloc::Global;
 use std::io;
 
@@ -128,7 +128,7 @@ pub(crate) fn call<T: Target>(target: &mut T, alloc: Global, call: Call) -> Resu
 }
 
 fn item(alloc: Global, kind: u64, value: &[u8]) -> Result<Item, NoMemory> {
-    let value = Bytes::from_slice(alloc, value)?;
+    let value = AttributeValue::from_slice(alloc, value)?;
     Ok(Item { kind, value })
 }
 

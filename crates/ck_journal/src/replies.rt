@@ -1,12 +1,12 @@
 ghost use Rattle.std.specs.Prelude.{◌≡◌, IfOk};
 
-use ck_types::{Bytes, NoMemory, Rv, Sequence, SessionState, TokenFlags};
+use ck_types::{AttributeValue, Bytes, NoMemory, Rv, Sequence, SessionState, TokenFlags};
 use std::alloc::Global;
 
 /// What one query of an attribute is answered.
 #[derive(Debug, Drop)]
 pub enum Answer {
-    Value(Bytes),
+    Value(AttributeValue),
     /// The value's length in bytes.
     Length(u64),
     /// The value may not be revealed, the object doesn't have the attribute, or the room is too
@@ -61,7 +61,7 @@ impl Answer {
     {
         match self {
             Answer::Value(value) => {
-                let value = Bytes::from_slice(alloc, value.as_slice())?;
+                let value = value.duplicate(alloc)?;
                 Ok(Answer::Value(value))
             }
             Answer::Length(length) => Ok(Answer::Length(*length)),

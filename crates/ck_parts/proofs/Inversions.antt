@@ -158,14 +158,13 @@ module _ (h : History) (b : Body) where
   of-CreateObject (call.CopyObject other object template) session attributes e = (refl, cc, cc)
   of-CreateObject other session attributes e = cc
 
-  pub of-SetAttributes : (c : Call) (number : ℕ) (attributes : List Item)
-      → change.SetAttributes number attributes ≡ change_of h c b
-      → (session object : ℕ) × (template : Template) × (c ≡ call.SetAttributeValue session object template)
-      × (number ≡ unwrap_or (object_named h object) 0) ×
-      (attributes ≡ with_given template.items (named_attributes h object))
-  of-SetAttributes (call.SetAttributeValue session object template) number attributes e =
-      (session, object, template, refl, cc, cc)
-  of-SetAttributes other number attributes e = cc
+  pub of-SetAttributes : (c : Call) (number : ℕ) (values : Template)
+      → change.SetAttributes number values ≡ change_of h c b
+      → (session object : ℕ) × (c ≡ call.SetAttributeValue session object values)
+      × (number ≡ unwrap_or (object_named h object) 0)
+  of-SetAttributes (call.SetAttributeValue session object template) number values e =
+      (session, object, cc, cc)
+  of-SetAttributes other number values e = cc
 
   pub of-DestroyObject : (c : Call) (number : ℕ) → change.DestroyObject number ≡ change_of h c b
       → (session object : ℕ) × (c ≡ call.DestroyObject session object) × (number ≡ unwrap_or (object_named h object) 0)

@@ -213,18 +213,17 @@ object-passed h session object checks e =
     object_case (object_named h object) (object_at h) checks
     (or_else-none (object_error h object checks) None (later-passes (session_error h session) _ e)).0
 
--- an object keeps CKA_TOKEN in a change
+-- a change passes the checks of its template
 pub change-passed : (limits : Ranges) (h : History) (session object : ℕ) (template : Template)
     → call_error limits h (call.SetAttributeValue session object template) ≡ None
     → (object_named h object ≡ Some (unwrap_or (object_named h object) 0))
-    × (is_set (with_given template.items (named_attributes h object)) attribute.Token ≡ is_set
-    (named_attributes h object) attribute.Token)
+    × (changed_error (class_of (named_attributes h object)) (protections_of (named_attributes h object))
+    template.items ≡ None)
 change-passed limits h session object template e =
     let p = object-passed h session object _ e in
     let a = named_attributes h object in (
       p.0,
-      token-kept (class_of a) (protections_of a) template.items a
-          (or_else-none (changed_error (class_of a) (protections_of a) template.items) None
+      (or_else-none (changed_error (class_of a) (protections_of a) template.items) None
           (later-passes (prohibited_error attribute.Modifiable a) _
           (later-passes (read_only_session_error h session (placement_of a)) _ p.1))).0,
     )

@@ -64,8 +64,7 @@ change_of h (call.SetKeyState session key number) body =
     change.SetKeyState (unwrap_or (object_named h key) 0)
     (unwrap_or (state_of_number number) state.Active)
 change_of h (call.SetAttributeValue session object template) body =
-    change.SetAttributes (unwrap_or (object_named h object) 0)
-    (with_given template.items (named_attributes h object))
+    change.SetAttributes (unwrap_or (object_named h object) 0) template
 change_of h (call.DestroyObject session object) body =
     change.DestroyObject (unwrap_or (object_named h object) 0)
 change_of h (call.FindObjectsInit session template) body =

@@ -1,6 +1,6 @@
 use crate::boxed::Boxed;
 use ck_journal::OperationKind;
-use ck_types::{Hash, KeyState, Pin, Record, Sequence, UserType};
+use ck_types::{Hash, KeyState, Pin, Record, Sequence, Template, UserType};
 
 /// What an answered call changes of sessions, objects and operations.
 #[derive(Drop)]
@@ -36,10 +36,10 @@ pub enum Change {
         session: u64,
         attributes: Boxed<Record>,
     },
-    /// New attributes of the object of this number.
+    /// New values of attributes of the object of this number.
     SetAttributes {
         number: u64,
-        attributes: Boxed<Record>,
+        values: Template,
     },
     /// A new state of the key of this number.
     SetKeyState {

@@ -115,9 +115,7 @@ impl Parts {
                 session,
                 attributes,
             } => self.objects.create(session, attributes.into_inner()),
-            Change::SetAttributes { number, attributes } => self
-                .objects
-                .set(number, attributes.into_inner()),
+            Change::SetAttributes { number, values } => self.objects.change(number, values),
             Change::SetKeyState { number, state } => self.objects.set_state(number, state),
             Change::DestroyObject { number } => self.objects.destroy(number),
             Change::StartSearch { session, found } => self

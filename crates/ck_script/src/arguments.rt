@@ -12,7 +12,7 @@ ghost use Rattle.ck_script.specs.Arguments.{template_in, queries_in};
 use crate::line_errors::{BadLine, LineError, NumberError};
 use crate::parts::Parts;
 use ck_journal::AttributeQuery;
-use ck_types::{Bytes, Item, Mechanism, Pin, Sequence, Template};
+use ck_types::{AttributeValue, Bytes, Item, Mechanism, Pin, Sequence, Template};
 use hex::FromHexError;
 use std::alloc::Global;
 use std::marker::Model;
@@ -164,7 +164,7 @@ fn item_in(alloc: Global, text: &[u8]) -> Result<Item, LineError>
 {
     let (kind, value) = Parts::new(text, EQUALS_SIGN).two().ok_or(BadLine::Item)?;
     let kind = code_number_in(kind)?;
-    let value = bytes_in(alloc, value)?;
+    let value = AttributeValue::from_vec(bytes_in(alloc, value)?.into_vec());
     Ok(Item { kind, value })
 }
 

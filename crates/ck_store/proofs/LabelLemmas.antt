@@ -7,21 +7,22 @@ use Rattle.std.specs.Cmp.Lexicographic.{same_text}
 use Rattle.std.specs.List.{list_all}
 use Rattle.std.proofs.lemmas.Bool.{cases_eq, eqb-true}
 use Rattle.std.proofs.lemmas.Option.{same_Some}
-use Rattle.slab.specs.Slab.{Slab, get}
-use Rattle.slab.proofs.SlabLemmas.{Contains-cons_cases}
+use Rattle.slab.specs.Slab.{Slab, get, with_value, Updates}
+use Rattle.slab.proofs.SlabLemmas.{Contains-cons_cases, Updates-with_value}
 use Rattle.ck_types.specs.Attributes.{type_of, same_bytes}
-use Rattle.ck_types.specs.Templates.{value_at, value_or}
+use Rattle.ck_types.specs.Templates.{value_at, value_or, class_of, template_error}
 use Rattle.ck_types.specs.Records.{readable_value, has_item, matches}
 use Rattle.ck_types.specs.declared.attributes.Attribute.TheVariants as attribute
 use Rattle.ck_types.specs.declared.items.Item.{Item}
 use Rattle.ck_journal.specs.Objects.{is_visible_with}
 use Rattle.ck_journal.specs.declared.views.View.{View}
 use Rattle.ck_journal.proofs.NumberTests.{same_number}
-use Rattle.ck_types.specs.Records.{with_state, state_item}
+use Rattle.ck_types.specs.Records.{with_given, with_state, state_item}
+use Rattle.ck_types.specs.declared.attributes.Purpose.TheVariants as purpose
 use Rattle.ck_types.specs.declared.key_states.KeyState.{KeyState}
-use Rattle.ck_store.specs.Index.{object_at, IsChanged, IsKeyOf}
+use Rattle.ck_store.specs.Index.{object_at, IsChanged, IsGiven, IsKeyOf}
 use Rattle.ck_store.specs.Labels.{label_mark, IsMarkOf, IsWanted, IsMarked, is_refused}
-use Rattle.ck_store.specs.Rows.{ObjectRow, has_number, is_match, matching_number}
+use Rattle.ck_store.specs.Rows.{ObjectRow, has_number, is_match, is_private_row, matching_number}
 use Rattle.ck_store.specs.Rows.{with_attributes, with_key_state}
 use Rattle.ck_store.specs.declared.places.Place.{Place}
 use Rattle.ck_store.proofs.PlaceLemmas.{object_at-Some}
@@ -237,20 +238,11 @@ module _ (number : ℕ) (attributes : List Item) (old new : Slab ObjectRow)
   pub IsMarked-set : (marks marks' : List ℕ)
       → (get_or marks' key 0 ≡ mark) ⊎ (get_or marks' key 0 ≡ 0)
       → ((other : ℕ) → other ≢ key → get_or marks' other 0 ≡ get_or marks other 0)
-      → IsMarkOf attributes mark → IsMarked old marks → IsMarked new marks'
-  IsMarked-set marks marks' set_here others is_mark marked =
+      → ((row : ObjectRow) → get new key ≡ Some row → IsMarkOf row.attributes mark)
+      → IsMarked old marks → IsMarked new marks'
+  IsMarked-set marks marks' set_here others here marked =
       IsMarked-updated old new marks marks' key mark set_here others here there marked
     where
-      here : (row : ObjectRow) → get new key ≡ Some row → IsMarkOf row.attributes mark
-      here row is =
-          let has = is_key.has key refl in
-          let this : with_attributes number attributes has.0 ≡ row =
-          same_Some (with_attributes number attributes has.0) row
-          (sym (changed key ∙ ap (option_map (with_attributes number attributes)) has.1) ∙ is) in
-          subst (λ items. IsMarkOf items mark)
-          (ap (λ t. (cond t (record has.0 { attributes = attributes }) has.0).attributes)
-          (sym has.2) ∙ ap (λ (r : ObjectRow). r.attributes) this) is_mark
-
       there : (other : ℕ) (row : ObjectRow) → other ≢ key → get new other ≡ Some row
           → get old other ≡ Some row
       there other row differs is =
@@ -264,3 +256,63 @@ module _ (number : ℕ) (attributes : List Item) (old new : Slab ObjectRow)
           by_case before e false f = f
           by_case before e true t =
               absurd (differs (sym (same_Some key other (is_key.only other before e t))))
+
+-- ---- the object under a key is given values
+
+module _ (number : ℕ) (values : List Item) (objects : Slab ObjectRow) (key : ℕ)
+    (old new : ObjectRow) (is_old : get objects key ≡ Some old)
+    (others : new ≡ record old { attributes = new.attributes })
+    (is_key : IsKeyOf objects number (Some key)) where
+  has_its_number : (row : ObjectRow) → get objects key ≡ Some row → has_number number row ≡ true
+  has_its_number row is =
+      let has = is_key.has key refl in
+      subst (λ r. has_number number r ≡ true) (same_Some has.0 row (sym has.1 ∙ is)) has.2
+
+  is_it : (k : ℕ) (row : ObjectRow) → get objects k ≡ Some row → has_number number row ≡ true
+      → old ≡ row
+  is_it k row is numbered =
+      same_Some old row
+      (sym is_old ∙ ap (get objects) (same_Some key k (is_key.only k row is numbered)) ∙ is)
+
+  changed_under : IsChanged (with_attributes number new.attributes) objects
+      (with_value objects key new)
+  changed_under k = elim (cases_eq k key) [
+    | inl same ↦
+        ap (get (with_value objects key new)) same ∙ updates.changed
+        ∙ ap Some (others ∙ ap (λ t. cond t (record old { attributes = new.attributes }) old)
+        (sym (has_its_number old is_old)))
+        ∙ sym (ap (option_map (with_attributes number new.attributes))
+        (ap (get objects) same ∙ is_old))
+    | inr other ↦
+        updates.others k other ∙ unchanged (get objects k) refl other
+  ]
+    where
+      updates : Updates objects (with_value objects key new) key (Some new)
+      updates = Updates-with_value objects key new (rw is_old refl)
+
+      unchanged : (o : Option ObjectRow) → get objects k ≡ o → k ≢ key
+          → get objects k ≡ option_map (with_attributes number new.attributes) (get objects k)
+      unchanged None e other = e ∙ sym (ap (option_map (with_attributes number new.attributes)) e)
+      unchanged (Some row) e other =
+          e ∙ ap Some (sym (with_attributes-other number new.attributes row
+          (by_case (has_number number row) refl)))
+          ∙ sym (ap (option_map (with_attributes number new.attributes)) e)
+        where
+          by_case : (t : Bool) → has_number number row ≡ t → has_number number row ≡ false
+          by_case false f = f
+          by_case true t = absurd (other (sym (same_Some key k (is_key.only k row e t))))
+
+  pub IsGiven-under : (template_error (class_of old.attributes) purpose.Set values ≡ None
+      → new.attributes ≡ with_given values old.attributes)
+      → is_private_row new ≡ is_private_row old
+      → IsGiven number values objects (with_value objects key new)
+  IsGiven-under given private = record {
+    attributes = new.attributes;
+    changed = changed_under;
+    given = λ k row is numbered passes.
+        let same = is_it k row is numbered in
+        subst (λ (r : ObjectRow). new.attributes ≡ with_given values r.attributes) same
+        (given (subst (λ (r : ObjectRow). template_error (class_of r.attributes) purpose.Set values
+        ≡ None) (sym same) passes));
+    private = λ k row is numbered. private ∙ ap is_private_row (is_it k row is numbered);
+  }

@@ -1,16 +1,15 @@
 -- The lists of sessions
 use Rattle.std.proofs.Common.{◌≡◌, ◌⊎◌, ℕ, ◌<◌, ◌++◌, List, [], ◌∷◌, Some, Contains, sym, ap, ◌∙◌, subst}
 use Rattle.std.proofs.Common.{set, get_or, length, inl, inr, arith, position, Bool, true, false}
-use Rattle.std.proofs.Common.{◌&&◌, refl, map, take, drop}
+use Rattle.std.proofs.Common.{◌&&◌, refl}
 use Rattle.std.specs.Prelude.{◌==◌}
 use Rattle.std.proofs.lemmas.Bool.{cases_eq, eqb-true}
 use Rattle.std.proofs.lemmas.List.Quantifiers.{position-Some}
-use Rattle.std.proofs.lemmas.List.{length-map, drop_all, append-nil, take_all}
 use Rattle.std.proofs.lemmas.List.{get_or-set_same, get_or-set_other, length-set, get_or_default}
 use Rattle.std.proofs.lemmas.List.Elements.{Contains-append_left, Contains-get_or, Contains-push}
 use Rattle.std.proofs.lemmas.List.Elements.{Contains-push_cases}
 use Rattle.std.specs.Bool.{beq}
-use Rattle.ck_store.specs.Index.{IsListed, is_list_of, marked}
+use Rattle.ck_store.specs.Index.{IsListed, is_list_of}
 use Rattle.ck_store.specs.declared.places.Place.{Place}
 use Rattle.ck_store.specs.declared.session_lists.SessionList.{SessionList}
 
@@ -171,12 +170,3 @@ found_list lists slice session private i item same within found is =
       ap (λ (x : SessionList). x.session) is ∙ eqb-true l.session session tests.0,
       ap (λ (x : SessionList). x.private) is ∙ same_mark l.private private tests.1,
     )
-
--- a vector whose lists have all been marked
-pub all_marked : (n : ℕ) (new old items : List SessionList) → new ≡ map marked old → old ≡ items
-    → length old ≡ n → take n (new ++ drop (length new) items) ≡ map marked items
-all_marked n new old items is same count =
-    let all : length new ≡ length items = ap length is ∙ length-map old marked ∙ ap length same in
-    let count' : length items ≡ n = ap length (sym same) ∙ count in
-    ap (λ rest. take n (new ++ rest)) (drop_all (length new) items (omega arith))
-    ∙ ap (take n) (append-nil new) ∙ take_all n new (omega arith) ∙ is ∙ ap (map marked) same

@@ -4,13 +4,14 @@ use Rattle.std.proofs.Common.{[], ◌∷◌, ◌++◌, Option, Some, None, refl,
 use Rattle.std.specs.Prelude.{◌==◌, map, filter, filter_map, option_map}
 use Rattle.std.proofs.lemmas.Bool.{eqb-true}
 use Rattle.ck_types.specs.KeyStates.{state_of_number}
-use Rattle.ck_types.specs.Records.{with_given, with_state, is_set}
+use Rattle.ck_types.specs.Records.{with_given, with_state, is_set, changed_error, protections_of}
+use Rattle.ck_types.specs.Templates.{class_of}
 use Rattle.ck_types.specs.declared.attributes.Attribute.TheVariants as attribute
 use Rattle.ck_types.specs.declared.items.Item.{Item}
 use Rattle.ck_types.specs.declared.key_states.KeyState.{KeyState}
 use Rattle.ck_types.specs.declared.pins.Pin.{Pin}
 use Rattle.ck_types.specs.declared.templates.Template.{Template}
-use Rattle.ck_types.proofs.ChangeLemmas.{token-in_state}
+use Rattle.ck_types.proofs.ChangeLemmas.{token-in_state, token-kept}
 use Rattle.ck_journal.specs.declared.calls.Call.{Call}
 use Rattle.ck_journal.specs.declared.calls.Call.TheVariants as call
 use Rattle.ck_journal.specs.declared.calls.Entry.{Entry}
@@ -179,8 +180,16 @@ module _ (h : History) (old : StoreState) (agree : StoreAgrees h old) (e : Entry
 
         module _ (template : Template) (given : List Item)
             (is_given : given ≡ with_given template.items (named_attributes h object))
-            (token : is_set given attribute.Token
-            ≡ is_set (named_attributes h object) attribute.Token) where
+            (passes : changed_error (class_of (named_attributes h object))
+            (protections_of (named_attributes h object)) template.items ≡ None) where
+          -- it stays a token object or a session object
+          token : is_set given attribute.Token ≡ is_set (named_attributes h object) attribute.Token
+          token =
+              ap (λ a. is_set a attribute.Token) is_given
+              ∙ token-kept (class_of (named_attributes h object))
+              (protections_of (named_attributes h object)) template.items
+              (named_attributes h object) passes
+
           given_case : (k : ℕ) (attributes : List Item) (t : Bool) → object_at h k ≡ Some attributes
               → k == number ≡ t
               → object_row k (session_of h k)
@@ -201,9 +210,9 @@ module _ (h : History) (old : StoreState) (agree : StoreAgrees h old) (e : Entry
               ap (object_row k (session_of h k)) here
               ∙ ap (λ owner. record { number = k; session = owner; attributes = given }) placed
 
-          pub StoreAgrees-set : done e ≡ Some (call.SetAttributeValue session object template)
+          pub StoreAgrees-changed : done e ≡ Some (call.SetAttributeValue session object template)
               → new.rows ≡ map (with_attributes number given) old.rows → StoreAgrees (e ◁ h) new
-          StoreAgrees-set d rows =
+          StoreAgrees-changed d rows =
               StoreAgrees-later (call.SetAttributeValue session object template) d refl count
               (λ row. Some (with_attributes number given row))
               (λ k attributes is.

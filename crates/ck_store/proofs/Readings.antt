@@ -263,3 +263,11 @@ module _ (h : History) (old : StoreState) (agree : StoreAgrees h old) (handle : 
         ap (λ o. unwrap_or (option_and_then (object_at h) o) []) is
         ∙ ap (λ j. unwrap_or (object_at h j) []) (sym same)
         ∙ ap (λ o. unwrap_or o []) is_there
+
+    -- its attributes are those of the row of its number
+    pub named-row : (row : ObjectRow) → find (has_number number) old.rows ≡ Some row
+        → named_attributes h handle ≡ row.attributes
+    named-row row found =
+        named_attributes-number number row.attributes
+        (sym (row_at-attributes h number) ∙ ap (option_map (λ (r : ObjectRow). r.attributes))
+        (sym (find-numbered h old agree number) ∙ found)) refl

@@ -1,9 +1,8 @@
 -- How the index and the lists stay sound
 use Rattle.std.proofs.Common.{◌≡◌, ◌⊎◌, ℕ, ◌<◌, ◌≤◌, Bool, true, false, cond, not, List, []}
 use Rattle.std.proofs.Common.{◌∷◌, ◌++◌, Option, Some, None, Contains, refl, sym, ap, ◌∙◌, subst}
-use Rattle.std.proofs.Common.{inl, inr, arith, get_or, length, ◌&&◌, ◌||◌}
+use Rattle.std.proofs.Common.{inl, inr, arith, get_or, ◌&&◌, ◌||◌}
 use Rattle.std.specs.List.{list_any}
-use Rattle.std.proofs.lemmas.List.{length-map, get_or-map}
 use Rattle.std.proofs.lemmas.List.Folds.{list_any_at}
 use Rattle.std.specs.Prelude.{◌==◌, is_some, filter, map, option_map, option_and_then}
 use Rattle.std.specs.List.{cons_option}
@@ -22,7 +21,6 @@ use Rattle.ck_types.specs.declared.key_states.KeyState.{KeyState}
 use Rattle.ck_types.specs.declared.attributes.Attribute.TheVariants as attribute
 use Rattle.ck_store.specs.Index.{place, numbered, object_at, objects_at, is_there, IsIndex, IsListed}
 use Rattle.ck_store.specs.Index.{IsSound, IsOwn, IsChanged, IsLeft, EndsAll, HasNone, is_needed}
-use Rattle.ck_store.specs.Index.{marked}
 use Rattle.ck_store.specs.Rows.{ObjectRow, has_number, is_ended_by, concerns, is_private_row}
 use Rattle.ck_store.specs.Rows.{with_attributes, with_key_state}
 use Rattle.ck_store.specs.declared.endings.Ending.{Ending}
@@ -428,63 +426,6 @@ module _ (e : Ending) (old new : Slab ObjectRow) (index : List Place) (lists : L
       ))
       (λ p is. is)
 
--- ---- lists that may all have private objects
-
-module _ (lists : List SessionList) where
-  marked-there : (list : SessionList) → Contains lists list → Contains (map marked lists) (marked list)
-  marked-there list there = (
-    there.0,
-    omega (arith, length-map lists marked, there.1),
-    get_or-map marked lists there.0 list (marked list) there.1 ∙ ap marked there.2,
-  )
-
-  marked-was : (list : SessionList) → Contains (map marked lists) list
-      → (before : SessionList) × Contains lists before × (marked before ≡ list)
-  marked-was list there =
-      let within : there.0 < length lists = omega (arith, length-map lists marked, there.1) in (
-        get_or lists there.0 list,
-        Contains-get_or lists there.0 list within,
-        sym (get_or-map marked lists there.0 list list within) ∙ there.2,
-      )
-
-  -- each says so
-  pub IsListed-marked : (session : ℕ) (private : Bool) (p : Place)
-      → IsListed (map marked lists) session private p → private ≡ true
-  IsListed-marked session private p listed =
-      let was = marked-was listed.list listed.among in
-      sym listed.mark ∙ ap (λ (l : SessionList). l.private) (sym was.2)
-
-  pub IsSound-marked : (objects : Slab ObjectRow) (index : List Place) (unlisted : Option Place)
-      (creations : ℕ) → IsSound objects index lists unlisted creations
-      → IsSound objects index (map marked lists) unlisted creations
-  IsSound-marked objects index unlisted creations sound =
-      IsSound-relisted objects index lists (map marked lists) unlisted unlisted creations sound
-      (λ session private p row listed is. (
-        true,
-        record {
-          list = marked listed.list;
-          among = marked-there listed.list listed.among;
-          own = listed.own;
-          mark = refl;
-          holds = listed.holds;
-        },
-      ))
-      (λ key row session is of_session last. inr last)
-      (λ session private p listed.
-      let was = marked-was listed.list listed.among in
-      inl (
-        was.0.private,
-        record {
-          list = was.0;
-          among = was.1;
-          own = ap (λ (l : SessionList). l.session) was.2 ∙ listed.own;
-          mark = refl;
-          holds = subst (λ (l : SessionList). Contains l.places.items p) (sym was.2) listed.holds;
-        },
-        λ t. IsListed-marked session private p listed,
-      ))
-      (λ p is. is)
-
 -- ---- what the methods of a store need
 
 -- an index without places of ended objects
@@ -567,25 +508,17 @@ module _ (objects new : Slab ObjectRow) (number : ℕ) (attributes : List Item)
     (index : List Place) (lists : List SessionList) (unlisted : Option Place) (creations : ℕ)
     (sound : IsSound objects index lists unlisted creations) where
   -- a public object stays public
-  pub IsSound-set : (is_set attributes attribute.Private ≡ true → (key : ℕ) (row : ObjectRow)
-      → get objects key ≡ Some row → has_number number row ≡ true → is_private_row row ≡ true)
+  pub IsSound-set : ((key : ℕ) (row : ObjectRow) → get objects key ≡ Some row
+      → has_number number row ≡ true → is_set attributes attribute.Private ≡ is_private_row row)
       → IsSound new index lists unlisted creations
-  IsSound-set becomes =
+  IsSound-set same =
       IsSound-was objects new index lists unlisted creations sound
       (changed-was (with_attributes number attributes) objects new changed
       (with_attributes-number number attributes) (with_attributes-session number attributes))
       (changed-marks (with_attributes number attributes) objects new changed
       (with_attributes-number number attributes) index lists unlisted creations sound
-      (with_attributes-private objects number attributes becomes))
-
-  -- or any list may have private objects
-  pub IsSound-set_marked : IsSound new index (map marked lists) unlisted creations
-  IsSound-set_marked =
-      IsSound-was objects new index (map marked lists) unlisted creations
-      (IsSound-marked lists objects index unlisted creations sound)
-      (changed-was (with_attributes number attributes) objects new changed
-      (with_attributes-number number attributes) (with_attributes-session number attributes))
-      (λ session private p row listed is t. IsListed-marked lists session private p listed)
+      (with_attributes-private objects number attributes
+      (λ private key row is numbered. sym (same key row is numbered) ∙ private)))
 
 -- ---- the newest object gets into its session's list
 

@@ -5,7 +5,12 @@ use Rattle.std.specs.Prelude.{if◌then◌else◌, ◌&&◌, ◌||◌, not}
 use Rattle.std.specs.Bool.{beq}
 use Rattle.std.specs.List.{list_any}
 use Rattle.slab.specs.Slab.{Slab, get}
-use Rattle.ck_store.specs.Rows.{ObjectRow, has_number, is_private_row}
+use Rattle.ck_types.specs.Records.{is_set, with_given}
+use Rattle.ck_types.specs.Templates.{class_of, template_error}
+use Rattle.ck_types.specs.declared.attributes.Attribute.TheVariants as attribute
+use Rattle.ck_types.specs.declared.attributes.Purpose.TheVariants as purpose
+use Rattle.ck_types.specs.declared.items.Item.{Item}
+use Rattle.ck_store.specs.Rows.{ObjectRow, has_number, is_private_row, with_attributes}
 use Rattle.ck_store.specs.declared.endings.Ending.{Ending}
 use Rattle.ck_store.specs.declared.endings.Ending.TheVariants as ending
 use Rattle.ck_store.specs.declared.places.Place.{Place}
@@ -44,10 +49,6 @@ pub record IsIndex (objects : Slab ObjectRow) (index : List Place) : Type 0 wher
 -- it is the session's list of objects that may be private, or of those that aren't
 abbrev pub is_list_of : ℕ → Bool → SessionList → Bool
 is_list_of session private list = list.session == session && beq list.private private
-
--- the list, which may have private objects
-abbrev pub marked : SessionList → SessionList
-marked list = record list { private = true }
 
 -- the place is in such a list of the session
 pub record IsListed (lists : List SessionList) (session : ℕ) (private : Bool) (p : Place) : Type 0 where
@@ -100,6 +101,17 @@ pub record IsKeyOf (objects : Slab ObjectRow) (number : ℕ) (found : Option ℕ
 -- each object is changed so, and stays under its key
 abbrev pub IsChanged : (ObjectRow → ObjectRow) → Slab ObjectRow → Slab ObjectRow → Type 0
 IsChanged change old new = (key : ℕ) → get new key ≡ option_map change (get old key)
+
+-- the object of the number has been given the values: it has other attributes, which are those with
+-- the values where a change may give it them, and is private where it was
+pub record IsGiven (number : ℕ) (values : List Item) (old new : Slab ObjectRow) : Type 0 where
+  pub attributes : List Item
+  pub changed : IsChanged (with_attributes number attributes) old new
+  pub given : (key : ℕ) (row : ObjectRow) → get old key ≡ Some row → has_number number row ≡ true
+      → template_error (class_of row.attributes) purpose.Set values ≡ None
+      → attributes ≡ with_given values row.attributes
+  pub private : (key : ℕ) (row : ObjectRow) → get old key ≡ Some row → has_number number row ≡ true
+      → is_set attributes attribute.Private ≡ is_private_row row
 
 -- some of the objects of the test are there no more; the others are, each under its key
 abbrev pub IsLeft : (ObjectRow → Bool) → Slab ObjectRow → Slab ObjectRow → Type 0

@@ -1,19 +1,19 @@
 ghost use Rattle.std.specs.Prelude.{◌≡◌, ◌+◌, ◌^◌, ◌<◌, ℕ, not, map, length, find, filter, position, get_or};
 ghost use Rattle.std.specs.Prelude.{IfOk, IfSome, Contains, Some, true, false};
 ghost use Rattle.std.specs.List.{list_any};
-ghost use Rattle.std.specs.Option.{option_copied, option_map_or};
+ghost use Rattle.std.specs.Option.{option_copied};
 ghost use Rattle.slab.specs.Slab.{get};
-ghost use Rattle.ck_store.specs.Rows.{ObjectRow, has_number, matching_numbers, is_private_row};
-ghost use Rattle.ck_store.specs.Rows.{with_attributes, with_key_state, matching_number};
-ghost use Rattle.ck_store.specs.Labels.{IsMarked, IsWanted};
+ghost use Rattle.ck_store.specs.Rows.{ObjectRow, has_number, matching_numbers};
+ghost use Rattle.ck_store.specs.Rows.{with_key_state, matching_number};
+ghost use Rattle.ck_store.specs.Labels.{IsMarked, IsMarkOf, IsWanted};
 ghost use Rattle.ck_store.specs.Index.{place, is_at, object_at, objects_at, is_there, IsIndex, PlacesRise};
-ghost use Rattle.ck_store.specs.Index.{IsChanged, IsKeyOf, IsLeft, EndsAll};
+ghost use Rattle.ck_store.specs.Index.{IsChanged, IsGiven, IsKeyOf, IsLeft, EndsAll};
 ghost use Rattle.ck_store.specs.declared.places.Place.{Place};
 
-use crate::labels::{is_refused, wanted_mark};
+use crate::labels::{is_refused, mark_of, wanted_mark};
 use crate::stored_objects::StoredObject;
 use ck_journal::View;
-use ck_types::{KeyState, NoMemory, Record, Template};
+use ck_types::{KeyState, NoMemory, Template};
 use slab::Slab;
 use std::alloc::Global;
 
@@ -155,13 +155,23 @@ pub(crate) fn find_matching(
     Ok(numbers)
 }
 
-/// Gives the object under the key these attributes.
-pub(crate) fn set_at(objects: &mut Slab<StoredObject>, key: usize, attributes: Record)
+/// Gives the object under the key the values of a change.
+pub(crate) fn change_at(objects: &mut Slab<StoredObject>, key: usize, values: Template)
     ensures { (number : ℕ) → IsKeyOf objects.old number (Some key)
-        → IsChanged (with_attributes number attributes) objects.old objects.new }
+        → IsGiven number values.items objects.old objects.new }
 {
     if let Some(object) = objects.get_mut(key) {
-        object.set_attributes(attributes);
+        object.change(values);
+    }
+}
+
+/// The mark of the label of the object under the key, or 0.
+pub(crate) fn mark_at(objects: &Slab<StoredObject>, key: usize) -> u32
+    ensures { (row : ObjectRow) → get objects.now key ≡ Some row → IsMarkOf row.attributes result }
+{
+    match objects.get(key) {
+        None => 0,
+        Some(object) => mark_of(object.attributes()),
     }
 }
 
@@ -187,16 +197,6 @@ pub(crate) fn has_objects(objects: &Slab<StoredObject>, places: &[Place]) -> boo
     ensures { result ≡ list_any (is_there objects.now) places.now }
 {
     places.iter().any(|place| is_there(objects, *place))
-}
-
-/// Whether there is an object under the key that is private.
-pub(crate) fn is_private_at(objects: &Slab<StoredObject>, key: usize) -> bool
-    ensures { result ≡ option_map_or is_private_row (get objects.now key) false }
-{
-    match objects.get(key) {
-        None => false,
-        Some(object) => object.is_private(),
-    }
 }
 
 /// Ends the object that has the number.

@@ -1,15 +1,13 @@
 ghost use Rattle.std.specs.Prelude.{◌≡◌, ◌<◌, ◌⊎◌, ℕ, [], Some, Bool, Contains, OnOk, IfSome};
-ghost use Rattle.std.specs.Prelude.{List, None, Option, length, map, position};
-ghost use Rattle.slab.specs.Slab.{Slab as Slots};
-ghost use Rattle.ck_store.specs.Rows.{ObjectRow, with_attributes};
-ghost use Rattle.ck_store.specs.Index.{IsListed, IsSound, is_list_of, is_needed, marked, object_at};
-ghost use Rattle.ck_store.specs.Index.{IsChanged, IsKeyOf};
+ghost use Rattle.std.specs.Prelude.{List, None, length, position};
+ghost use Rattle.ck_store.specs.Rows.{ObjectRow};
+ghost use Rattle.ck_store.specs.Index.{IsListed, IsSound, is_list_of, is_needed, object_at};
 ghost use Rattle.ck_store.specs.declared.places.Place.{Place};
 
 use crate::endings::Ending;
-use crate::places::{Place, drop_ended, has_objects, is_private_at, object_at};
+use crate::places::{Place, drop_ended, has_objects, object_at};
 use crate::stored_objects::StoredObject;
-use ck_types::{Attribute, NoMemory, Record};
+use ck_types::NoMemory;
 use slab::Slab;
 use std::alloc::Global;
 
@@ -110,35 +108,6 @@ fn position_of(lists: &[SessionList], session: u64, private: bool) -> Option<usi
     lists
         .iter()
         .position(|list| list.is_list_of(session, private))
-}
-
-/// Notes of each list that its objects may be private.
-fn mark_private(lists: &mut [SessionList])
-    ensures { lists.new ≡ map marked lists.old }
-{
-    for list in lists.iter_mut() {
-        list.private = true;
-    }
-}
-
-/// Prepares the lists for a change of the attributes of the object under the key. Where it makes a
-/// public object private, any list may have private objects from then on.
-pub(crate) fn note_private(
-    lists: &mut Vec<SessionList>,
-    objects: &Slab<StoredObject>,
-    key: usize,
-    attributes: &Record,
-)
-    ensures { (number : ℕ) (changed : Slots ObjectRow) (index : List Place)
-        (unlisted : Option Place) (creations : ℕ) → IsKeyOf objects.now number (Some key)
-        → IsChanged (with_attributes number attributes.now) objects.now changed
-        → IsSound objects.now index lists.old.items unlisted creations
-        → IsSound changed index lists.new.items unlisted creations }
-{
-    if !attributes.is_set(Attribute::Private) || is_private_at(objects, key) {
-        return;
-    }
-    mark_private(lists.as_mut_slice());
 }
 
 /// Adds a place to the list of the session for private objects, or to that for public ones.

@@ -29,8 +29,10 @@ impl Model for StoredObject {
 }
 
 impl StoredObject {
-    ghost use Rattle.std.specs.Prelude.{◌≡◌, ◌<◌, ◌^◌, IfOk};
-    ghost use Rattle.ck_types.specs.Records.{with_state};
+    ghost use Rattle.std.specs.Prelude.{◌≡◌, ◌<◌, ◌^◌, None, IfOk};
+    ghost use Rattle.ck_types.specs.Records.{with_given, with_state};
+    ghost use Rattle.ck_types.specs.Templates.{class_of, template_error};
+    ghost use Rattle.ck_types.specs.declared.attributes.Purpose.TheVariants as purpose;
     ghost use Rattle.ck_journal.specs.Objects.{is_visible_with};
     ghost use Rattle.ck_store.specs.Rows.{is_of_session, is_session_row, is_private_row};
     ghost use Rattle.ck_store.specs.Rows.{is_private_session_row};
@@ -65,10 +67,14 @@ impl StoredObject {
         &self.attributes
     }
 
-    pub(crate) fn set_attributes(&mut self, attributes: Record)
-        ensures { self.new ≡ record self.old { attributes = attributes } }
+    /// Gives the object the values of a change.
+    pub(crate) fn change(&mut self, values: Template)
+        ensures others { self.new ≡ record self.old { attributes = self.new.attributes } }
+        ensures given { template_error (class_of self.old.attributes) purpose.Set values.items
+            ≡ None → self.new.attributes ≡ with_given values.items self.old.attributes }
+        ensures private { is_private_row self.new ≡ is_private_row self.old }
     {
-        self.attributes = attributes;
+        self.attributes.change(values);
     }
 
     pub(crate) fn set_state(&mut self, state: KeyState)

@@ -2,9 +2,10 @@ use crate::bases::copy_objects;
 use crate::endings::{Ending, end_listed, end_newest};
 use crate::labels::{grow_marks, mark_of, set_mark};
 use crate::places::{
-    Place, compact, find_matching, find_numbered, key_of, remove_numbered, set_at, set_state_at,
+    Place, change_at, compact, find_matching, find_numbered, key_of, mark_at, remove_numbered,
+    set_state_at,
 };
-use crate::session_lists::{SessionList, list_newest, note_private};
+use crate::session_lists::{SessionList, list_newest};
 use crate::stored_objects::StoredObject;
 use ck_journal::{Base, KeptObject, View, number_of_handle};
 use ck_types::{KeyState, NoMemory, Record, Sequence, Template};
@@ -58,10 +59,9 @@ impl Store {
     ghost use Rattle.std.specs.Prelude.{IfNone, IfOk, IfSome, OnOk};
     ghost use Rattle.std.specs.Option.{option_copied};
     ghost use Rattle.ck_types.specs.KeyStates.{state_of_number};
-    ghost use Rattle.ck_types.specs.Records.{is_set, with_given};
-    ghost use Rattle.ck_types.specs.declared.attributes.Attribute.TheVariants as attribute;
+    ghost use Rattle.ck_types.specs.Records.{changed_error, protections_of};
+    ghost use Rattle.ck_types.specs.Templates.{class_of};
     ghost use Rattle.ck_types.specs.declared.pins.Pin.{Pin};
-    ghost use Rattle.ck_types.specs.declared.templates.Template.{Template};
     ghost use Rattle.ck_journal.specs.Bases.{empty_base, IsSound};
     ghost use Rattle.ck_journal.specs.Cuts.{kept_objects};
     ghost use Rattle.ck_journal.specs.Histories.{History, start, ◌◁◌, done};
@@ -223,21 +223,22 @@ impl Store {
         self.creations = number;
     }
 
-    /// Gives the object that has the number these attributes. An object keeps its CKA_TOKEN.
-    pub fn set(&mut self, number: u64, attributes: Record)
-        ensures agree { (h : History) (e : Entry) (session object : ℕ) (template : Template)
-            → done e ≡ Some (call.SetAttributeValue session object template)
+    /// Gives the object that has the number the values of a template that passes its checks, by
+    /// moving them.
+    pub fn change(&mut self, number: u64, values: Template)
+        ensures agree { (h : History) (e : Entry) (session object : ℕ)
+            → done e ≡ Some (call.SetAttributeValue session object values)
             → object_named h object ≡ Some number
-            → attributes ≡ with_given template.items (named_attributes h object)
-            → is_set attributes attribute.Token ≡ is_set (named_attributes h object) attribute.Token
+            → changed_error (class_of (named_attributes h object))
+            (protections_of (named_attributes h object)) values.items ≡ None
             → StoreAgrees h self.old → StoreAgrees (e ◁ h) self.new }
     {
         let Some(key) = key_of(&self.objects, self.index.as_slice(), number) else {
             return;
         };
-        note_private(&mut self.lists, &self.objects, key, &attributes);
-        set_mark(&mut self.marks, key, mark_of(&attributes));
-        set_at(&mut self.objects, key, attributes);
+        change_at(&mut self.objects, key, values);
+        let mark = mark_at(&self.objects, key);
+        set_mark(&mut self.marks, key, mark);
     }
 
     /// Gives the key that has the number this state.

@@ -40,25 +40,25 @@ pub(crate) const MEANINGS: &str = "\
 1 CreateObject 2 - -> 1 CreateObject { session: 2, template: Template { items: \
     Sequence { items: [] } } }
 1 CreateObject 2 3=- -> 1 CreateObject { session: 2, template: Template { items: \
-    Sequence { items: [Item { kind: 3, value: Sequence { items: [] } }] } } }
+    Sequence { items: [Item { kind: 3, value: AttributeValue { bytes: [] } }] } } }
 1 CreateObject 2 10a=6bC0,3=00 -> 1 CreateObject { session: 2, template: Template { items: \
-    Sequence { items: [Item { kind: 266, value: Sequence { items: [107, 192] } }, \
-    Item { kind: 3, value: Sequence { items: [0] } }] } } }
+    Sequence { items: [Item { kind: 266, value: AttributeValue { bytes: [107, 192] } }, \
+    Item { kind: 3, value: AttributeValue { bytes: [0] } }] } } }
 1 GetAttributeValue 2 3 - -> 1 GetAttributeValue { session: 2, object: 3, queries: \
     Sequence { items: [] } }
 1 GetAttributeValue 2 3 11:?,0:10 -> 1 GetAttributeValue { session: 2, object: 3, queries: \
     Sequence { items: [AttributeQuery { kind: 17, room: None }, \
     AttributeQuery { kind: 0, room: Some(10) }] } }
 1 CopyObject 2 4294967297 3=00 -> 1 CopyObject { session: 2, object: 4294967297, template: \
-    Template { items: Sequence { items: [Item { kind: 3, value: Sequence { items: [0] } }] } } }
+    Template { items: Sequence { items: [Item { kind: 3, value: AttributeValue { bytes: [0] } }] } } }
 1 SetAttributeValue 2 3 - -> 1 SetAttributeValue { session: 2, object: 3, template: \
     Template { items: Sequence { items: [] } } }
 1 DestroyObject 2 3 -> 1 DestroyObject { session: 2, object: 3 }
 1 FindObjectsInit 2 - -> 1 FindObjectsInit { session: 2, template: Template { items: \
     Sequence { items: [] } } }
 1 FindObjectsInit 2 10a=6bC0,3=- -> 1 FindObjectsInit { session: 2, template: Template { items: \
-    Sequence { items: [Item { kind: 266, value: Sequence { items: [107, 192] } }, \
-    Item { kind: 3, value: Sequence { items: [] } }] } } }
+    Sequence { items: [Item { kind: 266, value: AttributeValue { bytes: [107, 192] } }, \
+    Item { kind: 3, value: AttributeValue { bytes: [] } }] } } }
 1 FindObjects 2 10 -> 1 FindObjects { session: 2, max: 10 }
 1 FindObjects 2 0 -> 1 FindObjects { session: 2, max: 0 }
 1 FindObjects 0 18446744073709551615 -> 1 FindObjects { session: 0, max: 18446744073709551615 }
@@ -91,7 +91,7 @@ pub(crate) const MEANINGS: &str = "\
 1 VerifyFinal 2 6bC0 -> 1 VerifyFinal { session: 2, signature: Sequence { items: [107, 192] } }
 1 GenerateKey 2 350 3=61 6bC0 -> 1 GenerateKey { session: 2, mechanism: \
     Mechanism { kind: 848, parameter: Sequence { items: [] } }, template: \
-    Template { items: Sequence { items: [Item { kind: 3, value: Sequence { items: [97] } }] } }, \
+    Template { items: Sequence { items: [Item { kind: 3, value: AttributeValue { bytes: [97] } }] } }, \
     random: Sequence { items: [107, 192] } }
 1 SetKeyState 2 3 4 -> 1 SetKeyState { session: 2, key: 3, state: 4 }
 ";

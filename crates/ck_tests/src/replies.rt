@@ -1,6 +1,6 @@
 use ck_journal::{Answer, Body, Reply};
 use ck_script::push_reply;
-use ck_types::{Bytes, Rv, RvError, Sequence, SessionState, TokenFlags};
+use ck_types::{AttributeValue, Bytes, Rv, RvError, Sequence, SessionState, TokenFlags};
 use std::alloc::Global;
 use std::process::Abort;
 use std::test::Fail;
@@ -86,7 +86,7 @@ fn bytes_have_their_text(rt: HostRuntime) -> Result<(), Fail> {
     for (bytes, text, as_value) in rows {
         let body = Body::Bytes(Bytes::from_slice(rt.alloc(), bytes)?);
         assert_text(&rt, rt.alloc(), ok(body), text)?;
-        let value = Answer::Value(Bytes::from_slice(rt.alloc(), bytes)?);
+        let value = Answer::Value(AttributeValue::from_slice(rt.alloc(), bytes)?);
         let answers = Sequence::from_vec(vec![in rt.alloc(); value]?);
         assert_text(&rt, rt.alloc(), ok(Body::Attributes(answers)), as_value)?;
     }
@@ -117,7 +117,7 @@ fn lists_have_their_text(rt: HostRuntime) -> Result<(), Fail> {
 fn attributes_have_their_text(rt: HostRuntime) -> Result<(), Fail> {
     let none = Body::Attributes(Sequence::new(rt.alloc()));
     assert_text(&rt, rt.alloc(), ok(none), "0 -\n")?;
-    let letter = Answer::Value(Bytes::from_slice(rt.alloc(), b"a")?);
+    let letter = Answer::Value(AttributeValue::from_slice(rt.alloc(), b"a")?);
     let answers = vec![in rt.alloc(); letter, Answer::Unavailable, Answer::Length(120)]?;
     let reply = Reply {
         rv: Rv::Error(RvError::AttributeTypeInvalid),

@@ -1,5 +1,5 @@
 use ck_types::{
-    Bytes, Item, Limits, NoMemory, Pin, Record, Refusal, Rv, RvError, Sequence, Template,
+    AttributeValue, Bytes, Item, Limits, NoMemory, Pin, Record, Refusal, Rv, RvError, Sequence, Template,
 };
 use std::alloc::Global;
 use std::process::Abort;
@@ -24,7 +24,7 @@ const VALUE_LEN: u64 = 0x161;
 fn template_of(alloc: Global, items: &[(u64, &[u8])]) -> Result<Template, NoMemory> {
     let mut list = Vec::new(alloc);
     for (kind, value) in items {
-        let value = Bytes::from_slice(alloc, value)?;
+        let value = AttributeValue::from_slice(alloc, value)?;
         list.push(Item { kind: *kind, value })?;
     }
     let items = Sequence::from_vec(list);
@@ -84,7 +84,7 @@ fn many_items(rt: HostRuntime) -> Result<(), Fail> {
     let mut items = Vec::new(rt.alloc());
     for kind in [0x3, 0x12] {
         for _ in 0..300_000 {
-            let value = Bytes::new(rt.alloc());
+            let value = AttributeValue::new(rt.alloc());
             items.push(Item { kind, value })?;
         }
     }

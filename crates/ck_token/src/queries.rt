@@ -79,8 +79,8 @@ fn query_answer(
         None => Ok(Answer::Length(value.len())),
         Some(room) if room < value.len() => Ok(Answer::Unavailable),
         Some(_) => {
-            let bytes = value.to_bytes(alloc)?;
-            Ok(Answer::Value(bytes))
+            let value = value.to_value(alloc)?;
+            Ok(Answer::Value(value))
         }
     }
 }

@@ -8,10 +8,10 @@ use Rattle.std.proofs.lemmas.Bool.{eqb-true, or_cases, true≢false}
 use Rattle.ck_types.specs.Attributes.{type_of, form_of, is_of_form, permission, attribute_of}
 use Rattle.ck_types.specs.Attributes.{same_bytes, flag_bytes, number_bytes}
 use Rattle.ck_types.specs.Checks.{error_if, first_error}
-use Rattle.ck_types.specs.Templates.{value_at, value_or, form_error, value_error}
+use Rattle.ck_types.specs.Templates.{value_at, value_or, flag_at, flag_of, form_error, value_error}
 use Rattle.ck_types.specs.Templates.{permission_error, error_of_permission, class_of}
 use Rattle.ck_types.specs.Templates.{template_error, has_conflict, created_error}
-use Rattle.ck_types.specs.Records.{with_given, copied_error, changed_error}
+use Rattle.ck_types.specs.Records.{copied_error}
 use Rattle.ck_types.specs.declared.attributes.Attribute.{Attribute}
 use Rattle.ck_types.specs.declared.attributes.Attribute.TheVariants as attribute
 use Rattle.ck_types.specs.declared.attributes.Class.{Class}
@@ -305,54 +305,17 @@ copy-passes c protections items fine =
     template-passes c purpose.Copy items
     (or_else-none (template_error c purpose.Copy items) _ fine).0
 
--- what a change may be given a copy may be given too
-copy-of-change : (c : Class) (a : Attribute)
-    → error_of_permission (permission c purpose.Set a) ≡ None
-    → error_of_permission (permission c purpose.Copy a) ≡ None
-copy-of-change class.Data attribute.Label e = refl
-copy-of-change class.Data attribute.Application e = refl
-copy-of-change class.Data attribute.Value e = refl
-copy-of-change class.Data attribute.ObjectId e = refl
-copy-of-change class.Data other e = cc
-copy-of-change class.SecretKey attribute.Label e = refl
-copy-of-change class.SecretKey attribute.Id e = refl
-copy-of-change class.SecretKey attribute.Sensitive e = refl
-copy-of-change class.SecretKey attribute.Encrypt e = refl
-copy-of-change class.SecretKey attribute.Decrypt e = refl
-copy-of-change class.SecretKey attribute.Wrap e = refl
-copy-of-change class.SecretKey attribute.Unwrap e = refl
-copy-of-change class.SecretKey attribute.Sign e = refl
-copy-of-change class.SecretKey attribute.Verify e = refl
-copy-of-change class.SecretKey attribute.Derive e = refl
-copy-of-change class.SecretKey attribute.Extractable e = refl
-copy-of-change class.SecretKey other e = cc
-
-copies-of-changes : (c : Class) (items : List Item)
-    → first_error (permission_error c purpose.Set) items ≡ None
-    → first_error (permission_error c purpose.Copy) items ≡ None
-copies-of-changes c [] fine = refl
-copies-of-changes c (item ∷ items) fine =
-    let parts =
-    or_else-none (permission_error c purpose.Set item) (first_error (permission_error c purpose.Set) items)
-    fine in
-    rw (known (attribute_of item.kind) parts.0, copies-of-changes c items parts.1) refl
+-- the flag that items with no fault in form give, as bytes
+pub flag-given : (items : List Item) (a : Attribute) (other : Bool) → form_of a ≡ form.Flag
+    → first_error form_error items ≡ None
+    → flag_bytes (unwrap_or (flag_at items a) other)
+    ≡ value_or items (type_of a) (flag_bytes other)
+flag-given items a other flag fine = by_case (value_at items (type_of a)) refl
   where
-    known : (o : Option Attribute)
-        → error_of_permission (option_and_then (permission c purpose.Set) o) ≡ None
-        → error_of_permission (option_and_then (permission c purpose.Copy) o) ≡ None
-    known None e = cc
-    known (Some a) e = copy-of-change c a e
-
-pub change-passes : (c : Class) (protections : Protections) (items : List Item)
-    → changed_error c protections items ≡ None
-    → (first_error form_error items ≡ None)
-    × (first_error (permission_error c purpose.Copy) items ≡ None)
-change-passes c protections items fine =
-    let parts = template-passes c purpose.Set items
-    (or_else-none (template_error c purpose.Set items) _ fine).0 in
-    (parts.0, copies-of-changes c items parts.1)
-
--- a template without items changes nothing
-pub given_nothing : (items : List Item) → with_given [] items ≡ items
-given_nothing [] = refl
-given_nothing (item ∷ items) = ap (λ rest. item ∷ rest) (given_nothing items)
+    by_case : (o : Option (List ℕ)) → value_at items (type_of a) ≡ o
+        → flag_bytes (unwrap_or (option_and_then (flag_of (form_of a)) o) other)
+        ≡ unwrap_or o (flag_bytes other)
+    by_case None e = refl
+    by_case (Some value) e =
+        subst (λ f. flag_bytes (unwrap_or (flag_of f value) other) ≡ value) (sym flag)
+        (flag_bytes-given items a value flag fine e)

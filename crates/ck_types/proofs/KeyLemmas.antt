@@ -38,7 +38,7 @@ use Rattle.ck_types.proofs.GivenLemmas.{class-created, data-created, form_holds}
 -- ---- what a key keeps
 
 -- what a template may not give it doesn't give
-keeps-unpermitted : (p : Purpose) (a : Attribute) (items : List Item) (value : List ℕ)
+pub keeps-unpermitted : (p : Purpose) (a : Attribute) (items : List Item) (value : List ℕ)
     → permission class.SecretKey p a ≡ Some false
     → first_error (permission_error class.SecretKey p) items ≡ None
     → keeps items a value

@@ -5,3 +5,5 @@ pub mod FlagLemmas
 pub mod GivenLemmas
 pub mod KeyLemmas
 pub mod MechanismLemmas
+pub mod SetLemmas
+pub mod ValueLemmas

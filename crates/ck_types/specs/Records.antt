@@ -145,6 +145,30 @@ pub record KeepsKey (items : List Item) (key : Key) : Type 0 where
       keeps items attribute.AlwaysSensitive (flag_bytes key.origin.always_sensitive)
   pub generation : keeps items attribute.KeyGenMechanism (number_bytes key.origin.generation)
 
+-- the objects with the items' values of the attributes that a change may give
+abbrev pub changed_data : List Item → Data → Data
+changed_data items d = record d {
+  label = value_or items (type_of attribute.Label) d.label;
+  application = value_or items (type_of attribute.Application) d.application;
+  value = value_or items (type_of attribute.Value) d.value;
+  object_id = value_or items (type_of attribute.ObjectId) d.object_id;
+}
+
+abbrev pub changed_key : List Item → Key → Key
+changed_key items k = record k {
+  label = value_or items (type_of attribute.Label) k.label;
+  id = value_or items (type_of attribute.Id) k.id;
+  sensitive = unwrap_or (flag_at items attribute.Sensitive) k.sensitive;
+  encrypt = unwrap_or (flag_at items attribute.Encrypt) k.encrypt;
+  decrypt = unwrap_or (flag_at items attribute.Decrypt) k.decrypt;
+  wrap = unwrap_or (flag_at items attribute.Wrap) k.wrap;
+  unwrap = unwrap_or (flag_at items attribute.Unwrap) k.unwrap;
+  sign = unwrap_or (flag_at items attribute.Sign) k.sign;
+  verify = unwrap_or (flag_at items attribute.Verify) k.verify;
+  derive = unwrap_or (flag_at items attribute.Derive) k.derive;
+  extractable = unwrap_or (flag_at items attribute.Extractable) k.extractable;
+}
+
 -- the value that the token computes for a new object: a generated key's is the random bytes, and a
 -- created key's length is that of its value; a generated key was always sensitive where it is
 -- sensitive, and never extractable where it isn't extractable

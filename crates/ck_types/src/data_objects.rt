@@ -1,9 +1,10 @@
+use crate::attribute_values::AttributeValue;
 use crate::attributes::Attribute;
 use crate::fields::Field;
-use crate::items::{Item, bytes_or, flag_or};
+use crate::items::{Item, flag_or, take_value};
 use crate::memory::NoMemory;
 use crate::object_flags::Placement;
-use crate::sequences::Bytes;
+use crate::templates::duplicate_items;
 use std::alloc::Global;
 
 /// A data object (PKCS #11 Base 3.0, Data objects). Its class is no field.
@@ -11,10 +12,10 @@ use std::alloc::Global;
 pub(crate) struct Data {
     token: bool,
     private: bool,
-    label: Bytes,
-    application: Bytes,
-    pub(crate) value: Bytes,
-    object_id: Bytes,
+    label: AttributeValue,
+    application: AttributeValue,
+    pub(crate) value: AttributeValue,
+    object_id: AttributeValue,
     modifiable: bool,
     copyable: bool,
     destroyable: bool,
@@ -27,6 +28,7 @@ impl Data {
     ghost use Rattle.ck_types.specs.Templates.{value_at, value_or, form_error, flag_at};
     ghost use Rattle.ck_types.specs.declared.attributes.Attribute.TheVariants as attribute;
     ghost use Rattle.ck_types.specs.Records.{data_items, with_given, placement_of, blank_data};
+    ghost use Rattle.ck_types.specs.Records.{keeps, changed_data};
     ghost use Rattle.ck_types.specs.Records.{created_items};
     ghost use Rattle.ck_types.specs.Templates.{created_error, class_of};
     ghost use Rattle.ck_types.specs.declared.attributes.Class.TheVariants as class;
@@ -38,7 +40,10 @@ impl Data {
         requires passes { created_error items.now ≡ None }
         ensures { IfOk result (λ made. data_items made ≡ created_items items.now) }
     {
-        Data::blank(alloc).with(alloc, items)
+        let mut values = duplicate_items(alloc, items)?;
+        let mut data = Data::blank(alloc);
+        data.set(values.as_mut_slice());
+        Ok(data)
     }
 
     /// A data object with the table's defaults, which takes no memory.
@@ -48,39 +53,55 @@ impl Data {
         Data {
             token: false,
             private: false,
-            label: Bytes::new(alloc),
-            application: Bytes::new(alloc),
-            value: Bytes::new(alloc),
-            object_id: Bytes::new(alloc),
+            label: AttributeValue::new(alloc),
+            application: AttributeValue::new(alloc),
+            value: AttributeValue::new(alloc),
+            object_id: AttributeValue::new(alloc),
             modifiable: true,
             copyable: true,
             destroyable: true,
         }
     }
 
-    /// A copy with the items' values of the attributes that they give.
-    pub(crate) fn with(&self, alloc: Global, items: &[Item]) -> Result<Data, NoMemory>
-        requires well_formed { first_error form_error items.now ≡ None }
-        requires class { value_or items.now (type_of attribute.Class) (number_bytes 0)
-            ≡ number_bytes 0 }
-        ensures { IfOk result (λ made.
-            data_items made ≡ with_given items.now (data_items self.now)) }
+    /// A copy of the object.
+    pub(crate) fn duplicate(&self, alloc: Global) -> Result<Data, NoMemory>
+        ensures { IfOk result (λ copy. copy ≡ self.now) }
     {
-        let label = bytes_or(alloc, items, Attribute::Label, &self.label)?;
-        let application = bytes_or(alloc, items, Attribute::Application, &self.application)?;
-        let value = bytes_or(alloc, items, Attribute::Value, &self.value)?;
-        let object_id = bytes_or(alloc, items, Attribute::ObjectId, &self.object_id)?;
         Ok(Data {
-            token: flag_or(items, Attribute::Token, self.token),
-            private: flag_or(items, Attribute::Private, self.private),
-            label,
-            application,
-            value,
-            object_id,
-            modifiable: flag_or(items, Attribute::Modifiable, self.modifiable),
-            copyable: flag_or(items, Attribute::Copyable, self.copyable),
-            destroyable: flag_or(items, Attribute::Destroyable, self.destroyable),
+            token: self.token,
+            private: self.private,
+            label: self.label.duplicate(alloc)?,
+            application: self.application.duplicate(alloc)?,
+            value: self.value.duplicate(alloc)?,
+            object_id: self.object_id.duplicate(alloc)?,
+            modifiable: self.modifiable,
+            copyable: self.copyable,
+            destroyable: self.destroyable,
         })
+    }
+
+    /// Gives the object the items' values of the attributes that they give.
+    pub(crate) fn set(&mut self, items: &mut [Item])
+        requires well_formed { first_error form_error items.old ≡ None }
+        requires class { keeps items.old attribute.Class (number_bytes 0) }
+        ensures { data_items self.new ≡ with_given items.old (data_items self.old) }
+    {
+        self.token = flag_or(items, Attribute::Token, self.token);
+        self.private = flag_or(items, Attribute::Private, self.private);
+        self.modifiable = flag_or(items, Attribute::Modifiable, self.modifiable);
+        self.copyable = flag_or(items, Attribute::Copyable, self.copyable);
+        self.destroyable = flag_or(items, Attribute::Destroyable, self.destroyable);
+        self.change(items);
+    }
+
+    /// Gives the object the items' values of the attributes that a change may give.
+    pub(crate) fn change(&mut self, items: &mut [Item])
+        ensures { self.new ≡ changed_data items.old self.old }
+    {
+        take_value(items, Attribute::Label, &mut self.label);
+        take_value(items, Attribute::Application, &mut self.application);
+        take_value(items, Attribute::Value, &mut self.value);
+        take_value(items, Attribute::ObjectId, &mut self.object_id);
     }
 
     /// The value of an attribute, or `None` where data objects don't have it.

@@ -1,5 +1,5 @@
+use crate::attribute_values::AttributeValue;
 use crate::memory::NoMemory;
-use crate::sequences::Bytes;
 use std::alloc::Global;
 
 /// A value of an attribute as an object has it (PKCS #11 Base 3.0, Common attributes).
@@ -7,7 +7,7 @@ use std::alloc::Global;
 pub enum Field<'a> {
     Flag(bool),
     Number(u64),
-    Bytes(&'a Bytes),
+    Bytes(&'a AttributeValue),
 }
 
 impl<'a> Field<'a> {
@@ -37,14 +37,18 @@ impl<'a> Field<'a> {
         }
     }
 
-    /// A copy of the value's bytes.
-    pub fn to_bytes(&self, alloc: Global) -> Result<Bytes, NoMemory>
-        ensures { IfOk result (λ bytes. bytes ≡ field_bytes self.now) }
+    /// A copy of the value.
+    pub fn to_value(&self, alloc: Global) -> Result<AttributeValue, NoMemory>
+        ensures { IfOk result (λ value. value ≡ field_bytes self.now) }
     {
         match self {
-            Field::Flag(flag) => Bytes::from_slice(alloc, [u8::from(*flag)].as_slice()),
-            Field::Number(number) => Bytes::from_slice(alloc, number.to_le_bytes().as_slice()),
-            Field::Bytes(bytes) => Bytes::from_slice(alloc, bytes.as_slice()),
+            Field::Flag(flag) => {
+                AttributeValue::from_slice(alloc, [u8::from(*flag)].as_slice())
+            }
+            Field::Number(number) => {
+                AttributeValue::from_slice(alloc, number.to_le_bytes().as_slice())
+            }
+            Field::Bytes(value) => value.duplicate(alloc),
         }
     }
 }

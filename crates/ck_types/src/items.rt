@@ -1,4 +1,5 @@
-ghost use Rattle.std.specs.Prelude.{◌≡◌, ◌==◌, ◌&&◌, None, IfOk, not, unwrap_or};
+ghost use Rattle.std.specs.Prelude.{◌≡◌, ◌≢◌, ◌==◌, ◌<◌, ◌&&◌, ℕ, [], None, IfOk, not, unwrap_or};
+ghost use Rattle.std.specs.Prelude.{length, position};
 ghost use Rattle.std.specs.Prelude.{option_map, Some, IfSome};
 ghost use Rattle.std.specs.Int.{w64, from_le_bytes};
 ghost use Rattle.std.specs.List.{list_any};
@@ -11,23 +12,25 @@ ghost use Rattle.ck_types.specs.Templates.{has_conflict, class_of};
 ghost use Rattle.ck_types.specs.Templates.{form_error, permission_error};
 ghost use Rattle.ck_types.specs.KeyStates.{state_number};
 ghost use Rattle.ck_types.specs.declared.attributes.Attribute.TheVariants as attribute;
+ghost use Rattle.ck_types.specs.declared.items.Item.{Item};
 ghost use Rattle.ck_types.specs.declared.forms.Form.TheVariants as form;
 
+use crate::attribute_values::AttributeValue;
 use crate::attributes::{Attribute, Class, Purpose};
 use crate::checks::error_if;
 use crate::errors::RvError;
 use crate::forms::{is_number, number_of};
 use crate::key_states::KeyState;
 use crate::memory::NoMemory;
-use crate::sequences::Bytes;
 use std::alloc::Global;
+use std::mem;
 
 /// One attribute of a template or of an object (CK_ATTRIBUTE): its type and the bytes of its value.
 #[derive(Debug, Drop)]
 pub struct Item {
     /// The attribute's type (CK_ATTRIBUTE_TYPE), known to the token or not.
     pub kind: u64,
-    pub value: Bytes,
+    pub value: AttributeValue,
 }
 
 impl Item {
@@ -35,7 +38,7 @@ impl Item {
     pub fn duplicate(&self, alloc: Global) -> Result<Item, NoMemory>
         ensures { IfOk result (λ copy. copy ≡ self.now) }
     {
-        let value = Bytes::from_slice(alloc, self.value.as_slice())?;
+        let value = self.value.duplicate(alloc)?;
         Ok(Item {
             kind: self.kind,
             value,
@@ -71,7 +74,7 @@ impl Item {
     }
 
     /// Whether the item is of the attribute's type and has another value than this one.
-    fn differs(&self, attribute: Attribute, value: &Bytes) -> bool
+    fn differs(&self, attribute: Attribute, value: &AttributeValue) -> bool
         ensures { result ≡ (type_of attribute == self.now.kind)
             && not (same_bytes self.now.value value.now) }
     {
@@ -104,7 +107,7 @@ pub(crate) fn check_permissions(
 }
 
 /// The value that the items give a type: that of the first item of the type.
-pub(crate) fn value_at(items: &[Item], kind: u64) -> Option<&Bytes>
+pub(crate) fn value_at(items: &[Item], kind: u64) -> Option<&AttributeValue>
     ensures { option_copied result ≡ value_at items.now kind }
 {
     for item in items {
@@ -115,13 +118,32 @@ pub(crate) fn value_at(items: &[Item], kind: u64) -> Option<&Bytes>
     None
 }
 
-/// The flag that the items give the attribute, else this one.
-/// Well-formed items give a flag one byte, 0 or 1.
+fn position_of(items: &[Item], kind: u64) -> Option<usize>
+    ensures within { IfSome result (λ i. i < length items.now) }
+    ensures place { result ≡ position (λ (item : Item). item.kind == kind) items.now }
+{
+    items.iter().position(|item| item.kind == kind)
+}
+
+/// Gives the place the value that the items give the attribute, where they give one, and the items
+/// what the place had.
+pub(crate) fn take_value(items: &mut [Item], attribute: Attribute, place: &mut AttributeValue)
+    ensures value { place.new ≡ value_or items.old (type_of attribute) place.old }
+    ensures others { (kind : ℕ) → kind ≢ type_of attribute
+        → value_at items.new kind ≡ value_at items.old kind }
+{
+    if let Some(i) = position_of(items, attribute.number()) {
+        mem::swap(&mut items[i].value, place);
+    }
+}
+
+/// The flag that the items give the attribute, else this one. Well-formed items give it one byte,
+/// 0 or 1.
 pub(crate) fn flag_or(items: &[Item], attribute: Attribute, other: bool) -> bool
-    requires form { form_of attribute ≡ form.Flag }
-    requires well_formed { first_error form_error items.now ≡ None }
+    requires { form_of attribute ≡ form.Flag }
     ensures flag { result ≡ unwrap_or (flag_at items.now attribute) other }
-    ensures bytes { flag_bytes result ≡ value_or items.now (type_of attribute) (flag_bytes other) }
+    ensures bytes { first_error form_error items.now ≡ None
+        → flag_bytes result ≡ value_or items.now (type_of attribute) (flag_bytes other) }
 {
     match value_at(items, attribute.number()) {
         None => other,
@@ -129,18 +151,17 @@ pub(crate) fn flag_or(items: &[Item], attribute: Attribute, other: bool) -> bool
     }
 }
 
-/// A copy of the bytes that the items give the attribute, else of these.
-pub(crate) fn bytes_or(
+/// A copy of the value that the items give the attribute, of no bytes where they give none.
+pub(crate) fn copied_value(
     alloc: Global,
     items: &[Item],
     attribute: Attribute,
-    other: &Bytes,
-) -> Result<Bytes, NoMemory>
-    ensures { IfOk result (λ bytes. bytes ≡ value_or items.now (type_of attribute) other.now) }
+) -> Result<AttributeValue, NoMemory>
+    ensures { IfOk result (λ value. value ≡ value_or items.now (type_of attribute) []) }
 {
     match value_at(items, attribute.number()) {
-        None => Bytes::from_slice(alloc, other.as_slice()),
-        Some(value) => Bytes::from_slice(alloc, value.as_slice()),
+        None => Ok(AttributeValue::new(alloc)),
+        Some(value) => value.duplicate(alloc),
     }
 }
 
@@ -162,8 +183,7 @@ pub(crate) fn number_at(items: &[Item], attribute: Attribute) -> Option<u64>
 /// The key state that the items give, else this one. Well-formed items give the number of a key
 /// that is or isn't active yet.
 pub(crate) fn state_or(items: &[Item], other: KeyState) -> KeyState
-    requires well_formed { first_error form_error items.now ≡ None }
-    ensures { number_bytes (state_number result)
+    ensures { first_error form_error items.now ≡ None → number_bytes (state_number result)
         ≡ value_or items.now (type_of attribute.KeyState) (number_bytes (state_number other)) }
 {
     match value_at(items, Attribute::KeyState.number()) {

@@ -1,10 +1,11 @@
+use crate::attribute_values::AttributeValue;
 use crate::attributes::Attribute;
 use crate::fields::Field;
-use crate::items::{Item, bytes_or, flag_or, number_at, state_or};
+use crate::items::{Item, copied_value, flag_or, number_at, state_or, take_value};
 use crate::key_states::KeyState;
 use crate::memory::NoMemory;
 use crate::object_flags::Placement;
-use crate::sequences::Bytes;
+use crate::templates::duplicate_items;
 use std::alloc::Global;
 
 /// How a key came to be: the attributes that no template gives. A copy has its source's.
@@ -24,9 +25,9 @@ pub(crate) struct Origin {
 pub(crate) struct Key {
     pub(crate) token: bool,
     pub(crate) private: bool,
-    pub(crate) label: Bytes,
-    pub(crate) value: Bytes,
-    pub(crate) id: Bytes,
+    pub(crate) label: AttributeValue,
+    pub(crate) value: AttributeValue,
+    pub(crate) id: AttributeValue,
     pub(crate) sensitive: bool,
     pub(crate) encrypt: bool,
     pub(crate) decrypt: bool,
@@ -51,6 +52,7 @@ impl Key {
     ghost use Rattle.ck_types.specs.Templates.{permission_error, created_error, generated_error};
     ghost use Rattle.ck_types.specs.Records.{key_items, placement_of, is_revealable, blank_key};
     ghost use Rattle.ck_types.specs.Records.{with_given, KeepsKey, created_items, generated_items};
+    ghost use Rattle.ck_types.specs.Records.{changed_key};
     ghost use Rattle.ck_types.specs.Fields.{field_bytes, flag_field};
     ghost use Rattle.ck_types.specs.declared.attributes.Class.TheVariants as class;
     ghost use Rattle.ck_types.specs.declared.attributes.Purpose.TheVariants as purpose;
@@ -67,9 +69,8 @@ impl Key {
             always_sensitive: false,
             generation: u64::MAX,
         };
-        let empty = Bytes::new(alloc);
-        let value = bytes_or(alloc, items, Attribute::Value, &empty)?;
-        Key::blank(alloc, origin).with(alloc, items, value)
+        let value = copied_value(alloc, items, Attribute::Value)?;
+        Key::with(alloc, origin, items, value)
     }
 
     /// The key that is generated with a template from random bytes.
@@ -85,20 +86,8 @@ impl Key {
             always_sensitive: flag_or(items, Attribute::Sensitive, false),
             generation: 0x350,
         };
-        let value = Bytes::from_slice(alloc, random)?;
-        Key::blank(alloc, origin).with(alloc, items, value)
-    }
-
-    /// A copy of the key with the items' values of the attributes that they give.
-    pub(crate) fn copied(&self, alloc: Global, items: &[Item]) -> Result<Key, NoMemory>
-        requires well_formed { first_error form_error items.now ≡ None }
-        requires permitted { first_error (permission_error class.SecretKey purpose.Copy) items.now
-            ≡ None }
-        ensures { IfOk result (λ made.
-            key_items made ≡ with_given items.now (key_items self.now)) }
-    {
-        let value = Bytes::from_slice(alloc, self.value.as_slice())?;
-        self.with(alloc, items, value)
+        let value = AttributeValue::from_slice(alloc, random)?;
+        Key::with(alloc, origin, items, value)
     }
 
     /// A key with the table's defaults and no bytes, which takes no memory.
@@ -108,9 +97,9 @@ impl Key {
         Key {
             token: false,
             private: true,
-            label: Bytes::new(alloc),
-            value: Bytes::new(alloc),
-            id: Bytes::new(alloc),
+            label: AttributeValue::new(alloc),
+            value: AttributeValue::new(alloc),
+            id: AttributeValue::new(alloc),
             sensitive: false,
             encrypt: false,
             decrypt: false,
@@ -128,36 +117,84 @@ impl Key {
         }
     }
 
-    /// The key with this value and with the items' values of the other attributes that they give.
-    fn with(&self, alloc: Global, items: &[Item], value: Bytes) -> Result<Key, NoMemory>
+    /// A new key of this value, with the items' values of the other attributes that they give.
+    fn with(
+        alloc: Global,
+        origin: Origin,
+        items: &[Item],
+        value: AttributeValue,
+    ) -> Result<Key, NoMemory>
         requires well_formed { first_error form_error items.now ≡ None }
-        requires keeps { KeepsKey items.now (record self.now { value = value }) }
+        requires keeps { KeepsKey items.now (record (blank_key origin) { value = value }) }
         ensures { IfOk result (λ made. key_items made
-            ≡ with_given items.now (key_items (record self.now { value = value }))) }
+            ≡ with_given items.now (key_items (record (blank_key origin) { value = value }))) }
     {
-        let label = bytes_or(alloc, items, Attribute::Label, &self.label)?;
-        let id = bytes_or(alloc, items, Attribute::Id, &self.id)?;
-        Ok(Key {
-            token: flag_or(items, Attribute::Token, self.token),
-            private: flag_or(items, Attribute::Private, self.private),
-            label,
+        let mut values = duplicate_items(alloc, items)?;
+        let mut key = Key {
             value,
-            id,
-            sensitive: flag_or(items, Attribute::Sensitive, self.sensitive),
-            encrypt: flag_or(items, Attribute::Encrypt, self.encrypt),
-            decrypt: flag_or(items, Attribute::Decrypt, self.decrypt),
-            wrap: flag_or(items, Attribute::Wrap, self.wrap),
-            unwrap: flag_or(items, Attribute::Unwrap, self.unwrap),
-            sign: flag_or(items, Attribute::Sign, self.sign),
-            verify: flag_or(items, Attribute::Verify, self.verify),
-            derive: flag_or(items, Attribute::Derive, self.derive),
-            extractable: flag_or(items, Attribute::Extractable, self.extractable),
+            ..Key::blank(alloc, origin)
+        };
+        key.set(values.as_mut_slice());
+        Ok(key)
+    }
+
+    /// A copy of the key.
+    pub(crate) fn duplicate(&self, alloc: Global) -> Result<Key, NoMemory>
+        ensures { IfOk result (λ copy. copy ≡ self.now) }
+    {
+        Ok(Key {
+            token: self.token,
+            private: self.private,
+            label: self.label.duplicate(alloc)?,
+            value: self.value.duplicate(alloc)?,
+            id: self.id.duplicate(alloc)?,
+            sensitive: self.sensitive,
+            encrypt: self.encrypt,
+            decrypt: self.decrypt,
+            wrap: self.wrap,
+            unwrap: self.unwrap,
+            sign: self.sign,
+            verify: self.verify,
+            derive: self.derive,
+            extractable: self.extractable,
             origin: self.origin,
-            modifiable: flag_or(items, Attribute::Modifiable, self.modifiable),
-            copyable: flag_or(items, Attribute::Copyable, self.copyable),
-            destroyable: flag_or(items, Attribute::Destroyable, self.destroyable),
-            state: state_or(items, self.state),
+            modifiable: self.modifiable,
+            copyable: self.copyable,
+            destroyable: self.destroyable,
+            state: self.state,
         })
+    }
+
+    /// Gives the key the items' values of the attributes that they give.
+    pub(crate) fn set(&mut self, items: &mut [Item])
+        requires well_formed { first_error form_error items.old ≡ None }
+        requires keeps { KeepsKey items.old self.old }
+        ensures { key_items self.new ≡ with_given items.old (key_items self.old) }
+    {
+        self.token = flag_or(items, Attribute::Token, self.token);
+        self.private = flag_or(items, Attribute::Private, self.private);
+        self.modifiable = flag_or(items, Attribute::Modifiable, self.modifiable);
+        self.copyable = flag_or(items, Attribute::Copyable, self.copyable);
+        self.destroyable = flag_or(items, Attribute::Destroyable, self.destroyable);
+        self.state = state_or(items, self.state);
+        self.change(items);
+    }
+
+    /// Gives the key the items' values of the attributes that a change may give.
+    pub(crate) fn change(&mut self, items: &mut [Item])
+        ensures { self.new ≡ changed_key items.old self.old }
+    {
+        self.sensitive = flag_or(items, Attribute::Sensitive, self.sensitive);
+        self.encrypt = flag_or(items, Attribute::Encrypt, self.encrypt);
+        self.decrypt = flag_or(items, Attribute::Decrypt, self.decrypt);
+        self.wrap = flag_or(items, Attribute::Wrap, self.wrap);
+        self.unwrap = flag_or(items, Attribute::Unwrap, self.unwrap);
+        self.sign = flag_or(items, Attribute::Sign, self.sign);
+        self.verify = flag_or(items, Attribute::Verify, self.verify);
+        self.derive = flag_or(items, Attribute::Derive, self.derive);
+        self.extractable = flag_or(items, Attribute::Extractable, self.extractable);
+        take_value(items, Attribute::Label, &mut self.label);
+        take_value(items, Attribute::Id, &mut self.id);
     }
 
     /// The value of an attribute, or `None` where keys don't have it.

@@ -1,6 +1,7 @@
 //! Return codes, attributes, templates, records of objects, PINs and limits of a PKCS #11 token.
 #![tactic(auto)]
 
+mod attribute_values;
 mod attributes;
 mod checks;
 mod data_objects;
@@ -24,6 +25,7 @@ mod token_flags;
 mod token_limits;
 mod users;
 
+pub use attribute_values::AttributeValue;
 pub use attributes::{Attribute, Class, Purpose};
 pub use checks::error_if;
 pub use errors::RvError;

@@ -1,5 +1,6 @@
 ghost use Rattle.std.specs.Prelude.{◌≡◌, None, IfOk};
 
+use crate::attribute_values::AttributeValue;
 use crate::attributes::{Attribute, Class, Purpose};
 use crate::checks::error_if;
 use crate::data_objects::Data;
@@ -11,8 +12,7 @@ use crate::keys::Key;
 use crate::memory::NoMemory;
 use crate::object_flags::{Placement, Protections};
 use crate::refusals::Refusal;
-use crate::sequences::Bytes;
-use crate::templates::Template;
+use crate::templates::{Template, duplicate_items};
 use std::alloc::Global;
 use std::marker::Model;
 
@@ -46,7 +46,8 @@ impl Record {
     ghost use Rattle.std.specs.Prelude.{Some, true, is_some, IfSome};
     ghost use Rattle.std.specs.Result.{result_err};
     ghost use Rattle.ck_types.specs.Templates.{value_at, created_error, generated_error};
-    ghost use Rattle.ck_types.specs.Templates.{form_error, permission_error};
+    ghost use Rattle.ck_types.specs.Templates.{template_error};
+    ghost use Rattle.ck_types.specs.declared.attributes.Attribute.TheVariants as attribute;
     ghost use Rattle.ck_types.specs.declared.attributes.Purpose.TheVariants as purpose;
     ghost use Rattle.ck_types.specs.Records.{generated_items, data_items, key_items, is_key};
     ghost use Rattle.ck_types.specs.Records.{readable_value, read_error, state_in, key_value};
@@ -184,26 +185,44 @@ impl Record {
             ≡ None }
         ensures { IfOk result (λ made. made ≡ with_given template.now.items self.now) }
     {
-        self.with(alloc, template.items.as_slice())
+        let mut values = duplicate_items(alloc, template.items.as_slice())?;
+        let mut copy = self.duplicate(alloc)?;
+        match &mut copy.object {
+            Object::Data(data) => data.set(values.as_mut_slice()),
+            Object::Key(key) => key.set(values.as_mut_slice()),
+        }
+        Ok(copy)
     }
 
     /// A copy of the attributes.
-    #[tactic(auto, using(crate::proofs::GivenLemmas::given_nothing))]
     pub fn duplicate(&self, alloc: Global) -> Result<Record, NoMemory>
         ensures { IfOk result (λ copy. copy ≡ self.now) }
     {
-        self.with(alloc, &[])
+        match &self.object {
+            Object::Data(data) => {
+                let data = data.duplicate(alloc)?;
+                Ok(Record::of_data(data))
+            }
+            Object::Key(key) => {
+                let key = key.duplicate(alloc)?;
+                Ok(Record::of_key(key))
+            }
+        }
     }
 
-    /// The object with the values that a template of C_SetAttributeValue gives (PKCS #11 Base 3.0,
-    /// Object management functions). The template is refused with the error of `check_change`.
+    /// A copy of the object with the values that a template of C_SetAttributeValue gives (PKCS #11
+    /// Base 3.0, Object management functions). The template is refused with the error of
+    /// `check_change`.
     pub fn changed(&self, alloc: Global, template: &Template) -> Result<Record, Refusal>
         ensures { IsRecordUnless
             (changed_error (class_of self.now) (protections_of self.now) template.now.items)
             (with_given template.now.items self.now) result }
     {
         self.check_change(template)?;
-        Ok(self.change_with(alloc, template)?)
+        let values = template.duplicate(alloc)?;
+        let mut changed = self.duplicate(alloc)?;
+        changed.change(values);
+        Ok(changed)
     }
 
     /// The checks of a template of C_SetAttributeValue for this object: those of `check_copy` but
@@ -220,32 +239,17 @@ impl Record {
         )
     }
 
-    /// The object with the values that a template gives which passes the checks of a change.
-    pub fn change_with(&self, alloc: Global, template: &Template) -> Result<Record, NoMemory>
-        requires { changed_error (class_of self.now) (protections_of self.now) template.now.items
-            ≡ None }
-        ensures { IfOk result (λ made. made ≡ with_given template.now.items self.now) }
+    /// Gives the object the values of a template that passes the checks of a change. They are moved
+    /// into the object, so this takes no memory. CKA_PRIVATE stays whatever the template gives.
+    pub fn change(&mut self, values: Template)
+        ensures given { template_error (class_of self.old) purpose.Set values.items ≡ None
+            → self.new ≡ with_given values.items self.old }
+        ensures private { is_set self.new attribute.Private ≡ is_set self.old attribute.Private }
     {
-        self.with(alloc, template.items.as_slice())
-    }
-
-    /// The object with the items' values of the attributes that they give, each of which a copy may
-    /// be given.
-    fn with(&self, alloc: Global, items: &[Item]) -> Result<Record, NoMemory>
-        requires well_formed { first_error form_error items.now ≡ None }
-        requires permitted { first_error (permission_error (class_of self.now) purpose.Copy)
-            items.now ≡ None }
-        ensures { IfOk result (λ made. made ≡ with_given items.now self.now) }
-    {
-        match &self.object {
-            Object::Data(data) => {
-                let data = data.with(alloc, items)?;
-                Ok(Record::of_data(data))
-            }
-            Object::Key(key) => {
-                let key = key.copied(alloc, items)?;
-                Ok(Record::of_key(key))
-            }
+        let mut items = values.items.into_vec();
+        match &mut self.object {
+            Object::Data(data) => data.change(items.as_mut_slice()),
+            Object::Key(key) => key.change(items.as_mut_slice()),
         }
     }
 
@@ -359,14 +363,14 @@ impl Record {
     }
 
     /// A copy of the value of an attribute, or `None` where the object doesn't have the attribute.
-    pub fn value(&self, alloc: Global, kind: u64) -> Result<Option<Bytes>, NoMemory>
+    pub fn value(&self, alloc: Global, kind: u64) -> Result<Option<AttributeValue>, NoMemory>
         ensures { IfOk result (λ value. value ≡ value_at self.now kind) }
     {
         match self.field(kind) {
             None => Ok(None),
             Some(field) => {
-                let bytes = field.to_bytes(alloc)?;
-                Ok(Some(bytes))
+                let value = field.to_value(alloc)?;
+                Ok(Some(value))
             }
         }
     }

@@ -18,7 +18,7 @@ use crate::object_flags::{Placement, Protections};
 use crate::sequences::Sequence;
 use std::alloc::Global;
 
-fn duplicate_items(alloc: Global, items: &[Item]) -> Result<Vec<Item>, NoMemory>
+pub(crate) fn duplicate_items(alloc: Global, items: &[Item]) -> Result<Vec<Item>, NoMemory>
     ensures { IfOk result (λ copies. copies.items ≡ items.now) }
 {
     let mut copies = Vec::with_capacity(alloc, items.len())?;

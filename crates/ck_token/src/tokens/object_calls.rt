@@ -225,9 +225,8 @@ impl Token {
         self.check_writable(row, present.placement())?;
         check_flag(present, Attribute::Modifiable)?;
         present.check_change(template)?;
-        let made = present.change_with(alloc, template)?;
-        let attributes = Boxed::new(alloc, made)?;
-        Ok(Decision::of_change(Change::SetAttributes { number, attributes }))
+        let values = template.duplicate(alloc)?;
+        Ok(Decision::of_change(Change::SetAttributes { number, values }))
     }
 
     pub(super) fn set_key_state(

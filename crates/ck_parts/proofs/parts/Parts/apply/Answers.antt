@@ -167,17 +167,17 @@ returns-in-CreateObject c = record {
 pub returns-in-SetAttributes : goal.returns-in-SetAttributes
 returns-in-SetAttributes c = record {
   agree = λ limits h e legal is called agree.
-      let made = done-of_call h e (change.SetAttributes c.in-SetAttributes.number
-      c.in-SetAttributes.attributes) (sym c.in-SetAttributes.is ∙ is) refl in
-      let of = of-SetAttributes h e.reply.body e.call c.in-SetAttributes.number c.in-SetAttributes.attributes made.1 in
-      let d = made.0 ∙ ap Some of.3 in
-      let p = change-passed limits h of.0 of.1 of.2 (passed-done limits e h legal _ d) in
-      let new = c.into_inner-in-SetAttributes.ensures ∙ of.5 in
+      let number = c.in-SetAttributes.number in
+      let values = c.in-SetAttributes.values in
+      let made = done-of_call h e (change.SetAttributes number values)
+      (sym c.in-SetAttributes.is ∙ is) refl in
+      let of = of-SetAttributes h e.reply.body e.call number values made.1 in
+      let d = made.0 ∙ ap Some of.2 in
+      let p = change-passed limits h of.0 of.1 values (passed-done limits e h legal _ d) in
       record {
         sessions = sessions-kept h e _ d _ refl refl agree.sessions;
         objects =
-            c.set.ensures.agree h e of.0 of.1 of.2 d (p.0 ∙ ap Some (sym of.4)) new
-            (ap (λ (a : List Item). is_set a attribute.Token) new ∙ p.1) agree.objects;
+            c.change.ensures.agree h e of.0 of.1 d (p.0 ∙ ap Some (sym of.3)) p.1 agree.objects;
         operations = operations-kept e _ d h _ refl refl agree.operations;
       };
 }

@@ -50,8 +50,8 @@ returns-in_err-check_change c =
     (third-fails _ _ _ _ code (ap (λ (p : Placement). read_only_session_error h c.args.session p)
     (sym c.placement.ensures) ∙ writable) allowed fails)) refl
 
-pub returns-in_err-made : goal.returns-in_err-made
-returns-in_err-made c =
+pub returns-in_err-values : goal.returns-in_err-values
+returns-in_err-values c =
     let h = c.args.self.now.history in
     let present = c.in_ok-number.present.now in
     let writable = check_of-ok (read_only_session_error h c.args.session c.placement.result) _
@@ -61,23 +61,7 @@ returns-in_err-made c =
     let changed = check_of-ok (changed_error (class_of present) (protections_of present) c.args.template.now.items) _
     (sym c.check_change.ensures ∙ c.in_ok-check_change.was) in
     memory-decision c.args.self.now.limits h (call.SetAttributeValue c.args.session c.args.object c.args.template.now) _
-    c.from_residual-in_err-made.ensures.1
-    (object-checks h c.args.session c.args.object _ present _ c.in_ok-row.ensures.open c.in_ok-number.ensures.attributes
-    (three-pass _ _ _ (ap (λ (p : Placement). read_only_session_error h c.args.session p)
-    (sym c.placement.ensures) ∙ writable) allowed changed)) refl
-
-pub returns-in_err-attributes : goal.returns-in_err-attributes
-returns-in_err-attributes c =
-    let h = c.args.self.now.history in
-    let present = c.in_ok-number.present.now in
-    let writable = check_of-ok (read_only_session_error h c.args.session c.placement.result) _
-    (sym (c.check_writable.ensures c.args.session c.in_ok-row.ensures.row) ∙ c.in_ok-check_writable.was) in
-    let allowed = check_of-ok (prohibited_error attribute.Modifiable present) _
-    (sym c.check_flag.ensures ∙ c.in_ok-check_flag.was) in
-    let changed = check_of-ok (changed_error (class_of present) (protections_of present) c.args.template.now.items) _
-    (sym c.check_change.ensures ∙ c.in_ok-check_change.was) in
-    memory-decision c.args.self.now.limits h (call.SetAttributeValue c.args.session c.args.object c.args.template.now) _
-    c.from_residual-in_err-attributes.ensures.1
+    c.from_residual-in_err-values.ensures.1
     (object-checks h c.args.session c.args.object _ present _ c.in_ok-row.ensures.open c.in_ok-number.ensures.attributes
     (three-pass _ _ _ (ap (λ (p : Placement). read_only_session_error h c.args.session p)
     (sym c.placement.ensures) ∙ writable) allowed changed)) refl
@@ -96,14 +80,11 @@ returns c =
     c.in_ok-number.ensures.attributes
     (three-pass _ _ _ (ap (λ (p : Placement). read_only_session_error h c.args.session p)
     (sym c.placement.ensures) ∙ writable) allowed changed) in
-    let number = ap (λ found. unwrap_or found 0) (sym c.in_ok-number.ensures.number) in
-    let made = c.in_ok-attributes.ensures
-    ∙ c.in_ok-made.ensures
-    ∙ ap (λ found. with_given c.args.template.now.items (unwrap_or found []))
-    (sym c.in_ok-number.ensures.attributes) in (
+    let number = ap (λ found. unwrap_or found 0) (sym c.in_ok-number.ensures.number) in (
       checks,
       ap reply_of c.of_change.ensures,
       ap (λ (d : Decision). d.change) c.of_change.ensures
-          ∙ ap (λ n. change.SetAttributes n c.in_ok-attributes.attributes) number
-          ∙ ap (λ (a : List Item). change.SetAttributes (unwrap_or (object_named h c.args.object) 0) a) made,
+          ∙ ap (λ n. change.SetAttributes n c.in_ok-values.values) number
+          ∙ ap (change.SetAttributes (unwrap_or (object_named h c.args.object) 0))
+          c.in_ok-values.ensures,
     )

@@ -23,6 +23,6 @@ returns c =
     let read = c.number_at.ensures.number ∙ length-generated items random c.requires in
     let given : value_at items (type_of attribute.ValueLen) ≡ Some (number_bytes (length random)) =
     rw read at c.number_at.ensures.bytes in
-    let blank = rw (c.flag_or.ensures.flag, c.flag_or-2.ensures.flag) at c.blank.ensures in
     let made = generated-key items random c.requires given in
-    rw (blank, c.in_ok-value.ensures, made) at c.with.ensures
+    rw (c.flag_or.ensures.flag, c.flag_or-2.ensures.flag, c.in_ok-value.ensures, made)
+    at c.with.ensures
