@@ -3,7 +3,9 @@ ghost use Rattle.std.specs.Prelude.{◌≤◌};
 
 use ck_journal::{AttributeQuery, Body, Call, Reply};
 use ck_token::Token;
-use ck_types::{AttributeValue, Bytes, Item, Limits, Mechanism, NoMemory, Pin, Rv, Sequence, Template};
+use ck_types::{
+    AttributeValue, Bytes, Item, Limits, Mechanism, NoMemory, Pin, Rv, Sequence, Template,
+};
 use std::alloc::Global;
 use std::io;
 

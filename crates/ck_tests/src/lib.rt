@@ -16,4 +16,6 @@ mod mechanisms;
 #[cfg(test)]
 mod replies;
 #[cfg(test)]
+mod token;
+#[cfg(test)]
 mod types;

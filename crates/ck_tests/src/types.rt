@@ -1,5 +1,6 @@
 use ck_types::{
-    AttributeValue, Bytes, Item, Limits, NoMemory, Pin, Record, Refusal, Rv, RvError, Sequence, Template,
+    AttributeValue, Bytes, Item, Limits, NoMemory, Pin, Record, Refusal, Rv, RvError, Sequence,
+    Template,
 };
 use std::alloc::Global;
 use std::process::Abort;

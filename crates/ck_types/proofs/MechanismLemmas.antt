@@ -1,6 +1,6 @@
 -- How long the tags are that mechanisms with good parameters compute
-use Rattle.std.proofs.Common.{◌≡◌, ℕ, ◌≤◌, Bool, true, false, cond, ◌&&◌, List, Option, Some, None}
-use Rattle.std.proofs.Common.{length, refl, sym, ap, subst, arith}
+use Rattle.std.proofs.Common.{◌≡◌, ℕ, ◌≤◌, Bool, true, false, cond, ◌&&◌, Option, Some, None}
+use Rattle.std.proofs.Common.{length, refl, sym, subst, arith}
 use Rattle.std.specs.Prelude.{◌==◌, nat_le, option_and_then}
 use Rattle.std.specs.Int.{w64, from_le_bytes}
 use Rattle.std.proofs.lemmas.Bool.{leb-true}

@@ -1,6 +1,6 @@
 -- What a template gives an object
 use Rattle.std.proofs.Common.{◌≡◌, ℕ, Bool, false, List, Some, None, refl, sym, ap}
-use Rattle.std.specs.Prelude.{unwrap_or, length}
+use Rattle.std.specs.Prelude.{unwrap_or}
 use Rattle.ck_types.specs.Attributes.{type_of, permission, flag_bytes, number_bytes}
 use Rattle.ck_types.specs.Checks.{first_error}
 use Rattle.ck_types.specs.KeyStates.{state_number}
@@ -56,8 +56,31 @@ module _ (items : List Item) (k : Key) (token private modifiable copyable destro
         state = state;
       })) ≡ with_given items (key_items k)
   key-items kept t p m c d s f1 f2 f3 f4 f5 f6 f7 f8 f9 =
-      rw (t, p, m, c, d, s, f1, f2, f3, f4, f5, f6, f7, f8, f9, kept.class, kept.key_type, kept.value,
-      kept.value_len, kept.local, kept.never_extractable, kept.always_sensitive, kept.generation) refl
+      rw (
+        t,
+        p,
+        m,
+        c,
+        d,
+        s,
+        f1,
+        f2,
+        f3,
+        f4,
+        f5,
+        f6,
+        f7,
+        f8,
+        f9,
+        kept.class,
+        kept.key_type,
+        kept.value,
+        kept.value_len,
+        kept.local,
+        kept.never_extractable,
+        kept.always_sensitive,
+        kept.generation,
+      ) refl
 
   -- a key with all values that the items give, where they give what it keeps as it is
   pub given-key : first_error form_error items ≡ None → KeepsKey items k
@@ -117,11 +140,14 @@ changed-key items k fine =
 pub changed-data : (items : List Item) (d : Data) → template_error class.Data purpose.Set items ≡ None
     → data_items (changed_data items d) ≡ with_given items (data_items d)
 changed-data items d fine =
-    rw (kept attribute.Class (number_bytes 0) refl, kept attribute.Token (flag_bytes d.token) refl,
-    kept attribute.Private (flag_bytes d.private) refl,
-    kept attribute.Modifiable (flag_bytes d.modifiable) refl,
-    kept attribute.Copyable (flag_bytes d.copyable) refl,
-    kept attribute.Destroyable (flag_bytes d.destroyable) refl) refl
+    rw (
+      kept attribute.Class (number_bytes 0) refl,
+      kept attribute.Token (flag_bytes d.token) refl,
+      kept attribute.Private (flag_bytes d.private) refl,
+      kept attribute.Modifiable (flag_bytes d.modifiable) refl,
+      kept attribute.Copyable (flag_bytes d.copyable) refl,
+      kept attribute.Destroyable (flag_bytes d.destroyable) refl,
+    ) refl
   where
     kept : (a : Attribute) (value : List ℕ) → permission class.Data purpose.Set a ≡ Some false
         → keeps items a value

@@ -1,7 +1,7 @@
 -- Where items have the value of a type
-use Rattle.std.proofs.Common.{◌≡◌, ◌≢◌, ℕ, ◌<◌, ◌≤◌, Bool, true, false, List, Option, Some, None}
+use Rattle.std.proofs.Common.{◌≡◌, ◌≢◌, ℕ, ◌≤◌, Bool, false, List, Some, None}
 use Rattle.std.proofs.Common.{sym, ap, ◌∙◌, get_or, length, arith, set}
-use Rattle.std.specs.Prelude.{◌==◌, find, position, option_map}
+use Rattle.std.specs.Prelude.{◌==◌, position, option_map}
 use Rattle.std.specs.List.{position_or_len, slice_get}
 use Rattle.std.proofs.lemmas.Bool.{ne_eqb, eqb-true}
 use Rattle.std.proofs.lemmas.Grind.{common_steps}

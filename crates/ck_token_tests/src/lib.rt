@@ -1,5 +1,0 @@
-//! Tests of a token.
-#![tactic(auto)]
-
-#[cfg(test)]
-mod token;
