@@ -60,6 +60,25 @@ fn check_labels(
     Ok(())
 }
 
+/// Values that lie in themselves, and longer ones.
+#[test]
+fn attribute_values(rt: HostRuntime) -> Result<(), Fail> {
+    assert_eq!(rt; AttributeValue::new(rt.alloc()).as_slice(), [].as_slice());
+    for len in [0, 16, 17, 300] {
+        let bytes = vec![in rt.alloc(); b'a'; len]?;
+        let copy = AttributeValue::from_slice(rt.alloc(), bytes.as_slice())?;
+        assert_eq!(rt; copy.as_slice(), bytes.as_slice(), "{len}");
+        let moved = AttributeValue::from_vec(bytes);
+        assert_eq!(rt; moved.as_slice(), copy.as_slice(), "{len}");
+        assert_eq!(rt;
+            moved.duplicate(rt.alloc())?.as_slice(),
+            copy.as_slice(),
+            "{len}"
+        );
+    }
+    Ok(())
+}
+
 #[test]
 fn data_objects(rt: HostRuntime) -> Result<(), Fail> {
     let template = template_of(rt.alloc(), &[(0, &[0; 8]), (LABEL, b"a")])?;
