@@ -44,9 +44,6 @@ module _ (b : Base) where
         let short : length two ≤ length one = omega (arith, prefix_length two seen q) in
         shorter_begins two one seen h g q p also is short
 
-    pub added_count : entry_count (history_of b log) ≡ length log
-    added_count = entry_count-log b log
-
     pub added_legal : (limits : Ranges) → IsLegal limits (history_of b one) → e.reply ≡ answer limits g e.call
         → IsLegal limits (history_of b log)
     added_legal limits legal answered =

@@ -36,10 +36,6 @@ before_later e g h [] is counts = let longer = ap entry_count is in absurd (omeg
 before_later e g h (x ∷ later) is counts = let rest : h ≡ followed_by g later = cc is in nothing_later g h
     later rest (omega arith)
 
--- a front that lacks one entry is all before it
-pub front_before : (e : Entry) (g h : History) → IsFront g (e ◁ h) → entry_count g ≡ entry_count h → g ≡ h
-front_before e g h f counts = before_later e g h f.0 f.1 counts
-
 -- ---- logs
 
 pub front_extended : (h : History) (log : List Entry) → IsFront h (extended_by h log)

@@ -184,11 +184,6 @@ module _ (h : History) (old : OperationsState) (agree : OperationsAgree h old) (
       removed (λ k s. session == s && names_kind flags k) (is_named session flags)
       (λ o. ap (λ t. t && names_kind flags o.kind) (eqb-swap o.session session))
 
-  pub operations-all_ended : InAll End e → (new : OperationsState) → new.rows ≡ [] → OperationsAgree (e ◁ h) new
-  operations-all_ended does new rows =
-      moves new (λ k s. End) does
-      (λ k s. subst (λ found. OptionAgrees found None) (sym (ap (find (is_operation k s)) rows)) tt)
-
   abbrev only : OperationKind → ℕ → Move → OperationKind → ℕ → Move
   only kind session move k s = cond (same_kind kind k && session == s) move Stay
 

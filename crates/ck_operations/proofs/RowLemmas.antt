@@ -108,14 +108,6 @@ pub apart : (k l : OperationKind) (session s : ℕ) → (same_kind k l && sessio
 apart k l session s other o e =
     let is = operation-is k session o e in rw is.0 (rw is.1 other)
 
-pub apart-back : (k l : OperationKind) (session s : ℕ) → (same_kind k l && session == s) ≡ false
-    → (o : Operation) → is_operation l s o ≡ true → is_operation k session o ≡ false
-apart-back k l session s other o e = cases (is_operation k session o) refl
-  where
-    cases : (t : Bool) → is_operation k session o ≡ t → t ≡ false
-    cases true both = absurd (false≢true (sym (apart k l session s other o both) ∙ e))
-    cases false both = refl
-
 -- ---- an operation that takes in a piece
 
 place-cases : (t : Bool) (place found : ℕ) → cond t (Some found) None ≡ Some place → (t ≡ true) × (found ≡ place)

@@ -4,7 +4,7 @@ use Rattle.std.proofs.Common.{◌∙◌, subst}
 use Rattle.std.specs.Prelude.{map, unwrap_or}
 use Rattle.ck_types.specs.KeyStates.{state_of_number}
 use Rattle.ck_types.specs.Mechanisms.{digest_hash}
-use Rattle.ck_types.specs.Records.{with_given, key_value}
+use Rattle.ck_types.specs.Records.{key_value}
 use Rattle.ck_types.specs.TokenLimits.{Ranges}
 use Rattle.ck_types.specs.Users.{user_of}
 use Rattle.ck_types.specs.declared.errors.RvError.{RvError}

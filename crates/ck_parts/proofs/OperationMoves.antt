@@ -127,13 +127,6 @@ module _ (h : History) (n : ℕ) (c : Call) (v : Rv) (b : Body) (kind : Operatio
         → piece_of (done_of c v) k s ≡ piece_in (cond t (Some x) None)
     adds-here t e ok = ap (λ a. piece_of (cond a (Some c) None) k s) ok ∙ ap piece_in (step-here t e)
 
-    -- a call that was refused starts and adds nothing
-    starts-refused : is_ok v ≡ false → starts (done_of c v) k s ≡ false
-    starts-refused bad = ap (λ a. starts (cond a (Some c) None) k s) bad
-
-    adds-refused : is_ok v ≡ false → piece_of (done_of c v) k s ≡ []
-    adds-refused bad = ap (λ a. piece_of (cond a (Some c) None) k s) bad
-
   -- a start
   pub does-start : is_ok v ≡ true → x ≡ initialize → OnlyIn kind session Start (entry n c v b)
   does-start ok first k s = cases (here k s) refl

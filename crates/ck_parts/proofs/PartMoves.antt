@@ -6,7 +6,7 @@ use Rattle.std.specs.Option.{option_map_or}
 use Rattle.ck_types.specs.Checks.{error_if, or_else, first_of}
 use Rattle.ck_types.specs.KeyStates.{state_of_number}
 use Rattle.ck_types.specs.Mechanisms.{hmac_hash, tag_length}
-use Rattle.ck_types.specs.Records.{with_given, is_set, is_key, state_in, protections_of, placement_of}
+use Rattle.ck_types.specs.Records.{is_key, state_in, protections_of, placement_of}
 use Rattle.ck_types.specs.Records.{changed_error}
 use Rattle.ck_types.specs.Templates.{class_of}
 use Rattle.ck_types.specs.TokenLimits.{Ranges}
@@ -26,7 +26,6 @@ use Rattle.ck_types.specs.declared.return_codes.Rv.TheVariants as rv
 use Rattle.ck_types.specs.declared.templates.Template.{Template}
 use Rattle.ck_types.specs.declared.users.UserType.{UserType}
 use Rattle.ck_types.specs.declared.users.UserType.TheVariants as user
-use Rattle.ck_types.proofs.ChangeLemmas.{token-kept}
 use Rattle.ck_types.proofs.CheckLemmas.{or_else-none, error_if-none}
 use Rattle.ck_journal.specs.declared.calls.Call.{Call}
 use Rattle.ck_journal.specs.declared.calls.Call.TheVariants as call

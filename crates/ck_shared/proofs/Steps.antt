@@ -1,13 +1,13 @@
 -- One call of a caller under the lock
-use Rattle.std.proofs.Common.{◌≡◌, ℕ, ◌+◌, ◌-◌, ◌<◌, ◌≤◌, ◌^◌, List, [], ◌∷◌, length, slice_index}
-use Rattle.std.proofs.Common.{slice_set, refl, sym, ap, ◌∙◌, arith}
+use Rattle.std.proofs.Common.{◌≡◌, ℕ, ◌+◌, ◌-◌, ◌<◌, ◌≤◌, ◌^◌, List, ◌∷◌, length, slice_index}
+use Rattle.std.proofs.Common.{sym, ap, ◌∙◌, arith}
 use Rattle.ck_journal.specs.Callers.{entries_by, call_count, call_counts}
 use Rattle.ck_journal.specs.Fronts.{IsFront}
 use Rattle.ck_journal.specs.Histories.{History, ◌◁◌, entry_count}
 use Rattle.ck_journal.specs.declared.calls.Call.{Call}
 use Rattle.ck_journal.specs.declared.replies.Reply.{Reply}
 use Rattle.ck_journal.proofs.CallerLemmas.{entries_by-own, entries_by-front, call_count-within}
-use Rattle.ck_journal.proofs.CallerLemmas.{call_counts-at, call_counts-next}
+use Rattle.ck_journal.proofs.CallerLemmas.{call_counts-at}
 use Rattle.ck_journal.proofs.FrontLemmas.{front_trans}
 use Rattle.ck_shared.specs.Callers.{entry_by}
 
@@ -34,10 +34,3 @@ module _ (h after : History) (number : ℕ) (call : Call) (reply : Reply)
           count → entries_by number h ≡ entries_by number last
       own_before last seen p q made =
           entries_by-front number last h (front_trans last seen h p q) (sym known_count ∙ sym audited ∙ sym made)
-
-      pub books_next : slice_set counts (number - 1) (count + 1) ≡ call_counts after
-      books_next =
-          ap (λ xs. slice_set xs (number - 1) (count + 1)) books
-          ∙ ap (λ n. slice_set (call_counts h) (number - 1) (n + 1)) (audited ∙ known_count)
-          ∙ sym (call_counts-next number (entry_by number call reply) h refl low high)
-          ∙ ap call_counts (sym entered)

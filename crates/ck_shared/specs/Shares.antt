@@ -1,5 +1,5 @@
 -- The part of a ledger that a caller has
-use Rattle.std.specs.Prelude.{◌≡◌, ℕ, ◌≤◌, ◌<◌, ◌^◌}
+use Rattle.std.specs.Prelude.{◌≡◌, ℕ, ◌≤◌}
 use Rattle.ck_shared.specs.declared.ledgers.CallerShare.{CallerShare}
 use Rattle.ck_shared.specs.declared.ledgers.CallerShare.TheVariants as share
 

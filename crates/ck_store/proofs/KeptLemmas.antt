@@ -88,19 +88,6 @@ module _ (b : Base) (sound : IsSound b) where
       → IsCreated b.creations (get_or b.objects k d)
   created k d within = All-get_or (IsCreated b.creations) b.objects k d within sound.numbers
 
-  pub HasFirst-none : (s : StoreState) → s.rows ≡ [] → s.creations ≡ 0 → HasFirst b 0 s
-  HasFirst-none s rows count = record {
-    rows = rows;
-    within = omega arith;
-    later = λ k d from within.
-        let from_one = (created k d within).0 in
-        omega arith;
-  }
-
-  pub HasFirst-small : (n : ℕ) (d : KeptObject) → n < length b.objects
-      → (get_or b.objects n d).number ≤ b.creations
-  HasFirst-small n d within = (created n d within).1
-
   pub HasFirst-more : (n : ℕ) (d : KeptObject) (old new : StoreState) → n < length b.objects
       → HasFirst b n old → new.rows ≡ old.rows ++ kept_row (get_or b.objects n d) ∷ []
       → new.creations ≡ (get_or b.objects n d).number → HasFirst b (n + 1) new

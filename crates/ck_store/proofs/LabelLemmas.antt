@@ -235,12 +235,12 @@ IsMarked-in_state number state old new marks changed marked key row is label has
 module _ (number : ℕ) (attributes : List Item) (old new : Slab ObjectRow)
     (changed : IsChanged (with_attributes number attributes) old new)
     (key mark : ℕ) (is_key : IsKeyOf old number (Some key)) where
-  pub IsMarked-set : (marks marks' : List ℕ)
+  pub IsMarked-changed : (marks marks' : List ℕ)
       → (get_or marks' key 0 ≡ mark) ⊎ (get_or marks' key 0 ≡ 0)
       → ((other : ℕ) → other ≢ key → get_or marks' other 0 ≡ get_or marks other 0)
       → ((row : ObjectRow) → get new key ≡ Some row → IsMarkOf row.attributes mark)
       → IsMarked old marks → IsMarked new marks'
-  IsMarked-set marks marks' set_here others here marked =
+  IsMarked-changed marks marks' set_here others here marked =
       IsMarked-updated old new marks marks' key mark set_here others here there marked
     where
       there : (other : ℕ) (row : ObjectRow) → other ≢ key → get new other ≡ Some row

@@ -20,10 +20,9 @@ use Rattle.ck_journal.specs.Sessions.{numbers}
 use Rattle.ck_journal.proofs.NumberTests.{same_number}
 use Rattle.ck_journal.proofs.ObjectMoves.{object_at-within}
 use Rattle.ck_journal.proofs.Selections.{find-only, find-passes, find-filter_map, map-filter_map}
-use Rattle.ck_journal.proofs.Selections.{AllPairs-filter_map}
 use Rattle.ck_store.specs.Agreement.{StoreState, StoreAgrees, row_at, handle_at}
 use Rattle.ck_store.specs.Rows.{ObjectRow, object_row, has_number, visible_handle, is_match}
-use Rattle.ck_store.specs.Rows.{NumbersRise, matching_numbers}
+use Rattle.ck_store.specs.Rows.{matching_numbers}
 
 -- ---- by an object's number
 
@@ -73,13 +72,6 @@ pub row_at-handle : (h : History) (number : ℕ)
 row_at-handle h number = handle_step (view_of h) number (session_of h number) (object_at h number)
 
 module _ (h : History) (old : StoreState) (agree : StoreAgrees h old) where
-  -- objects stand in the order of their numbers
-  pub numbers_rise : NumbersRise old.rows
-  numbers_rise =
-      subst NumbersRise (sym agree.rows)
-      (AllPairs-filter_map (λ (row : ObjectRow). row.number) (row_at h) (row_at-number h)
-      (creations h))
-
   pub matching-agree : (template : List Item)
       → matching_numbers (view_of h) template old.rows ≡ matching_objects h template
   matching-agree template =

@@ -508,10 +508,10 @@ module _ (objects new : Slab ObjectRow) (number : ℕ) (attributes : List Item)
     (index : List Place) (lists : List SessionList) (unlisted : Option Place) (creations : ℕ)
     (sound : IsSound objects index lists unlisted creations) where
   -- a public object stays public
-  pub IsSound-set : ((key : ℕ) (row : ObjectRow) → get objects key ≡ Some row
+  pub IsSound-changed : ((key : ℕ) (row : ObjectRow) → get objects key ≡ Some row
       → has_number number row ≡ true → is_set attributes attribute.Private ≡ is_private_row row)
       → IsSound new index lists unlisted creations
-  IsSound-set same =
+  IsSound-changed same =
       IsSound-was objects new index lists unlisted creations sound
       (changed-was (with_attributes number attributes) objects new changed
       (with_attributes-number number attributes) (with_attributes-session number attributes))

@@ -102,8 +102,8 @@ pub record IsKeyOf (objects : Slab ObjectRow) (number : ℕ) (found : Option ℕ
 abbrev pub IsChanged : (ObjectRow → ObjectRow) → Slab ObjectRow → Slab ObjectRow → Type 0
 IsChanged change old new = (key : ℕ) → get new key ≡ option_map change (get old key)
 
--- the object of the number has been given the values: it has other attributes, which are those with
--- the values where a change may give it them, and is private where it was
+-- the object of the number has other attributes: where the values pass the checks of a template that
+-- changes it, the old ones with the values; it is private where it was
 pub record IsGiven (number : ℕ) (values : List Item) (old new : Slab ObjectRow) : Type 0 where
   pub attributes : List Item
   pub changed : IsChanged (with_attributes number attributes) old new

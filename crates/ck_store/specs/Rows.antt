@@ -1,5 +1,5 @@
 -- An object as the store has it
-use Rattle.std.specs.Prelude.{ℕ, ◌<◌, Bool, true, false, List, Option, Some, None, ◌==◌, ◌&&◌, AllPairs}
+use Rattle.std.specs.Prelude.{ℕ, Bool, true, false, List, Option, Some, None, ◌==◌, ◌&&◌}
 use Rattle.std.specs.Prelude.{filter, is_some, map, option_and_then, if◌then◌else◌}
 use Rattle.std.specs.Option.{option_map_or}
 use Rattle.ck_types.specs.Records.{is_set, with_state}
@@ -94,11 +94,6 @@ matching_number view template object = option_and_then
     (λ (row : ObjectRow). if is_match view template row then Some row.number else None) object
 
 -- ---- lists of objects
-
--- each number is below all later ones
-abbrev pub NumbersRise : List ObjectRow → Type 0
-NumbersRise rows =
-    AllPairs (λ (row : ObjectRow) (later : ObjectRow). row.number < later.number) rows
 
 -- the numbers of the objects that are visible and match the template
 abbrev pub matching_numbers : View → List Item → List ObjectRow → List ℕ

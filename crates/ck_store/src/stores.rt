@@ -223,8 +223,8 @@ impl Store {
         self.creations = number;
     }
 
-    /// Gives the object that has the number the values of a template that passes its checks, by
-    /// moving them.
+    /// Moves the values of a template of C_SetAttributeValue, which passes the checks of a change,
+    /// into the object that has the number. This takes no memory.
     pub fn change(&mut self, number: u64, values: Template)
         ensures agree { (h : History) (e : Entry) (session object : ℕ)
             → done e ≡ Some (call.SetAttributeValue session object values)

@@ -50,7 +50,8 @@ pub(crate) const MEANINGS: &str = "\
     Sequence { items: [AttributeQuery { kind: 17, room: None }, \
     AttributeQuery { kind: 0, room: Some(10) }] } }
 1 CopyObject 2 4294967297 3=00 -> 1 CopyObject { session: 2, object: 4294967297, template: \
-    Template { items: Sequence { items: [Item { kind: 3, value: AttributeValue { bytes: [0] } }] } } }
+    Template { items: Sequence { items: [Item { kind: 3, \
+    value: AttributeValue { bytes: [0] } }] } } }
 1 SetAttributeValue 2 3 - -> 1 SetAttributeValue { session: 2, object: 3, template: \
     Template { items: Sequence { items: [] } } }
 1 DestroyObject 2 3 -> 1 DestroyObject { session: 2, object: 3 }
@@ -91,7 +92,8 @@ pub(crate) const MEANINGS: &str = "\
 1 VerifyFinal 2 6bC0 -> 1 VerifyFinal { session: 2, signature: Sequence { items: [107, 192] } }
 1 GenerateKey 2 350 3=61 6bC0 -> 1 GenerateKey { session: 2, mechanism: \
     Mechanism { kind: 848, parameter: Sequence { items: [] } }, template: \
-    Template { items: Sequence { items: [Item { kind: 3, value: AttributeValue { bytes: [97] } }] } }, \
+    Template { items: Sequence { items: [Item { kind: 3, \
+    value: AttributeValue { bytes: [97] } }] } }, \
     random: Sequence { items: [107, 192] } }
 1 SetKeyState 2 3 4 -> 1 SetKeyState { session: 2, key: 3, state: 4 }
 ";

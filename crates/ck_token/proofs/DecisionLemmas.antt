@@ -355,12 +355,6 @@ pub message-ends : (k : OperationKind) (h : History) (session : ℕ) (bytes : Li
 message-ends k h session bytes code =
     ends-finally k session (message_error k h session bytes) code (final-message k h session bytes)
 
-pub final-ends : (k : OperationKind) (h : History) (session : ℕ) (code : RvError)
-    → final_error k h session ≡ Some code
-    → change.FinishOperation k session true ≡ finish_change k session (rv.Error code) body.Empty
-final-ends k h session code =
-    ends-finally k session (final_error k h session) code (final-final k h session)
-
 pub verify-ends : (h : History) (session : ℕ) (bytes signature : List ℕ) (code : RvError)
     → verify_error h session bytes signature ≡ Some code
     → change.FinishOperation kind.Verify session true ≡ finish_change kind.Verify session (rv.Error code) body.Empty

@@ -20,9 +20,6 @@ abbrev pub next : History → ℕ → List ℕ → List ℕ
 next h room numbers = map (handle_of h) (take room (filter (is_visible h) numbers))
 
 module _ (h : History) where
-  pub next-no_room : (numbers : List ℕ) → next h 0 numbers ≡ []
-  next-no_room numbers = refl
-
   pub next-visible : (room n handle : ℕ) (numbers : List ℕ) → 0 < room → Some handle ≡ handle_at h n
       → next h room (n ∷ numbers) ≡ handle ∷ next h (room - 1) numbers
   next-visible room n handle numbers some found = visible_case room some (is_visible h n) refl

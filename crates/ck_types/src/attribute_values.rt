@@ -3,9 +3,9 @@ use smallvec::SmallVec;
 use std::alloc::Global;
 use std::marker::Model;
 
-/// The bytes of an attribute's value (PKCS #11 Base 3.0, CK_ATTRIBUTE). Up to 16 of them lie in the
-/// value itself, so that most labels, identifiers and flags take no memory of their own. Contracts
-/// see the bytes.
+/// The bytes of an attribute's value (PKCS #11 Base 3.0, CK_ATTRIBUTE). A copy of at most 16 bytes
+/// lies in the value itself, so most labels, identifiers and flags take no memory of their own; a
+/// longer one lies in a vector. Contracts see the bytes.
 #[derive(Debug, Drop)]
 pub struct AttributeValue {
     bytes: SmallVec<u8, 16>,
@@ -39,7 +39,7 @@ impl AttributeValue {
         Ok(AttributeValue { bytes })
     }
 
-    /// The bytes of a vector, which takes no memory.
+    /// The bytes of a vector, which takes no memory. A vector with room for more than 16 is kept.
     pub fn from_vec(bytes: Vec<u8>) -> AttributeValue
         ensures { result ≡ bytes.items }
     {

@@ -80,7 +80,8 @@ impl Data {
         })
     }
 
-    /// Gives the object the items' values of the attributes that they give.
+    /// Gives the object the items' values of the attributes that they give. The items get what the
+    /// object had.
     pub(crate) fn set(&mut self, items: &mut [Item])
         requires well_formed { first_error form_error items.old ≡ None }
         requires class { keeps items.old attribute.Class (number_bytes 0) }
@@ -94,7 +95,8 @@ impl Data {
         self.change(items);
     }
 
-    /// Gives the object the items' values of the attributes that a change may give.
+    /// Gives the object the items' values of the attributes that a change may give. The items get what
+    /// the object had.
     pub(crate) fn change(&mut self, items: &mut [Item])
         ensures { self.new ≡ changed_data items.old self.old }
     {

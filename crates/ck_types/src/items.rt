@@ -118,6 +118,7 @@ pub(crate) fn value_at(items: &[Item], kind: u64) -> Option<&AttributeValue>
     None
 }
 
+/// The position of the first item of the type.
 fn position_of(items: &[Item], kind: u64) -> Option<usize>
     ensures within { IfSome result (λ i. i < length items.now) }
     ensures place { result ≡ position (λ (item : Item). item.kind == kind) items.now }
@@ -125,8 +126,8 @@ fn position_of(items: &[Item], kind: u64) -> Option<usize>
     items.iter().position(|item| item.kind == kind)
 }
 
-/// Gives the place the value that the items give the attribute, where they give one, and the items
-/// what the place had.
+/// Moves the value that the items give the attribute, where they give one, into the place. The item
+/// gets what the place had.
 pub(crate) fn take_value(items: &mut [Item], attribute: Attribute, place: &mut AttributeValue)
     ensures value { place.new ≡ value_or items.old (type_of attribute) place.old }
     ensures others { (kind : ℕ) → kind ≢ type_of attribute
@@ -183,7 +184,8 @@ pub(crate) fn number_at(items: &[Item], attribute: Attribute) -> Option<u64>
 /// The key state that the items give, else this one. Well-formed items give the number of a key
 /// that is or isn't active yet.
 pub(crate) fn state_or(items: &[Item], other: KeyState) -> KeyState
-    ensures { first_error form_error items.now ≡ None → number_bytes (state_number result)
+    requires well_formed { first_error form_error items.now ≡ None }
+    ensures { number_bytes (state_number result)
         ≡ value_or items.now (type_of attribute.KeyState) (number_bytes (state_number other)) }
 {
     match value_at(items, Attribute::KeyState.number()) {

@@ -165,7 +165,8 @@ impl Key {
         })
     }
 
-    /// Gives the key the items' values of the attributes that they give.
+    /// Gives the key the items' values of the attributes that they give. The items get what the
+    /// key had.
     pub(crate) fn set(&mut self, items: &mut [Item])
         requires well_formed { first_error form_error items.old ≡ None }
         requires keeps { KeepsKey items.old self.old }
@@ -180,7 +181,8 @@ impl Key {
         self.change(items);
     }
 
-    /// Gives the key the items' values of the attributes that a change may give.
+    /// Gives the key the items' values of the attributes that a change may give. The items get what
+    /// the key had.
     pub(crate) fn change(&mut self, items: &mut [Item])
         ensures { self.new ≡ changed_key items.old self.old }
     {

@@ -240,7 +240,8 @@ impl Record {
     }
 
     /// Gives the object the values of a template that passes the checks of a change. They are moved
-    /// into the object, so this takes no memory. CKA_PRIVATE stays whatever the template gives.
+    /// into the object, so this takes no memory. Whatever the template gives, CKA_PRIVATE stays as
+    /// it was.
     pub fn change(&mut self, values: Template)
         ensures given { template_error (class_of self.old) purpose.Set values.items ≡ None
             → self.new ≡ with_given values.items self.old }

@@ -17,7 +17,7 @@ impl<T> Model for Sequence<T> {
     ghost view = { λ s. s.items.items };
 }
 
-/// Bytes, such as an attribute's value.
+/// Bytes, such as a message or a signature.
 pub type Bytes = Sequence<u8>;
 
 impl<T> Sequence<T> {

@@ -18,6 +18,7 @@ use crate::object_flags::{Placement, Protections};
 use crate::sequences::Sequence;
 use std::alloc::Global;
 
+/// Copies of the items.
 pub(crate) fn duplicate_items(alloc: Global, items: &[Item]) -> Result<Vec<Item>, NoMemory>
     ensures { IfOk result (λ copies. copies.items ≡ items.now) }
 {

@@ -5,7 +5,6 @@ use Rattle.ck_journal.specs.Fronts.{IsFront}
 use Rattle.ck_journal.specs.Histories.{◌◁◌, entry_count}
 use Rattle.ck_journal.proofs.FrontLemmas.{front_refl}
 use Rattle.ck_shared.specs.Callers.{entry_by}
-use Rattle.ck_shared.specs.Accounts.{next_call}
 use Rattle.ck_shared.proofs.KnownLemmas.{covered_on, if_none}
 use Rattle.ck_shared.proofs.Steps.{own_next, count_fits, count_next, own_before}
 use Rattle.ck_shared.proofs.locked.Locked.step.Goals as goal

@@ -5,11 +5,11 @@ use Rattle.ck_types.specs.Templates.{class_of, template_error}
 use Rattle.ck_types.proofs.CheckLemmas.{or_else-none}
 use Rattle.ck_journal.specs.Objects.{named_attributes}
 use Rattle.ck_store.specs.Rows.{with_attributes}
-use Rattle.ck_store.proofs.LabelLemmas.{IsChanged-none, with_attributes-other, IsMarked-set}
+use Rattle.ck_store.proofs.LabelLemmas.{IsChanged-none, with_attributes-other, IsMarked-changed}
 use Rattle.ck_store.proofs.Moves.{StoreAgrees-changed}
 use Rattle.ck_store.proofs.Readings.{named-row}
 use Rattle.ck_store.proofs.PlaceLemmas.{find-key}
-use Rattle.ck_store.proofs.SoundLemmas.{objects_at-changed, with_attributes-number, IsSound-set}
+use Rattle.ck_store.proofs.SoundLemmas.{objects_at-changed, with_attributes-number, IsSound-changed}
 use Rattle.ck_store.proofs.stores.Store.change.Goals as goal
 
 pub returns-in_default : goal.returns-in_default
@@ -33,12 +33,12 @@ pub invariant_of-self : goal.invariant_of-self
 invariant_of-self c =
     let is_key = (rw c.as_slice.ensures.value at c.in-Some.ensures) c.self.invariant.0.indexed in
     let given = c.change_at.ensures c.args.number is_key in (
-      IsSound-set c.self.inside.objects c.change_at.new.objects c.args.number given.attributes
+      IsSound-changed c.self.inside.objects c.change_at.new.objects c.args.number given.attributes
           given.changed c.self.inside.index.items c.self.inside.lists.items
           c.self.inside.unlisted c.self.inside.creations c.self.invariant.0
           given.private,
       c.self.invariant.1,
-      IsMarked-set c.args.number given.attributes c.self.inside.objects c.change_at.new.objects
+      IsMarked-changed c.args.number given.attributes c.self.inside.objects c.change_at.new.objects
           given.changed c.in-Some.key c.mark_at-mark.result is_key c.self.inside.marks.items
           c.set_mark.new.marks.items c.set_mark.ensures.set c.set_mark.ensures.others
           c.mark_at-mark.ensures c.self.invariant.2,

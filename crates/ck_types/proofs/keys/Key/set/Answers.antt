@@ -10,4 +10,4 @@ returns c =
     c.flag_or-self-4.result c.flag_or-self-5.result c.state_or-self.result formed c.requires.keeps
     (c.flag_or-self.ensures.bytes formed) (c.flag_or-self-2.ensures.bytes formed)
     (c.flag_or-self-3.ensures.bytes formed) (c.flag_or-self-4.ensures.bytes formed)
-    (c.flag_or-self-5.ensures.bytes formed) (c.state_or-self.ensures formed))
+    (c.flag_or-self-5.ensures.bytes formed) (c.state_or-self.ensures))
