@@ -27,7 +27,7 @@ impl Model for Operations {
 }
 
 impl Operations {
-    ghost use Rattle.std.specs.Prelude.{◌≡◌, ◌<◌, ℕ, [], false, Option, OnOk, IsOk};
+    ghost use Rattle.std.specs.Prelude.{◌≡◌, ◌<◌, [], false, Option, OnOk, IsOk};
     ghost use Rattle.std.specs.Option.{option_copied};
     ghost use Rattle.ck_journal.specs.declared.bases.Base.{Base};
     ghost use Rattle.ck_journal.specs.Histories.{History, start, ◌◁◌};

@@ -5,6 +5,7 @@ pub mod CallerScripts
 pub mod Devices
 pub mod Faults
 pub mod MemoryDevices
+pub mod Options
 pub mod Players
 pub mod Plays
 pub mod Programs

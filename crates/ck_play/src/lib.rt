@@ -2,6 +2,7 @@
 //! program over any options, reader and writer.
 #![tactic(auto)]
 
+mod arguments;
 mod caller_scripts;
 #[cfg(test)]
 mod device_tests;
@@ -16,9 +17,10 @@ mod plays;
 mod programs;
 mod thread_plays;
 
+pub use arguments::{given_options, options_of};
 pub use devices::{ReadSource, Sink, Source, WriteSink};
 pub use faults::PlayFault;
 pub use memory_devices::{MemorySink, MemorySource};
-pub use options::{ArgumentFault, Callers, Options, given_options, options_of};
+pub use options::{ArgumentFault, Callers, Options};
 pub use plays::{play, play_with};
 pub use programs::{play_threads, run};

@@ -1,9 +1,7 @@
 -- How the index and the lists stay sound
 use Rattle.std.proofs.Common.{◌≡◌, ◌⊎◌, ℕ, ◌<◌, ◌≤◌, Bool, true, false, cond, not, List, []}
 use Rattle.std.proofs.Common.{◌∷◌, ◌++◌, Option, Some, None, Contains, refl, sym, ap, ◌∙◌, subst}
-use Rattle.std.proofs.Common.{inl, inr, arith, get_or, ◌&&◌, ◌||◌}
-use Rattle.std.specs.List.{list_any}
-use Rattle.std.proofs.lemmas.List.Folds.{list_any_at}
+use Rattle.std.proofs.Common.{inl, inr, arith, get_or, ◌&&◌}
 use Rattle.std.specs.Prelude.{◌==◌, is_some, filter, map, option_map, option_and_then}
 use Rattle.std.specs.List.{cons_option}
 use Rattle.std.specs.Option.{option_map_or}
@@ -20,7 +18,7 @@ use Rattle.ck_types.specs.declared.items.Item.{Item}
 use Rattle.ck_types.specs.declared.key_states.KeyState.{KeyState}
 use Rattle.ck_types.specs.declared.attributes.Attribute.TheVariants as attribute
 use Rattle.ck_store.specs.Index.{place, numbered, object_at, objects_at, is_there, IsIndex, IsListed}
-use Rattle.ck_store.specs.Index.{IsSound, IsOwn, IsChanged, IsLeft, EndsAll, HasNone, is_needed}
+use Rattle.ck_store.specs.Index.{IsSound, IsOwn, IsChanged, IsLeft, EndsAll, HasNone}
 use Rattle.ck_store.specs.Rows.{ObjectRow, has_number, is_ended_by, concerns, is_private_row}
 use Rattle.ck_store.specs.Rows.{with_attributes, with_key_state}
 use Rattle.ck_store.specs.declared.endings.Ending.{Ending}
@@ -58,7 +56,7 @@ module _ (old new : Slab ObjectRow) (index : List Place) (lists : List SessionLi
         × (before.session ≡ row.session))
         (marks : (session : ℕ) (private : Bool) (p : Place) (row : ObjectRow)
         → IsListed lists session private p → object_at new p ≡ Some row
-        → is_private_row row ≡ true → private ≡ true) where
+        → is_private_row row ≡ private) where
       pub IsSound-was : IsSound new index lists unlisted creations
       IsSound-was = record {
         indexed = record {
@@ -143,29 +141,30 @@ module _ (change : ObjectRow → ObjectRow) (old new : Slab ObjectRow)
             sym (session before) ∙ ap (λ (r : ObjectRow). r.session) same,
           )
 
-  -- where no object becomes private, the lists say as well which may have private ones
+  -- where each object stays private or public, the lists say as well which are of private ones
   module _ (index : List Place) (lists : List SessionList) (unlisted : Option Place) (creations : ℕ)
       (sound : IsSound old index lists unlisted creations)
       (private : (key : ℕ) (row : ObjectRow) → get old key ≡ Some row
-      → is_private_row (change row) ≡ true → is_private_row row ≡ true) where
+      → is_private_row (change row) ≡ is_private_row row) where
     pub changed-marks : (session : ℕ) (mark : Bool) (p : Place) (row : ObjectRow)
         → IsListed lists session mark p → object_at new p ≡ Some row
-        → is_private_row row ≡ true → mark ≡ true
-    changed-marks session mark p row listed is t =
+        → is_private_row row ≡ mark
+    changed-marks session mark p row listed is =
         let at = object_at-Some new p row is in
         by_case at.1 (get old p.key) refl (sym (changed p.key) ∙ at.0)
       where
         by_case : row.number ≡ p.number → (o : Option ObjectRow) → get old p.key ≡ o
-            → option_map change o ≡ Some row → mark ≡ true
+            → option_map change o ≡ Some row → is_private_row row ≡ mark
         by_case n None e m = absurd (cc)
         by_case n (Some before) e m =
             let same : change before ≡ row = same_Some (change before) row m in
             let numbered : before.number ≡ p.number =
             sym (number before) ∙ ap (λ (r : ObjectRow). r.number) same ∙ n in
-            (sound.own session mark p before listed
+            ap is_private_row (sym same)
+            ∙ private p.key before e
+            ∙ (sound.own session mark p before listed
             (ap (λ k. object_at old (place k p.key)) (sym numbered)
             ∙ object_at-here old p.key before e)).mark
-            (private p.key before e (ap is_private_row same ∙ t))
 
 -- ---- other lists
 
@@ -174,13 +173,13 @@ module _ (objects : Slab ObjectRow) (index : List Place) (lists lists' : List Se
     (sound : IsSound objects index lists unlisted creations)
     (kept : (session : ℕ) (private : Bool) (p : Place) (row : ObjectRow)
     → IsListed lists session private p → object_at objects p ≡ Some row
-    → (mark : Bool) × IsListed lists' session mark p)
+    → IsListed lists' session private p)
     (newest : (key : ℕ) (row : ObjectRow) (session : ℕ) → get objects key ≡ Some row
     → row.session ≡ Some session → unlisted ≡ Some (place row.number key)
     → ((mark : Bool) × IsListed lists' session mark (place row.number key))
     ⊎ (unlisted' ≡ Some (place row.number key)))
     (only : (session : ℕ) (private : Bool) (p : Place) → IsListed lists' session private p
-    → ((mark : Bool) × IsListed lists session mark p × (mark ≡ true → private ≡ true))
+    → IsListed lists session private p
     ⊎ ((p.number ≤ creations)
     × ((row : ObjectRow) → object_at objects p ≡ Some row → IsOwn session private row)))
     (unlisted_was : (p : Place) → unlisted' ≡ Some p → unlisted ≡ Some p) where
@@ -189,20 +188,21 @@ module _ (objects : Slab ObjectRow) (index : List Place) (lists lists' : List Se
     indexed = sound.indexed;
     listed = λ key row session is of_session. elim (sound.listed key row session is of_session) [
       | inl before ↦
-          inl (kept session before.0 (place row.number key) row before.1
-          (object_at-here objects key row is))
+          inl (
+            before.0,
+            kept session before.0 (place row.number key) row before.1
+                (object_at-here objects key row is),
+          )
       | inr last ↦ newest key row session is of_session last
     ];
     own = λ session private p row listed is. elim (only session private p listed) [
-      | inl before ↦
-          let own = sound.own session before.0 p row before.1 is in
-          record { owner = own.owner; mark = λ t. before.2 (own.mark t) }
+      | inl before ↦ sound.own session private p row before is
       | inr added ↦ added.1 row is
     ];
     index_created = sound.index_created;
     unlisted_created = λ p is. sound.unlisted_created p (unlisted_was p is);
     lists_created = λ session private p listed. elim (only session private p listed) [
-      | inl before ↦ sound.lists_created session before.0 p before.1
+      | inl before ↦ sound.lists_created session private p before
       | inr added ↦ added.0
     ];
   }
@@ -315,11 +315,11 @@ IsSound-later objects index lists unlisted creations later below sound = record 
 
 -- ---- sessions that are closed
 
--- an object that ends is in a list that may have some which end
+-- an object that ends is in a list whose objects end
 ended_case : (e : Ending) (row : ObjectRow) (o : Option ℕ) → row.session ≡ o
     → is_ended_by e row ≡ true
     → (session : ℕ) × (o ≡ Some session) × ((private : Bool)
-    → (is_private_row row ≡ true → private ≡ true) → concerns e session private ≡ true)
+    → is_private_row row ≡ private → concerns e session private ≡ true)
 ended_case (ending.Session closed) row None is t =
     let wrong : false ≡ true =
     sym (ap (λ x. option_map_or (λ owner. closed == owner) x false) is) ∙ t in
@@ -339,28 +339,23 @@ ended_case ending.Logout row None is t =
 ended_case ending.Logout row (Some session) is t = (
   session,
   refl,
-  λ private mark. mark (sym (ap (λ x. is_some x && is_private_row row) is) ∙ t),
+  λ private mark. sym mark ∙ sym (ap (λ x. is_some x && is_private_row row) is) ∙ t,
 )
 
--- a list of an object that stays is needed
-stays_case : (e : Ending) (objects : Slab ObjectRow) (list : SessionList) (p : Place)
-    (row : ObjectRow) → row.session ≡ Some list.session → Contains list.places.items p
-    → object_at objects p ≡ Some row → is_ended_by e row ≡ false
-    → is_needed e objects list ≡ true
-stays_case (ending.Session closed) objects list p row own there is f =
+-- the list keeps its objects
+abbrev pub is_kept : Ending → SessionList → Bool
+is_kept e list = not (concerns e list.session list.private)
+
+-- an object that stays is in such a list
+stays_case : (e : Ending) (list : SessionList) (row : ObjectRow) → row.session ≡ Some list.session
+    → is_private_row row ≡ list.private → is_ended_by e row ≡ false → is_kept e list ≡ true
+stays_case (ending.Session closed) list row own mark f =
     ap not (sym (ap (λ x. option_map_or (λ owner. closed == owner) x false) own) ∙ f)
-stays_case ending.AllSessions objects list p row own there is f =
+stays_case ending.AllSessions list row own mark f =
     let wrong : true ≡ false = sym (ap is_some own) ∙ f in
     absurd (cc)
-stays_case ending.Logout objects list p row own there is f =
-    by_mark list.private
-    (list_any_at (is_there objects) list.places.items there.0 p there.1
-    (ap (is_there objects) there.2 ∙ ap is_some is))
-  where
-    by_mark : (private : Bool) → list_any (is_there objects) list.places.items ≡ true
-        → (not private || list_any (is_there objects) list.places.items) ≡ true
-    by_mark true any = any
-    by_mark false any = refl
+stays_case ending.Logout list row own mark f =
+    ap not (sym mark ∙ sym (ap (λ x. is_some x && is_private_row row) own) ∙ f)
 
 module _ (e : Ending) (old new : Slab ObjectRow) (index : List Place) (lists : List SessionList)
     (unlisted : Option Place) (creations : ℕ) (sound : IsSound old index lists unlisted creations)
@@ -389,7 +384,7 @@ module _ (e : Ending) (old new : Slab ObjectRow) (index : List Place) (lists : L
           ]
 
   pub IsSound-closed : (lists' : List SessionList)
-      → lists' ≡ filter (is_needed e new) lists → IsSound new index lists' unlisted creations
+      → lists' ≡ filter (is_kept e) lists → IsSound new index lists' unlisted creations
   IsSound-closed lists' are =
       let fewer =
       IsSound-fewer old new index lists unlisted creations sound
@@ -399,31 +394,25 @@ module _ (e : Ending) (old new : Slab ObjectRow) (index : List Place) (lists : L
       let at = object_at-Some new p row is in
       let own = fewer.own session private p row listed is in
       let stays =
-      stays_case e new listed.list p row (own.owner ∙ ap Some (sym listed.own)) listed.holds is
-      (EndsAll-walked p.key row at.0) in (
-        private,
-        record {
-          list = listed.list;
-          among = subst (λ ls. Contains ls listed.list) (sym are)
-              (Contains-passing (is_needed e new) lists listed.list listed.among stays);
-          own = listed.own;
-          mark = listed.mark;
-          holds = listed.holds;
-        },
-      ))
+      stays_case e listed.list row (own.owner ∙ ap Some (sym listed.own)) (own.mark ∙ sym listed.mark)
+      (EndsAll-walked p.key row at.0) in
+      record {
+        list = listed.list;
+        among = subst (λ ls. Contains ls listed.list) (sym are)
+            (Contains-passing (is_kept e) lists listed.list listed.among stays);
+        own = listed.own;
+        mark = listed.mark;
+        holds = listed.holds;
+      })
       (λ key row session is of_session last. inr last)
-      (λ session private p listed. inl (
-        private,
-        record {
-          list = listed.list;
-          among = Contains-unfiltered (is_needed e new) lists listed.list
-              (subst (λ ls. Contains ls listed.list) are listed.among);
-          own = listed.own;
-          mark = listed.mark;
-          holds = listed.holds;
-        },
-        λ t. t,
-      ))
+      (λ session private p listed. inl (record {
+        list = listed.list;
+        among = Contains-unfiltered (is_kept e) lists listed.list
+            (subst (λ ls. Contains ls listed.list) are listed.among);
+        own = listed.own;
+        mark = listed.mark;
+        holds = listed.holds;
+      }))
       (λ p is. is)
 
 -- ---- what the methods of a store need
@@ -466,30 +455,19 @@ pub with_attributes-session : (number : ℕ) (attributes : List Item) (row : Obj
 with_attributes-session number attributes row =
     (changed_case (has_number number row) row attributes).1
 
--- ---- objects that become private
+-- ---- each object stays private or public
 
 private_case : (t : Bool) (row : ObjectRow) (attributes : List Item)
-    → is_private_row (cond t (record row { attributes = attributes }) row) ≡ true
-    → (t ≡ true → is_set attributes attribute.Private ≡ true → is_private_row row ≡ true)
-    → is_private_row row ≡ true
-private_case true row attributes e becomes = becomes refl e
-private_case false row attributes e becomes = e
+    → (t ≡ true → is_set attributes attribute.Private ≡ is_private_row row)
+    → is_private_row (cond t (record row { attributes = attributes }) row) ≡ is_private_row row
+private_case true row attributes same = same refl
+private_case false row attributes same = refl
 
--- none does, since the attributes aren't private or the object is
-pub with_attributes-private : (objects : Slab ObjectRow) (number : ℕ) (attributes : List Item)
-    → (is_set attributes attribute.Private ≡ true → (key : ℕ) (row : ObjectRow)
-    → get objects key ≡ Some row → has_number number row ≡ true → is_private_row row ≡ true)
-    → (key : ℕ) (row : ObjectRow) → get objects key ≡ Some row
-    → is_private_row (with_attributes number attributes row) ≡ true → is_private_row row ≡ true
-with_attributes-private objects number attributes becomes key row is e =
-    private_case (has_number number row) row attributes e (λ t p. becomes p key row is t)
-
--- nor by another state
 pub with_key_state-private : (number : ℕ) (state : KeyState) (row : ObjectRow)
-    → is_private_row (with_key_state number state row) ≡ true → is_private_row row ≡ true
-with_key_state-private number state row e =
-    private_case (has_number number row) row (with_state state row.attributes) e
-    (λ t p. sym (private-in_state state row.attributes) ∙ p)
+    → is_private_row (with_key_state number state row) ≡ is_private_row row
+with_key_state-private number state row =
+    private_case (has_number number row) row (with_state state row.attributes)
+    (λ t. private-in_state state row.attributes)
 
 pub with_key_state-number : (number : ℕ) (state : KeyState) (row : ObjectRow)
     → (with_key_state number state row).number ≡ row.number
@@ -507,7 +485,6 @@ module _ (objects new : Slab ObjectRow) (number : ℕ) (attributes : List Item)
     (changed : IsChanged (with_attributes number attributes) objects new)
     (index : List Place) (lists : List SessionList) (unlisted : Option Place) (creations : ℕ)
     (sound : IsSound objects index lists unlisted creations) where
-  -- a public object stays public
   pub IsSound-changed : ((key : ℕ) (row : ObjectRow) → get objects key ≡ Some row
       → has_number number row ≡ true → is_set attributes attribute.Private ≡ is_private_row row)
       → IsSound new index lists unlisted creations
@@ -517,8 +494,7 @@ module _ (objects new : Slab ObjectRow) (number : ℕ) (attributes : List Item)
       (with_attributes-number number attributes) (with_attributes-session number attributes))
       (changed-marks (with_attributes number attributes) objects new changed
       (with_attributes-number number attributes) index lists unlisted creations sound
-      (with_attributes-private objects number attributes
-      (λ private key row is numbered. sym (same key row is numbered) ∙ private)))
+      (λ key row is. private_case (has_number number row) row attributes (same key row is)))
 
 -- ---- the newest object gets into its session's list
 
@@ -529,13 +505,13 @@ pub IsSound-unowned : (objects : Slab ObjectRow) (index : List Place) (lists : L
     → IsSound objects index lists (Some p) creations → IsSound objects index lists None creations
 IsSound-unowned objects index lists creations p unowned sound =
     IsSound-relisted objects index lists lists (Some p) None creations sound
-    (λ session private q row listed is. (private, listed))
+    (λ session private q row listed is. listed)
     (λ key row session is of_session last.
     let this : p ≡ place row.number key = same_Some p (place row.number key) last in
     let none : row.session ≡ None =
     unowned row (ap (object_at objects) this ∙ object_at-here objects key row is) in
     absurd (cc))
-    (λ session private q listed. inl (private, listed, λ t. t)) (λ q is. absurd (cc))
+    (λ session private q listed. inl listed) (λ q is. absurd (cc))
 
 module _ (objects : Slab ObjectRow) (index : List Place) (lists lists' : List SessionList)
     (creations : ℕ) (p : Place) (object : ObjectRow) (at : Some object ≡ object_at objects p)
@@ -552,20 +528,15 @@ module _ (objects : Slab ObjectRow) (index : List Place) (lists lists' : List Se
   of_row : (row : ObjectRow) → object_at objects p ≡ Some row → row.session ≡ Some session
   of_row row is = ap (λ (r : ObjectRow). r.session) (sym (is_object row is)) ∙ sym of_session
 
-  of_mark : (row : ObjectRow) → object_at objects p ≡ Some row → is_private_row row ≡ true
-      → private ≡ true
-  of_mark row is t = of_private ∙ ap is_private_row (is_object row is) ∙ t
-
-  kept_marked : (s : ℕ) (m : Bool) (q : Place) (row : ObjectRow) → IsListed lists s m q
-      → object_at objects q ≡ Some row → (mark : Bool) × IsListed lists' s mark q
-  kept_marked s m q row listed is = (m, kept s m q row listed is)
+  of_mark : (row : ObjectRow) → object_at objects p ≡ Some row → is_private_row row ≡ private
+  of_mark row is = sym (of_private ∙ ap is_private_row (is_object row is))
 
   only_own : (s : ℕ) (m : Bool) (q : Place) → IsListed lists' s m q
-      → ((mark : Bool) × IsListed lists s mark q × (mark ≡ true → m ≡ true))
+      → IsListed lists s m q
       ⊎ ((q.number ≤ creations)
       × ((row : ObjectRow) → object_at objects q ≡ Some row → IsOwn s m row))
   only_own s m q listed = elim (only s m q listed) [
-    | inl before ↦ inl (m, before, λ t. t)
+    | inl before ↦ inl before
     | inr added ↦
         inr (
           subst (λ (x : Place). x.number ≤ creations) (sym added.2) (sound.unlisted_created p refl),
@@ -573,20 +544,20 @@ module _ (objects : Slab ObjectRow) (index : List Place) (lists lists' : List Se
               let here = ap (object_at objects) (sym added.2) ∙ is in
               record {
                 owner = of_row row here ∙ ap Some (sym added.0);
-                mark = λ t. added.1 ∙ of_mark row here t;
+                mark = of_mark row here ∙ sym added.1;
               },
         )
   ]
 
   pub IsSound-tried : IsSound objects index lists' (Some p) creations
   IsSound-tried =
-      IsSound-relisted objects index lists lists' (Some p) (Some p) creations sound kept_marked
+      IsSound-relisted objects index lists lists' (Some p) (Some p) creations sound kept
       (λ key row s is of_s last. inr last) only_own (λ q is. is)
 
   pub IsSound-listed : IsListed lists' session private p
       → IsSound objects index lists' None creations
   IsSound-listed listed =
-      IsSound-relisted objects index lists lists' (Some p) None creations sound kept_marked
+      IsSound-relisted objects index lists lists' (Some p) None creations sound kept
       (λ key row s is of_s last.
       let this : p ≡ place row.number key = same_Some p (place row.number key) last in
       let same : session ≡ s =

@@ -1,9 +1,8 @@
 -- Objects in a slab, and the places that name them
 use Rattle.std.specs.Prelude.{◌≡◌, ◌⊎◌, ℕ, ◌<◌, ◌≤◌, Bool, true, false, ◌==◌, List, Option, Some, None}
 use Rattle.std.specs.Prelude.{is_some, filter_map, option_map, option_and_then, AllPairs, Contains}
-use Rattle.std.specs.Prelude.{if◌then◌else◌, ◌&&◌, ◌||◌, not}
+use Rattle.std.specs.Prelude.{if◌then◌else◌, ◌&&◌}
 use Rattle.std.specs.Bool.{beq}
-use Rattle.std.specs.List.{list_any}
 use Rattle.slab.specs.Slab.{Slab, get}
 use Rattle.ck_types.specs.Records.{is_set, with_given}
 use Rattle.ck_types.specs.Templates.{class_of, template_error}
@@ -11,8 +10,6 @@ use Rattle.ck_types.specs.declared.attributes.Attribute.TheVariants as attribute
 use Rattle.ck_types.specs.declared.attributes.Purpose.TheVariants as purpose
 use Rattle.ck_types.specs.declared.items.Item.{Item}
 use Rattle.ck_store.specs.Rows.{ObjectRow, has_number, is_private_row, with_attributes}
-use Rattle.ck_store.specs.declared.endings.Ending.{Ending}
-use Rattle.ck_store.specs.declared.endings.Ending.TheVariants as ending
 use Rattle.ck_store.specs.declared.places.Place.{Place}
 use Rattle.ck_store.specs.declared.session_lists.SessionList.{SessionList}
 
@@ -46,7 +43,7 @@ pub record IsIndex (objects : Slab ObjectRow) (index : List Place) : Type 0 wher
   pub named : (key : ℕ) (row : ObjectRow) → get objects key ≡ Some row
       → Contains index (place row.number key)
 
--- it is the session's list of objects that may be private, or of those that aren't
+-- it is the session's list of private objects, or of public ones
 abbrev pub is_list_of : ℕ → Bool → SessionList → Bool
 is_list_of session private list = list.session == session && beq list.private private
 
@@ -58,22 +55,14 @@ pub record IsListed (lists : List SessionList) (session : ℕ) (private : Bool) 
   pub mark : list.private ≡ private
   pub holds : Contains list.places.items p
 
--- the list is needed after the end: its session is open, and where it may have had private objects
--- only, it has others
-abbrev pub is_needed : Ending → Slab ObjectRow → SessionList → Bool
-is_needed (ending.Session closed) objects list = not (closed == list.session)
-is_needed ending.AllSessions objects list = false
-is_needed ending.Logout objects list =
-    not list.private || list_any (is_there objects) list.places.items
-
--- the object may be in such a list of the session
+-- the object is one of such a list of the session
 pub record IsOwn (session : ℕ) (private : Bool) (row : ObjectRow) : Type 0 where
   pub owner : row.session ≡ Some session
-  pub mark : is_private_row row ≡ true → private ≡ true
+  pub mark : is_private_row row ≡ private
 
 -- what the fields of a store keep: the index rises and names each object; each session object is in
--- a list of its session, and a list's places have no other objects, and private ones only where the
--- list says so; no number is above the count of creations
+-- a list of its session, and a list's places have no other objects, private ones or public ones as the
+-- list says; no number is above the count of creations
 pub record IsSound (objects : Slab ObjectRow) (index : List Place) (lists : List SessionList)
     (unlisted : Option Place) (creations : ℕ) : Type 0 where
   pub indexed : IsIndex objects index

@@ -1,5 +1,5 @@
 ghost use Rattle.std.specs.Prelude.{◌≡◌, ℕ, ◌==◌, Bool, Contains, Some, true};
-ghost use Rattle.ck_store.specs.Rows.{ObjectRow, is_ended_by, concerns};
+ghost use Rattle.ck_store.specs.Rows.{is_ended_by, concerns};
 ghost use Rattle.ck_store.specs.Index.{IsLeft, HasNone, IsListed};
 ghost use Rattle.ck_store.specs.declared.places.Place.{Place};
 
@@ -20,8 +20,8 @@ pub(crate) enum Ending {
 }
 
 impl Ending {
-    /// Whether it may end objects of a list of the session, which may have private ones or not.
-    fn concerns(self, session: u64, private: bool) -> bool
+    /// Whether it ends the objects of a list of the session, of private ones or of public ones.
+    pub(crate) fn concerns(self, session: u64, private: bool) -> bool
         ensures { result ≡ concerns self session private }
     {
         match self {

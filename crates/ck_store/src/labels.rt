@@ -1,7 +1,5 @@
 //! Marks of labels, by which a search passes over most objects and looks at none of their attributes.
-ghost use Rattle.std.specs.Prelude.{◌≡◌, ◌≢◌, ◌⊎◌, ℕ, get_or, OnOk};
-ghost use Rattle.ck_types.specs.Attributes.{type_of};
-ghost use Rattle.ck_types.specs.declared.attributes.Attribute.TheVariants as attribute;
+ghost use Rattle.std.specs.Prelude.{◌≡◌, ◌≢◌, ◌⊎◌, ℕ, get_or};
 ghost use Rattle.ck_store.specs.Labels.{label_mark, IsMarkOf, IsWanted, is_refused};
 
 use ck_types::{Attribute, Field, NoMemory, Record, Template};

@@ -1,5 +1,5 @@
-ghost use Rattle.std.specs.Prelude.{◌≡◌, ◌+◌, ◌^◌, ◌<◌, ℕ, not, map, length, find, filter, position, get_or};
-ghost use Rattle.std.specs.Prelude.{IfOk, IfSome, Contains, Some, true, false};
+ghost use Rattle.std.specs.Prelude.{◌≡◌, ◌<◌, ℕ, length, find, filter, position, get_or};
+ghost use Rattle.std.specs.Prelude.{IfOk, IfSome, Contains, Some};
 ghost use Rattle.std.specs.List.{list_any};
 ghost use Rattle.std.specs.Option.{option_copied};
 ghost use Rattle.slab.specs.Slab.{get};
@@ -155,23 +155,19 @@ pub(crate) fn find_matching(
     Ok(numbers)
 }
 
-/// Gives the object under the key the values of a change.
-pub(crate) fn change_at(objects: &mut Slab<StoredObject>, key: usize, values: Template)
-    ensures { (number : ℕ) → IsKeyOf objects.old number (Some key)
+/// Gives the object under the key the values of a change. The result is the mark of its label.
+pub(crate) fn change_at(objects: &mut Slab<StoredObject>, key: usize, values: Template) -> u32
+    ensures given { (number : ℕ) → IsKeyOf objects.old number (Some key)
         → IsGiven number values.items objects.old objects.new }
+    ensures mark { (row : ObjectRow) → get objects.new key ≡ Some row
+        → IsMarkOf row.attributes result }
 {
-    if let Some(object) = objects.get_mut(key) {
-        object.change(values);
-    }
-}
-
-/// The mark of the label of the object under the key, or 0.
-pub(crate) fn mark_at(objects: &Slab<StoredObject>, key: usize) -> u32
-    ensures { (row : ObjectRow) → get objects.now key ≡ Some row → IsMarkOf row.attributes result }
-{
-    match objects.get(key) {
+    match objects.get_mut(key) {
         None => 0,
-        Some(object) => mark_of(object.attributes()),
+        Some(object) => {
+            object.change(values);
+            mark_of(object.attributes())
+        }
     }
 }
 
@@ -190,13 +186,6 @@ pub(crate) fn drop_ended(objects: &Slab<StoredObject>, places: &mut Vec<Place>)
     ensures { places.new.items ≡ filter (is_there objects.now) places.old.items }
 {
     places.retain(|place| is_there(objects, *place));
-}
-
-/// Whether one of the places has its object.
-pub(crate) fn has_objects(objects: &Slab<StoredObject>, places: &[Place]) -> bool
-    ensures { result ≡ list_any (is_there objects.now) places.now }
-{
-    places.iter().any(|place| is_there(objects, *place))
 }
 
 /// Ends the object that has the number.

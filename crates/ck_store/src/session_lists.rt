@@ -1,11 +1,10 @@
 ghost use Rattle.std.specs.Prelude.{◌≡◌, ◌<◌, ◌⊎◌, ℕ, [], Some, Bool, Contains, OnOk, IfSome};
 ghost use Rattle.std.specs.Prelude.{List, None, length, position};
 ghost use Rattle.ck_store.specs.Rows.{ObjectRow};
-ghost use Rattle.ck_store.specs.Index.{IsListed, IsSound, is_list_of, is_needed, object_at};
+ghost use Rattle.ck_store.specs.Index.{IsListed, IsSound, is_list_of, object_at};
 ghost use Rattle.ck_store.specs.declared.places.Place.{Place};
 
-use crate::endings::Ending;
-use crate::places::{Place, drop_ended, has_objects, object_at};
+use crate::places::{Place, drop_ended, object_at};
 use crate::stored_objects::StoredObject;
 use ck_types::NoMemory;
 use slab::Slab;
@@ -16,7 +15,7 @@ use std::alloc::Global;
 #[derive(Debug, Drop)]
 pub(crate) struct SessionList {
     session: u64,
-    /// Whether its objects may be private.
+    /// Whether its objects are private.
     private: bool,
     places: Vec<Place>,
 }
@@ -51,17 +50,6 @@ impl SessionList {
         ensures { result ≡ is_list_of session private self.now }
     {
         self.session == session && self.private == private
-    }
-
-    /// Whether the list may have objects after the end.
-    pub(crate) fn is_needed(&self, objects: &Slab<StoredObject>, ending: Ending) -> bool
-        ensures { result ≡ is_needed ending objects.now self.now }
-    {
-        match ending {
-            Ending::Session(closed) => closed != self.session,
-            Ending::AllSessions => false,
-            Ending::Logout => !self.private || has_objects(objects, self.places.as_slice()),
-        }
     }
 
     pub(crate) fn places(&self) -> &[Place]

@@ -2,8 +2,7 @@ use crate::bases::copy_objects;
 use crate::endings::{Ending, end_listed, end_newest};
 use crate::labels::{grow_marks, mark_of, set_mark};
 use crate::places::{
-    Place, change_at, compact, find_matching, find_numbered, key_of, mark_at, remove_numbered,
-    set_state_at,
+    Place, change_at, compact, find_matching, find_numbered, key_of, remove_numbered, set_state_at,
 };
 use crate::session_lists::{SessionList, list_newest};
 use crate::stored_objects::StoredObject;
@@ -236,8 +235,7 @@ impl Store {
         let Some(key) = key_of(&self.objects, self.index.as_slice(), number) else {
             return;
         };
-        change_at(&mut self.objects, key, values);
-        let mark = mark_at(&self.objects, key);
+        let mark = change_at(&mut self.objects, key, values);
         set_mark(&mut self.marks, key, mark);
     }
 
@@ -301,7 +299,7 @@ impl Store {
         self.end(Ending::Logout);
     }
 
-    /// Ends session objects, and drops the lists that aren't needed.
+    /// Ends session objects, and drops the lists that have none then.
     fn end(&mut self, ending: Ending)
         ensures rows { self.new.rows
             ≡ filter (λ row. not (is_ended_by ending row)) self.old.rows }
@@ -309,8 +307,8 @@ impl Store {
     {
         end_listed(&mut self.objects, self.lists.as_slice(), ending);
         end_newest(&mut self.objects, self.unlisted, ending);
-        let objects = &self.objects;
-        self.lists.retain(|list| list.is_needed(objects, ending));
+        self.lists
+            .retain(|list| !ending.concerns(list.session(), list.is_private()));
         compact(&self.objects, &mut self.index);
     }
 }

@@ -20,7 +20,7 @@ impl Model for AttributeValue {
 }
 
 impl AttributeValue {
-    ghost use Rattle.std.specs.Prelude.{◌≡◌, [], IfOk};
+    ghost use Rattle.std.specs.Prelude.{◌≡◌, ◌≤◌, [], IfOk, IsOk, length};
 
     /// A value of no bytes, which takes no memory.
     pub fn new(alloc: Global) -> AttributeValue
@@ -33,7 +33,8 @@ impl AttributeValue {
 
     /// A copy of these bytes.
     pub fn from_slice(alloc: Global, bytes: &[u8]) -> Result<AttributeValue, NoMemory>
-        ensures { IfOk result (λ value. value ≡ bytes.now) }
+        ensures copied { IfOk result (λ value. value ≡ bytes.now) }
+        ensures short { length bytes.now ≤ 16 → IsOk result }
     {
         let bytes = SmallVec::from_slice(alloc, bytes)?;
         Ok(AttributeValue { bytes })
@@ -50,7 +51,8 @@ impl AttributeValue {
 
     /// A copy of the value.
     pub fn duplicate(&self, alloc: Global) -> Result<AttributeValue, NoMemory>
-        ensures { IfOk result (λ copy. copy ≡ self.now) }
+        ensures copied { IfOk result (λ copy. copy ≡ self.now) }
+        ensures short { length self.now ≤ 16 → IsOk result }
     {
         AttributeValue::from_slice(alloc, self.as_slice())
     }

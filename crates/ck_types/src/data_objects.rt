@@ -25,7 +25,7 @@ impl Data {
     ghost use Rattle.std.specs.Prelude.{◌≡◌, None, IfOk, option_map};
     ghost use Rattle.ck_types.specs.Attributes.{type_of, number_bytes};
     ghost use Rattle.ck_types.specs.Checks.{first_error};
-    ghost use Rattle.ck_types.specs.Templates.{value_at, value_or, form_error, flag_at};
+    ghost use Rattle.ck_types.specs.Templates.{value_at, form_error, flag_at};
     ghost use Rattle.ck_types.specs.declared.attributes.Attribute.TheVariants as attribute;
     ghost use Rattle.ck_types.specs.Records.{data_items, with_given, placement_of, blank_data};
     ghost use Rattle.ck_types.specs.Records.{keeps, changed_data};

@@ -13,7 +13,7 @@ pub enum Field<'a> {
 impl<'a> Field<'a> {
     ghost use Rattle.std.specs.Prelude.{◌≡◌, IfOk, length};
     ghost use Rattle.ck_types.specs.Attributes.{same_bytes};
-    ghost use Rattle.ck_types.specs.Fields.{field_bytes, flag_field};
+    ghost use Rattle.ck_types.specs.Fields.{field_bytes};
 
     /// How many bytes the value has.
     pub fn len(&self) -> u64

@@ -110,12 +110,8 @@ pub(crate) fn check_permissions(
 pub(crate) fn value_at(items: &[Item], kind: u64) -> Option<&AttributeValue>
     ensures { option_copied result ≡ value_at items.now kind }
 {
-    for item in items {
-        if item.kind == kind {
-            return Some(&item.value);
-        }
-    }
-    None
+    let item = items.iter().find(|item| item.kind == kind)?;
+    Some(&item.value)
 }
 
 /// The position of the first item of the type.

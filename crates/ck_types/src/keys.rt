@@ -49,13 +49,12 @@ impl Key {
     ghost use Rattle.ck_types.specs.Attributes.{type_of};
     ghost use Rattle.ck_types.specs.Checks.{first_error};
     ghost use Rattle.ck_types.specs.Templates.{value_at, flag_at, form_error, class_of};
-    ghost use Rattle.ck_types.specs.Templates.{permission_error, created_error, generated_error};
+    ghost use Rattle.ck_types.specs.Templates.{created_error, generated_error};
     ghost use Rattle.ck_types.specs.Records.{key_items, placement_of, is_revealable, blank_key};
     ghost use Rattle.ck_types.specs.Records.{with_given, KeepsKey, created_items, generated_items};
     ghost use Rattle.ck_types.specs.Records.{changed_key};
     ghost use Rattle.ck_types.specs.Fields.{field_bytes, flag_field};
     ghost use Rattle.ck_types.specs.declared.attributes.Class.TheVariants as class;
-    ghost use Rattle.ck_types.specs.declared.attributes.Purpose.TheVariants as purpose;
 
     /// The key that a template creates, with a copy of the value that the template gives.
     pub(crate) fn created(alloc: Global, items: &[Item]) -> Result<Key, NoMemory>
@@ -70,7 +69,7 @@ impl Key {
             generation: u64::MAX,
         };
         let value = copied_value(alloc, items, Attribute::Value)?;
-        Key::with(alloc, origin, items, value)
+        Key::new(alloc, origin, items, value)
     }
 
     /// The key that is generated with a template from random bytes.
@@ -87,7 +86,7 @@ impl Key {
             generation: 0x350,
         };
         let value = AttributeValue::from_slice(alloc, random)?;
-        Key::with(alloc, origin, items, value)
+        Key::new(alloc, origin, items, value)
     }
 
     /// A key with the table's defaults and no bytes, which takes no memory.
@@ -118,7 +117,7 @@ impl Key {
     }
 
     /// A new key of this value, with the items' values of the other attributes that they give.
-    fn with(
+    fn new(
         alloc: Global,
         origin: Origin,
         items: &[Item],

@@ -1,6 +1,4 @@
-ghost use Rattle.std.specs.Prelude.{◌≡◌, None, unwrap_or};
-ghost use Rattle.ck_types.specs.Checks.{first_error};
-ghost use Rattle.ck_types.specs.Templates.{form_error};
+ghost use Rattle.std.specs.Prelude.{◌≡◌, unwrap_or};
 
 use crate::attributes::Attribute;
 use crate::items::{Item, flag_or};
@@ -28,7 +26,6 @@ impl Placement {
 
     /// The placement with the flags that the items give.
     pub(crate) fn with(self, items: &[Item]) -> Placement
-        requires { first_error form_error items.now ≡ None }
         ensures token { result.token ≡ unwrap_or (flag_at items.now attribute.Token) self.token }
         ensures private { result.private
             ≡ unwrap_or (flag_at items.now attribute.Private) self.private }

@@ -42,7 +42,7 @@ impl Model for Record {
 impl Record {
     ghost use Rattle.std.specs.Prelude.{option_map, length};
     ghost use Rattle.ck_types.specs.Attributes.{type_of};
-    ghost use Rattle.ck_types.specs.Checks.{check_of, first_error};
+    ghost use Rattle.ck_types.specs.Checks.{check_of};
     ghost use Rattle.std.specs.Prelude.{Some, true, is_some, IfSome};
     ghost use Rattle.std.specs.Result.{result_err};
     ghost use Rattle.ck_types.specs.Templates.{value_at, created_error, generated_error};
@@ -167,8 +167,6 @@ impl Record {
 
     /// CKA_TOKEN and CKA_PRIVATE of a copy that is made with the template.
     pub fn copy_placement(&self, template: &Template) -> Placement
-        requires { copied_error (class_of self.now) (protections_of self.now) template.now.items
-            ≡ None }
         ensures { result ≡ placement_of (with_given template.now.items self.now) }
     {
         let items = template.items.as_slice();

@@ -78,7 +78,6 @@ impl Template {
 
     /// CKA_TOKEN and CKA_PRIVATE of the object that the template creates.
     pub fn creation_placement(&self) -> Placement
-        requires { created_error self.now.items ≡ None }
         ensures { result ≡ placement_of (created_items self.now.items) }
     {
         let items = self.items.as_slice();
@@ -110,7 +109,6 @@ impl Template {
 
     /// CKA_TOKEN and CKA_PRIVATE of the key that is generated with the template.
     pub fn generation_placement(&self) -> Placement
-        requires { first_error form_error self.now.items ≡ None }
         ensures { (random : List ℕ)
             → result ≡ placement_of (generated_items self.now.items random) }
     {
@@ -134,7 +132,6 @@ impl Template {
 
     /// Whether the template makes a sensitive key not sensitive, or a key extractable that isn't.
     pub(crate) fn exposes_key(&self, protections: Protections) -> bool
-        requires { first_error form_error self.now.items ≡ None }
         ensures { result ≡ exposes_key protections self.now.items }
     {
         let items = self.items.as_slice();
@@ -144,7 +141,6 @@ impl Template {
 
     /// Whether the template makes a private object public.
     pub(crate) fn makes_public(&self, protections: Protections) -> bool
-        requires { first_error form_error self.now.items ≡ None }
         ensures { result ≡ makes_public protections self.now.items }
     {
         protections.private && !flag_or(self.items.as_slice(), Attribute::Private, true)

@@ -1,5 +1,5 @@
-ghost use Rattle.std.specs.Prelude.{◌≡◌, ◌==◌, ◌∷◌, [], not, Some, Option};
-ghost use Rattle.ck_types.specs.Checks.{check_of, error_if, first_of};
+ghost use Rattle.std.specs.Prelude.{◌≡◌, ◌==◌, not, Some, Option};
+ghost use Rattle.ck_types.specs.Checks.{check_of, error_if};
 ghost use Rattle.ck_types.specs.declared.errors.RvError.TheVariants as rv_error;
 ghost use Rattle.ck_journal.specs.Answers.{logged_in_error};
 ghost use Rattle.ck_journal.specs.Pins.{is_pin, pin_owner};
@@ -70,9 +70,9 @@ fn check_nobody_in(user: UserType, login: Option<UserType>) -> Result<(), RvErro
 
 /// Initializing the token, setting PINs, and logging in and out.
 impl Token {
-    ghost use Rattle.std.specs.Prelude.{◌≡◌, ◌∷◌, [], Some};
+    ghost use Rattle.std.specs.Prelude.{◌≡◌, Some};
     ghost use Rattle.ck_types.specs.Checks.{check_of};
-    ghost use Rattle.ck_journal.specs.Answers.{pin_error, user_login_error, read_only_error, logins_error};
+    ghost use Rattle.ck_journal.specs.Answers.{user_login_error, read_only_error, logins_error};
     ghost use Rattle.ck_journal.specs.declared.calls.Call.TheVariants as call;
     ghost use Rattle.ck_token.specs.Decisions.{IsDecision, IsCheckAbout};
 

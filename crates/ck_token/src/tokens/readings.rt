@@ -17,7 +17,7 @@ fn is_user_in(login: Option<UserType>) -> bool
 
 /// What is read of the history.
 impl Token {
-    ghost use Rattle.std.specs.Prelude.{◌≡◌, ◌<◌, ◌≤◌, ◌^◌, ℕ, true, false, not, Some, None, IfOk, IfErr, length};
+    ghost use Rattle.std.specs.Prelude.{◌≡◌, ◌<◌, ◌^◌, ℕ, true, false, not, Some, None, IfOk, IfErr, length};
     ghost use Rattle.std.specs.List.{list_any};
     ghost use Rattle.ck_types.specs.declared.errors.RvError.TheVariants as rv_error;
     ghost use Rattle.ck_journal.specs.Objects.{creations, view_of, is_user_in, object_named, attributes_named, key_named};

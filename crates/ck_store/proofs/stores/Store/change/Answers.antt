@@ -32,16 +32,16 @@ returns-in_default c = record {
 pub invariant_of-self : goal.invariant_of-self
 invariant_of-self c =
     let is_key = (rw c.as_slice.ensures.value at c.in-Some.ensures) c.self.invariant.0.indexed in
-    let given = c.change_at.ensures c.args.number is_key in (
-      IsSound-changed c.self.inside.objects c.change_at.new.objects c.args.number given.attributes
+    let given = c.change_at-mark.ensures.given c.args.number is_key in (
+      IsSound-changed c.self.inside.objects c.change_at-mark.new.objects c.args.number given.attributes
           given.changed c.self.inside.index.items c.self.inside.lists.items
           c.self.inside.unlisted c.self.inside.creations c.self.invariant.0
           given.private,
       c.self.invariant.1,
-      IsMarked-changed c.args.number given.attributes c.self.inside.objects c.change_at.new.objects
-          given.changed c.in-Some.key c.mark_at-mark.result is_key c.self.inside.marks.items
+      IsMarked-changed c.args.number given.attributes c.self.inside.objects c.change_at-mark.new.objects
+          given.changed c.in-Some.key c.change_at-mark.result is_key c.self.inside.marks.items
           c.set_mark.new.marks.items c.set_mark.ensures.set c.set_mark.ensures.others
-          c.mark_at-mark.ensures c.self.invariant.2,
+          c.change_at-mark.ensures.mark c.self.invariant.2,
     )
 
 pub returns : goal.returns
@@ -49,7 +49,7 @@ returns c = record {
   agree = λ h e session object d named passes agree.
       let here = rw (← c.self.view_is) at agree in
       let is_key = (rw c.as_slice.ensures.value at c.in-Some.ensures) c.self.invariant.0.indexed in
-      let given = c.change_at.ensures c.args.number is_key in
+      let given = c.change_at-mark.ensures.given c.args.number is_key in
       let has = is_key.has c.in-Some.key refl in
       let found = sym (find-key c.self.inside.objects c.self.inside.index.items
       c.self.invariant.0.indexed c.args.number (Some c.in-Some.key) is_key) ∙ has.1 in
@@ -62,6 +62,6 @@ returns c = record {
       StoreAgrees-changed h _ here e _ refl session object c.args.number named c.self.invariant.1
       c.args.values given.attributes (rw own changed) passes d
       (objects_at-changed (with_attributes c.args.number given.attributes) c.self.inside.objects
-      c.change_at.new.objects given.changed
+      c.change_at-mark.new.objects given.changed
       (with_attributes-number c.args.number given.attributes) c.self.inside.index.items);
 }

@@ -1,10 +1,9 @@
 use Rattle.std.proofs.Common.{◌≡◌, not, filter, ◌∙◌, ap, rules}
 use Rattle.std.proofs.lemmas.Fn.{filter_same}
-use Rattle.ck_store.specs.Index.{is_needed}
 use Rattle.ck_store.specs.Rows.{ObjectRow, is_ended_by}
 use Rattle.ck_store.proofs.LabelLemmas.{IsMarked-fewer}
 use Rattle.ck_store.proofs.PlaceLemmas.{IsLeft-then, IsLeft-was, HasNone-later, objects_at-left}
-use Rattle.ck_store.proofs.SoundLemmas.{EndsAll-walked, IsSound-closed, IsSound-reindexed}
+use Rattle.ck_store.proofs.SoundLemmas.{EndsAll-walked, IsSound-closed, IsSound-reindexed, is_kept}
 use Rattle.ck_store.proofs.stores.Store.end.Goals as goal
 
 pub invariant_of-self : goal.invariant_of-self
@@ -14,7 +13,7 @@ invariant_of-self c =
     c.end_newest.new.objects c.end_listed.ensures.left c.end_newest.ensures.left in
     let walked = rw c.as_slice.ensures.value at c.end_listed.ensures.ended in
     let are : c.retain.new.self.items
-    ≡ filter (is_needed c.args.ending c.end_newest.new.objects) c.self.inside.lists.items =
+    ≡ filter (is_kept c.args.ending) c.self.inside.lists.items =
     filter_same _ _ _ (λ x b f' k. search rules) _ _ c.retain.ensures.filtered in (
       IsSound-reindexed c.end_newest.new.objects c.self.inside.index.items
           c.compact.new.index.items c.retain.new.self.items c.self.inside.unlisted

@@ -2,12 +2,12 @@ use Rattle.ck_types.proofs.GivenLemmas.{form-created}
 use Rattle.ck_types.proofs.KeyLemmas.{creation-keeps, created-key}
 use Rattle.ck_types.proofs.keys.Key.created.Goals as goal
 
-pub with-requires-clause-well_formed : goal.with-requires-clause-well_formed
-with-requires-clause-well_formed c = form-created c.args.items.now c.requires.passes
+pub new-requires-clause-well_formed : goal.new-requires-clause-well_formed
+new-requires-clause-well_formed c = form-created c.args.items.now c.requires.passes
 
 -- its value is the template's, and nothing else that it keeps is given
-pub with-requires-clause-keeps : goal.with-requires-clause-keeps
-with-requires-clause-keeps c =
+pub new-requires-clause-keeps : goal.new-requires-clause-keeps
+new-requires-clause-keeps c =
     creation-keeps c.args.items.now _ c.requires.class c.requires.passes c.in_ok-value.ensures
 
 -- the defaults with the template's values are what it creates
@@ -15,4 +15,4 @@ pub returns : goal.returns
 returns c =
     let made = created-key c.args.items.now c.in_ok-value.value c.requires.class c.requires.passes
     c.in_ok-value.ensures in
-    rw made at c.with.ensures
+    rw made at c.new.ensures

@@ -6,14 +6,14 @@ use Rattle.ck_types.proofs.KeyLemmas.{generation-keeps, generated-key, length-ge
 use Rattle.ck_types.proofs.keys.Key.generated.Goals as goal
 
 -- the length that the template gives is that of the random bytes
-pub with-requires-clause-keeps : goal.with-requires-clause-keeps
-with-requires-clause-keeps c =
+pub new-requires-clause-keeps : goal.new-requires-clause-keeps
+new-requires-clause-keeps c =
     let items = c.args.items.now in
     let random = c.args.random.now in
     let read = c.number_at.ensures.number ∙ length-generated items random c.requires in
     let given : value_at items (type_of attribute.ValueLen) ≡ Some (number_bytes (length random)) =
     rw read at c.number_at.ensures.bytes in
-    generation-keeps items random _ c.requires given c.in_ok-value.ensures
+    generation-keeps items random _ c.requires given c.in_ok-value.ensures.copied
 
 -- the defaults with the template's values and the random bytes are what is generated
 pub returns : goal.returns
@@ -24,5 +24,5 @@ returns c =
     let given : value_at items (type_of attribute.ValueLen) ≡ Some (number_bytes (length random)) =
     rw read at c.number_at.ensures.bytes in
     let made = generated-key items random c.requires given in
-    rw (c.flag_or.ensures.flag, c.flag_or-2.ensures.flag, c.in_ok-value.ensures, made)
-    at c.with.ensures
+    rw (c.flag_or.ensures.flag, c.flag_or-2.ensures.flag, c.in_ok-value.ensures.copied, made)
+    at c.new.ensures
