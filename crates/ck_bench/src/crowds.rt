@@ -9,8 +9,12 @@ use std::alloc::Global;
 use std::io;
 use std::time::CpuClock;
 
-/// How often the rounds of a phase are made, but for the last phase.
+/// How many rounds most phases have.
 const ROUNDS: u64 = 1_000;
+
+/// How often a label is read, and then changed: often enough that the growth of the journal takes
+/// its part of the time, among few objects as among many.
+const LABEL_ROUNDS: u64 = 100_000;
 
 /// The measured phases, in the order in which they are made on a token.
 #[derive(Clone, Copy, Debug, PartialEq, Eq)]
@@ -63,6 +67,7 @@ impl Phase {
         match self {
             Phase::DestroyAll => u64::from(objects),
             Phase::Search => 20,
+            Phase::ReadLabel | Phase::Change => LABEL_ROUNDS,
             _ => ROUNDS,
         }
     }

@@ -1,5 +1,5 @@
 -- The calls of lines, one line after the other, and reading to the end
-use Rattle.std.proofs.Common.{◌≡◌, ◌<◌, ◌+◌, ℕ, suc, Bool, true, false, min, List, [], ◌∷◌, ◌++◌}
+use Rattle.std.proofs.Common.{◌≡◌, ◌<◌, ◌+◌, ℕ, suc, true, false, min, List, [], ◌∷◌, ◌++◌}
 use Rattle.std.proofs.Common.{Ok, Err, length, refl, sym, ap, ◌∙◌, subst, arith, add-one}
 use Rattle.std.proofs.Common.{append_assoc}
 use Rattle.std.proofs.lemmas.List.{append-nil, length_push}
@@ -10,7 +10,7 @@ use Rattle.ck_script.specs.Lines.{meaning}
 use Rattle.ck_play.specs.Devices.{Reading, IsCount, end_read, failed_read, read_on}
 use Rattle.ck_play.specs.CallerScripts.{is_bad_for, AreGoodFor, AreCallsOf, IsRefusedFor, IsRefusedLine}
 use Rattle.ck_play.specs.CallerScripts.{IsReadWhole, HasReadSoFar}
-use Rattle.ck_play.specs.Plays.{calls_in, with_call, after_reads}
+use Rattle.ck_play.specs.Plays.{with_call, after_reads}
 use Rattle.ck_play.specs.declared.faults.PlayFault.{PlayFault}
 use Rattle.ck_play.specs.declared.faults.PlayFault.TheVariants as fault
 use Rattle.ck_play.proofs.ReadingLemmas.{same_reading, one_more, further, at_end}

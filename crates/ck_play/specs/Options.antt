@@ -25,8 +25,8 @@ abbrev pub callers_in : Text → Option ℕ
 callers_in (digit ∷ []) = if nat_le 49 digit && nat_le digit 56 then Some (digit - 48) else None
 callers_in _ = None
 
--- the words, of which the first is the program's name, are the command's, ask for its help, or
--- neither
+-- the command takes the words, of which the first is the program's name; they ask for its help; or
+-- it refuses them
 abbrev pub AreTaken : List Text → Type 0
 AreTaken words = fault_of program words ≡ []
 
@@ -40,6 +40,8 @@ AreRefused words = (k : ErrorKind) × IsAmong k (fault_of program words) × (k �
 abbrev pub callers_text : List Text → Option Text
 callers_text words = first_of (codes "callers") (matches_of program words)
 
+-- without a value the script is played line by line, with a number of callers by so many in threads,
+-- and any other value is bad
 abbrev pub IsChosenBy : Option Text → Result Options ArgumentFault → Type 0
 IsChosenBy None (Ok option.InTurn) = ⊤
 IsChosenBy (Some text) (Ok (option.InThreads callers)) = callers_in text ≡ Some callers.count
@@ -50,7 +52,7 @@ abbrev pub IsHelp : Result Options ArgumentFault → Type 0
 IsHelp (Ok (option.Help text)) = ⊤
 IsHelp _ = ⊥
 
--- the words ask for this, or there was no memory to read them
+-- the words ask for this, or the answer is that there was no memory, of which nothing more is said
 abbrev pub IsAskedBy : List Text → Result Options ArgumentFault → Type 0
 IsAskedBy words result = (AreTaken words × IsChosenBy (callers_text words) result)
     ⊎ (AskForHelp words × IsHelp result)

@@ -1,5 +1,5 @@
 -- What the program does by its options with its reader and its writer
-use Rattle.std.specs.Prelude.{◌≡◌, ◌^◌, ◌-◌, ℕ, List, Result, Ok, Err, string_bytes}
+use Rattle.std.specs.Prelude.{◌^◌, ◌-◌, ℕ, List, Result, Ok, Err, string_bytes}
 use Rattle.ck_types.specs.TokenLimits.{Ranges}
 use Rattle.ck_play.specs.CallerScripts.{IsPlayedInThreads}
 use Rattle.ck_play.specs.Devices.{Reading, Writing, wrote}

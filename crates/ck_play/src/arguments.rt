@@ -35,6 +35,7 @@ fn callers_in(text: &str) -> Option<Callers>
     }
 }
 
+/// What the words that the command takes ask for.
 fn options_in(matches: &ArgMatches<'_>) -> Result<Options, ArgumentFault>
     ensures { IsChosenBy (first_value (found_of matches.now) (codes "callers")) result }
 {
@@ -64,7 +65,8 @@ pub fn options_of(alloc: Global, words: &[String]) -> Result<Options, ArgumentFa
     }
 }
 
-/// What the program is asked to do by the arguments that it was started with.
+/// What the program is asked to do by the arguments that it was started with. Of these std has no
+/// clause, and so neither has this.
 pub fn given_options<R: Env + Alloc<A = Global>>(rt: &R) -> Result<Options, ArgumentFault> {
     let alloc = rt.alloc();
     let words: Vec<String> = env::args(rt)?.collect(alloc)?;

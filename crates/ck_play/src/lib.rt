@@ -4,14 +4,10 @@
 
 mod arguments;
 mod caller_scripts;
-#[cfg(test)]
-mod device_tests;
 mod devices;
 mod faults;
 mod memory_devices;
 mod options;
-#[cfg(test)]
-mod play_tests;
 mod players;
 mod plays;
 mod programs;

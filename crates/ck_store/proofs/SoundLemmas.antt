@@ -141,7 +141,7 @@ module _ (change : ObjectRow → ObjectRow) (old new : Slab ObjectRow)
             sym (session before) ∙ ap (λ (r : ObjectRow). r.session) same,
           )
 
-  -- where each object stays private or public, the lists say as well which are of private ones
+  -- where each object stays private or public, each list still says which its objects are
   module _ (index : List Place) (lists : List SessionList) (unlisted : Option Place) (creations : ℕ)
       (sound : IsSound old index lists unlisted creations)
       (private : (key : ℕ) (row : ObjectRow) → get old key ≡ Some row

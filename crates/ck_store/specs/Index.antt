@@ -55,14 +55,14 @@ pub record IsListed (lists : List SessionList) (session : ℕ) (private : Bool) 
   pub mark : list.private ≡ private
   pub holds : Contains list.places.items p
 
--- the object is one of such a list of the session
+-- the object belongs in such a list of the session
 pub record IsOwn (session : ℕ) (private : Bool) (row : ObjectRow) : Type 0 where
   pub owner : row.session ≡ Some session
   pub mark : is_private_row row ≡ private
 
 -- what the fields of a store keep: the index rises and names each object; each session object is in
--- a list of its session, and a list's places have no other objects, private ones or public ones as the
--- list says; no number is above the count of creations
+-- a list of its session or is the unlisted one; the objects of a list are of its session, and all
+-- private or all public, as the list says; no number is above the count of creations
 pub record IsSound (objects : Slab ObjectRow) (index : List Place) (lists : List SessionList)
     (unlisted : Option Place) (creations : ℕ) : Type 0 where
   pub indexed : IsIndex objects index
@@ -91,8 +91,8 @@ pub record IsKeyOf (objects : Slab ObjectRow) (number : ℕ) (found : Option ℕ
 abbrev pub IsChanged : (ObjectRow → ObjectRow) → Slab ObjectRow → Slab ObjectRow → Type 0
 IsChanged change old new = (key : ℕ) → get new key ≡ option_map change (get old key)
 
--- the object of the number has other attributes: where the values pass the checks of a template that
--- changes it, the old ones with the values; it is private where it was
+-- the object of the number has other attributes: where the values pass the checks of a template
+-- that changes it, the old ones with the values; it is private exactly where it was
 pub record IsGiven (number : ℕ) (values : List Item) (old new : Slab ObjectRow) : Type 0 where
   pub attributes : List Item
   pub changed : IsChanged (with_attributes number attributes) old new

@@ -53,7 +53,7 @@ is_ended_by (ending.Session session) row = is_of_session session row
 is_ended_by ending.AllSessions row = is_session_row row
 is_ended_by ending.Logout row = is_private_session_row row
 
--- the objects of a list of the session end, of private objects or of public ones
+-- the ending ends the objects of the session's list of private objects, or of that of public ones
 abbrev pub concerns : Ending → ℕ → Bool → Bool
 concerns (ending.Session closed) session private = closed == session
 concerns ending.AllSessions session private = true

@@ -1,4 +1,4 @@
-ghost use Rattle.std.specs.Prelude.{◌≡◌, ℕ, ◌==◌, Bool, Contains, Some, true};
+ghost use Rattle.std.specs.Prelude.{◌≡◌, ℕ, Bool, Contains, Some, true};
 ghost use Rattle.ck_store.specs.Rows.{is_ended_by, concerns};
 ghost use Rattle.ck_store.specs.Index.{IsLeft, HasNone, IsListed};
 ghost use Rattle.ck_store.specs.declared.places.Place.{Place};
@@ -20,7 +20,8 @@ pub(crate) enum Ending {
 }
 
 impl Ending {
-    /// Whether it ends the objects of a list of the session, of private ones or of public ones.
+    /// Whether it ends the objects of the session's list of private objects, or of that of public
+    /// ones.
     pub(crate) fn concerns(self, session: u64, private: bool) -> bool
         ensures { result ≡ concerns self session private }
     {

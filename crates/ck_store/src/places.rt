@@ -1,6 +1,5 @@
 ghost use Rattle.std.specs.Prelude.{◌≡◌, ◌<◌, ℕ, length, find, filter, position, get_or};
 ghost use Rattle.std.specs.Prelude.{IfOk, IfSome, Contains, Some};
-ghost use Rattle.std.specs.List.{list_any};
 ghost use Rattle.std.specs.Option.{option_copied};
 ghost use Rattle.slab.specs.Slab.{get};
 ghost use Rattle.ck_store.specs.Rows.{ObjectRow, has_number, matching_numbers};

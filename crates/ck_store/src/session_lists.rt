@@ -10,8 +10,8 @@ use ck_types::NoMemory;
 use slab::Slab;
 use std::alloc::Global;
 
-/// The places of a session's objects. A place stays in it for a while after its object has ended. A
-/// session's private objects have a list of their own, so that a logout walks over no others.
+/// The places of a session's private objects, or of its public ones, so that a logout walks over no
+/// others. A place stays in the list for a while after its object has ended.
 #[derive(Debug, Drop)]
 pub(crate) struct SessionList {
     session: u64,
@@ -45,7 +45,7 @@ impl SessionList {
         self.private
     }
 
-    /// Whether it is a list of the session for private objects, or one for public objects.
+    /// Whether it is the session's list of private objects, or of public ones.
     fn is_list_of(&self, session: u64, private: bool) -> bool
         ensures { result ≡ is_list_of session private self.now }
     {

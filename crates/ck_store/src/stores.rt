@@ -299,7 +299,7 @@ impl Store {
         self.end(Ending::Logout);
     }
 
-    /// Ends session objects, and drops the lists that have none then.
+    /// Ends session objects, and drops the lists whose objects end.
     fn end(&mut self, ending: Ending)
         ensures rows { self.new.rows
             ≡ filter (λ row. not (is_ended_by ending row)) self.old.rows }

@@ -177,8 +177,8 @@ pub(crate) fn number_at(items: &[Item], attribute: Attribute) -> Option<u64>
     }
 }
 
-/// The key state that the items give, else this one. Well-formed items give the number of a key
-/// that is or isn't active yet.
+/// The key state that the items give, else this one. Well-formed items give the number of
+/// Pre-Activation or of Active.
 pub(crate) fn state_or(items: &[Item], other: KeyState) -> KeyState
     requires well_formed { first_error form_error items.now ≡ None }
     ensures { number_bytes (state_number result)

@@ -1,9 +1,9 @@
-use Rattle.std.proofs.Common.{rules, ap, refl, subst, inl, inr, codes, true, ◌≡◌, ◌∙◌, [], List}
+use Rattle.std.proofs.Common.{ap, refl, subst, inl, inr, codes, ◌≡◌, ◌∙◌, []}
 use Rattle.std.specs.Prelude.{Option, map, string_bytes}
-use Rattle.clap.specs.Words.{App, Text, app_of, fault_of, first_of, first_value, found_of, is_simple}
+use Rattle.clap.specs.Words.{App, Text, fault_of, first_of, found_of, is_simple}
 use Rattle.clap.specs.Words.{is_simple_and_free, kind_of, matches_of, IsAmong}
 use Rattle.clap.proofs.WalkLemmas.{first_value-rows}
-use Rattle.ck_play.specs.Options.{IsChosenBy, callers_text, program}
+use Rattle.ck_play.specs.Options.{IsChosenBy}
 use Rattle.ck_play.proofs.arguments.options_of.Goals as goal
 
 pub returns-in-Ok : goal.returns-in-Ok
@@ -23,9 +23,12 @@ returns c =
     let kinds = c.in-Err.ensures.kinds (ap is_simple_and_free same) in
     elim kinds [
       | inl memory ↦ absurd (c.in_default.not-OutOfMemory (c.kind.ensures ∙ memory))
-      | inr among ↦ inr (inr (inl ((
-        kind_of c.in-Err.error,
-        subst (λ (a : App). IsAmong (kind_of c.in-Err.error) (fault_of a words)) same among,
-        λ is. c.in_default.not-DisplayHelp (c.kind.ensures ∙ is),
-      ), refl)))
+      | inr among ↦ inr (inr (inl (
+        (
+          kind_of c.in-Err.error,
+          subst (λ (a : App). IsAmong (kind_of c.in-Err.error) (fault_of a words)) same among,
+          λ is. c.in_default.not-DisplayHelp (c.kind.ensures ∙ is),
+        ),
+        refl,
+      )))
     ]

@@ -1,4 +1,4 @@
-use Rattle.std.proofs.Common.{◌≡◌, ◌<◌, length}
+use Rattle.std.proofs.Common.{◌<◌, length}
 use Rattle.ck_play.specs.Devices.{Reading}
 use Rattle.ck_play.specs.CallerScripts.{HasReadSoFar}
 use Rattle.ck_play.proofs.caller_scripts.read_script.Given as goal

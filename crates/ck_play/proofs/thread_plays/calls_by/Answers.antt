@@ -1,4 +1,4 @@
-use Rattle.std.proofs.Common.{◌≡◌, ◌++◌, ◌<◌, [], ◌∷◌, take, length, sym, ap, ◌∙◌, arith}
+use Rattle.std.proofs.Common.{◌++◌, ◌<◌, [], ◌∷◌, take, length, sym, ap, ◌∙◌, arith}
 use Rattle.ck_play.specs.CallerCalls.{calls_by}
 use Rattle.ck_play.proofs.CallerCallLemmas.{calls_by-next}
 use Rattle.ck_play.proofs.thread_plays.calls_by.Goals as goal

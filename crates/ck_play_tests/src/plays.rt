@@ -1,5 +1,5 @@
 //! Scripts played over devices in memory.
-use crate::{MemorySink, MemorySource, PlayFault, play_with};
+use ck_play::{MemorySink, MemorySource, PlayFault, play_with};
 use ck_script::{BadLine, LONGEST_LINE};
 use ck_types::Limits;
 use std::alloc::Global;

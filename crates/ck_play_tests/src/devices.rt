@@ -1,7 +1,6 @@
 //! Scripts that are cut, and readers and writers that fail.
-use crate::play_tests::{Devices, transcript};
-use crate::players::write_all;
-use crate::{ArgumentFault, MemorySink, MemorySource, Options, PlayFault, options_of, run};
+use crate::plays::{Devices, transcript};
+use ck_play::{ArgumentFault, MemorySink, MemorySource, Options, PlayFault, options_of, run};
 use ck_script::{Arity, BadLine, CallName};
 use std::alloc::Global;
 use std::process::Abort;
@@ -220,32 +219,6 @@ fn the_program_ends_with_a_status(rt: HostRuntime) -> Result<(), Fail> {
     for (words, script, fails_at, want) in rows {
         let text = ended(rt, rt.alloc(), words, script, fails_at)?;
         assert_eq!(rt; text.as_str(), want, "{words}, {script}");
-    }
-    Ok(())
-}
-
-/// What is written of a text, and whether all of it is.
-fn written(alloc: Global, piece: usize, fails_at: (u64, u64)) -> Result<String, Fail> {
-    let mut writer = MemorySink::new(alloc, piece, fails_at.0, fails_at.1);
-    let is_whole = write_all(&mut writer, b"0 1\n").is_ok();
-    let text = String::from_utf8_lossy(alloc, writer.as_slice())?;
-    Ok(format!(in alloc; "{text}{is_whole}")?)
-}
-
-#[test]
-fn writes_whole_or_a_beginning(rt: HostRuntime) -> Result<(), Fail> {
-    let rows = [
-        (9, (0, 0), "0 1\ntrue"),
-        (1, (0, 0), "0 1\ntrue"),
-        (3, (0, 0), "0 1\ntrue"),
-        (9, (1, 0), "false"),
-        (1, (4, 0), "0 1false"),
-        (3, (0, 2), "0 1false"),
-        (1, (5, 6), "0 1\ntrue"),
-    ];
-    for (piece, fails_at, want) in rows {
-        let text = written(rt.alloc(), piece, fails_at)?;
-        assert_eq!(rt; text.as_str(), want, "{piece} bytes a write, {fails_at:?}");
     }
     Ok(())
 }
