@@ -250,7 +250,7 @@ search_error h session = first_of (
     ∷ error_if (not (is_searching h session)) rv_error.OperationNotInitialized
     ∷ [])
 
--- an operation of the kind is active in the session
+-- no operation of the kind is active in the session, which a call would go on with
 abbrev pub operation_error : OperationKind → History → ℕ → Option RvError
 operation_error k h session = first_of (
     session_error h session
@@ -262,7 +262,7 @@ abbrev pub parameter_error : Mechanism → Option RvError
 parameter_error mechanism =
     error_if (not (length mechanism.parameter == 0)) rv_error.MechanismParamInvalid
 
--- the mechanism is a digest's
+-- the start of a digest: another is active, or the mechanism is no digest's or has a parameter
 abbrev pub digest_init_error : History → ℕ → Mechanism → Option RvError
 digest_init_error h session mechanism = first_of (
     session_error h session
@@ -289,7 +289,7 @@ key_state_error k attributes =
     error_if (not (option_map_or (may_serve k) (state_in attributes) false))
     rv_error.KeyFunctionNotPermitted
 
--- the flag of a key that lets operations of the kind have it; a digest has no key
+-- the flag of a key that lets operations of the kind use it; a digest has no key
 abbrev pub usage_flag : OperationKind → Attribute
 usage_flag kind.Verify = attribute.Verify
 usage_flag other = attribute.Sign
@@ -379,7 +379,7 @@ generate_key_error limits h session mechanism template random = first_of (
     ∷ creations_error limits h
     ∷ [])
 
--- there is a state of this number, and a key of the other may go over to it
+-- no state has this number, or a key of the state before may not go over to it
 abbrev pub transition_error : Option KeyState → Option KeyState → Option RvError
 transition_error before None = Some rv_error.ArgumentsBad
 transition_error before (Some after) =
@@ -456,8 +456,8 @@ flags_of_token h =
 abbrev pub too_small : ℕ → Reply
 too_small n = record { rv = rv.Error rv_error.BufferTooSmall; body = body.Length n }
 
--- the reply that gives these bytes where there is room for them, and else their length; no room
--- asks for it
+-- the reply that gives these bytes where there is room for them, and else their length; where no
+-- room is given, their length is asked for
 abbrev pub bytes_reply : Option ℕ → List ℕ → Reply
 bytes_reply None bytes = ok (body.Length (length bytes))
 bytes_reply (Some room) bytes =

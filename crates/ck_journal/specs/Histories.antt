@@ -94,7 +94,7 @@ on_sessions_and_objects = record nothing { sessions = true; objects = true }
 abbrev on_all : Effects
 on_all = record { sessions = true; objects = true; searches = true; operations = true }
 
--- what a call that was answered OK may change, beside the operation that it goes on with
+-- what a call that was answered OK may change, beside the operation that it starts or goes on with
 abbrev pub effects_of : Option Call → Effects
 effects_of (Some (call.InitToken pin)) = on_sessions_and_objects
 effects_of (Some (call.InitPin session pin)) = on_sessions

@@ -56,7 +56,7 @@ view_of h = record { user = is_user_in h; logins = user_logins h }
 abbrev pub is_visible_with : View → List Item → Bool
 is_visible_with view attributes = not (is_set attributes attribute.Private) || view.user
 
--- the handle of a public object is its number, that of a private one is above by 2^32 for each
+-- the handle of a public object is its number, that of a private one its number and 2^32 for each
 -- login of the user so far
 abbrev pub handle_with : View → List Item → ℕ → ℕ
 handle_with view attributes n =

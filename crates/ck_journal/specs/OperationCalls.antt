@@ -1,5 +1,5 @@
--- Which calls go on with an operation that takes a message in pieces (PKCS #11 Base 3.0, Message
--- digesting functions, Signing and MACing functions, Functions for verifying signatures and MACs)
+-- What calls do with operations that take a message in pieces (PKCS #11 Base 3.0, Message digesting
+-- functions, Signing and MACing functions, Functions for verifying signatures and MACs)
 use Rattle.std.specs.Prelude.{ℕ, Bool, true, false, List, [], ◌∷◌, Option, Some, None, ◌==◌, ◌&&◌}
 use Rattle.std.specs.Prelude.{if◌then◌else◌}
 use Rattle.ck_journal.specs.declared.calls.Call.{Call}

@@ -38,8 +38,8 @@ is_initialization other = false
 abbrev pub starts : Option Call → OperationKind → ℕ → Bool
 starts c k s = option_map_or (λ made. is_initialization (step_of made k s)) c false
 
--- a step that finishes an operation leaves it active by this code and body: where the room is too
--- small, and where a length was asked for
+-- a call that would finish an operation leaves it active by this code and body: the room is too
+-- small, or a length was asked for
 abbrev pub leaves_active : Rv → Body → Bool
 leaves_active (rv.Error rv_error.BufferTooSmall) given = true
 leaves_active rv.Ok (body.Length n) = true

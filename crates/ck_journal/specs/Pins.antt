@@ -57,7 +57,7 @@ abbrev pub is_initialized : History → Bool
 is_initialized (start b) = b.initialized
 is_initialized (e ◁ h) = initializes (done e) || is_initialized h
 
--- the security officer's PIN after a call, by the owner of the session's PIN: the first
+-- the security officer's PIN after a call, by whose PIN a C_SetPIN changes: the first
 -- initialization sets it, a later one keeps it
 abbrev pub so_pin_after : Option Call → UserType → Option Pin → Option Pin
 so_pin_after (Some (call.InitToken pin)) owner None = Some pin

@@ -35,10 +35,11 @@ impl OperationKind {
     }
 }
 
-/// The most bytes that one piece of a message may have, which is a limit of this token.
+/// The most bytes that a message as a whole, or one piece of one, may have: a limit of this token.
 const PIECE_LIMIT: usize = 0x10_0000;
 
-/// Whether a piece has more bytes than one may have (CKR_DATA_LEN_RANGE).
+/// Whether the bytes are more than a message as a whole, or one piece of one, may have
+/// (CKR_DATA_LEN_RANGE).
 pub fn is_long_piece(bytes: &[u8]) -> bool
     ensures { result ≡ is_long_piece bytes.now }
 {

@@ -33,8 +33,8 @@ HasRoom p (change.StartDigest session hash) = 0 < p.operations.spare
 HasRoom p (change.StartHmac kind session hash key len) = 0 < p.operations.spare
 HasRoom p other = Unit {0}
 
--- the count that it raises stays in range, a PIN that is changed is there, and a signature has as
--- many bytes as the HMAC has at most
+-- the count that it raises stays in range, a PIN that is changed is there, and a signature has at
+-- least one byte and at most as many as the HMAC
 abbrev pub IsCounted : Parts → Change → Type 0
 IsCounted p (change.OpenSession flags) = p.sessions.openings + 1 < 2 ^ 64
 IsCounted p (change.CreateObject session attributes) = p.objects.creations + 1 < 2 ^ 32

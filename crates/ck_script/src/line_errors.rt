@@ -20,7 +20,7 @@ pub enum NumberError {
     TooLarge,
 }
 
-/// Why a line is none of a script's. Where a line has several faults, one of them is named.
+/// Why a line is not a line of a script. Where a line has several faults, one of them is named.
 #[derive(Clone, Copy, Debug, PartialEq, Eq, Error)]
 pub enum BadLine {
     #[error("a line has at most {LONGEST_LINE} bytes")]

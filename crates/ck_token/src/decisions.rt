@@ -4,8 +4,8 @@ use ck_journal::Body;
 use ck_parts::Change;
 use ck_types::{NoMemory, Rv, RvError};
 
-/// The reply to a call that passes its checks, and what the call changes. The reply is here in its
-/// two parts: a `Reply` is made once, at the end, since its padding moves with it.
+/// The reply to a call, and what the call changes. The reply is here in its two parts: a `Reply` is
+/// made once, at the end, since its padding moves with it.
 #[derive(Drop)]
 pub(crate) struct Decision {
     pub(crate) rv: Rv,

@@ -182,8 +182,8 @@ computed_value attribute.AlwaysSensitive template random =
     flag_bytes (unwrap_or (flag_at template attribute.Sensitive) false)
 computed_value other template random = []
 
--- the value of a new object's attribute: the template's, else the table's; what the template must
--- give it gives
+-- the value of a new object's attribute: the template's, else the table's; a template that passes
+-- the checks gives each required one
 abbrev pub new_value : Attribute → Default → List Item → List ℕ → List ℕ
 new_value a (preset value) template random = value_or template (type_of a) value
 new_value a computed template random = computed_value a template random

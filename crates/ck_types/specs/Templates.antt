@@ -130,7 +130,7 @@ generated_error template random = first_of (
     ∷ [])
 
 -- the error of a template that changes an object of the class, or that a copy of one is made with,
--- but for those that depend on the object's other attributes
+-- by the checks that ask for no more of the object than its class
 abbrev pub template_error : Class → Purpose → List Item → Option RvError
 template_error class purpose items = first_of (
     first_error form_error items

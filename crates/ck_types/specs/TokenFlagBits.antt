@@ -6,8 +6,8 @@ with_flag false flag flags = flags
 with_flag true flag flags = bit_or flags flag
 
 -- the flags of a token: a login is required; whether the user has a PIN and the token is
--- initialized; and for each of the two users whether any try of its PIN was wrong, only one is
--- left, or none
+-- initialized; and for each of the two users whether there are wrong tries of its PIN since they
+-- last went back to 0, only one try is left, or none
 abbrev pub token_flags : Bool → Bool → ℕ → ℕ → ℕ
 token_flags is_initialized has_user_pin user_tries so_tries =
     with_flag (so_tries == 3) 0x400000

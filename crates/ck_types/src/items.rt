@@ -232,8 +232,8 @@ fn has_conflict_in(attributes: &[Attribute], items: &[Item]) -> bool
         .any(|attribute| has_two_values(items, *attribute))
 }
 
-/// Whether two items of one type have different values. Each attribute takes one walk over the
-/// items, so that the time stays in proportion to their number.
+/// Whether two items of one type have different values. Each attribute takes at most two walks over
+/// the items, so that the time stays in proportion to their number.
 pub(crate) fn has_conflict(items: &[Item]) -> bool
     requires well_formed { first_error form_error items.now ≡ None }
     ensures { result ≡ has_conflict items.now }

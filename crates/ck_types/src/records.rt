@@ -43,13 +43,13 @@ impl Record {
     ghost use Rattle.std.specs.Prelude.{option_map, length};
     ghost use Rattle.ck_types.specs.Attributes.{type_of};
     ghost use Rattle.ck_types.specs.Checks.{check_of};
-    ghost use Rattle.std.specs.Prelude.{Some, true, is_some, IfSome};
+    ghost use Rattle.std.specs.Prelude.{Some, true};
     ghost use Rattle.std.specs.Result.{result_err};
     ghost use Rattle.ck_types.specs.Templates.{value_at, created_error, generated_error};
     ghost use Rattle.ck_types.specs.Templates.{template_error};
     ghost use Rattle.ck_types.specs.declared.attributes.Attribute.TheVariants as attribute;
     ghost use Rattle.ck_types.specs.declared.attributes.Purpose.TheVariants as purpose;
-    ghost use Rattle.ck_types.specs.Records.{generated_items, data_items, key_items, is_key};
+    ghost use Rattle.ck_types.specs.Records.{generated_items, data_items, key_items};
     ghost use Rattle.ck_types.specs.Records.{readable_value, read_error, state_in, key_value};
     ghost use Rattle.ck_types.specs.Records.{with_state};
     ghost use Rattle.ck_types.specs.Records.{IsRecordUnless, created_items, with_given};
@@ -340,16 +340,6 @@ impl Record {
         matches!(self.field_of(flag), Some(Field::Flag(true)))
     }
 
-    /// The value of an attribute that is a flag, or `None` where the object has no such flag.
-    pub fn flag(&self, kind: u64) -> Option<bool>
-        ensures { result ≡ flag_in self.now kind }
-    {
-        match self.field(kind) {
-            Some(Field::Flag(flag)) => Some(flag),
-            _ => None,
-        }
-    }
-
     /// How many bytes the value of an attribute has, or `None` where the object
     /// doesn't have the attribute.
     pub fn length(&self, kind: u64) -> Option<u64>
@@ -393,17 +383,6 @@ impl Record {
         match &self.object {
             Object::Data(_) => None,
             Object::Key(key) => Some(key.state),
-        }
-    }
-
-    /// The bytes of a key, also of one that may not be revealed, or `None` for a data object.
-    pub fn key(&self) -> Option<&[u8]>
-        ensures class { is_some result ≡ is_key self.now }
-        ensures value { IfSome result (λ bytes. bytes.now ≡ key_value self.now) }
-    {
-        match &self.object {
-            Object::Data(_) => None,
-            Object::Key(key) => Some(key.value.as_slice()),
         }
     }
 

@@ -93,7 +93,7 @@ fn check_key_state(kind: OperationKind, key: &Record) -> Result<(), RvError>
     error_if(!serves, RvError::KeyFunctionNotPermitted)
 }
 
-/// The flag of a key that lets operations of the kind have it.
+/// The flag that a key needs for operations of the kind.
 fn usage_flag(kind: OperationKind) -> Attribute
     ensures { result ≡ usage_flag kind }
 {
