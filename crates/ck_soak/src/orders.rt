@@ -11,7 +11,7 @@ use std::sync::atomic::{AtomicBool, AtomicU64, Ordering};
 use std::thread;
 
 /// How often a call yields to other threads before its turn must have come.
-const MOST_YIELDS: u32 = 1_000_000;
+const MOST_YIELDS: u32 = 100_000_000;
 
 /// A gate that holds each call until its caller's turn has come.
 #[derive(Drop)]
