@@ -48,7 +48,7 @@ fn write_some<W: Sink>(writer: &mut W, bytes: &[u8]) -> Result<usize, PlayFault>
 }
 
 /// Writes all of these bytes, or answers that the writer failed.
-pub(crate) fn write_all<W: Sink>(writer: &mut W, bytes: &[u8]) -> Result<(), PlayFault>
+pub fn write_all<W: Sink>(writer: &mut W, bytes: &[u8]) -> Result<(), PlayFault>
     ensures ok { OnOk result ((w : Writing) → W.is_written writer.old w
         → W.is_written writer.new (wrote w bytes.now)) }
     ensures err { IfErr result (λ fault. (w : Writing) → W.is_written writer.old w

@@ -1,8 +1,7 @@
 //! Scripts that are read from a source, and answered to a sink.
-ghost use Rattle.std.specs.Prelude.{◌≡◌, ◌<◌, ◌≤◌, ◌==◌, [], length, take, IfOk, IfErr, OnErr};
-ghost use Rattle.std.specs.Prelude.{if◌then◌else◌};
+ghost use Rattle.std.specs.Prelude.{◌≡◌, ◌<◌, [], length, IfOk, IfErr};
 ghost use Rattle.ck_types.specs.TokenLimits.{Ranges};
-ghost use Rattle.ck_play.specs.Devices.{Reading, Writing, end_read, failed_read, read_on};
+ghost use Rattle.ck_play.specs.Devices.{Reading, Writing};
 ghost use Rattle.ck_play.specs.Players.{IsReading, TakesTurn, StopsInTurn};
 ghost use Rattle.ck_journal.specs.Bases.{empty_base};
 ghost use Rattle.ck_journal.specs.Histories.{start};
@@ -11,15 +10,13 @@ ghost use Rattle.ck_play.specs.Plays.{IsPlayed};
 use crate::devices::{Sink, Source};
 use crate::faults::PlayFault;
 use crate::players::{Player, answer_chunk, end_line};
+use crate::readings::{new_buffer, read_some};
 use ck_token::Token;
-use ck_types::{Limits, NoMemory};
+use ck_types::Limits;
 use std::alloc::Global;
 
-/// How many bytes one read asks for.
-const CHUNK: usize = 65_536;
-
 /// The most reads that `play` makes, 2^32.
-pub(crate) const TURNS: u64 = 4_294_967_296;
+pub const TURNS: u64 = 4_294_967_296;
 
 /// Plays a script on a new token, in at most 2^32 reads.
 pub fn play<R: Source, W: Sink>(
@@ -61,13 +58,6 @@ pub fn play_with<R: Source, W: Sink>(
         buffer.as_mut_slice(),
         turns,
     )
-}
-
-pub(crate) fn new_buffer(alloc: Global) -> Result<Vec<u8>, NoMemory>
-    ensures { IfOk result (λ buffer. length buffer.items ≡ CHUNK) }
-{
-    let buffer = vec![in alloc; 0u8; CHUNK]?;
-    Ok(buffer)
 }
 
 fn new_player(alloc: Global, limits: Limits) -> Player
@@ -128,21 +118,4 @@ fn take_turn<R: Source, W: Sink>(
     }
     answer_chunk(player, alloc, writer, &buffer[..count])?;
     Ok(false)
-}
-
-/// Reads once, or answers that the reader failed. No bytes are the end.
-pub(crate) fn read_some<R: Source>(reader: &mut R, buffer: &mut [u8]) -> Result<usize, PlayFault>
-    requires room { 0 < length buffer.old }
-    ensures bound { IfOk result (λ count. count ≤ length buffer.new) }
-    ensures ok { IfOk result (λ count. (r : Reading) → R.is_read reader.old r
-        → R.is_read reader.new
-        (if count == 0 then end_read r else read_on r (take count buffer.new))) }
-    ensures fault { IfErr result (λ fault. fault ≡ PlayFault.Read) }
-    ensures err { OnErr result ((r : Reading) → R.is_read reader.old r
-        → R.is_read reader.new (failed_read r)) }
-{
-    match reader.read(buffer) {
-        Ok(count) => Ok(count),
-        Err(_) => Err(PlayFault::Read),
-    }
 }

@@ -1,6 +1,8 @@
 //! Scripts that are cut, and readers and writers that fail.
 use crate::plays::{Devices, transcript};
-use ck_play::{ArgumentFault, MemorySink, MemorySource, Options, PlayFault, options_of, run};
+use ck_options::{ArgumentFault, Options, options_of};
+use ck_play::{MemorySink, MemorySource, PlayFault};
+use ck_program::run;
 use ck_script::{Arity, BadLine, CallName};
 use std::alloc::Global;
 use std::process::Abort;

@@ -1,7 +1,9 @@
 //! Plays a script of calls on a token, from standard input to standard output.
 #![tactic(auto)]
 
-use ck_play::{ReadSource, WriteSink, given_options, run};
+use ck_options::given_options;
+use ck_play::{ReadSource, WriteSink};
+use ck_program::run;
 use std::io;
 use std::process::ExitCode;
 

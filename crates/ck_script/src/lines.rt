@@ -1,11 +1,11 @@
-ghost use Rattle.std.specs.Prelude.{◌≡◌, ◌==◌, ◌∷◌, ◌<◌, ◌⊎◌, [], length, position};
+ghost use Rattle.std.specs.Prelude.{◌≡◌, ◌∷◌, ◌<◌, ◌⊎◌, [], length};
 ghost use Rattle.std.specs.Prelude.{Some, None, Err, MatchOption, IfSome, IfOk, IfErr};
 ghost use Rattle.ck_script.specs.Lines.{lines_in, caller_in, words_meaning, meaning};
 
 use crate::arguments::number_in;
 use crate::calls::call_in;
 use crate::line_errors::{BadLine, LineError};
-use crate::parts::Parts;
+use crate::parts::{Parts, position_of};
 use ck_journal::Call;
 use std::alloc::Global;
 
@@ -98,14 +98,8 @@ pub fn cut_line(bytes: &[u8]) -> Option<(&[u8], &[u8])>
         (λ parts. lines_in bytes.now ≡ parts.0.now ∷ lines_in parts.1.now) }
     ensures shorter { IfSome result (λ parts. length parts.1.now < length bytes.now) }
 {
-    match line_end(bytes) {
+    match position_of(LINE_END, bytes) {
         Some(at) => Some((&bytes[..at], &bytes[at + 1..])),
         None => None,
     }
-}
-
-fn line_end(bytes: &[u8]) -> Option<usize>
-    ensures { result ≡ position (λ b. b == LINE_END) bytes.now }
-{
-    bytes.iter().position(|b| *b == LINE_END)
 }

@@ -3,7 +3,7 @@ ghost use Rattle.std.specs.Prelude.{◌≡◌, ◌==◌, position};
 use std::marker::Model;
 
 /// Where the byte first stands in the text.
-fn position_of(separator: u8, text: &[u8]) -> Option<usize>
+pub(crate) fn position_of(separator: u8, text: &[u8]) -> Option<usize>
     ensures { result ≡ position (λ byte. byte == separator) text.now }
 {
     text.iter().position(|byte| *byte == separator)

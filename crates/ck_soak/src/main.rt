@@ -1,7 +1,7 @@
 //! What threads of callers do to a shared token. The program plays the races of the files that its
 //! arguments name: each by one thread, and by threads of its callers, in orders that a gate keeps
-//! and in none. Then a caller asks while another logs in. Then eight callers make drawn calls at
-//! once. What it writes is the same in every order of the calls. Where the first argument is
+//! and in none. Then two callers open sessions. Then a caller asks while another logs in. Then eight
+//! callers make drawn calls at once. What it writes is the same in every order of the calls. Where the first argument is
 //! `alone`, the steps of each race are made one after the other on a shared token, again where there
 //! was no memory, and the line of a file says how many were.
 #![tactic(auto)]
@@ -19,6 +19,7 @@ mod runs;
 mod soaks;
 mod texts;
 mod tokens;
+mod two_callers;
 
 use asks::{RUNS, run_asks};
 use errors::SoakError;
@@ -33,6 +34,7 @@ use std::process::ExitCode;
 use std::sync::Wait;
 use std::thread::Threads;
 use std::{env, fs, io};
+use two_callers::counts_of_two;
 
 /// How the races of a file are played.
 #[derive(Clone, Copy, PartialEq, Eq)]
@@ -96,6 +98,19 @@ fn play_file<R: Files + Print + AllocGlobal + Threads + Wait + Copy + Drop + Sen
     }
 }
 
+/// Shares a token between two callers, and says whether there was memory for it.
+fn play_two<R: Print + AllocGlobal + Threads + Wait + Copy + Drop + Send + Sync>(
+    rt: R,
+) -> io::Result<bool> {
+    let Some(counts) = counts_of_two(rt, rt.alloc()) else {
+        return Ok(false);
+    };
+    println!(rt; "{} sessions are open", counts.sessions)?;
+    println!(rt; "calls: {} and {}", counts.calls.0, counts.calls.1)?;
+    println!(rt; "the journal has {} entries", counts.entries)?;
+    Ok(true)
+}
+
 /// Asks while another logs in, and says whether all answers were right.
 fn play_asks<R: Print + AllocGlobal + Threads + Wait + Copy + Drop + Send + Sync>(
     rt: R,
@@ -142,7 +157,7 @@ fn play_all<R: Env + Files + Print + AllocGlobal + Threads + Wait + Copy + Drop 
         }
     }
     match mode {
-        Mode::InThreads => Ok(play_asks(rt)? && play_soak(rt)? && all_pass),
+        Mode::InThreads => Ok(play_two(rt)? && play_asks(rt)? && play_soak(rt)? && all_pass),
         Mode::Alone => Ok(all_pass),
     }
 }

@@ -11,7 +11,7 @@ use std::sync::atomic::{AtomicBool, AtomicU64, Ordering};
 use std::thread;
 
 /// How often a call yields to other threads before its turn must have come.
-const MOST_YIELDS: u32 = 100_000_000;
+const MOST_YIELDS: u32 = 20_000_000;
 
 /// A gate that holds each call until its caller's turn has come.
 #[derive(Drop)]
@@ -66,7 +66,8 @@ impl<'a, K: TokenId, T: Drop, G: Gate<K, T>> Gate<K, T> for OrderedGate<'a, G> {
         caller: &mut Caller<K, T>,
         call: Call,
     ) -> Result<Reply, NoMemory> {
-        if !self.await_turn(caller.number()) {
+        // Where one turn didn't come, those of later calls don't either.
+        if !self.is_late() && !self.await_turn(caller.number()) {
             self.is_late.store(true, Ordering::SeqCst);
         }
         let reply = self.gate.call(rt, alloc, caller, call);

@@ -1,0 +1,2 @@
+pub mod CallerCallLemmas
+pub mod CallerScriptLemmas

@@ -1,0 +1,24 @@
+use Rattle.std.proofs.Common.{sym, ap, ◌∙◌, subst, arith}
+use Rattle.std.specs.Prelude.{All, vec_items}
+use Rattle.std.specs.Vec.Iter.{into_iter_items}
+use Rattle.std.proofs.lemmas.List.Elements.{All-push, All-tail}
+use Rattle.ck_program.specs.CallerCalls.{HasMadeAll, IsPlayedAll}
+use Rattle.ck_program.proofs.thread_plays.callers_of.Goals as goal
+
+pub loop-script-preserved : goal.loop-script-preserved
+loop-script-preserved g c = (
+  tt,
+  tt,
+  λ calls all.
+      let before = c.loop-script.invariant.2 calls all in
+      let left = subst (All (IsPlayedAll calls)) c.in-Some.ensures.steps.0 before.1 in
+      let made = left 0 c.in-Some.script (omega arith) (sym c.outcome.ensures ∙ c.in_ok-outcome.was) in (
+        subst (All (HasMadeAll calls)) (sym c.in_ok-push.ensures.items)
+            (All-push (HasMadeAll calls) (vec_items c.loop-script.callers) c.into_parts.result.0 before.0
+            (subst (HasMadeAll calls) (sym (ap (λ p. p.0) c.into_parts.ensures)) made)),
+        All-tail (IsPlayedAll calls) c.in-Some.script (into_iter_items c.next.new.self) left,
+      ),
+)
+
+pub returns : goal.returns
+returns g c calls all = (c.loop-script.invariant.2 calls all).0

@@ -1,0 +1,34 @@
+-- What the program does by its options with its reader and its writer
+use Rattle.std.specs.Prelude.{◌^◌, ◌-◌, ℕ, List, Result, Ok, Err, string_bytes}
+use Rattle.ck_types.specs.TokenLimits.{Ranges}
+use Rattle.ck_program.specs.CallerScripts.{IsPlayedInThreads}
+use Rattle.ck_play.specs.Devices.{Reading, Writing, wrote}
+use Rattle.ck_play.specs.Players.{IsUnwritten}
+use Rattle.ck_play.specs.Plays.{IsPlayed}
+use Rattle.ck_play.specs.declared.faults.PlayFault.{PlayFault}
+use Rattle.ck_options.specs.declared.options.Options.{Options}
+use Rattle.ck_options.specs.declared.options.Options.TheVariants as option
+use Rattle.ck_play.specs.declared.plays.TheConstants.{TURNS}
+
+abbrev pub largest_limits : Ranges
+largest_limits = record {
+  sessions = 64;
+  openings = 2 ^ 32 - 1;
+  creations = 2 ^ 32 - 1;
+  logins = 2 ^ 31 - 1;
+}
+
+-- a text is written, or the writer failed
+abbrev pub IsWritten : List ℕ → Writing → (Writing → Type 0) → Result (Unit {0}) PlayFault → Type 0
+IsWritten text written is_written (Ok u) = is_written (wrote written text)
+IsWritten text written is_written (Err fault) = IsUnwritten is_written written text fault
+
+-- what was read and written by these options, and how that ended
+abbrev pub IsDone : Options → Reading → Writing → (Reading → Type 0) → (Writing → Type 0)
+    → Result (Unit {0}) PlayFault → Type 0
+IsDone option.InTurn read written is_read is_written result =
+    IsPlayed largest_limits TURNS read written is_read is_written result
+IsDone (option.InThreads callers) read written is_read is_written result =
+    IsPlayedInThreads largest_limits callers.count TURNS read written is_read is_written result
+IsDone (option.Help text) read written is_read is_written result =
+    is_read read × IsWritten (string_bytes text) written is_written result

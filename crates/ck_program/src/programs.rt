@@ -1,0 +1,110 @@
+//! The program over any options, reader and writer.
+ghost use Rattle.std.specs.Prelude.{◌≡◌, ◌⊎◌, ◌↔◌, Ok, Err};
+ghost use Rattle.ck_program.specs.CallerScripts.{IsPlayedInThreads};
+ghost use Rattle.ck_play.specs.Devices.{Reading, Writing};
+ghost use Rattle.ck_play.specs.Faults.{status_of};
+ghost use Rattle.ck_program.specs.Programs.{IsDone};
+ghost use Rattle.ck_play.specs.declared.faults.PlayFault.{PlayFault};
+
+use crate::caller_scripts::read_calls;
+use crate::thread_plays::play_calls;
+use ck_options::{ArgumentFault, Callers, Options};
+use ck_play::{PlayFault, Sink, Source, TURNS, play, write_all};
+use ck_types::Limits;
+use std::alloc::Global;
+use std::sync::Wait;
+use std::thread::Threads;
+
+/// The status of arguments that aren't the program's.
+const BAD_ARGUMENTS: u8 = 2;
+
+/// Reads a script whole in at most so many reads as `turns`, plays the lines of so many callers on
+/// a new token, those of each in a thread of its own, and writes how many entries the journal has
+/// and what its audit finds.
+pub fn play_threads<R: Source, W: Sink, RT: Threads + Wait + Copy + Drop + Send + Sync>(
+    rt: RT,
+    alloc: Global,
+    limits: Limits,
+    callers: Callers,
+    reader: &mut R,
+    writer: &mut W,
+    turns: u64,
+) -> Result<(), PlayFault>
+    ensures { (read : Reading) (written : Writing)
+        → R.is_read reader.old read → W.is_written writer.old written
+        → IsPlayedInThreads limits callers.count turns read written
+        (R.is_read reader.new) (W.is_written writer.new) result }
+{
+    let calls = read_calls(alloc, reader, callers.count, turns)?;
+    let summary = play_calls(rt, alloc, limits, callers, calls.as_slice())?;
+    write_all(writer, summary.as_bytes())
+}
+
+/// Does what the options say with the largest limits.
+fn play_options<R: Source, W: Sink, RT: Threads + Wait + Copy + Drop + Send + Sync>(
+    rt: RT,
+    alloc: Global,
+    options: Options,
+    reader: &mut R,
+    writer: &mut W,
+) -> Result<(), PlayFault>
+    ensures { (read : Reading) (written : Writing)
+        → R.is_read reader.old read → W.is_written writer.old written
+        → IsDone options read written (R.is_read reader.new) (W.is_written writer.new) result }
+{
+    let limits = Limits::largest();
+    match options {
+        Options::InTurn => play(alloc, limits, reader, writer),
+        Options::InThreads(callers) => {
+            play_threads(rt, alloc, limits, callers, reader, writer, TURNS)
+        }
+        Options::Help(text) => write_all(writer, text.as_bytes()),
+    }
+}
+
+/// Does what the options say with the largest limits, and says with which status the program ends:
+/// 0 where it was done, 1 at a bad line, 3 after another fault, and 2 where the arguments aren't
+/// the program's. What went wrong is a line on standard error.
+pub fn run<R: Source, W: Sink, RT: Eprint + Threads + Wait + Copy + Drop + Send + Sync>(
+    rt: RT,
+    alloc: Global,
+    options: Result<Options, ArgumentFault>,
+    reader: &mut R,
+    writer: &mut W,
+) -> u8
+    ensures status { (result ≡ 0) ⊎ (result ≡ 1) ⊎ (result ≡ 2) ⊎ (result ≡ 3) }
+    ensures bad_arguments { result ≡ 2 ↔ options ≡ Err ArgumentFault.Bad }
+    ensures untouched { result ≡ 2
+        → (reader.new ≡ reader.old) × (writer.new ≡ writer.old) }
+    ensures without_memory { options ≡ Err ArgumentFault.Memory
+        → (result ≡ 3) × (reader.new ≡ reader.old) × (writer.new ≡ writer.old) }
+    ensures played { (chosen : Options) → options ≡ Ok chosen → result ≡ 0
+        → (read : Reading) (written : Writing)
+        → R.is_read reader.old read → W.is_written writer.old written
+        → IsDone chosen read written
+        (R.is_read reader.new) (W.is_written writer.new) (Ok tt) }
+    ensures stopped { (chosen : Options) → options ≡ Ok chosen → (result ≡ 1) ⊎ (result ≡ 3)
+        → (fault : PlayFault) × (status_of fault ≡ result)
+        × ((read : Reading) (written : Writing)
+        → R.is_read reader.old read → W.is_written writer.old written
+        → IsDone chosen read written
+        (R.is_read reader.new) (W.is_written writer.new) (Err fault)) }
+{
+    match options {
+        Ok(options) => match play_options(rt, alloc, options, reader, writer) {
+            Ok(()) => 0,
+            Err(fault) => {
+                let _ = eprintln!(&rt; "ck_run: {fault}");
+                fault.status()
+            }
+        },
+        Err(ArgumentFault::Bad) => {
+            let _ = eprintln!(&rt; "ck_run: bad arguments");
+            BAD_ARGUMENTS
+        }
+        Err(ArgumentFault::Memory) => {
+            let _ = eprintln!(&rt; "ck_run: out of memory");
+            PlayFault::Memory.status()
+        }
+    }
+}

@@ -1,0 +1,163 @@
+//! Callers that play their calls in threads.
+ghost use Rattle.std.specs.Prelude.{◌≡◌, ◌++◌, ◌≤◌, ℕ, List, [], ◌∷◌, All, IfOk, OnOk, string_bytes};
+ghost use Rattle.ck_journal.specs.Answers.{IsLegal};
+ghost use Rattle.ck_journal.specs.Bases.{empty_base};
+ghost use Rattle.ck_journal.specs.Callers.{AreCallers};
+ghost use Rattle.ck_journal.specs.Fronts.{IsFront};
+ghost use Rattle.ck_journal.specs.Histories.{start, entry_count};
+ghost use Rattle.ck_journal.specs.declared.calls.Call.{Call};
+ghost use Rattle.ck_shared.specs.Accounts.{name_of};
+ghost use Rattle.ck_program.specs.CallerCalls.{calls_by, IsNewCaller, HasMadeAll, HasEntriesOf};
+ghost use Rattle.ck_program.specs.CallerCalls.{IsUnplayed, IsPlayedAll};
+ghost use Rattle.ck_program.specs.CallerScripts.{IsSummary, summary_text};
+
+use ck_audit::{Verdict, audit_token};
+use ck_journal::Call;
+use ck_options::Callers;
+use ck_runs::{Script, run_scripts};
+use ck_shared::{BoardCopy, Caller, Ends, EntrySlot, NewIdentity, SharedToken, TokenId};
+use ck_token::Token;
+use ck_types::{Limits, NoMemory};
+use std::alloc::Global;
+use std::marker::Brand;
+use std::sync::Wait;
+use std::thread::Threads;
+
+type Shared<K, R> = SharedToken<K, EntrySlot<K>, BoardCopy<K>, R>;
+
+/// Adds a copy of a call where it is one of this caller.
+fn add_if_by(
+    own: &mut Vec<Call>,
+    alloc: Global,
+    call: &(u32, Call),
+    number: u32,
+) -> Result<(), NoMemory>
+    ensures { OnOk result (own.new.items ≡ own.old.items ++ calls_by number (call.now ∷ [])) }
+{
+    if call.0 == number {
+        own.push(call.1.duplicate(alloc)?)?;
+    }
+    Ok(())
+}
+
+/// Copies of the calls of this caller, in their order.
+fn calls_by(alloc: Global, calls: &[(u32, Call)], number: u32) -> Result<Vec<Call>, NoMemory>
+    ensures { IfOk result (λ own. own.items ≡ calls_by number calls.now) }
+{
+    let mut own = Vec::new(alloc);
+    for call in calls {
+        add_if_by(&mut own, alloc, call, number)?;
+    }
+    Ok(own)
+}
+
+/// For each caller a script of its calls.
+fn scripts_of<K: TokenId, T: Drop>(
+    alloc: Global,
+    callers: Vec<Caller<K, T>>,
+    calls: &[(u32, Call)],
+) -> Result<Vec<Script<K, T>>, NoMemory>
+    requires { All IsNewCaller callers.items }
+    ensures { IfOk result (λ scripts. All (IsUnplayed calls.now) scripts.items) }
+{
+    let mut scripts = Vec::with_capacity(alloc, callers.len())?;
+    for caller in callers {
+        let own = calls_by(alloc, calls, caller.number())?;
+        match Script::new(alloc, caller, own) {
+            Ok(script) => scripts.push(script)?,
+            Err(_) => return Err(NoMemory),
+        }
+    }
+    Ok(scripts)
+}
+
+/// The callers of scripts that were played to their ends.
+fn callers_of<K: TokenId, T: Drop>(
+    alloc: Global,
+    scripts: Vec<Script<K, T>>,
+) -> Result<Vec<Caller<K, T>>, NoMemory>
+    ensures { (calls : List (ℕ × Call)) → All (IsPlayedAll calls) scripts.items
+        → IfOk result (λ callers. All (HasMadeAll calls) callers.items) }
+{
+    let mut callers = Vec::with_capacity(alloc, scripts.len())?;
+    for script in scripts {
+        script.outcome()?;
+        callers.push(script.into_parts().0)?;
+    }
+    Ok(callers)
+}
+
+/// Plays the calls of each caller in a thread of its own.
+fn play_scripts<K: TokenId + Send + Sync, R: Threads + Wait + Copy + Drop + Send + Sync>(
+    rt: R,
+    alloc: Global,
+    token: &Shared<K, R>,
+    callers: Vec<Caller<K, BoardCopy<K>>>,
+    calls: &[(u32, Call)],
+) -> Result<Vec<Caller<K, BoardCopy<K>>>, NoMemory>
+    requires { All IsNewCaller callers.items }
+    ensures { IfOk result (λ callers. All (HasMadeAll calls.now) callers.items) }
+{
+    let mut scripts = scripts_of(alloc, callers, calls)?;
+    run_scripts(&rt, alloc, token, scripts.as_mut_slice());
+    callers_of(alloc, scripts)
+}
+
+/// Shares a new token among so many callers, which play their calls, and takes it back.
+fn play_shared<K: TokenId + Send + Sync, R: Threads + Wait + Copy + Drop + Send + Sync>(
+    rt: R,
+    alloc: Global,
+    limits: Limits,
+    callers: u32,
+    identity: NewIdentity,
+    calls: &[(u32, Call)],
+) -> Result<Token, NoMemory>
+    requires base { K.base ≡ empty_base }
+    requires limits { limits ≡ K.limits }
+    requires callers { (1 ≤ callers) × (callers ≤ 8) × (callers ≡ K.callers) }
+    requires book { identity.history.seen.book ≡ K.book }
+    requires ledgers { (n : ℕ) → K.ledger n ≡ name_of identity.ledgers n }
+    ensures limits { IfOk result (λ token. token.limits ≡ limits) }
+    ensures new { IfOk result (λ token. IsFront (start empty_base) token.history) }
+    ensures only { IfOk result (λ token. AreCallers callers token.history) }
+    ensures all { IfOk result (λ token. (number : ℕ) → 1 ≤ number → number ≤ callers
+        → HasEntriesOf calls.now number token.history) }
+{
+    let Ends { token, callers } = Shared::<K, R>::open(rt, alloc, limits, callers, identity)?;
+    let callers = play_scripts(rt, alloc, &token, callers, calls)?;
+    match token.close(&rt, callers) {
+        Ok(token) => Ok(token),
+        // All callers are given back, so the token comes.
+        Err(_) => Err(NoMemory),
+    }
+}
+
+/// How many entries the token's journal has, and what its audit finds, each on a line.
+fn summary_of(alloc: Global, token: &Token) -> Result<String, NoMemory>
+    ensures text { IfOk result (λ text.
+        string_bytes text ≡ summary_text (entry_count token.now.history)) }
+    ensures legal { IsLegal token.now.limits token.now.history }
+{
+    let entries = token.journal().len();
+    match audit_token(alloc, token)? {
+        Verdict::Legal => Ok(format!(in alloc; "entries {entries}\naudit ok\n")?),
+        Verdict::Wrong(number) => Ok(format!(in alloc; "entries {entries}\naudit {number}\n")?),
+    }
+}
+
+/// Plays the calls of so many callers on a new token, those of each in a thread of its own. Gives
+/// how many entries the journal then has, and what its audit finds, each on a line.
+pub(crate) fn play_calls<R: Threads + Wait + Copy + Drop + Send + Sync>(
+    rt: R,
+    alloc: Global,
+    limits: Limits,
+    callers: Callers,
+    calls: &[(u32, Call)],
+) -> Result<String, NoMemory>
+    ensures { IfOk result (λ text.
+        IsSummary limits callers.count calls.now (string_bytes text)) }
+{
+    let identity = NewIdentity::new();
+    let token = play_shared::<Brand, R>(rt, alloc, limits, callers.count, identity, calls)?;
+    summary_of(alloc, &token)
+}
