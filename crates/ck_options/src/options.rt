@@ -25,7 +25,7 @@ pub enum Options {
 /// Why the arguments say nothing of what to do.
 #[derive(Clone, Copy, Debug, PartialEq, Eq)]
 pub enum ArgumentFault {
-    /// They aren't the program's.
+    /// They aren't the program's, or can't be read.
     Bad,
     /// There was no memory to read them.
     Memory,

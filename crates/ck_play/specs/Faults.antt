@@ -1,4 +1,4 @@
--- The statuses with which the program ends
+-- The statuses with which the program ends after a fault
 use Rattle.std.specs.Prelude.{ℕ}
 use Rattle.ck_play.specs.declared.faults.PlayFault.{PlayFault}
 use Rattle.ck_play.specs.declared.faults.PlayFault.TheVariants as fault

@@ -30,7 +30,8 @@ IsRefused number bytes fault.Write = ⊥
 IsRefused number bytes fault.Memory = length bytes ≤ LONGEST_LINE
 IsRefused number bytes fault.Turns = ⊥
 
--- a reply's text wasn't written whole
+-- these bytes weren't written whole: the writer failed behind a front of them, or there was no
+-- memory and none is written
 abbrev pub IsUnwritten : (Writing → Type 0) → Writing → List ℕ → PlayFault → Type 0
 IsUnwritten is_written w bytes (fault.Line n reason) = ⊥
 IsUnwritten is_written w bytes fault.Read = ⊥

@@ -15,7 +15,7 @@ use ck_token::Token;
 use ck_types::Limits;
 use std::alloc::Global;
 
-/// The most reads that `play` makes, 2^32.
+/// The most reads of a script, 2^32.
 pub const TURNS: u64 = 4_294_967_296;
 
 /// Plays a script on a new token, in at most 2^32 reads.

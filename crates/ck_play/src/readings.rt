@@ -1,4 +1,4 @@
-//! Sources that are read.
+//! Single reads of a source, and scripts that are read whole.
 ghost use Rattle.std.specs.Prelude.{◌≡◌, ◌<◌, ◌≤◌, ◌==◌, [], length, take, IfOk, IfErr, OnErr};
 ghost use Rattle.std.specs.Prelude.{Ok, if◌then◌else◌};
 ghost use Rattle.ck_play.specs.Devices.{Reading, end_read, failed_read, read_on};

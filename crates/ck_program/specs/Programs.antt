@@ -18,7 +18,7 @@ largest_limits = record {
   logins = 2 ^ 31 - 1;
 }
 
--- a text is written, or the writer failed
+-- a text is written, or wasn't written whole
 abbrev pub IsWritten : List ℕ → Writing → (Writing → Type 0) → Result (Unit {0}) PlayFault → Type 0
 IsWritten text written is_written (Ok u) = is_written (wrote written text)
 IsWritten text written is_written (Err fault) = IsUnwritten is_written written text fault

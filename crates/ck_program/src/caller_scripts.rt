@@ -1,4 +1,4 @@
-//! Scripts that are read whole, and their calls.
+//! The calls of a script that is read whole, each of one of so many callers.
 ghost use Rattle.std.specs.Prelude.{◌≡◌, ◌++◌, false, [], ◌∷◌, Some, IfOk, OnOk, IfErr};
 ghost use Rattle.ck_script.specs.Lines.{lines_in, meaning};
 ghost use Rattle.ck_play.specs.Devices.{Reading};

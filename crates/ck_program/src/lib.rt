@@ -1,5 +1,5 @@
 //! The program over any options, reader and writer: a script line by line, or the lines of each
-//! caller in a thread of its own.
+//! caller in a thread of its own, or its help; and the status with which it ends.
 #![tactic(auto)]
 
 mod caller_scripts;

@@ -1,4 +1,4 @@
-//! Plays a script of calls on a token, from standard input to standard output.
+//! Hands the program's arguments, standard input and standard output to what plays scripts.
 #![tactic(auto)]
 
 use ck_options::given_options;

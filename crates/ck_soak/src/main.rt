@@ -1,9 +1,9 @@
 //! What threads of callers do to a shared token. The program plays the races of the files that its
 //! arguments name: each by one thread, and by threads of its callers, in orders that a gate keeps
-//! and in none. Then two callers open sessions. Then a caller asks while another logs in. Then eight
-//! callers make drawn calls at once. What it writes is the same in every order of the calls. Where the first argument is
-//! `alone`, the steps of each race are made one after the other on a shared token, again where there
-//! was no memory, and the line of a file says how many were.
+//! and in none. Then two callers open sessions, a caller asks while another logs in, and eight
+//! callers make drawn calls at once. What it writes is the same in every order of the calls. Where
+//! the first argument is `alone`, only the steps of each race are made, one after the other on a
+//! shared token, again where there was no memory, and the line of a file says how many were.
 #![tactic(auto)]
 
 mod asks;
@@ -98,7 +98,7 @@ fn play_file<R: Files + Print + AllocGlobal + Threads + Wait + Copy + Drop + Sen
     }
 }
 
-/// Shares a token between two callers, and says whether there was memory for it.
+/// Shares a token between two callers, and says whether that went well.
 fn play_two<R: Print + AllocGlobal + Threads + Wait + Copy + Drop + Send + Sync>(
     rt: R,
 ) -> io::Result<bool> {

@@ -1,4 +1,4 @@
-//! The token of a race, before and while it is shared.
+//! The types of shared tokens, and the token of a race before it is shared.
 ghost use Rattle.std.specs.Prelude.{◌≡◌, IfOk};
 ghost use Rattle.ck_journal.specs.Histories.{start, start_of};
 

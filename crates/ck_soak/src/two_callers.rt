@@ -66,7 +66,7 @@ pub(crate) struct Counts {
 }
 
 /// Shares the token between two callers, and takes it back where both are done. `None` where there
-/// is no memory.
+/// is no memory, the question has no answer or the token isn't taken back.
 fn shared_by_two<K: TokenId + Send + Sync, R: Threads + Wait + Copy + Drop + Send + Sync>(
     rt: R,
     alloc: Global,
@@ -96,7 +96,7 @@ fn shared_by_two<K: TokenId + Send + Sync, R: Threads + Wait + Copy + Drop + Sen
     })
 }
 
-/// Shares a new token between two callers. `None` where there is no memory.
+/// Shares a new token between two callers.
 pub(crate) fn counts_of_two<R: Threads + Wait + Copy + Drop + Send + Sync>(
     rt: R,
     alloc: Global,
