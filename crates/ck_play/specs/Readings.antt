@@ -25,7 +25,8 @@ pub record IsReadWhole (turns : ℕ) (read : Reading) (is_read : Reading → Typ
   pub within : AreReads turns reads result
   pub outcome : HasReadTo ended script bytes result
 
--- why a script wasn't read whole: reading stopped, or there was no memory, of which nothing more is said
+-- why a script wasn't read whole: reading stopped, or there was no memory, of which nothing more
+-- is said
 abbrev pub IsUnread : ℕ → Reading → (Reading → Type 0) → PlayFault → Type 0
 IsUnread turns read is_read fault.Read =
     (bytes : List ℕ) × IsReadWhole turns read is_read bytes (Err fault.Read)
