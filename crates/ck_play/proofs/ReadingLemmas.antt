@@ -7,7 +7,7 @@ use Rattle.std.specs.Prelude.{◌==◌, if◌then◌else◌, Result}
 use Rattle.std.specs.Result.{is_err, is_ok}
 use Rattle.ck_play.specs.Devices.{Reading, end_read, failed_read, read_on}
 use Rattle.ck_play.specs.Plays.{after_reads}
-use Rattle.ck_play.specs.Readings.{IsReadWhole, HasReadSoFar}
+use Rattle.ck_play.specs.Readings.{IsReadWhole, IsUnread, HasReadSoFar}
 use Rattle.ck_play.specs.declared.faults.PlayFault.{PlayFault}
 use Rattle.ck_play.specs.declared.faults.PlayFault.TheVariants as fault
 
@@ -92,6 +92,22 @@ read-nothing read A bytes none h = record {
       (read.reads + 0) read.ends read.failures
       (sym (ap (λ (xs : List ℕ). read.bytes ++ xs) none ∙ append-nil read.bytes)) (omega arith) h;
 }
+
+-- there was no memory for the first read
+pub read-unmade : (turns : ℕ) (read : Reading) (A : Reading → Type 0) → A read
+    → IsUnread turns read A fault.Memory
+read-unmade turns read A h = (
+  [],
+  record {
+    script = [];
+    earlier = read.earlier;
+    ended = false;
+    reads = 0;
+    reader = (read-nothing read A [] refl h).reader;
+    within = omega arith;
+    outcome = refl;
+  },
+)
 
 pub read-more : (read : Reading) (A B : Reading → Type 0) (bytes next : List ℕ)
     (reads after count : ℕ) (piece : List ℕ)

@@ -3,9 +3,7 @@ use Rattle.std.proofs.Common.{◌≡◌, ℕ, ◌+◌, ◌-◌, List, ◌++◌, 
 use Rattle.std.proofs.Common.{subst, arith, append_assoc}
 use Rattle.std.proofs.lemmas.List.{take-append-drop, take-take, drop-take, take_rest}
 use Rattle.ck_play.specs.Devices.{Writing, wrote, failed_write}
-use Rattle.ck_play.specs.declared.faults.PlayFault.{PlayFault}
-use Rattle.ck_play.specs.declared.faults.PlayFault.TheVariants as fault
-use Rattle.ck_play.specs.Players.{IsUnwritten}
+use Rattle.ck_play.specs.Players.{WriteFailed}
 
 taken : (xs : List ℕ) (at count : ℕ) → take at xs ++ take count (drop at xs) ≡ take (at + count) xs
 taken xs at count =
@@ -28,8 +26,7 @@ wrote-more P w xs at count h =
     ∙ taken xs at count)) h
 
 -- a failed write
-pub broken : (P : Writing → Type 0) (w : Writing) (xs : List ℕ) (at : ℕ) (f : PlayFault)
-    → f ≡ fault.Write → P (failed_write (wrote w (take at xs))) → IsUnwritten P w xs f
-broken P w xs at f e h =
-    subst (IsUnwritten P w xs) (sym e) (record
-    { part = take at xs; rest = drop at xs; parts = sym (take-append-drop at xs); writer = h })
+pub broken : (P : Writing → Type 0) (w : Writing) (xs : List ℕ) (at : ℕ)
+    → P (failed_write (wrote w (take at xs))) → WriteFailed P w xs
+broken P w xs at h =
+    record { part = take at xs; rest = drop at xs; parts = sym (take-append-drop at xs); writer = h }

@@ -25,15 +25,10 @@ pub record IsReadWhole (turns : ℕ) (read : Reading) (is_read : Reading → Typ
   pub within : AreReads turns reads result
   pub outcome : HasReadTo ended script bytes result
 
--- why a script wasn't read whole: reading stopped, or there was no memory, of which nothing more
--- is said
+-- a script wasn't read whole, since reading stopped with this fault
 abbrev pub IsUnread : ℕ → Reading → (Reading → Type 0) → PlayFault → Type 0
-IsUnread turns read is_read fault.Read =
-    (bytes : List ℕ) × IsReadWhole turns read is_read bytes (Err fault.Read)
-IsUnread turns read is_read fault.Turns =
-    (bytes : List ℕ) × IsReadWhole turns read is_read bytes (Err fault.Turns)
-IsUnread turns read is_read fault.Memory = Unit {0}
-IsUnread turns read is_read other = ⊥
+IsUnread turns read is_read fault =
+    (bytes : List ℕ) × IsReadWhole turns read is_read bytes (Err fault)
 
 -- so many reads were made, and gave these bytes
 pub record HasReadSoFar (read : Reading) (is_read : Reading → Type 0) (bytes : List ℕ) (reads : ℕ)

@@ -4,8 +4,8 @@ ghost use Rattle.std.specs.Prelude.{OnOk, OnErr};
 ghost use Rattle.ck_journal.specs.Answers.{answer};
 ghost use Rattle.ck_script.specs.Replies.{reply_text};
 ghost use Rattle.ck_play.specs.Devices.{Writing, wrote, failed_write};
-ghost use Rattle.ck_play.specs.Players.{IsUnwritten, IsRefused, IsCalled, AnswersLine, StopsAtLine};
-ghost use Rattle.ck_play.specs.Players.{AnswersChunk, StopsInChunk, next_number};
+ghost use Rattle.ck_play.specs.Players.{WriteFailed, IsUnwritten, IsRefused, IsCalled, AnswersLine};
+ghost use Rattle.ck_play.specs.Players.{StopsAtLine, AnswersChunk, StopsInChunk, next_number};
 
 use crate::devices::Sink;
 use crate::faults::PlayFault;
@@ -51,8 +51,9 @@ fn write_some<W: Sink>(writer: &mut W, bytes: &[u8]) -> Result<usize, PlayFault>
 pub fn write_all<W: Sink>(writer: &mut W, bytes: &[u8]) -> Result<(), PlayFault>
     ensures ok { OnOk result ((w : Writing) → W.is_written writer.old w
         → W.is_written writer.new (wrote w bytes.now)) }
-    ensures err { IfErr result (λ fault. (w : Writing) → W.is_written writer.old w
-        → IsUnwritten (W.is_written writer.new) w bytes.now fault) }
+    ensures fault { IfErr result (λ fault. fault ≡ PlayFault.Write) }
+    ensures err { OnErr result ((w : Writing) → W.is_written writer.old w
+        → WriteFailed (W.is_written writer.new) w bytes.now) }
 {
     let mut at = 0;
     while at < bytes.len() {

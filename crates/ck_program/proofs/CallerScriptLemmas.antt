@@ -1,6 +1,6 @@
 -- The calls of lines, one line after the other
 use Rattle.std.proofs.Common.{◌≡◌, ℕ, suc, false, min, List, [], ◌∷◌, ◌++◌}
-use Rattle.std.proofs.Common.{length, refl, sym, ap, ◌∙◌, subst, arith, add-one}
+use Rattle.std.proofs.Common.{length, sym, ap, ◌∙◌, subst, arith, add-one}
 use Rattle.std.proofs.Common.{append_assoc}
 use Rattle.std.proofs.lemmas.List.{append-nil, length_push}
 use Rattle.ck_journal.specs.declared.calls.Call.{Call}

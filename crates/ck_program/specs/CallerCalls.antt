@@ -1,5 +1,5 @@
 -- The calls of each caller of a script, and what comes of them
-use Rattle.std.specs.Prelude.{◌≡◌, ◌==◌, ℕ, List, [], ◌∷◌, Ok, length, if◌then◌else◌, vec_items}
+use Rattle.std.specs.Prelude.{◌≡◌, ◌==◌, ℕ, List, [], ◌∷◌, Ok, length, map, if◌then◌else◌, vec_items}
 use Rattle.ck_journal.specs.Bases.{empty_base}
 use Rattle.ck_journal.specs.Callers.{entries_by}
 use Rattle.ck_journal.specs.Fronts.{IsFront}
@@ -21,6 +21,14 @@ pub record HasEntriesOf (calls : List (ℕ × Call)) (number : ℕ) (h : History
   pub replies : List Reply
   pub own : entries_by number h ≡ answered number (calls_by number calls) replies []
   pub all : length replies ≡ length (calls_by number calls)
+
+-- the callers' numbers, in their order
+abbrev pub numbers : List CallerState → List ℕ
+numbers callers = map (λ c. c.number) callers
+
+-- those of the scripts' callers
+abbrev pub script_numbers : {K T : Type 0} → List (Script K T Call Reply) → List ℕ
+script_numbers scripts = map (λ s. s.caller.number) scripts
 
 -- ---- of one caller
 

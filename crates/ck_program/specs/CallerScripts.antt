@@ -100,11 +100,13 @@ pub record HasBadScript (callers turns : ℕ) (read : Reading) (is_read : Readin
   pub whole : IsReadWhole turns read is_read script (Ok tt)
   pub bad : IsFirstBadFor callers (lines_in script) number
 
--- why there are no calls: reading stopped, or a line is bad, or there is no memory
+-- why there are no calls: reading stopped, or a line is bad, or there is no memory, of which
+-- nothing more is said
 abbrev pub HasNoCalls : ℕ → ℕ → Reading → (Reading → Type 0) → PlayFault → Type 0
 HasNoCalls callers turns read is_read (fault.Line number reason) =
     HasBadScript callers turns read is_read number
-HasNoCalls callers turns read is_read fault = IsUnread turns read is_read fault
+HasNoCalls callers turns read is_read fault.Memory = Unit {0}
+HasNoCalls callers turns read is_read other = IsUnread turns read is_read other
 
 -- what was read and written where a script is played in threads, by how that ends
 abbrev pub IsPlayedInThreads : Ranges → ℕ → ℕ → Reading → Writing → (Reading → Type 0)

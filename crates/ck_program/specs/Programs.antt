@@ -1,11 +1,12 @@
 -- What the program does by its options with its reader and its writer
-use Rattle.std.specs.Prelude.{◌^◌, ◌-◌, ℕ, List, Result, Ok, Err, string_bytes}
+use Rattle.std.specs.Prelude.{◌≡◌, ◌^◌, ◌-◌, ℕ, List, Result, Ok, Err, string_bytes}
 use Rattle.ck_types.specs.TokenLimits.{Ranges}
 use Rattle.ck_program.specs.CallerScripts.{IsPlayedInThreads}
 use Rattle.ck_play.specs.Devices.{Reading, Writing, wrote}
-use Rattle.ck_play.specs.Players.{IsUnwritten}
+use Rattle.ck_play.specs.Players.{WriteFailed}
 use Rattle.ck_play.specs.Plays.{IsPlayed}
 use Rattle.ck_play.specs.declared.faults.PlayFault.{PlayFault}
+use Rattle.ck_play.specs.declared.faults.PlayFault.TheVariants as fault
 use Rattle.ck_options.specs.declared.options.Options.{Options}
 use Rattle.ck_options.specs.declared.options.Options.TheVariants as option
 use Rattle.ck_play.specs.declared.plays.TheConstants.{TURNS}
@@ -18,10 +19,11 @@ largest_limits = record {
   logins = 2 ^ 31 - 1;
 }
 
--- a text is written, or wasn't written whole
+-- a text is written, or the writer failed behind a beginning of it
 abbrev pub IsWritten : List ℕ → Writing → (Writing → Type 0) → Result (Unit {0}) PlayFault → Type 0
 IsWritten text written is_written (Ok u) = is_written (wrote written text)
-IsWritten text written is_written (Err fault) = IsUnwritten is_written written text fault
+IsWritten text written is_written (Err f) =
+    (f ≡ fault.Write) × WriteFailed is_written written text
 
 -- what was read and written by these options, and how that ended
 abbrev pub IsDone : Options → Reading → Writing → (Reading → Type 0) → (Writing → Type 0)

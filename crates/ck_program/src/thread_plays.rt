@@ -8,7 +8,7 @@ ghost use Rattle.ck_journal.specs.Histories.{start, entry_count};
 ghost use Rattle.ck_journal.specs.declared.calls.Call.{Call};
 ghost use Rattle.ck_shared.specs.Accounts.{name_of};
 ghost use Rattle.ck_program.specs.CallerCalls.{calls_by, IsNewCaller, HasMadeAll, HasEntriesOf};
-ghost use Rattle.ck_program.specs.CallerCalls.{IsUnplayed, IsPlayedAll};
+ghost use Rattle.ck_program.specs.CallerCalls.{IsUnplayed, IsPlayedAll, numbers, script_numbers};
 ghost use Rattle.ck_program.specs.CallerScripts.{IsSummary, summary_text};
 
 use ck_audit::{Verdict, audit_token};
@@ -58,7 +58,9 @@ fn scripts_of<K: TokenId, T: Drop>(
     calls: &[(u32, Call)],
 ) -> Result<Vec<Script<K, T>>, NoMemory>
     requires { All IsNewCaller callers.items }
-    ensures { IfOk result (λ scripts. All (IsUnplayed calls.now) scripts.items) }
+    ensures unplayed { IfOk result (λ scripts. All (IsUnplayed calls.now) scripts.items) }
+    ensures numbers { IfOk result (λ scripts.
+        script_numbers scripts.items ≡ numbers callers.items) }
 {
     let mut scripts = Vec::with_capacity(alloc, callers.len())?;
     for caller in callers {
@@ -76,8 +78,10 @@ fn callers_of<K: TokenId, T: Drop>(
     alloc: Global,
     scripts: Vec<Script<K, T>>,
 ) -> Result<Vec<Caller<K, T>>, NoMemory>
-    ensures { (calls : List (ℕ × Call)) → All (IsPlayedAll calls) scripts.items
+    ensures made { (calls : List (ℕ × Call)) → All (IsPlayedAll calls) scripts.items
         → IfOk result (λ callers. All (HasMadeAll calls) callers.items) }
+    ensures numbers { IfOk result (λ callers.
+        numbers callers.items ≡ script_numbers scripts.items) }
 {
     let mut callers = Vec::with_capacity(alloc, scripts.len())?;
     for script in scripts {
@@ -96,7 +100,8 @@ fn play_scripts<K: TokenId + Send + Sync, R: Threads + Wait + Copy + Drop + Send
     calls: &[(u32, Call)],
 ) -> Result<Vec<Caller<K, BoardCopy<K>>>, NoMemory>
     requires { All IsNewCaller callers.items }
-    ensures { IfOk result (λ callers. All (HasMadeAll calls.now) callers.items) }
+    ensures made { IfOk result (λ callers. All (HasMadeAll calls.now) callers.items) }
+    ensures numbers { IfOk result (λ back. numbers back.items ≡ numbers callers.items) }
 {
     let mut scripts = scripts_of(alloc, callers, calls)?;
     run_scripts(&rt, alloc, token, scripts.as_mut_slice());
@@ -127,8 +132,8 @@ fn play_shared<K: TokenId + Send + Sync, R: Threads + Wait + Copy + Drop + Send 
     let callers = play_scripts(rt, alloc, &token, callers, calls)?;
     match token.close(&rt, callers) {
         Ok(token) => Ok(token),
-        // All callers are given back, so the token comes.
-        Err(_) => Err(NoMemory),
+        // All callers are given back.
+        Err(_) => unreachable!(),
     }
 }
 

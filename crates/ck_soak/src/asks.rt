@@ -8,7 +8,7 @@ use crate::errors::SoakError;
 use crate::texts::reply_text;
 use crate::tokens::{Board, Shared};
 use ck_journal::{Body, Call, Reply};
-use ck_shared::{Ask, Caller, Ends, NewIdentity, Status, TokenId};
+use ck_shared::{Ask, Caller, Ends, NewIdentity, News, Status, TokenId};
 use ck_token::Token;
 use ck_types::{Limits, Pin, Rv, SessionState};
 use std::alloc::Global;
@@ -174,7 +174,48 @@ fn check_known<K: TokenId>(
     expect(caller.seen() == seen && caller.count() == count)
 }
 
-/// The first caller logs in while the second asks, which loses nothing by what is older.
+/// The second caller learns what the first knew when it had made the first calls.
+fn check_learnt<K: TokenId>(
+    one: &Caller<K, Board<K>>,
+    two: &mut Caller<K, Board<K>>,
+    first: &News<K>,
+) -> Result<(), SoakError> {
+    two.learn(first);
+    check_known(one, FIRST_CALLS, FIRST_CALLS)?;
+    check_known(two, FIRST_CALLS, 0)
+}
+
+/// The first caller logs in while the second asks.
+fn log_in_beside_asks<K: TokenId + Send + Sync, R: Threads + Wait + Drop + Send + Sync>(
+    rt: &R,
+    alloc: Global,
+    token: &Shared<K, R>,
+    one: &mut Caller<K, Board<K>>,
+    two: &mut Caller<K, Board<K>>,
+) -> Result<(), SoakError> {
+    let (logged_in, asked) = thread::join(
+        rt,
+        || log_in_and_ask(rt, alloc, token, one),
+        || ask_often(two),
+    );
+    logged_in?;
+    asked
+}
+
+/// The second caller comes to see the login, and loses nothing by what is older.
+fn check_after_login<K: TokenId>(
+    one: &Caller<K, Board<K>>,
+    two: &mut Caller<K, Board<K>>,
+    first: &News<K>,
+) -> Result<(), SoakError> {
+    await_login(two)?;
+    two.learn(first);
+    check_known(one, FIRST_CALLS + 1, FIRST_CALLS + 1)?;
+    check_known(two, FIRST_CALLS + 1, 0)?;
+    two.learn(&one.news());
+    check_login(two)
+}
+
 fn check_asks<K: TokenId + Send + Sync, R: Threads + Wait + Drop + Send + Sync>(
     rt: &R,
     alloc: Global,
@@ -183,23 +224,10 @@ fn check_asks<K: TokenId + Send + Sync, R: Threads + Wait + Drop + Send + Sync>(
     two: &mut Caller<K, Board<K>>,
 ) -> Result<(), SoakError> {
     prepare(rt, alloc, token, one)?;
-    let before = one.news();
-    two.learn(&before);
-    check_known(one, FIRST_CALLS, FIRST_CALLS)?;
-    check_known(two, FIRST_CALLS, 0)?;
-    let (logged_in, asked) = thread::join(
-        rt,
-        || log_in_and_ask(rt, alloc, token, one),
-        || ask_often(two),
-    );
-    logged_in?;
-    asked?;
-    await_login(two)?;
-    two.learn(&before);
-    check_known(one, FIRST_CALLS + 1, FIRST_CALLS + 1)?;
-    check_known(two, FIRST_CALLS + 1, 0)?;
-    two.learn(&one.news());
-    check_login(two)
+    let first = one.news();
+    check_learnt(one, two, &first)?;
+    log_in_beside_asks(rt, alloc, token, one, two)?;
+    check_after_login(one, two, &first)
 }
 
 /// Makes some calls of both callers at once.

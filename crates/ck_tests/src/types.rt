@@ -60,21 +60,27 @@ fn check_labels(
     Ok(())
 }
 
+/// A value has these bytes, and so has its copy.
+fn check_bytes(
+    rt: &impl Abort,
+    alloc: Global,
+    value: &AttributeValue,
+    bytes: &[u8],
+) -> Result<(), NoMemory> {
+    assert!(rt; value.as_slice() == bytes);
+    assert!(rt; value.duplicate(alloc)?.as_slice() == bytes);
+    Ok(())
+}
+
 /// Values that lie in themselves, and longer ones.
 #[test]
 fn attribute_values(rt: HostRuntime) -> Result<(), Fail> {
-    assert_eq!(rt; AttributeValue::new(rt.alloc()).as_slice(), [].as_slice());
-    for len in [0, 16, 17, 300] {
-        let bytes = vec![in rt.alloc(); b'a'; len]?;
-        let copy = AttributeValue::from_slice(rt.alloc(), bytes.as_slice())?;
-        assert_eq!(rt; copy.as_slice(), bytes.as_slice(), "{len}");
-        let moved = AttributeValue::from_vec(bytes);
-        assert_eq!(rt; moved.as_slice(), copy.as_slice(), "{len}");
-        assert_eq!(rt;
-            moved.duplicate(rt.alloc())?.as_slice(),
-            copy.as_slice(),
-            "{len}"
-        );
+    check_bytes(&rt, rt.alloc(), &AttributeValue::new(rt.alloc()), &[])?;
+    for bytes in [[b'a'; 16].as_slice(), [b'a'; 17].as_slice()] {
+        let value = AttributeValue::from_slice(rt.alloc(), bytes)?;
+        check_bytes(&rt, rt.alloc(), &value, bytes)?;
+        let moved = AttributeValue::from_vec(Vec::from_slice(rt.alloc(), bytes)?);
+        check_bytes(&rt, rt.alloc(), &moved, bytes)?;
     }
     Ok(())
 }
@@ -277,12 +283,15 @@ fn check_error(
     name: &str,
 ) -> Result<(), Fail> {
     let code = Rv::from(error);
-    assert_eq!(rt; RvError::of(number), Some(error), "{number:x}");
-    assert_eq!(rt; Rv::of(number), Some(code), "{number:x}");
-    assert_eq!(rt; error.number(), number);
-    assert_eq!(rt; code.number(), number);
-    assert_eq!(rt; format!(in alloc; "{error}")?.as_str(), name);
-    assert_eq!(rt; format!(in alloc; "{code}")?.as_str(), name);
+    assert!(rt; RvError::of(number) == Some(error), "{number:x}");
+    assert!(rt; Rv::of(number) == Some(code), "{number:x}");
+    assert!(rt; error.number() == number, "{number:x}");
+    assert!(rt; code.number() == number, "{number:x}");
+    assert!(rt;
+        format!(in alloc; "{error}")?.as_str() == name,
+        "{number:x}"
+    );
+    assert!(rt; format!(in alloc; "{code}")?.as_str() == name, "{number:x}");
     Ok(())
 }
 

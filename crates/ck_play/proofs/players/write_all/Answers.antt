@@ -1,4 +1,4 @@
-use Rattle.std.proofs.Common.{arith, take, ◌∙◌}
+use Rattle.std.proofs.Common.{arith, take}
 use Rattle.std.proofs.lemmas.Result.{err_from_is_err_and}
 use Rattle.ck_play.specs.Devices.{wrote}
 use Rattle.ck_play.proofs.WriteLemmas.{wrote-more, broken}
@@ -8,8 +8,7 @@ pub returns-in_err-at-clause-err : goal.returns-in_err-at-clause-err
 returns-in_err-at-clause-err g c =
     let p = err_from_is_err_and c.from_residual.result c.from_residual.ensures.1 in
     rw p.1 (λ w h. broken (g.W.Sink.is_written c.write_some.new.writer) w c.args.bytes.now
-    c.loop-at.at _ (p.2 ∙ c.in_err-at.ensures.fault)
-    (c.in_err-at.ensures.err (wrote w (take c.loop-at.at c.args.bytes.now))
+    c.loop-at.at (c.in_err-at.ensures.err (wrote w (take c.loop-at.at c.args.bytes.now))
     (c.loop-at.invariant.1 w h)))
 
 pub loop-at-preserved : goal.loop-at-preserved

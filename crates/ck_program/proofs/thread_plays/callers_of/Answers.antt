@@ -2,7 +2,8 @@ use Rattle.std.proofs.Common.{sym, ap, ◌∙◌, subst, arith}
 use Rattle.std.specs.Prelude.{All, vec_items}
 use Rattle.std.specs.Vec.Iter.{into_iter_items}
 use Rattle.std.proofs.lemmas.List.Elements.{All-push, All-tail}
-use Rattle.ck_program.specs.CallerCalls.{HasMadeAll, IsPlayedAll}
+use Rattle.ck_program.specs.CallerCalls.{script_numbers, HasMadeAll, IsPlayedAll}
+use Rattle.ck_program.proofs.NumberLemmas.{one_moved}
 use Rattle.ck_program.proofs.thread_plays.callers_of.Goals as goal
 
 pub loop-script-preserved : goal.loop-script-preserved
@@ -18,7 +19,13 @@ loop-script-preserved g c = (
             (subst (HasMadeAll calls) (sym (ap (λ p. p.0) c.into_parts.ensures)) made)),
         All-tail (IsPlayedAll calls) c.in-Some.script (into_iter_items c.next.new.self) left,
       ),
+  one_moved (λ x. x.number) (λ s. s.caller.number) (vec_items c.loop-script.callers)
+      _ c.into_parts.result.0
+      (into_iter_items c.loop-script.script-iterator) (into_iter_items c.next.new.self)
+      c.in-Some.script (script_numbers (vec_items c.args.scripts)) c.loop-script.invariant.3
+      c.in-Some.ensures.steps.0 c.in_ok-push.ensures.items
+      (ap (λ p. p.0.number) c.into_parts.ensures),
 )
 
-pub returns : goal.returns
-returns g c calls all = (c.loop-script.invariant.2 calls all).0
+pub returns-clause-made : goal.returns-clause-made
+returns-clause-made g c calls all = (c.loop-script.invariant.2 calls all).0

@@ -2,7 +2,8 @@ use Rattle.std.proofs.Common.{◌≡◌, sym, ap, ◌∙◌, subst, arith}
 use Rattle.std.specs.Prelude.{All, vec_items}
 use Rattle.std.specs.Vec.Iter.{into_iter_items}
 use Rattle.std.proofs.lemmas.List.Elements.{All-push, All-tail}
-use Rattle.ck_program.specs.CallerCalls.{calls_by, IsNewCaller, IsUnplayed}
+use Rattle.ck_program.specs.CallerCalls.{calls_by, numbers, IsNewCaller, IsUnplayed}
+use Rattle.ck_program.proofs.NumberLemmas.{one_moved}
 use Rattle.ck_program.proofs.thread_plays.scripts_of.Goals as goal
 
 pub loop-caller-preserved : goal.loop-caller-preserved
@@ -21,4 +22,9 @@ loop-caller-preserved g c =
           (All-push (IsUnplayed calls) (vec_items c.loop-caller.scripts) c.in-Ok.script c.loop-caller.invariant.2
           unplayed),
       All-tail IsNewCaller c.in-Some.caller (into_iter_items c.next.new.self) left,
+      one_moved (λ s. s.caller.number) (λ x. x.number) (vec_items c.loop-caller.scripts)
+          _ c.in-Ok.script
+          (into_iter_items c.loop-caller.caller-iterator) (into_iter_items c.next.new.self)
+          c.in-Some.caller (numbers (vec_items c.args.callers)) c.loop-caller.invariant.4
+          c.in-Some.ensures.steps.0 c.in_ok-push-in-Ok.ensures.items (ap (λ x. x.number) c.in-Ok.ensures.caller),
     )
