@@ -24,8 +24,8 @@ fn token_after(alloc: Global, entries: u64) -> Result<Token, Failed> {
     Ok(token)
 }
 
-/// The processor time of an audit of so many entries, in nanoseconds, or `None` where there was no
-/// memory.
+/// The processor time of an audit of so many entries, in nanoseconds, or `None` where a call
+/// failed, there was no memory, the audit isn't legal or the clock went back.
 pub(crate) fn audit_time<R: CpuClock + AllocGlobal>(
     rt: &R,
     entries: u64,

@@ -1,8 +1,10 @@
 //! Calls of one session among many objects of another.
 ghost use Rattle.std.specs.Prelude.{◌<◌, ◌^◌};
 
-use crate::rounds::{Failed, call, label_alone, labelled_of, prepared, read_label};
-use ck_journal::Call;
+use crate::rounds::{
+    Failed, RW, call, destroy, get_label, label_alone, labelled_of, open_and_close, prepared,
+};
+use ck_journal::{Body, Call};
 use ck_token::Token;
 use ck_types::Pin;
 use std::alloc::Global;
@@ -17,7 +19,7 @@ const ROUNDS: u64 = 1_000;
 const LABEL_ROUNDS: u64 = 100_000;
 
 /// The measured phases, in the order in which they are made on a token.
-#[derive(Clone, Copy, Debug, PartialEq, Eq)]
+#[derive(Clone, Copy)]
 pub(crate) enum Phase {
     Create,
     ReadLabel,
@@ -73,8 +75,8 @@ impl Phase {
     }
 }
 
-/// Makes a user PIN and so many session objects of session 2. Their numbers begin with 3, and each
-/// has its number as its label.
+/// Makes a user PIN and so many session objects of session 2. Their numbers begin with 3, and their
+/// labels are numbers that begin with 0.
 fn crowd(token: &mut Token, alloc: Global, objects: u32) -> Result<(), Failed> {
     let pin = Pin::of(b"1234");
     let user = 0;
@@ -83,9 +85,9 @@ fn crowd(token: &mut Token, alloc: Global, objects: u32) -> Result<(), Failed> {
     let pin = Pin::of(b"1234");
     call(token, alloc, Call::InitPin { session, pin })?;
     call(token, alloc, Call::Logout { session })?;
-    call(token, alloc, Call::OpenSession { flags: 6 })?;
-    for object in 0..u64::from(objects) {
-        create(token, alloc, 2, object)?;
+    call(token, alloc, Call::OpenSession { flags: RW })?;
+    for number in 0..u64::from(objects) {
+        create(token, alloc, 2, number)?;
     }
     Ok(())
 }
@@ -115,7 +117,7 @@ fn change(token: &mut Token, alloc: Global, object: u64, round: u64) -> Result<(
 }
 
 fn ten_objects(token: &mut Token, alloc: Global) -> Result<(), Failed> {
-    let session = call(token, alloc, Call::OpenSession { flags: 6 })?;
+    let session = call(token, alloc, Call::OpenSession { flags: RW })?;
     for number in 0..10 {
         create(token, alloc, session, number)?;
     }
@@ -131,13 +133,17 @@ fn log_in_and_out(token: &mut Token, alloc: Global) -> Result<(), Failed> {
     Ok(())
 }
 
-fn search(token: &mut Token, alloc: Global, number: u64) -> Result<(), Failed> {
+/// Searches by a label, which exactly one object must have.
+fn search(token: &mut Token, alloc: Global, label: u64) -> Result<(), Failed> {
     let session = 1;
-    let template = label_alone(alloc, &number.to_le_bytes())?;
+    let template = label_alone(alloc, &label.to_le_bytes())?;
     call(token, alloc, Call::FindObjectsInit { session, template })?;
-    call(token, alloc, Call::FindObjects { session, max: 9 })?;
+    let found = token.call(alloc, 1, Call::FindObjects { session, max: 9 })?;
     call(token, alloc, Call::FindObjectsFinal { session })?;
-    Ok(())
+    match &found.body {
+        Body::Handles(handles) if handles.as_slice().len() == 1 => Ok(()),
+        _ => Err(Failed),
+    }
 }
 
 /// One round of the phase among so many objects.
@@ -152,29 +158,19 @@ fn round(
 {
     let past = u64::from(objects) + 3;
     let spread = 3 + round * 7919 % u64::from(objects).max(1);
+    // One of the labels that `Change` gives last: each of them is on one object.
+    let late = LABEL_ROUNDS.saturating_sub(1 + round);
     match phase {
         Phase::Create => create(token, alloc, 1, round),
-        Phase::ReadLabel => {
-            call(token, alloc, read_label(alloc, spread)?)?;
-            Ok(())
-        }
+        Phase::ReadLabel => get_label(token, alloc, spread),
         Phase::Change => change(token, alloc, spread, round),
         Phase::Destroy => destroy(token, alloc, past + round),
-        Phase::OpenAndClose => {
-            let session = call(token, alloc, Call::OpenSession { flags: 6 })?;
-            call(token, alloc, Call::CloseSession { session })?;
-            Ok(())
-        }
+        Phase::OpenAndClose => open_and_close(token, alloc),
         Phase::TenObjects => ten_objects(token, alloc),
         Phase::LogInAndOut => log_in_and_out(token, alloc),
-        Phase::Search => search(token, alloc, spread),
+        Phase::Search => search(token, alloc, late),
         Phase::DestroyAll => destroy(token, alloc, 3 + round),
     }
-}
-
-fn destroy(token: &mut Token, alloc: Global, object: u64) -> Result<(), Failed> {
-    call(token, alloc, Call::DestroyObject { session: 1, object })?;
-    Ok(())
 }
 
 /// The nanoseconds of a round of each phase on a new token, or `None` where one failed.

@@ -1,7 +1,7 @@
 //! The calls that are measured.
 ghost use Rattle.std.specs.Prelude.{◌≤◌};
 
-use ck_journal::{AttributeQuery, Body, Call, Reply};
+use ck_journal::{AttributeQuery, Body, Call, RW_SESSION, Reply, SERIAL_SESSION};
 use ck_token::Token;
 use ck_types::{
     AttributeValue, Bytes, Item, Limits, Mechanism, NoMemory, Pin, Rv, Sequence, Template,
@@ -27,7 +27,10 @@ const SECRET_KEY: &[u8] = &[4, 0, 0, 0, 0, 0, 0, 0];
 
 const GENERIC_SECRET: &[u8] = &[16, 0, 0, 0, 0, 0, 0, 0];
 
-#[derive(Clone, Copy, Debug, PartialEq, Eq)]
+/// The flags of a read/write session.
+pub(crate) const RW: u64 = SERIAL_SESSION | RW_SESSION;
+
+#[derive(Clone, Copy)]
 pub(crate) enum Kind {
     SessionInfo,
     TokenInfo,
@@ -90,7 +93,7 @@ pub(crate) fn calls_in(kind: Kind) -> u64
 }
 
 /// A call that was answered otherwise than it must be, or found no memory, or a clock that failed.
-#[derive(Clone, Copy, Debug, Drop)]
+#[derive(Clone, Copy, Drop)]
 pub(crate) struct Failed;
 
 impl From<NoMemory> for Failed {
@@ -160,7 +163,7 @@ fn labelled(alloc: Global) -> Result<Call, NoMemory> {
     })
 }
 
-pub(crate) fn read_label(alloc: Global, object: u64) -> Result<Call, NoMemory> {
+fn read_label(alloc: Global, object: u64) -> Result<Call, NoMemory> {
     let mut queries = Vec::with_capacity(alloc, 1)?;
     let room = Some(8);
     queries.push(AttributeQuery { kind: LABEL, room })?;
@@ -171,7 +174,7 @@ pub(crate) fn read_label(alloc: Global, object: u64) -> Result<Call, NoMemory> {
     })
 }
 
-/// A template that creates an object which is public: a data object, or a key of 32 bytes.
+/// A call that creates an object with these attributes.
 fn create(alloc: Global, items: &[(u64, &[u8])]) -> Result<Call, NoMemory> {
     let mut all = Vec::with_capacity(alloc, items.len())?;
     for (kind, value) in items {
@@ -206,7 +209,7 @@ fn secret_key(alloc: Global) -> Result<Call, NoMemory> {
 pub(crate) fn prepare<T: Target>(target: &mut T, alloc: Global) -> Result<(), Failed> {
     let pin = Pin::of(b"1234");
     call(target, alloc, Call::InitToken { pin })?;
-    call(target, alloc, Call::OpenSession { flags: 6 })?;
+    call(target, alloc, Call::OpenSession { flags: RW })?;
     call(target, alloc, labelled(alloc)?)?;
     call(target, alloc, secret_key(alloc)?)?;
     Ok(())
@@ -232,8 +235,8 @@ fn token_info<T: Target>(target: &mut T, alloc: Global) -> Result<(), Failed> {
 }
 
 #[inline(never)]
-fn open_and_close<T: Target>(target: &mut T, alloc: Global) -> Result<(), Failed> {
-    let session = call(target, alloc, Call::OpenSession { flags: 6 })?;
+pub(crate) fn open_and_close<T: Target>(target: &mut T, alloc: Global) -> Result<(), Failed> {
+    let session = call(target, alloc, Call::OpenSession { flags: RW })?;
     call(target, alloc, Call::CloseSession { session })?;
     Ok(())
 }
@@ -245,8 +248,18 @@ fn refusal<T: Target>(target: &mut T, alloc: Global) -> Result<(), Failed> {
 }
 
 #[inline(never)]
-fn get_label<T: Target>(target: &mut T, alloc: Global, object: u64) -> Result<(), Failed> {
+pub(crate) fn get_label<T: Target>(
+    target: &mut T,
+    alloc: Global,
+    object: u64,
+) -> Result<(), Failed> {
     call(target, alloc, read_label(alloc, object)?)?;
+    Ok(())
+}
+
+#[inline(always)]
+pub(crate) fn destroy<T: Target>(target: &mut T, alloc: Global, object: u64) -> Result<(), Failed> {
+    call(target, alloc, Call::DestroyObject { session: 1, object })?;
     Ok(())
 }
 
@@ -254,8 +267,7 @@ fn get_label<T: Target>(target: &mut T, alloc: Global, object: u64) -> Result<()
 fn create_and_destroy<T: Target>(target: &mut T, alloc: Global) -> Result<(), Failed> {
     let object = call(target, alloc, labelled(alloc)?)?;
     get_label(target, alloc, object)?;
-    call(target, alloc, Call::DestroyObject { session: 1, object })?;
-    Ok(())
+    destroy(target, alloc, object)
 }
 
 /// Starts a SHA-256 digest.
@@ -311,8 +323,7 @@ fn short_hmac<T: Target>(target: &mut T, alloc: Global) -> Result<(), Failed> {
 
 fn create_and_end<T: Target>(target: &mut T, alloc: Global, create: Call) -> Result<(), Failed> {
     let object = call(target, alloc, create)?;
-    call(target, alloc, Call::DestroyObject { session: 1, object })?;
-    Ok(())
+    destroy(target, alloc, object)
 }
 
 #[inline(never)]

@@ -1,11 +1,11 @@
 //! A token that callers share: its calls by the lock beside those of a token alone, and what four
 //! callers do in threads.
 ghost use Rattle.std.specs.Prelude.{◌≡◌, ℕ};
-ghost use Rattle.ck_journal.specs.Histories.{start};
+ghost use Rattle.ck_journal.specs.Bases.{empty_base};
 ghost use Rattle.ck_shared.specs.Accounts.{name_of};
 
 use crate::rounds::{Failed, Kind, Target, make_rounds, prepare};
-use crate::threads::{Locked, Shared, Task, Worker, best_together};
+use crate::threads::{Shared, SharedTarget, Task, Worker, best_together};
 use ck_shared::{BoardCopy, Caller, Ends, NewIdentity, TokenId};
 use ck_token::Token;
 use ck_types::{Limits, NoMemory};
@@ -30,7 +30,7 @@ const MEASURED: Effort = Effort {
     tries: 20,
 };
 
-/// How many times as many objects as other rounds are made by callers in threads.
+/// How many times as many rounds each caller makes in threads.
 const CHANGES: u64 = 50;
 
 const TRIED: Effort = Effort {
@@ -92,8 +92,38 @@ fn give<K: TokenId>(workers: &mut [Worker<K>], task: Task) {
     }
 }
 
-/// What four callers do in threads: first one of them alone, then beside one that changes the
-/// token, then all.
+/// What the asks of one caller take, and then those of all at once.
+fn ask_times<K: TokenId + Send + Sync, R: Clock + Threads + Wait + Drop + Send + Sync>(
+    rt: &R,
+    alloc: Global,
+    token: &Shared<K, R>,
+    workers: &mut [Worker<K>],
+    effort: Effort,
+) -> Result<(u128, u128), Failed> {
+    give(workers, Task::Ask(effort.asks));
+    let first = workers.get_mut(..1).ok_or(Failed)?;
+    let alone = best_together(rt, alloc, token, first, effort.tries)?;
+    let all = best_together(rt, alloc, token, workers, effort.tries)?;
+    Ok((alone, all))
+}
+
+/// What the asks of one caller take beside another caller that changes the token.
+fn time_beside<K: TokenId + Send + Sync, R: Clock + Threads + Wait + Drop + Send + Sync>(
+    rt: &R,
+    alloc: Global,
+    token: &Shared<K, R>,
+    workers: &mut [Worker<K>],
+    effort: Effort,
+) -> Result<u128, Failed> {
+    give(workers, Task::Ask(effort.asks));
+    let second = workers.get_mut(1).ok_or(Failed)?;
+    second.task = Task::ChangeBeside;
+    let two = workers.get_mut(..2).ok_or(Failed)?;
+    best_together(rt, alloc, token, two, effort.tries)
+}
+
+/// What four callers do in threads: one asks, all ask, one asks beside one that changes the token,
+/// and all change it.
 fn thread_times<K: TokenId + Send + Sync, R: Clock + Threads + Wait + Drop + Send + Sync>(
     rt: &R,
     alloc: Global,
@@ -101,17 +131,9 @@ fn thread_times<K: TokenId + Send + Sync, R: Clock + Threads + Wait + Drop + Sen
     workers: &mut [Worker<K>],
     effort: Effort,
 ) -> Result<ThreadTimes, Failed> {
-    let ask = Task::Ask(effort.asks);
-    let change = Task::Change(effort.rounds.saturating_mul(CHANGES));
-    give(workers, ask);
-    let first = workers.get_mut(..1).ok_or(Failed)?;
-    let ask_alone = best_together(rt, alloc, token, first, effort.tries)?;
-    let four_ask = best_together(rt, alloc, token, workers, effort.tries)?;
-    let second = workers.get_mut(1).ok_or(Failed)?;
-    second.task = Task::ChangeBeside;
-    let two = workers.get_mut(..2).ok_or(Failed)?;
-    let ask_beside = best_together(rt, alloc, token, two, effort.tries)?;
-    give(workers, change);
+    let (ask_alone, four_ask) = ask_times(rt, alloc, token, workers, effort)?;
+    let ask_beside = time_beside(rt, alloc, token, workers, effort)?;
+    give(workers, Task::Change(effort.rounds.saturating_mul(CHANGES)));
     let four_change = best_together(rt, alloc, token, workers, effort.tries)?;
     Ok(ThreadTimes {
         ask_alone,
@@ -131,7 +153,7 @@ fn times_of<K: TokenId + Send + Sync, R: Clock + Threads + Wait + Drop + Send + 
 ) -> Result<(CallTimes, ThreadTimes), Failed> {
     let first = workers.first_mut().ok_or(Failed)?;
     let caller = &mut *first.caller;
-    let mut target = Locked { rt, token, caller };
+    let mut target = SharedTarget { rt, token, caller };
     let calls = call_times(rt, alloc, &mut target, effort)?;
     let threads = thread_times(rt, alloc, token, workers, effort)?;
     Ok((calls, threads))
@@ -148,24 +170,21 @@ fn workers_of<K: TokenId>(
     Ok(workers)
 }
 
-/// Shares the token among four callers, and measures their calls by the lock and in threads.
+/// Shares a new token among four callers, and measures their calls by the lock and in threads.
 fn times_shared<K: TokenId + Send + Sync, R: Clock + Threads + Wait + Copy + Drop + Send + Sync>(
     rt: R,
     alloc: Global,
-    token: Token,
+    limits: Limits,
     identity: NewIdentity,
     effort: Effort,
 ) -> Result<(CallTimes, ThreadTimes), Failed>
-    requires history { token.history ≡ start K.base }
-    requires limits { token.limits ≡ K.limits }
+    requires base { K.base ≡ empty_base }
+    requires limits { limits ≡ K.limits }
     requires callers { K.callers ≡ 4 }
     requires book { identity.history.seen.book ≡ K.book }
     requires ledgers { (n : ℕ) → K.ledger n ≡ name_of identity.ledgers n }
 {
-    let Ok(ends) = Shared::<K, R>::adopt(rt, alloc, token, 4, identity) else {
-        return Err(Failed);
-    };
-    let Ends { token, callers } = ends;
+    let Ends { token, callers } = Shared::<K, R>::open(rt, alloc, limits, 4, identity)?;
     let mut workers = workers_of(alloc, callers)?;
     times_of(&rt, alloc, &token, workers.as_mut_slice(), effort)
 }
@@ -220,13 +239,13 @@ pub(crate) fn measure_shared<
 >(rt: R, measures: bool) -> io::Result<bool> {
     let alloc = rt.alloc();
     let effort = if measures { MEASURED } else { TRIED };
-    let mut direct = Token::new(alloc, Limits::largest());
+    let limits = Limits::largest();
+    let mut direct = Token::new(alloc, limits);
     let Ok(alone) = call_times(&rt, alloc, &mut direct, effort) else {
         return Ok(false);
     };
-    let token = Token::new(alloc, Limits::largest());
     let identity = NewIdentity::new();
-    let Ok((locked, threads)) = times_shared::<Brand, _>(rt, alloc, token, identity, effort) else {
+    let Ok((locked, threads)) = times_shared::<Brand, _>(rt, alloc, limits, identity, effort) else {
         return Ok(false);
     };
     if measures {

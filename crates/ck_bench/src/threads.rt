@@ -1,5 +1,5 @@
 //! Callers of a shared token, in threads of their own.
-use crate::rounds::{Failed, Kind, Target, make_rounds, round};
+use crate::rounds::{Failed, Kind, RW, Target, make_rounds, round};
 use ck_journal::{Body, Call, Reply};
 use ck_shared::{Ask, BoardCopy, Caller, EntrySlot, SharedToken, Status, TokenId};
 use ck_types::{NoMemory, Rv};
@@ -15,20 +15,20 @@ pub(crate) type Shared<K, R> = SharedToken<K, EntrySlot<K>, BoardCopy<K>, R>;
 
 /// A shared token and one of its callers.
 #[derive(Drop)]
-pub(crate) struct Locked<'a, K: TokenId, R: Wait + Drop> {
+pub(crate) struct SharedTarget<'a, K: TokenId, R: Wait + Drop> {
     pub(crate) rt: &'a R,
     pub(crate) token: &'a Shared<K, R>,
     pub(crate) caller: &'a mut Caller<K, BoardCopy<K>>,
 }
 
-impl<'a, K: TokenId, R: Wait + Drop> Target for Locked<'a, K, R> {
+impl<'a, K: TokenId, R: Wait + Drop> Target for SharedTarget<'a, K, R> {
     fn call(&mut self, alloc: Global, call: Call) -> Result<Reply, NoMemory> {
         self.token.call(self.rt, alloc, self.caller, call)
     }
 }
 
 /// What a caller does in its thread.
-#[derive(Clone, Copy, Debug, PartialEq, Eq)]
+#[derive(Clone, Copy)]
 pub(crate) enum Task {
     /// Asks so often for the state of session 1, without the lock.
     Ask(u64),
@@ -64,7 +64,7 @@ fn ask<K: TokenId>(caller: &mut Caller<K, BoardCopy<K>>, count: u64) -> Result<(
             Status::Reply(
                 Reply {
                     rv: Rv::Ok,
-                    body: Body::Session { flags: 6, .. },
+                    body: Body::Session { flags: RW, .. },
                 },
             ),
         ) = caller.status(Ask::Session(1))
@@ -77,7 +77,7 @@ fn ask<K: TokenId>(caller: &mut Caller<K, BoardCopy<K>>, count: u64) -> Result<(
 
 /// Makes rounds until another caller is done.
 fn change_until<K: TokenId, R: Wait + Drop>(
-    target: &mut Locked<K, R>,
+    target: &mut SharedTarget<K, R>,
     alloc: Global,
     is_done: &AtomicBool,
 ) -> Result<(), Failed> {
@@ -103,18 +103,27 @@ fn work<K: TokenId, R: Clock + Wait + Drop>(
     match worker.task {
         Task::Ask(count) => ask(caller, count)?,
         Task::Change(count) => {
-            let mut target = Locked { rt, token, caller };
+            let mut target = SharedTarget { rt, token, caller };
             make_rounds(&mut target, alloc, Kind::CreateReadDestroy, count)?;
         }
         Task::ChangeBeside => {
-            let mut target = Locked { rt, token, caller };
+            let mut target = SharedTarget { rt, token, caller };
             change_until(&mut target, alloc, is_done)?;
         }
     }
     Ok(before.elapsed(rt)?.as_nanos())
 }
 
-/// The nanoseconds that the slowest of the callers took, each in a thread of its own.
+/// The nanoseconds that the slowest of the callers took.
+fn slowest<K: TokenId>(workers: &[Worker<K>]) -> Result<u128, Failed> {
+    let mut most = 0;
+    for worker in workers {
+        most = worker.time?.max(most);
+    }
+    Ok(most)
+}
+
+/// All callers do their tasks, each in a thread of its own. Gives the nanoseconds of the slowest.
 fn time_together<K: TokenId + Send + Sync, R: Clock + Threads + Wait + Drop + Send + Sync>(
     rt: &R,
     alloc: Global,
@@ -135,15 +144,10 @@ fn time_together<K: TokenId + Send + Sync, R: Clock + Threads + Wait + Drop + Se
             is_done.store(true, Ordering::SeqCst);
         },
     );
-    let mut slowest = 0;
-    for worker in workers.iter() {
-        slowest = worker.time?.max(slowest);
-    }
-    Ok(slowest)
+    slowest(workers)
 }
 
-/// The least of so many tries, all callers with the same task but for a last one, which may have
-/// another.
+/// The nanoseconds of the best of so many tries.
 pub(crate) fn best_together<
     K: TokenId + Send + Sync,
     R: Clock + Threads + Wait + Drop + Send + Sync,
