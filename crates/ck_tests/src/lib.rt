@@ -12,8 +12,6 @@ mod lines;
 #[cfg(test)]
 mod mac;
 #[cfg(test)]
-mod mechanisms;
-#[cfg(test)]
 mod replies;
 #[cfg(test)]
 mod token;

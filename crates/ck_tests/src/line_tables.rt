@@ -1,4 +1,4 @@
-//! Tables of lines. Each is one text, with a row a line.
+//! A table of lines. It is one text, with a row a line.
 
 /// Lines, and behind the arrow what they mean: a caller and its call. The tags of PINs are the
 /// SHA-256 digests of `abc` and of nothing.

@@ -2,81 +2,82 @@
 //! ck_cases.
 use ck_mac::{Mac, Running, RunningTag, digest};
 use ck_types::{Hash, RvError};
-use std::alloc::Global;
 use std::process::Abort;
 use std::test::Fail;
 
 /// The SHA-256 digest of `abc` (FIPS 180-2, appendix B.1).
-const ABC: &str = "ba7816bf8f01cfea414140de5dae2223b00361a396177a9cb410ff61f20015ad";
+const ABC: [u8; 32] = [
+    0xba, 0x78, 0x16, 0xbf, 0x8f, 0x01, 0xcf, 0xea, 0x41, 0x41, 0x40, 0xde, 0x5d, 0xae, 0x22, 0x23,
+    0xb0, 0x03, 0x61, 0xa3, 0x96, 0x17, 0x7a, 0x9c, 0xb4, 0x10, 0xff, 0x61, 0xf2, 0x00, 0x15, 0xad,
+];
 
 /// The HMAC with SHA-256 of `what do ya want for nothing?` under the key `Jefe` (RFC 4231, test
 /// case 2).
-const JEFE: &str = "5bdcc146bf60754e6a042426089575c75a003f089d2739839dec58b964ec3843";
-
-/// The bytes of these pairs of hexadecimal digits.
-fn bytes_of(alloc: Global, digits: &str) -> Result<Vec<u8>, Fail> {
-    let mut bytes = Vec::new(alloc);
-    for pair in digits.as_bytes().chunks(2) {
-        bytes.push(u8::from_str_radix(str::from_utf8(pair)?, 16)?)?;
-    }
-    Ok(bytes)
-}
+const JEFE: [u8; 32] = [
+    0x5b, 0xdc, 0xc1, 0x46, 0xbf, 0x60, 0x75, 0x4e, 0x6a, 0x04, 0x24, 0x26, 0x08, 0x95, 0x75, 0xc7,
+    0x5a, 0x00, 0x3f, 0x08, 0x9d, 0x27, 0x39, 0x83, 0x9d, 0xec, 0x58, 0xb9, 0x64, 0xec, 0x38, 0x43,
+];
 
 /// A clone goes on by itself.
 #[test]
 fn digests(rt: HostRuntime) -> Result<(), Fail> {
-    let expected = bytes_of(rt.alloc(), ABC)?;
-    let whole = digest(Hash::Sha256, b"abc");
-    assert!(rt; whole.bytes() == expected.as_slice());
+    assert!(rt; digest(Hash::Sha256, b"abc").bytes() == ABC.as_slice());
     let mut running = Running::new(Hash::Sha256);
     running.update(b"ab");
     let mut clone = running.clone()?;
     clone.update(b"x");
     running.update(b"c");
-    assert!(rt; running.finish().bytes() == expected.as_slice());
-    assert!(rt; clone.finish().bytes() != expected.as_slice());
+    assert!(rt; running.finish().bytes() == ABC.as_slice());
+    assert!(rt; clone.finish().bytes() != ABC.as_slice());
     Ok(())
 }
 
-/// A clone goes on by itself, and the tag is the only signature.
-#[test]
-fn hmacs(rt: HostRuntime) -> Result<(), Fail> {
-    let mut expected = bytes_of(rt.alloc(), JEFE)?;
+/// The HMAC of the first words.
+fn begun() -> Mac {
     let mut mac = Mac::new(Hash::Sha256, b"Jefe");
     mac.update(b"what do ya want ");
+    mac
+}
+
+/// A clone goes on by itself.
+#[test]
+fn hmacs(rt: HostRuntime) -> Result<(), Fail> {
+    let mut mac = begun();
     let mut clone = mac.clone()?;
     clone.update(b"for something?");
-    assert!(rt; clone.finish().bytes() != expected.as_slice());
     mac.update(b"for nothing?");
-    assert!(rt; mac.clone()?.finish().bytes() == expected.as_slice());
-    assert_eq!(rt; mac.clone()?.check(expected.as_slice()), Ok(()));
-    expected.pop();
-    assert_eq!(rt;
-        mac.check(expected.as_slice()),
-        Err(RvError::SignatureLenRange)
-    );
+    assert!(rt; mac.finish().bytes() == JEFE.as_slice());
+    assert!(rt; clone.finish().bytes() != JEFE.as_slice());
+    Ok(())
+}
+
+/// The tag is a signature, and its front is none.
+#[test]
+fn signatures(rt: HostRuntime) -> Result<(), Fail> {
+    let mut mac = begun();
+    mac.update(b"for nothing?");
+    let front = JEFE.as_slice().get(..31).unwrap_or(&[]);
+    assert!(rt; mac.clone()?.check(front) == Err(RvError::SignatureLenRange));
+    assert!(rt; mac.check(JEFE.as_slice()) == Ok(()));
     Ok(())
 }
 
 /// The tag takes in these two pieces, the second also where it is only read.
 fn tag_of_two_pieces(rt: &impl Abort, mut running: RunningTag, pieces: [&[u8]; 2], tag: &[u8]) {
-    assert_eq!(rt; running.len(), tag.len() as u64);
+    assert!(rt; running.len() == tag.len() as u64);
     running.update(pieces[0]);
     assert!(rt; running.tag_with(pieces[1]).bytes() == tag);
     assert!(rt; running.tag().bytes() != tag);
     running.update(pieces[1]);
     assert!(rt; running.tag().bytes() == tag);
-    assert_eq!(rt; running.tag().check(tag), Ok(()));
+    assert!(rt; running.tag().check(tag) == Ok(()));
 }
 
 #[test]
-fn running_tags(rt: HostRuntime) -> Result<(), Fail> {
-    let digest = bytes_of(rt.alloc(), ABC)?;
+fn running_tags(rt: HostRuntime) {
     let running = RunningTag::Digest(Running::new(Hash::Sha256));
-    tag_of_two_pieces(&rt, running, [b"ab", b"c"], digest.as_slice());
-    let hmac = bytes_of(rt.alloc(), JEFE)?;
+    tag_of_two_pieces(&rt, running, [b"ab", b"c"], ABC.as_slice());
     let running = RunningTag::Mac(Mac::general(Hash::Sha256, b"Jefe", 16));
-    let pieces: [&[u8]; 2] = [b"what do ya want ", b"for nothing?"];
-    tag_of_two_pieces(&rt, running, pieces, hmac.get(..16).unwrap_or(&[]));
-    Ok(())
+    let front = JEFE.as_slice().get(..16).unwrap_or(&[]);
+    tag_of_two_pieces(&rt, running, [b"what do ya want ", b"for nothing?"], front);
 }

@@ -1,19 +1,9 @@
 use ck_types::{
-    AttributeValue, Bytes, Item, Limits, NoMemory, Pin, Record, Refusal, Rv, RvError, Sequence,
-    Template,
+    AttributeValue, Item, Limits, NoMemory, Record, Refusal, Rv, RvError, Sequence, Template,
 };
 use std::alloc::Global;
 use std::process::Abort;
 use std::test::Fail;
-
-/// The bytes of these pairs of hexadecimal digits.
-fn bytes_of(alloc: Global, digits: &str) -> Result<Bytes, Fail> {
-    let mut bytes = Vec::new(alloc);
-    for pair in digits.as_bytes().chunks(2) {
-        bytes.push(u8::from_str_radix(str::from_utf8(pair)?, 16)?)?;
-    }
-    Ok(Bytes::from_vec(bytes))
-}
 
 /// CKA_LABEL, CKA_VALUE and CKA_VALUE_LEN.
 const LABEL: u64 = 0x3;
@@ -41,7 +31,7 @@ fn check_value(
 ) -> Result<(), NoMemory> {
     let value = record.value(alloc, kind)?;
     let value = value.as_ref().map(|value| value.as_slice());
-    assert_eq!(rt; value, Some(expected), "{kind:x}");
+    assert!(rt; value == Some(expected), "{kind:x}");
     Ok(())
 }
 
@@ -72,16 +62,21 @@ fn check_bytes(
     Ok(())
 }
 
+/// A value has these bytes where they are copied, and where they are moved into it.
+fn check_made(rt: &impl Abort, alloc: Global, bytes: &[u8]) -> Result<(), NoMemory> {
+    let copied = AttributeValue::from_slice(alloc, bytes)?;
+    check_bytes(rt, alloc, &copied, bytes)?;
+    let moved = AttributeValue::from_vec(Vec::from_slice(alloc, bytes)?);
+    check_bytes(rt, alloc, &moved, bytes)?;
+    Ok(())
+}
+
 /// Values that lie in themselves, and longer ones.
 #[test]
 fn attribute_values(rt: HostRuntime) -> Result<(), Fail> {
     check_bytes(&rt, rt.alloc(), &AttributeValue::new(rt.alloc()), &[])?;
-    for bytes in [[b'a'; 16].as_slice(), [b'a'; 17].as_slice()] {
-        let value = AttributeValue::from_slice(rt.alloc(), bytes)?;
-        check_bytes(&rt, rt.alloc(), &value, bytes)?;
-        let moved = AttributeValue::from_vec(Vec::from_slice(rt.alloc(), bytes)?);
-        check_bytes(&rt, rt.alloc(), &moved, bytes)?;
-    }
+    check_made(&rt, rt.alloc(), &[b'a'; 16])?;
+    check_made(&rt, rt.alloc(), &[b'a'; 17])?;
     Ok(())
 }
 
@@ -103,68 +98,73 @@ fn generated_keys(rt: HostRuntime) -> Result<(), Fail> {
     Ok(())
 }
 
+/// Adds 300,000 items of this type, without values.
+fn add_items(alloc: Global, items: &mut Vec<Item>, kind: u64) -> Result<(), NoMemory> {
+    for _ in 0..300_000 {
+        let value = AttributeValue::new(alloc);
+        items.push(Item { kind, value })?;
+    }
+    Ok(())
+}
+
 /// A template of many items, the first of whose second type stands in the middle, is checked
 /// in time.
 #[test]
 fn many_items(rt: HostRuntime) -> Result<(), Fail> {
     let mut items = Vec::new(rt.alloc());
-    for kind in [0x3, 0x12] {
-        for _ in 0..300_000 {
-            let value = AttributeValue::new(rt.alloc());
-            items.push(Item { kind, value })?;
-        }
-    }
+    add_items(rt.alloc(), &mut items, 0x3)?;
+    add_items(rt.alloc(), &mut items, 0x12)?;
     let items = Sequence::from_vec(items);
     let refused = Record::created(rt.alloc(), &Template { items }).err();
-    assert_eq!(rt; refused, Some(Refusal::Code(RvError::TemplateIncomplete)));
+    assert!(rt; refused == Some(Refusal::Code(RvError::TemplateIncomplete)));
     Ok(())
 }
 
-#[test]
-fn pins(rt: HostRuntime) -> Result<(), Fail> {
-    let pin = Pin::of(b"abc");
-    let tag = bytes_of(
-        rt.alloc(),
-        "ba7816bf8f01cfea414140de5dae2223b00361a396177a9cb410ff61f20015ad",
-    )?;
-    assert_eq!(rt; pin.len, 3);
-    assert_eq!(rt; pin.tag.as_slice(), tag.as_slice());
-    for (len, expected) in [(3, false), (4, true), (64, true), (65, false)] {
-        let pin = Pin { len, tag: pin.tag };
-        assert_eq!(rt; pin.fits(), expected, "{len}");
+/// Numbers of sessions, openings, creations and logins.
+type Numbers = (u64, u64, u64, u64);
+
+/// The numbers of the largest limits.
+const LARGEST: Numbers = (64, 0xffff_ffff, 0xffff_ffff, 0x7fff_ffff);
+
+/// Numbers, and whether they are limits.
+const LIMITS: [(Numbers, bool); 10] = [
+    ((1, 1, 1, 1), true),
+    (LARGEST, true),
+    ((0, 1, 1, 1), false),
+    ((1, 0, 1, 1), false),
+    ((1, 1, 0, 1), false),
+    ((1, 1, 1, 0), false),
+    ((65, 1, 1, 1), false),
+    ((1, 0x1_0000_0000, 1, 1), false),
+    ((1, 1, 0x1_0000_0000, 1), false),
+    ((1, 1, 1, 0x8000_0000), false),
+];
+
+fn check_numbers(rt: &impl Abort, limits: Limits, numbers: Numbers) {
+    assert!(rt; limits.sessions() == numbers.0);
+    assert!(rt; limits.openings() == numbers.1);
+    assert!(rt; limits.creations() == numbers.2);
+    assert!(rt; limits.logins() == numbers.3);
+}
+
+fn check_limits(rt: &impl Abort, numbers: Numbers, expected: bool) {
+    let limits = Limits::of(numbers.0, numbers.1, numbers.2, numbers.3);
+    assert!(rt; limits.is_some() == expected, "{numbers:?}");
+    if let Some(limits) = limits {
+        check_numbers(rt, limits, numbers);
     }
-    Ok(())
+}
+
+fn check_all_limits(rt: &impl Abort, rows: &[(Numbers, bool)]) {
+    for (numbers, expected) in rows {
+        check_limits(rt, *numbers, *expected);
+    }
 }
 
 #[test]
 fn limits(rt: HostRuntime) {
-    for (sessions, openings, creations, logins, expected) in [
-        (1, 1, 1, 1, true),
-        (64, 0xffff_ffff, 0xffff_ffff, 0x7fff_ffff, true),
-        (0, 1, 1, 1, false),
-        (1, 0, 1, 1, false),
-        (1, 1, 0, 1, false),
-        (1, 1, 1, 0, false),
-        (65, 1, 1, 1, false),
-        (1, 0x1_0000_0000, 1, 1, false),
-        (1, 1, 0x1_0000_0000, 1, false),
-        (1, 1, 1, 0x8000_0000, false),
-    ] {
-        let limits = Limits::of(sessions, openings, creations, logins);
-        assert_eq!(rt;
-            limits.is_some(),
-            expected,
-            "{sessions} {openings} {creations} {logins}"
-        );
-        if let Some(limits) = limits {
-            assert_eq!(rt; limits.sessions(), sessions);
-            assert_eq!(rt; limits.openings(), openings);
-            assert_eq!(rt; limits.creations(), creations);
-            assert_eq!(rt; limits.logins(), logins);
-        }
-    }
-    let largest = Limits::of(64, 0xffff_ffff, 0xffff_ffff, 0x7fff_ffff);
-    assert_eq!(rt; Some(Limits::largest()), largest);
+    check_all_limits(&rt, LIMITS.as_slice());
+    check_numbers(&rt, Limits::largest(), LARGEST);
 }
 
 /// Each error, with its number and its name.
@@ -313,12 +313,12 @@ fn errors(rt: HostRuntime) -> Result<(), Fail> {
 
 #[test]
 fn return_codes(rt: HostRuntime) -> Result<(), Fail> {
-    assert_eq!(rt; Rv::of(0), Some(Rv::Ok));
-    assert_eq!(rt; RvError::of(0), None);
-    assert_eq!(rt; Rv::Ok.number(), 0);
-    assert_eq!(rt; format!(in rt.alloc(); "{}", Rv::Ok)?.as_str(), "CKR_OK");
+    assert!(rt; Rv::of(0) == Some(Rv::Ok));
+    assert!(rt; RvError::of(0).is_none());
+    assert!(rt; Rv::Ok.number() == 0);
+    assert!(rt; format!(in rt.alloc(); "{}", Rv::Ok)?.as_str() == "CKR_OK");
     for number in [0x1, 0x5, 0x151] {
-        assert_eq!(rt; Rv::of(number), None, "{number:x}");
+        assert!(rt; Rv::of(number).is_none(), "{number:x}");
     }
     Ok(())
 }
