@@ -3,7 +3,7 @@ ghost use Rattle.std.specs.Prelude.{◌≡◌, ◌↔◌, IsTrue};
 use ck_journal::{Answer, Body, Reply};
 
 /// Whether two replies have the same code and the same body.
-pub(crate) fn are_same_replies(one: &Reply, other: &Reply) -> bool
+pub fn are_same_replies(one: &Reply, other: &Reply) -> bool
     ensures { IsTrue result ↔ (one.now ≡ other.now) }
 {
     one.rv == other.rv && are_same_bodies(&one.body, &other.body)

@@ -1,9 +1,8 @@
 //! Audits of a journal of mixed calls.
 use crate::rounds::{Failed, KINDS, prepared, round};
-use ck_audit::{Verdict, audit};
+use ck_audit::audit_token;
 use ck_token::Token;
 use std::alloc::Global;
-use std::io;
 use std::time::CpuClock;
 
 /// Makes rounds of all kinds, until the journal has so many entries or a few more.
@@ -24,20 +23,13 @@ fn token_after(alloc: Global, entries: u64) -> Result<Token, Failed> {
     Ok(token)
 }
 
-/// The processor time of an audit of so many entries, in nanoseconds, or `None` where a call
-/// failed, there was no memory, the audit isn't legal or the clock went back.
-pub(crate) fn audit_time<R: CpuClock + AllocGlobal>(
-    rt: &R,
-    entries: u64,
-) -> io::Result<Option<u128>> {
+/// The processor time in nanoseconds of an audit of so many entries.
+pub(crate) fn audit_time<R: CpuClock + AllocGlobal>(rt: &R, entries: u64) -> Result<u128, Failed> {
     let alloc = rt.alloc();
-    let Ok(token) = token_after(alloc, entries) else {
-        return Ok(None);
-    };
+    let token = token_after(alloc, entries)?;
     let before = rt.process_cpu_time()?;
-    let Ok(Verdict::Legal) = audit(alloc, token.journal(), token.limits()) else {
-        return Ok(None);
-    };
+    audit_token(alloc, &token)?;
     let after = rt.process_cpu_time()?;
-    Ok(after.checked_sub(before).map(|time| time.as_nanos()))
+    let time = after.checked_sub(before).ok_or(Failed)?;
+    Ok(time.as_nanos())
 }

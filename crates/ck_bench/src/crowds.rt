@@ -8,7 +8,6 @@ use ck_journal::{Body, Call};
 use ck_token::Token;
 use ck_types::Pin;
 use std::alloc::Global;
-use std::io;
 use std::time::CpuClock;
 
 /// How many rounds most phases have.
@@ -173,36 +172,37 @@ fn round(
     }
 }
 
-/// The nanoseconds of a round of each phase on a new token, or `None` where one failed.
+/// Makes all rounds of the phase.
+fn make_phase(token: &mut Token, alloc: Global, phase: Phase, objects: u32) -> Result<(), Failed> {
+    for number in 0..phase.rounds(objects) {
+        round(token, alloc, phase, objects, number)?;
+    }
+    Ok(())
+}
+
+/// The nanoseconds of a round of the phase.
+fn phase_time<R: CpuClock + AllocGlobal>(
+    rt: &R,
+    token: &mut Token,
+    phase: Phase,
+    objects: u32,
+) -> Result<u128, Failed> {
+    let before = rt.process_cpu_time()?;
+    make_phase(token, rt.alloc(), phase, objects)?;
+    let after = rt.process_cpu_time()?;
+    let time = after.checked_sub(before).ok_or(Failed)?;
+    Ok(time.as_nanos() / u128::from(phase.rounds(objects).max(1)))
+}
+
+/// The nanoseconds of a round of each phase on a new token.
 pub(crate) fn times_among<R: CpuClock + AllocGlobal>(
     rt: &R,
     objects: u32,
-) -> io::Result<Option<[u128; 9]>> {
-    let alloc = rt.alloc();
-    let Ok(mut token) = crowded(alloc, objects) else {
-        return Ok(None);
-    };
+) -> Result<[u128; 9], Failed> {
+    let mut token = crowded(rt.alloc(), objects)?;
     let mut times = [0; 9];
     for (time, phase) in times.iter_mut().zip(PHASES) {
-        let rounds = phase.rounds(objects);
-        let before = rt.process_cpu_time()?;
-        if !all_rounds(&mut token, alloc, phase, objects) {
-            return Ok(None);
-        }
-        let after = rt.process_cpu_time()?;
-        let Some(spent) = after.checked_sub(before) else {
-            return Ok(None);
-        };
-        *time = spent.as_nanos() / u128::from(rounds.max(1));
+        *time = phase_time(rt, &mut token, phase, objects)?;
     }
-    Ok(Some(times))
-}
-
-fn all_rounds(token: &mut Token, alloc: Global, phase: Phase, objects: u32) -> bool {
-    for number in 0..phase.rounds(objects) {
-        if round(token, alloc, phase, objects, number).is_err() {
-            return false;
-        }
-    }
-    true
+    Ok(times)
 }

@@ -14,14 +14,14 @@ mod threads;
 use audits::audit_time;
 use crowds::{PHASES, times_among};
 use long_digests::best_times;
-use rounds::{KINDS, Kind, calls_in, make_rounds, prepared};
+use rounds::{Failed, KINDS, Kind, calls_in, make_rounds, prepared};
 use shared::measure_shared;
+use std::env;
 use std::env::Env;
 use std::process::ExitCode;
 use std::sync::Wait;
 use std::thread::Threads;
 use std::time::{Clock, CpuClock, Duration};
-use std::{env, io};
 
 /// How often a round is made in one run, and how many runs the best is taken of.
 const ROUNDS: u64 = 1_000;
@@ -37,49 +37,51 @@ const CROWDS: u64 = 7;
 /// How often a journal is audited.
 const AUDITS: u64 = 7;
 
-/// The processor time of one run of rounds on a token of its own, or `None` where one was refused.
-fn run_time<R: CpuClock + AllocGlobal>(
-    rt: &R,
-    kind: Kind,
-    count: u64,
-) -> io::Result<Option<Duration>> {
+/// The processor time of one run of rounds on a token of its own.
+fn run_time<R: CpuClock + AllocGlobal>(rt: &R, kind: Kind, count: u64) -> Result<Duration, Failed> {
     let alloc = rt.alloc();
-    let Ok(mut token) = prepared(alloc) else {
-        return Ok(None);
-    };
+    let mut token = prepared(alloc)?;
     let before = rt.process_cpu_time()?;
-    if make_rounds(&mut token, alloc, kind, count).is_err() {
-        return Ok(None);
-    }
+    make_rounds(&mut token, alloc, kind, count)?;
     let after = rt.process_cpu_time()?;
-    Ok(after.checked_sub(before))
+    after.checked_sub(before).ok_or(Failed)
 }
 
 /// Writes what one call of the kind takes at best.
-fn measure<R: CpuClock + Print + AllocGlobal>(rt: &R, kind: Kind) -> io::Result<bool> {
+fn measure<R: CpuClock + Print + AllocGlobal>(rt: &R, kind: Kind) -> Result<(), Failed> {
     let mut best = u128::MAX;
     for _ in 0..RUNS {
-        let Some(time) = run_time(rt, kind, ROUNDS)? else {
-            return Ok(false);
-        };
-        best = best.min(time.as_nanos());
+        best = best.min(run_time(rt, kind, ROUNDS)?.as_nanos());
     }
     let calls = ROUNDS * calls_in(kind);
     println!(rt; "{}: {} ns a call", kind.name(), best / u128::from(calls))?;
-    Ok(true)
+    Ok(())
 }
 
 /// Makes a long digest by a call and by the library, and writes what each takes where that is asked
 /// for.
-fn measure_long<R: CpuClock + Print + AllocGlobal>(rt: &R, measures: bool) -> io::Result<bool> {
+fn measure_long<R: CpuClock + Print + AllocGlobal>(rt: &R, measures: bool) -> Result<(), Failed> {
     let tries = if measures { LONG_RUNS } else { 1 };
-    let Some((call, library)) = best_times(rt, tries)? else {
-        return Ok(false);
-    };
+    let (call, library) = best_times(rt, tries)?;
     if measures {
         println!(rt; "digest of a MiB: {call} ns by a call, {library} ns by the library")?;
     }
-    Ok(true)
+    Ok(())
+}
+
+/// The least nanoseconds of each phase among so many objects.
+fn best_among<R: CpuClock + AllocGlobal>(
+    rt: &R,
+    objects: u32,
+    tries: u64,
+) -> Result<[u128; 9], Failed> {
+    let mut best = [u128::MAX; 9];
+    for _ in 0..tries {
+        for (best, time) in best.iter_mut().zip(times_among(rt, objects)?) {
+            *best = (*best).min(time);
+        }
+    }
+    Ok(best)
 }
 
 /// Makes calls among so many objects, and writes what each takes at best where that is asked for.
@@ -87,23 +89,15 @@ fn measure_among<R: CpuClock + Print + AllocGlobal>(
     rt: &R,
     objects: u32,
     measures: bool,
-) -> io::Result<bool> {
+) -> Result<(), Failed> {
     let tries = if measures { CROWDS } else { 1 };
-    let mut best = [u128::MAX; 9];
-    for _ in 0..tries {
-        let Some(times) = times_among(rt, objects)? else {
-            return Ok(false);
-        };
-        for (best, time) in best.iter_mut().zip(times) {
-            *best = (*best).min(time);
-        }
-    }
+    let best = best_among(rt, objects, tries)?;
     if measures {
         for (time, phase) in best.iter().zip(PHASES) {
             println!(rt; "{} among {objects} objects: {time} ns", phase.name())?;
         }
     }
-    Ok(true)
+    Ok(())
 }
 
 /// Audits a journal of so many entries, and writes what that takes at best where that is asked for.
@@ -111,58 +105,56 @@ fn measure_audit<R: CpuClock + Print + AllocGlobal>(
     rt: &R,
     entries: u64,
     measures: bool,
-) -> io::Result<bool> {
+) -> Result<(), Failed> {
     let tries = if measures { AUDITS } else { 1 };
     let mut best = u128::MAX;
     for _ in 0..tries {
-        let Some(time) = audit_time(rt, entries)? else {
-            return Ok(false);
-        };
-        best = best.min(time);
+        best = best.min(audit_time(rt, entries)?);
     }
     if measures {
         println!(rt; "audit of {entries} entries: {} us", best / 1_000)?;
     }
-    Ok(true)
+    Ok(())
 }
 
 /// Makes each kind of round on tokens of one caller, and measures it where that is asked for.
-fn measure_alone<R: CpuClock + Print + AllocGlobal>(rt: &R, measures: bool) -> io::Result<bool> {
+fn measure_alone<R: CpuClock + Print + AllocGlobal>(rt: &R, measures: bool) -> Result<(), Failed> {
     for kind in KINDS {
-        let is_good = if measures {
-            measure(rt, kind)?
+        if measures {
+            measure(rt, kind)?;
         } else {
-            run_time(rt, kind, 3)?.is_some()
-        };
-        if !is_good {
-            return Ok(false);
+            run_time(rt, kind, 3)?;
         }
     }
-    let is_good = measure_long(rt, measures)?
-        && measure_audit(rt, 10_000, measures)?
-        && measure_among(rt, 1_000, measures)?;
-    if !measures || !is_good {
-        return Ok(is_good);
-    }
-    Ok(
-        measure_audit(rt, 100_000, true)?
-            && measure_among(rt, 50_000, true)?
-            && measure_among(rt, 100_000, true)?,
-    )
+    measure_long(rt, measures)?;
+    measure_audit(rt, 10_000, measures)?;
+    measure_among(rt, 1_000, measures)
+}
+
+/// Audits a long journal, and makes calls among many objects.
+fn measure_many<R: CpuClock + Print + AllocGlobal>(rt: &R) -> Result<(), Failed> {
+    measure_audit(rt, 100_000, true)?;
+    measure_among(rt, 50_000, true)?;
+    measure_among(rt, 100_000, true)
 }
 
 fn run<
     R: Env + Clock + CpuClock + Print + AllocGlobal + Threads + Wait + Copy + Drop + Send + Sync,
->(rt: R) -> io::Result<bool> {
+>(rt: R) -> Result<(), Failed> {
     let measures = env::args(&rt)?
         .nth(1)
         .is_some_and(|word| word.as_str() == "measure");
-    Ok(measure_shared(rt, measures)? && measure_alone(&rt, measures)?)
+    measure_shared(rt, measures)?;
+    measure_alone(&rt, measures)?;
+    if measures {
+        measure_many(&rt)?;
+    }
+    Ok(())
 }
 
 fn main(rt: HostRuntime) -> ExitCode {
     match run(rt) {
-        Ok(true) => ExitCode::SUCCESS,
-        Ok(false) | Err(_) => ExitCode::FAILURE,
+        Ok(()) => ExitCode::SUCCESS,
+        Err(Failed) => ExitCode::FAILURE,
     }
 }

@@ -5,12 +5,11 @@ ghost use Rattle.ck_journal.specs.Bases.{empty_base};
 ghost use Rattle.ck_shared.specs.Accounts.{name_of};
 
 use crate::rounds::{Failed, Kind, Target, make_rounds, prepare};
-use crate::threads::{Shared, SharedTarget, Task, Worker, best_together};
-use ck_shared::{BoardCopy, Caller, Ends, NewIdentity, TokenId};
+use crate::threads::{SharedTarget, Task, Worker, best_together};
+use ck_shared::{Ends, NewIdentity, Shared, SharedCaller, TokenId};
 use ck_token::Token;
 use ck_types::{Limits, NoMemory};
 use std::alloc::Global;
-use std::io;
 use std::marker::Brand;
 use std::sync::Wait;
 use std::thread::Threads;
@@ -161,7 +160,7 @@ fn times_of<K: TokenId + Send + Sync, R: Clock + Threads + Wait + Drop + Send + 
 
 fn workers_of<K: TokenId>(
     alloc: Global,
-    callers: Vec<Caller<K, BoardCopy<K>>>,
+    callers: Vec<SharedCaller<K>>,
 ) -> Result<Vec<Worker<K>>, NoMemory> {
     let mut workers = Vec::with_capacity(alloc, callers.len())?;
     for caller in callers {
@@ -196,13 +195,14 @@ fn each(time: u128, count: u64) -> u128 {
 
 /// Writes the nanoseconds of a call of the token itself and of one by the lock. A round that
 /// changes the board has two calls.
-fn write_calls<R: Print>(rt: &R, alone: CallTimes, locked: CallTimes) -> io::Result<()> {
+fn write_calls<R: Print>(rt: &R, alone: CallTimes, locked: CallTimes) -> Result<(), Failed> {
     let rounds = MEASURED.rounds;
     let (direct, shared) = (each(alone.leaves, rounds), each(locked.leaves, rounds));
     println!(rt; "session info: {direct} ns, by the lock {shared} ns")?;
     let calls = rounds.saturating_mul(2);
     let (direct, shared) = (each(alone.changes, calls), each(locked.changes, calls));
-    println!(rt; "open and close, each: {direct} ns, by the lock {shared} ns")
+    println!(rt; "open and close, each: {direct} ns, by the lock {shared} ns")?;
+    Ok(())
 }
 
 /// How many percent of a time another is, 0 where there is none.
@@ -211,7 +211,7 @@ fn percent(part: u128, whole: u128) -> u128 {
 }
 
 /// Writes what asks take, and how many calls four callers make in a second.
-fn write_threads<R: Print>(rt: &R, times: ThreadTimes) -> io::Result<()> {
+fn write_threads<R: Print>(rt: &R, times: ThreadTimes) -> Result<(), Failed> {
     let ThreadTimes {
         ask_alone,
         ask_beside,
@@ -229,28 +229,25 @@ fn write_threads<R: Print>(rt: &R, times: ThreadTimes) -> io::Result<()> {
         .saturating_mul(1_000_000_000)
         .checked_div(four_change)
         .unwrap_or(0);
-    println!(rt; "create, get label and destroy by four callers: {a_second} calls a second")
+    println!(rt; "create, get label and destroy by four callers: {a_second} calls a second")?;
+    Ok(())
 }
 
 /// Makes calls and asks of a shared token, and writes what they take by the clock where that is
 /// asked for.
 pub(crate) fn measure_shared<
     R: Clock + Print + AllocGlobal + Threads + Wait + Copy + Drop + Send + Sync,
->(rt: R, measures: bool) -> io::Result<bool> {
+>(rt: R, measures: bool) -> Result<(), Failed> {
     let alloc = rt.alloc();
     let effort = if measures { MEASURED } else { TRIED };
     let limits = Limits::largest();
     let mut direct = Token::new(alloc, limits);
-    let Ok(alone) = call_times(&rt, alloc, &mut direct, effort) else {
-        return Ok(false);
-    };
+    let alone = call_times(&rt, alloc, &mut direct, effort)?;
     let identity = NewIdentity::new();
-    let Ok((locked, threads)) = times_shared::<Brand, _>(rt, alloc, limits, identity, effort) else {
-        return Ok(false);
-    };
+    let (locked, threads) = times_shared::<Brand, _>(rt, alloc, limits, identity, effort)?;
     if measures {
         write_calls(&rt, alone, locked)?;
         write_threads(&rt, threads)?;
     }
-    Ok(true)
+    Ok(())
 }

@@ -1,7 +1,7 @@
 //! Callers of a shared token, in threads of their own.
 use crate::rounds::{Failed, Kind, RW, Target, make_rounds, round};
 use ck_journal::{Body, Call, Reply};
-use ck_shared::{Ask, BoardCopy, Caller, EntrySlot, SharedToken, Status, TokenId};
+use ck_shared::{Ask, Shared, SharedCaller, Status, TokenId};
 use ck_types::{NoMemory, Rv};
 use crossbeam_utils::CachePadded;
 use std::alloc::Global;
@@ -11,14 +11,12 @@ use std::thread;
 use std::thread::Threads;
 use std::time::{Clock, Instant};
 
-pub(crate) type Shared<K, R> = SharedToken<K, EntrySlot<K>, BoardCopy<K>, R>;
-
 /// A shared token and one of its callers.
 #[derive(Drop)]
 pub(crate) struct SharedTarget<'a, K: TokenId, R: Wait + Drop> {
     pub(crate) rt: &'a R,
     pub(crate) token: &'a Shared<K, R>,
-    pub(crate) caller: &'a mut Caller<K, BoardCopy<K>>,
+    pub(crate) caller: &'a mut SharedCaller<K>,
 }
 
 impl<'a, K: TokenId, R: Wait + Drop> Target for SharedTarget<'a, K, R> {
@@ -42,13 +40,13 @@ pub(crate) enum Task {
 /// would have where its thread owns it.
 #[derive(Drop)]
 pub(crate) struct Worker<K: TokenId> {
-    pub(crate) caller: CachePadded<Caller<K, BoardCopy<K>>>,
+    pub(crate) caller: CachePadded<SharedCaller<K>>,
     pub(crate) task: Task,
     time: Result<u128, Failed>,
 }
 
 impl<K: TokenId> Worker<K> {
-    pub(crate) fn new(caller: Caller<K, BoardCopy<K>>) -> Worker<K> {
+    pub(crate) fn new(caller: SharedCaller<K>) -> Worker<K> {
         Worker {
             caller: CachePadded::new(caller),
             task: Task::Ask(0),
@@ -58,7 +56,7 @@ impl<K: TokenId> Worker<K> {
 }
 
 /// Asks so often, and says whether each time the session was open.
-fn ask<K: TokenId>(caller: &mut Caller<K, BoardCopy<K>>, count: u64) -> Result<(), Failed> {
+fn ask<K: TokenId>(caller: &mut SharedCaller<K>, count: u64) -> Result<(), Failed> {
     for _ in 0..count {
         let Some(
             Status::Reply(

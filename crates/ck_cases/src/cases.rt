@@ -65,27 +65,31 @@ impl<'a> Case<'a> {
     }
 }
 
-/// The limits that four numbers give, or the word `largest`.
-fn limits_in(text: &str) -> Option<Limits> {
-    if text == "largest" {
-        return Some(Limits::largest());
-    }
+/// The limits of four numbers.
+fn limits_of(text: &str) -> Option<Limits> {
     let mut numbers = text.split(' ');
-    let sessions = numbers.next()?.parse::<u64>().ok()?;
-    let openings = numbers.next()?.parse::<u64>().ok()?;
-    let creations = numbers.next()?.parse::<u64>().ok()?;
-    let logins = numbers.next()?.parse::<u64>().ok()?;
+    let sessions = numbers.next()?.parse().ok()?;
+    let openings = numbers.next()?.parse().ok()?;
+    let creations = numbers.next()?.parse().ok()?;
+    let logins = numbers.next()?.parse().ok()?;
     Limits::of(sessions, openings, creations, logins)
 }
 
-/// What the text before the arrow says.
+/// The limits that the line of this number gives by four numbers, or by the word `largest`.
+fn limits_in(number: u64, text: &str) -> Result<Limits, CaseError> {
+    if text == "largest" {
+        return Ok(Limits::largest());
+    }
+    limits_of(text).ok_or(CaseError::NoCase(number))
+}
+
+/// What the line of this number says before its arrow.
 fn action_in(alloc: Global, number: u64, text: &str) -> Result<Action, CaseError> {
     if text == "cut" {
         return Ok(Action::Cut);
     }
     if let Some(limits) = text.strip_prefix("audit ") {
-        let limits = limits_in(limits).ok_or(CaseError::NoCase(number))?;
-        return Ok(Action::Audit(limits));
+        return Ok(Action::Audit(limits_in(number, limits)?));
     }
     match Line::parse(alloc, text.as_bytes()) {
         Ok(Line::Called { caller, call }) => Ok(Action::Call { caller, call }),
@@ -95,7 +99,30 @@ fn action_in(alloc: Global, number: u64, text: &str) -> Result<Action, CaseError
     }
 }
 
-/// Adds what a line says to the cases.
+/// The step that the line of this number says.
+fn step_in<'a>(alloc: Global, number: u64, line: &'a str) -> Result<Step<'a>, CaseError> {
+    let (text, outcome) = line.split_once(" -> ").ok_or(CaseError::NoCase(number))?;
+    let action = action_in(alloc, number, text)?;
+    Ok(Step {
+        number,
+        action,
+        outcome,
+    })
+}
+
+/// Adds a step to the newest case, or to a first one of the largest limits.
+fn add_step<'a>(alloc: Global, cases: &mut Vec<Case<'a>>, step: Step<'a>) -> Result<(), CaseError> {
+    if let Some(case) = cases.last_mut() {
+        case.steps.push(step)?;
+        return Ok(());
+    }
+    let mut case = Case::new(alloc, Limits::largest());
+    case.steps.push(step)?;
+    cases.push(case)?;
+    Ok(())
+}
+
+/// Adds what the line of this number says to the cases.
 fn add_line<'a>(
     alloc: Global,
     cases: &mut Vec<Case<'a>>,
@@ -105,23 +132,14 @@ fn add_line<'a>(
     if line.is_empty() || line.starts_with('#') {
         return Ok(());
     }
-    if let Some(text) = line.strip_prefix("limits ") {
-        let limits = limits_in(text).ok_or(CaseError::NoCase(number))?;
-        cases.push(Case::new(alloc, limits))?;
-        return Ok(());
+    match line.strip_prefix("limits ") {
+        Some(limits) => {
+            let limits = limits_in(number, limits)?;
+            cases.push(Case::new(alloc, limits))?;
+            Ok(())
+        }
+        None => add_step(alloc, cases, step_in(alloc, number, line)?),
     }
-    if cases.is_empty() {
-        cases.push(Case::new(alloc, Limits::largest()))?;
-    }
-    let (text, outcome) = line.split_once(" -> ").ok_or(CaseError::NoCase(number))?;
-    let action = action_in(alloc, number, text)?;
-    let case = cases.last_mut().ok_or(CaseError::NoCase(number))?;
-    case.steps.push(Step {
-        number,
-        action,
-        outcome,
-    })?;
-    Ok(())
 }
 
 /// The cases of a file.

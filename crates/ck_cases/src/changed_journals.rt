@@ -9,7 +9,7 @@ use std::alloc::Global;
 const MOST_ENTRIES: u64 = 60;
 
 /// The part of a reply that is changed.
-#[derive(Clone, Copy, Debug)]
+#[derive(Clone, Copy)]
 enum Part {
     Code,
     Body,
@@ -46,43 +46,43 @@ fn other_body(alloc: Global, body: &Body) -> Body {
     }
 }
 
-/// The reply with this part changed.
-fn changed_reply(alloc: Global, reply: &Reply, part: Part) -> Result<Reply, NoMemory> {
-    match (part, reply.rv) {
-        (Part::Body, rv) => Ok(Reply {
-            rv,
-            body: other_body(alloc, &reply.body),
-        }),
-        (Part::Code, Rv::Ok) => Ok(Reply {
-            rv: Rv::Error(RvError::PinIncorrect),
-            body: reply.body.duplicate(alloc)?,
-        }),
-        (Part::Code, Rv::Error(_)) => Ok(Reply {
-            rv: Rv::Ok,
-            body: reply.body.duplicate(alloc)?,
-        }),
+/// Another code.
+fn other_code(rv: Rv) -> Rv {
+    match rv {
+        Rv::Ok => Rv::Error(RvError::PinIncorrect),
+        Rv::Error(_) => Rv::Ok,
     }
 }
 
+/// A copy of an entry, in whose reply this part is changed, if any.
+fn copied_entry(alloc: Global, entry: &Entry, changed: Option<Part>) -> Result<Entry, NoMemory> {
+    let Reply { rv, body } = &entry.reply;
+    let (rv, body) = match changed {
+        Some(Part::Code) => (other_code(*rv), body.duplicate(alloc)?),
+        Some(Part::Body) => (*rv, other_body(alloc, body)),
+        None => (*rv, body.duplicate(alloc)?),
+    };
+    Ok(Entry {
+        caller: entry.caller,
+        call: entry.call.duplicate(alloc)?,
+        reply: Reply { rv, body },
+    })
+}
+
 /// A copy of a journal's first entries, in which the reply of the entry of this number is changed.
-fn changed(alloc: Global, journal: &Journal, number: u64, part: Part) -> Result<Journal, NoMemory> {
+fn changed_journal(
+    alloc: Global,
+    journal: &Journal,
+    number: u64,
+    part: Part,
+) -> Result<Journal, NoMemory> {
     let base = journal.base().duplicate(alloc)?;
     let mut copy = Journal::from_base(alloc, base);
     for entry in journal.entries().iter().take(MOST_ENTRIES as usize) {
+        let is_changed = copy.len().saturating_add(1) == number;
+        let changed = if is_changed { Some(part) } else { None };
         copy.reserve(1)?;
-        let reply = if copy.len().checked_add(1) == Some(number) {
-            changed_reply(alloc, &entry.reply, part)?
-        } else {
-            Reply {
-                rv: entry.reply.rv,
-                body: entry.reply.body.duplicate(alloc)?,
-            }
-        };
-        copy.push_reserved(Entry {
-            caller: entry.caller,
-            call: entry.call.duplicate(alloc)?,
-            reply,
-        });
+        copy.push_reserved(copied_entry(alloc, entry, changed)?);
     }
     Ok(copy)
 }
@@ -95,8 +95,8 @@ fn check_change(
     number: u64,
     part: Part,
 ) -> Result<(), CaseError> {
-    let wrong = changed(alloc, journal, number, part)?;
-    if audit(alloc, &wrong, limits)? == Verdict::Wrong(number) {
+    let changed = changed_journal(alloc, journal, number, part)?;
+    if audit(alloc, &changed, limits)? == Verdict::Wrong(number) {
         return Ok(());
     }
     Err(CaseError::ChangeNotFound(number))

@@ -10,7 +10,7 @@ mod changed_journals;
 mod replays;
 mod retries;
 
-use replays::{Passed, play_text};
+use replays::play_text;
 use std::env::Env;
 use std::fs::Files;
 use std::process::ExitCode;
@@ -24,12 +24,8 @@ fn play_file<R: Files + Print + AllocGlobal>(
 ) -> io::Result<bool> {
     let text = fs::read_to_string(rt, name)?;
     match play_text(rt.alloc(), text.as_str(), changes) {
-        Ok(Passed { cases, retries: 0 }) => {
-            println!(rt; "{name}: {cases} passed")?;
-            Ok(true)
-        }
-        Ok(Passed { cases, retries }) => {
-            println!(rt; "{name}: {cases} passed, {retries} made again")?;
+        Ok(passed) => {
+            println!(rt; "{name}: {passed}")?;
             Ok(true)
         }
         Err(error) => {

@@ -4,16 +4,27 @@ use crate::cases::{Action, Case, Step, cases_in};
 use crate::changed_journals::check_changes;
 use crate::retries::RetryingToken;
 use ck_audit::Verdict;
-use ck_journal::{Journal, Reply};
+use ck_journal::{Call, Journal, Reply};
 use ck_script::push_reply;
 use ck_token::Uncut;
 use std::alloc::Global;
+use std::fmt;
 
 /// How many cases passed, and how often something was made again that had found no memory.
 #[derive(Clone, Copy)]
 pub(crate) struct Passed {
-    pub(crate) cases: usize,
-    pub(crate) retries: u64,
+    cases: usize,
+    retries: u64,
+}
+
+impl fmt::Display for Passed {
+    fn fmt<W: fmt::Write>(&self, f: &mut fmt::Formatter<W>) -> fmt::Result {
+        write!(f, "{} passed", self.cases)?;
+        if self.retries > 0 {
+            write!(f, ", {} made again", self.retries)?;
+        }
+        Ok(())
+    }
 }
 
 /// The text of a reply, without a line end.
@@ -25,6 +36,7 @@ fn reply_text(alloc: Global, reply: &Reply) -> Result<String, CaseError> {
     Ok(String::from_utf8_lossy(alloc, text)?)
 }
 
+/// How many entries a cut takes out, or why the journal isn't cut.
 fn cut_text(alloc: Global, cut: Result<Journal, Uncut>) -> Result<String, CaseError> {
     match cut {
         Ok(journal) => Ok(format!(in alloc; "entries {}", journal.len())?),
@@ -46,19 +58,10 @@ fn outcome_of(
     action: &Action,
 ) -> Result<String, CaseError> {
     match action {
-        Action::Call { caller, call } => {
-            let reply = token.call(alloc, *caller, call)?;
-            reply_text(alloc, &reply)
-        }
+        Action::Call { caller, call } => reply_text(alloc, &token.call(alloc, *caller, call)?),
         Action::BadLine(reason) => Ok(format!(in alloc; "bad script: {reason}")?),
-        Action::Cut => {
-            let cut = token.cut(alloc)?;
-            cut_text(alloc, cut)
-        }
-        Action::Audit(limits) => {
-            let verdict = token.audit(alloc, *limits)?;
-            verdict_text(alloc, verdict)
-        }
+        Action::Cut => cut_text(alloc, token.cut(alloc)?),
+        Action::Audit(limits) => verdict_text(alloc, token.audit(alloc, *limits)?),
     }
 }
 
@@ -79,14 +82,23 @@ fn play_by_steps(alloc: Global, case: &Case) -> Result<u64, CaseError> {
     Ok(token.retries())
 }
 
-/// Makes the calls of a case alone, and cuts the journal before each of them, where no session is
-/// open: they are answered alike.
+/// Cuts the journal, where no session is open, and then makes a call.
+fn call_behind_cut(
+    alloc: Global,
+    token: &mut RetryingToken,
+    caller: u32,
+    call: &Call,
+) -> Result<Reply, CaseError> {
+    let _cut = token.cut(alloc)?;
+    token.call(alloc, caller, call)
+}
+
+/// Makes the calls of a case alone, each behind a cut: they are answered alike.
 fn play_with_cuts(alloc: Global, case: &Case) -> Result<u64, CaseError> {
     let mut token = RetryingToken::new(alloc, case.limits);
     for step in case.steps.iter() {
         if let Some((caller, call)) = step.call() {
-            let _cut = token.cut(alloc)?;
-            let reply = token.call(alloc, caller, call)?;
+            let reply = call_behind_cut(alloc, &mut token, caller, call)?;
             compare(step, reply_text(alloc, &reply)?)?;
         }
     }
@@ -103,8 +115,9 @@ fn compare_entries(
     let mut number = before;
     for step in steps.iter().filter(|step| step.call().is_some()) {
         number = number.saturating_add(1);
-        let entry = journal.entry(number);
-        let entry = entry.ok_or(CaseError::NoEntry(step.number))?;
+        let entry = journal
+            .entry(number)
+            .ok_or(CaseError::NoEntry(step.number))?;
         compare(step, reply_text(alloc, &entry.reply)?)?;
     }
     Ok(())
@@ -129,18 +142,20 @@ fn play_by_runs(alloc: Global, case: &Case, changes: bool) -> Result<u64, CaseEr
     Ok(token.retries())
 }
 
+/// Plays a case in all three ways.
+fn play_case(alloc: Global, case: &Case, changes: bool) -> Result<u64, CaseError> {
+    let by_steps = play_by_steps(alloc, case)?;
+    let with_cuts = play_with_cuts(alloc, case)?;
+    let by_runs = play_by_runs(alloc, case, changes)?;
+    Ok(by_steps.saturating_add(with_cuts).saturating_add(by_runs))
+}
+
 /// Plays the cases of a file, and audits changed journals too where that is asked for.
 pub(crate) fn play_text(alloc: Global, text: &str, changes: bool) -> Result<Passed, CaseError> {
     let cases = cases_in(alloc, text)?;
     let mut retries = 0u64;
     for case in cases.iter() {
-        let by_steps = play_by_steps(alloc, case)?;
-        let with_cuts = play_with_cuts(alloc, case)?;
-        let by_runs = play_by_runs(alloc, case, changes)?;
-        retries = retries
-            .saturating_add(by_steps)
-            .saturating_add(with_cuts)
-            .saturating_add(by_runs);
+        retries = retries.saturating_add(play_case(alloc, case, changes)?);
     }
     Ok(Passed {
         cases: cases.len(),

@@ -1,14 +1,14 @@
-//! A token on which what finds no memory is made again.
+//! A token whose calls, cuts and audits are made again where they find no memory.
 use crate::case_errors::CaseError;
 use crate::cases::Step;
 use ck_audit::{Verdict, audit};
 use ck_journal::{Call, Journal, Reply};
 use ck_token::{Stopped, Token, Uncut, run};
-use ck_types::{Limits, NoMemory};
+use ck_types::Limits;
 use std::alloc::Global;
 
-/// A token, and how often it found no memory. What finds none must have left the journal as long as
-/// it was, and is made again.
+/// A token, and how often it found no memory: what found none must have left the journal as long as
+/// it was.
 #[derive(Drop)]
 pub(crate) struct RetryingToken {
     token: Token,
@@ -58,25 +58,22 @@ impl RetryingToken {
         caller: u32,
         call: &Call,
     ) -> Result<Reply, CaseError> {
-        let before = self.token.journal().len();
-        let copy = call.duplicate(alloc)?;
-        match self.token.call(alloc, caller, copy) {
-            Ok(reply) => Ok(reply),
-            Err(NoMemory) => {
-                self.retry(before)?;
-                Ok(self.token.call(alloc, caller, call.duplicate(alloc)?)?)
-            }
+        let entries = self.token.journal().len();
+        if let Ok(reply) = self.token.call(alloc, caller, call.duplicate(alloc)?) {
+            return Ok(reply);
         }
+        self.retry(entries)?;
+        Ok(self.token.call(alloc, caller, call.duplicate(alloc)?)?)
     }
 
     /// Makes the calls of the steps by a run, and those that it leaves by a second one.
     pub(crate) fn run(&mut self, alloc: Global, steps: &[Step]) -> Result<(), CaseError> {
-        let before = self.token.journal().len();
+        let entries = self.token.journal().len();
         let calls = calls_after(alloc, steps, 0)?;
         match run(&mut self.token, alloc, calls) {
             Ok(()) => Ok(()),
             Err(Stopped { answered }) => {
-                self.retry(before.saturating_add(answered))?;
+                self.retry(entries.saturating_add(answered))?;
                 let left = calls_after(alloc, steps, answered)?;
                 run(&mut self.token, alloc, left).map_err(|_| CaseError::Memory)
             }
@@ -95,10 +92,10 @@ impl RetryingToken {
 
     /// Cuts the journal, or says why it isn't cut.
     pub(crate) fn cut(&mut self, alloc: Global) -> Result<Result<Journal, Uncut>, CaseError> {
-        let before = self.token.journal().len();
+        let entries = self.token.journal().len();
         match self.token.cut(alloc) {
             Err(Uncut::Memory) => {
-                self.retry(before)?;
+                self.retry(entries)?;
                 Ok(self.token.cut(alloc))
             }
             cut => Ok(cut),

@@ -4,6 +4,7 @@ ghost use Rattle.clap.specs.Words.{app_of, first_value, found_of};
 ghost use Rattle.ck_options.specs.Options.{IsAskedBy, IsChosenBy, callers_in, program};
 
 use crate::options::{ArgumentFault, Callers, Options};
+use ck_types::MOST_CALLERS;
 use clap::error::ErrorKind;
 use clap::{Arg, ArgMatches, Command};
 use std::alloc::{AllocError, Global};
@@ -23,12 +24,12 @@ fn command<'a>(alloc: Global) -> Result<Command<'a>, AllocError>
         .arg(callers)
 }
 
-/// A number of callers: one digit from 1 to 8.
+/// A number of callers: one digit from 1 to the most.
 fn callers_in(text: &str) -> Option<Callers>
     ensures { option_map (λ callers. callers.count) result ≡ callers_in text.now }
 {
     match text.as_bytes() {
-        [digit] if b'1' <= *digit && *digit <= b'8' => Some(Callers {
+        [digit] if b'1' <= *digit && u32::from(*digit - b'0') <= MOST_CALLERS => Some(Callers {
             count: u32::from(*digit - b'0'),
         }),
         _ => None,

@@ -6,4 +6,12 @@
 #[cfg(test)]
 mod devices;
 #[cfg(test)]
+mod failures;
+#[cfg(test)]
+mod faults;
+#[cfg(test)]
 mod plays;
+#[cfg(test)]
+mod programs;
+#[cfg(test)]
+mod words;

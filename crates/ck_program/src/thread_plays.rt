@@ -15,15 +15,13 @@ use ck_audit::{Verdict, audit_token};
 use ck_journal::Call;
 use ck_options::Callers;
 use ck_runs::{Script, run_scripts};
-use ck_shared::{BoardCopy, Caller, Ends, EntrySlot, NewIdentity, SharedToken, TokenId};
+use ck_shared::{Caller, Ends, NewIdentity, Shared, SharedCaller, TokenId};
 use ck_token::Token;
 use ck_types::{Limits, NoMemory};
 use std::alloc::Global;
 use std::marker::Brand;
 use std::sync::Wait;
 use std::thread::Threads;
-
-type Shared<K, R> = SharedToken<K, EntrySlot<K>, BoardCopy<K>, R>;
 
 /// Adds a copy of a call where it is one of this caller.
 fn add_if_by(
@@ -96,9 +94,9 @@ fn play_scripts<K: TokenId + Send + Sync, R: Threads + Wait + Copy + Drop + Send
     rt: R,
     alloc: Global,
     token: &Shared<K, R>,
-    callers: Vec<Caller<K, BoardCopy<K>>>,
+    callers: Vec<SharedCaller<K>>,
     calls: &[(u32, Call)],
-) -> Result<Vec<Caller<K, BoardCopy<K>>>, NoMemory>
+) -> Result<Vec<SharedCaller<K>>, NoMemory>
     requires { All IsNewCaller callers.items }
     ensures made { IfOk result (λ callers. All (HasMadeAll calls.now) callers.items) }
     ensures numbers { IfOk result (λ back. numbers back.items ≡ numbers callers.items) }

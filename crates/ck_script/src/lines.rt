@@ -7,6 +7,7 @@ use crate::calls::call_in;
 use crate::line_errors::{BadLine, LineError};
 use crate::parts::{Parts, position_of};
 use ck_journal::Call;
+use ck_types::MOST_CALLERS;
 use std::alloc::Global;
 
 /// The byte that ends a line.
@@ -58,7 +59,7 @@ fn caller_in(text: &[u8]) -> Option<u32>
     ensures { result ≡ caller_in text.now }
 {
     match number_in(text) {
-        Ok(number) if 1 <= number && number <= 8 => Some(number as u32),
+        Ok(number) if 1 <= number && number <= u64::from(MOST_CALLERS) => Some(number as u32),
         _ => None,
     }
 }

@@ -19,5 +19,5 @@ pub use identity::{NewIdentity, TokenId};
 pub use known_histories::KnownHistory;
 pub use ledgers::{Account, CallBooks, CallerLedger, NewLedgers};
 pub use locked::Locked;
-pub use shared::{Ends, SharedToken};
+pub use shared::{Ends, Shared, SharedCaller, SharedToken};
 pub use slots::{EntrySlot, Slot};

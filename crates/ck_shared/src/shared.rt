@@ -6,13 +6,13 @@ ghost use Rattle.ck_journal.specs.Histories.{start};
 ghost use Rattle.ck_shared.specs.Accounts.{AreNew, name_of, no_calls};
 ghost use Rattle.ck_shared.specs.Callers.{are_all, new_caller, new_callers};
 
-use crate::boards::{ReadBoard, WriteBoard};
+use crate::boards::{BoardCopy, ReadBoard, WriteBoard};
 use crate::callers::Caller;
 use crate::identity::{CallerCount, NewIdentity, TokenId};
 use crate::known_histories::KnownHistory;
 use crate::ledgers::{Account, CallBooks};
 use crate::locked::Locked;
-use crate::slots::Slot;
+use crate::slots::{EntrySlot, Slot};
 use ck_history::Head;
 use ck_journal::{Call, Reply, TokenBoard};
 use ck_token::Token;
@@ -34,6 +34,12 @@ pub struct Ends<K: TokenId, O: Slot<K>, T: Absorb<O> + ReadBoard<K> + Drop, R: W
     pub token: SharedToken<K, O, T, R>,
     pub callers: Vec<Caller<K, T>>,
 }
+
+/// A shared token with this crate's own slots and board.
+pub type Shared<K, R> = SharedToken<K, EntrySlot<K>, BoardCopy<K>, R>;
+
+/// A caller of such a token.
+pub type SharedCaller<K> = Caller<K, BoardCopy<K>>;
 
 /// What a shared token has beside the token, before the first call.
 #[derive(Drop)]

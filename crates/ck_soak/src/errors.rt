@@ -1,6 +1,6 @@
-use ck_script::LineError;
 use ck_types::NoMemory;
 use std::alloc::{AllocError, AllocFailed};
+use std::io;
 use thiserror::Error;
 
 /// Why races, asks or drawn calls don't pass.
@@ -8,12 +8,16 @@ use thiserror::Error;
 pub(crate) enum SoakError {
     #[error("out of memory")]
     Memory,
+    #[error("no line can be written")]
+    Output,
     #[error("line {0}: not a line of a race")]
     NoRace(u64),
+    #[error("line {0}: a session is open where the journal is cut")]
+    OpenAtCut(u64),
     /// What came of the call.
     #[error("line {0}: came {1}")]
     Differs(u64, String),
-    #[error("line {0}: without memory, and something changed")]
+    #[error("line {0}: without memory something changed, or not one entry was added")]
     Changed(u64),
     #[error("the replies are not those of the race")]
     Replies,
@@ -23,18 +27,14 @@ pub(crate) enum SoakError {
     Order,
     #[error("the token doesn't take its callers back")]
     NotClosed,
-    #[error("{came} entries in the journal in place of {calls}")]
-    Entries { calls: u64, came: u64 },
     #[error("the replies of caller {0} are not those of its entries")]
     NotEntered(u32),
     #[error("the audit finds entry {0} wrong")]
     Wrong(u64),
-    #[error("entry {0} is answered otherwise by one thread")]
-    Replayed(u64),
-    #[error("a check of calls and asks by two callers fails")]
+    #[error("two callers open sessions, and there are no counts")]
+    NotCounted,
+    #[error("a check of calls and asks fails")]
     Asked,
-    #[error("caller {0} knows less than before, or another count of its calls")]
-    LessKnown(u32),
     #[error("a row of calls is bad")]
     BadRow,
 }
@@ -57,11 +57,8 @@ impl<T: Drop> From<AllocFailed<T>> for SoakError {
     }
 }
 
-impl From<LineError> for SoakError {
-    fn from(error: LineError) -> SoakError {
-        match error {
-            LineError::Memory => SoakError::Memory,
-            LineError::Bad(_) => SoakError::BadRow,
-        }
+impl From<io::Error> for SoakError {
+    fn from(_error: io::Error) -> SoakError {
+        SoakError::Output
     }
 }

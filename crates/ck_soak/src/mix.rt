@@ -1,20 +1,18 @@
 //! The mix of calls: what the callers draw from, and how a call is made of a drawn line.
 use crate::errors::SoakError;
 use ck_journal::Call;
-use ck_script::Line;
+use ck_script::{Line, LineError};
 use std::alloc::Global;
 use std::sync::atomic::{AtomicU64, Ordering};
 
-/// How many handles of each kind the callers have between them.
+/// How many places of handles the callers have between them.
 pub(crate) const PLACES: usize = 4;
 
-/// What a new token is called with before all callers begin.
-pub(crate) const FIRST_CALLS: &str = "InitToken 31323334; OpenSession 6 > $session; \
+/// What is called for each place before all callers begin, to open its session. The first time the
+/// token is initialized and the user gets a PIN. In the end the user is logged in.
+pub(crate) const FIRST_ROW: &str = "InitToken 31323334; OpenSession 6 > $session; \
     Login $session 0 31323334; InitPIN $session 75736572; Logout $session; \
     Login $session 1 75736572";
-
-/// What it is then called with for each place that has no session yet.
-pub(crate) const NEXT_CALLS: &str = "OpenSession 6 > $session";
 
 /// Calls in a row that a caller draws. They stand in the language of scripts. `$session`, `$object`
 /// and `$key` are handles that all callers know, and behind `>` stands which one is replaced by the
@@ -79,96 +77,50 @@ pub(crate) const SELDOM: [&str; 3] = [
     "Login $session 1 39393939",
 ];
 
-/// What a word of a row may stand for.
-#[derive(Clone, Copy)]
-pub(crate) enum HandleKind {
-    Session,
-    Object,
-    Key,
+/// Handles that all callers know, 0 where there was none yet.
+#[derive(Drop)]
+pub(crate) struct Place {
+    pub(crate) session: AtomicU64,
+    object: AtomicU64,
+    key: AtomicU64,
 }
 
-impl HandleKind {
-    /// The kind that a word stands for.
-    pub(crate) fn named(word: &str) -> Option<HandleKind> {
+impl Place {
+    pub(crate) fn new() -> Place {
+        Place {
+            session: AtomicU64::new(0),
+            object: AtomicU64::new(0),
+            key: AtomicU64::new(0),
+        }
+    }
+
+    /// The handle that a word stands for.
+    pub(crate) fn handle(&self, word: &str) -> Option<&AtomicU64> {
         match word {
-            "$session" => Some(HandleKind::Session),
-            "$object" => Some(HandleKind::Object),
-            "$key" => Some(HandleKind::Key),
+            "$session" => Some(&self.session),
+            "$object" => Some(&self.object),
+            "$key" => Some(&self.key),
             _ => None,
         }
     }
 }
 
-/// The handles that all callers know, each kind in places of its own.
-#[derive(Drop)]
-pub(crate) struct Handles {
-    sessions: [AtomicU64; PLACES],
-    objects: [AtomicU64; PLACES],
-    keys: [AtomicU64; PLACES],
-}
-
-fn no_handles() -> [AtomicU64; PLACES] {
-    [
-        AtomicU64::new(0),
-        AtomicU64::new(0),
-        AtomicU64::new(0),
-        AtomicU64::new(0),
-    ]
-}
-
-impl Handles {
-    pub(crate) fn new() -> Handles {
-        Handles {
-            sessions: no_handles(),
-            objects: no_handles(),
-            keys: no_handles(),
-        }
-    }
-
-    fn place(&self, kind: HandleKind, number: u64) -> Option<&AtomicU64> {
-        let places = match kind {
-            HandleKind::Session => &self.sessions,
-            HandleKind::Object => &self.objects,
-            HandleKind::Key => &self.keys,
-        };
-        places.get(number as usize % PLACES)
-    }
-
-    /// The handle of the place of this number, 0 where there was none yet.
-    pub(crate) fn get(&self, kind: HandleKind, number: u64) -> u64 {
-        match self.place(kind, number) {
-            Some(place) => place.load(Ordering::SeqCst),
-            None => 0,
-        }
-    }
-
-    pub(crate) fn replace(&self, kind: HandleKind, number: u64, handle: u64) {
-        if let Some(place) = self.place(kind, number) {
-            place.store(handle, Ordering::SeqCst);
-        }
-    }
-}
-
-/// The call that a line stands for, with the handles of the places of this number.
-pub(crate) fn call_of(
-    alloc: Global,
-    handles: &Handles,
-    number: u64,
-    text: &str,
-) -> Result<Call, SoakError> {
+/// The call that a line stands for, with the handles of a place.
+pub(crate) fn call_of(alloc: Global, place: &Place, text: &str) -> Result<Call, SoakError> {
     let mut line = format!(in alloc; "1")?;
     for word in text.split(' ') {
         line.push(' ')?;
-        match HandleKind::named(word) {
-            Some(kind) => {
-                let handle = handles.get(kind, number);
-                line.push_str(format!(in alloc; "{handle}")?.as_str())?;
+        match place.handle(word) {
+            Some(handle) => {
+                let number = handle.load(Ordering::SeqCst);
+                line.push_str(format!(in alloc; "{number}")?.as_str())?;
             }
             None => line.push_str(word)?,
         }
     }
-    match Line::parse(alloc, line.as_bytes())? {
-        Line::Called { call, .. } => Ok(call),
-        Line::Skipped => Err(SoakError::BadRow),
+    match Line::parse(alloc, line.as_bytes()) {
+        Ok(Line::Called { call, .. }) => Ok(call),
+        Err(LineError::Memory) => Err(SoakError::Memory),
+        Ok(Line::Skipped) | Err(LineError::Bad(_)) => Err(SoakError::BadRow),
     }
 }

@@ -7,11 +7,14 @@ use rand_core::Rng;
 use rand_xoshiro::Xoshiro256PlusPlus;
 use std::alloc::Global;
 use std::sync::Wait;
-use std::sync::atomic::{AtomicBool, AtomicU64, Ordering};
+use std::sync::atomic::{AtomicU64, Ordering};
 use std::thread;
 
 /// How often a call yields to other threads before its turn must have come.
 const MOST_YIELDS: u32 = 20_000_000;
+
+/// A turn behind all turns of an order.
+const LATE: u64 = 1 << 62;
 
 /// A gate that holds each call until its caller's turn has come.
 #[derive(Drop)]
@@ -19,7 +22,6 @@ pub(crate) struct OrderedGate<'a, G> {
     gate: &'a G,
     order: &'a [u32],
     turn: AtomicU64,
-    is_late: AtomicBool,
 }
 
 impl<'a, G> OrderedGate<'a, G> {
@@ -29,32 +31,24 @@ impl<'a, G> OrderedGate<'a, G> {
             gate,
             order,
             turn: AtomicU64::new(0),
-            is_late: AtomicBool::new(false),
         }
     }
 
     /// Whether a call was made before its turn, since that didn't come in time.
     pub(crate) fn is_late(&self) -> bool {
-        self.is_late.load(Ordering::SeqCst)
+        self.turn.load(Ordering::SeqCst) >= LATE
     }
 
-    fn has_turn(&self, number: u32) -> bool {
-        let turn = self.turn.load(Ordering::SeqCst);
-        match self.order.get(turn as usize) {
-            Some(next) => *next == number,
-            None => true,
-        }
-    }
-
-    /// Yields until the caller's turn has come, and says whether it has.
-    fn await_turn(&self, number: u32) -> bool {
+    /// Yields until the caller's turn has come. Where it doesn't come, no call is held any more.
+    fn await_turn(&self, number: u32) {
         for _ in 0..MOST_YIELDS {
-            if self.has_turn(number) {
-                return true;
+            let turn = self.turn.load(Ordering::SeqCst);
+            if self.order.get(turn as usize).copied().unwrap_or(number) == number {
+                return;
             }
             thread::yield_now();
         }
-        false
+        self.turn.store(LATE, Ordering::SeqCst);
     }
 }
 
@@ -66,10 +60,7 @@ impl<'a, K: TokenId, T: Drop, G: Gate<K, T>> Gate<K, T> for OrderedGate<'a, G> {
         caller: &mut Caller<K, T>,
         call: Call,
     ) -> Result<Reply, NoMemory> {
-        // Where one turn didn't come, those of later calls don't either.
-        if !self.is_late() && !self.await_turn(caller.number()) {
-            self.is_late.store(true, Ordering::SeqCst);
-        }
+        self.await_turn(caller.number());
         let reply = self.gate.call(rt, alloc, caller, call);
         self.turn.fetch_add(1, Ordering::SeqCst);
         reply
@@ -80,7 +71,7 @@ impl<'a, K: TokenId, T: Drop, G: Gate<K, T>> Gate<K, T> for OrderedGate<'a, G> {
     }
 }
 
-/// Turns a front of an order round, of a length that is drawn.
+/// Reverses the first callers of an order, as many as are drawn: none, some or all.
 pub(crate) fn reorder(draws: &mut Xoshiro256PlusPlus, order: &mut [u32]) {
     let length = draws.next_u64() as usize % (order.len() + 1);
     if let Some(front) = order.get_mut(..length) {

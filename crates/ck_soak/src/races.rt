@@ -12,8 +12,8 @@
 //!
 //! Empty lines and lines that begin with `#` are skipped.
 use crate::errors::SoakError;
-use ck_journal::Call;
-use ck_script::{Line, LineError};
+use ck_journal::{Call, Reply};
+use ck_script::{Line, LineError, push_reply};
 use ck_types::Limits;
 use std::alloc::Global;
 use std::mem;
@@ -27,31 +27,20 @@ pub(crate) struct Step<'a> {
     pub(crate) reply: &'a str,
 }
 
-/// In which orders of the steps the replies are known.
-#[derive(Clone, Copy)]
-pub(crate) enum Known {
-    InThisOrder,
-    InAnyOrder,
-}
-
-/// The part of a race that the next step belongs to.
-#[derive(Clone, Copy)]
-enum Part {
-    First,
-    Together,
-    Afterwards,
-}
-
 #[derive(Drop)]
 pub(crate) struct Race<'a> {
     pub(crate) line: u64,
     pub(crate) limits: Limits,
-    pub(crate) known: Known,
+    /// The steps before the cut.
     pub(crate) earlier: Vec<Step<'a>>,
-    pub(crate) first: Vec<Step<'a>>,
-    pub(crate) together: Vec<Step<'a>>,
+    /// The first steps, and behind them those that are made together.
+    pub(crate) steps: Vec<Step<'a>>,
+    /// How many the first steps are.
+    pub(crate) first: usize,
+    pub(crate) is_in_any_order: bool,
     pub(crate) afterwards: Vec<Step<'a>>,
-    part: Part,
+    /// Whether the lines that follow are the steps afterwards.
+    is_over: bool,
 }
 
 impl<'a> Race<'a> {
@@ -59,23 +48,32 @@ impl<'a> Race<'a> {
         Race {
             line,
             limits,
-            known: Known::InThisOrder,
             earlier: Vec::new(alloc),
-            first: Vec::new(alloc),
-            together: Vec::new(alloc),
+            steps: Vec::new(alloc),
+            first: 0,
+            is_in_any_order: false,
             afterwards: Vec::new(alloc),
-            part: Part::First,
+            is_over: false,
         }
     }
+}
 
-    fn add(&mut self, step: Step<'a>) -> Result<(), SoakError> {
-        match self.part {
-            Part::First => self.first.push(step)?,
-            Part::Together => self.together.push(step)?,
-            Part::Afterwards => self.afterwards.push(step)?,
-        }
-        Ok(())
+/// The text of a reply, without a line end.
+pub(crate) fn reply_text(alloc: Global, reply: &Reply) -> Result<String, SoakError> {
+    let mut line = Vec::new(alloc);
+    push_reply(&mut line, reply)?;
+    let text = line.as_slice();
+    let text = text.strip_suffix(b"\n").unwrap_or(text);
+    Ok(String::from_utf8_lossy(alloc, text)?)
+}
+
+/// The reply is that of the step.
+pub(crate) fn compare(alloc: Global, step: &Step, reply: &Reply) -> Result<(), SoakError> {
+    let came = reply_text(alloc, reply)?;
+    if came.as_str() == step.reply {
+        return Ok(());
     }
+    Err(SoakError::Differs(step.line, came))
 }
 
 /// The limits that stand behind the word `race`.
@@ -122,14 +120,15 @@ fn add_line<'a>(
     }
     let race = races.last_mut().ok_or(SoakError::NoRace(line))?;
     match text {
-        "cut" => race.earlier = mem::replace(&mut race.first, Vec::new(alloc)),
-        "together" => race.part = Part::Together,
+        "cut" => race.earlier = mem::replace(&mut race.steps, Vec::new(alloc)),
+        "together" => race.first = race.steps.len(),
         "together in any order" => {
-            race.part = Part::Together;
-            race.known = Known::InAnyOrder;
+            race.first = race.steps.len();
+            race.is_in_any_order = true;
         }
-        "afterwards" => race.part = Part::Afterwards,
-        _ => race.add(step_in(alloc, line, text)?)?,
+        "afterwards" => race.is_over = true,
+        _ if race.is_over => race.afterwards.push(step_in(alloc, line, text)?)?,
+        _ => race.steps.push(step_in(alloc, line, text)?)?,
     }
     Ok(())
 }

@@ -4,134 +4,111 @@ ghost use Rattle.ck_journal.specs.Histories.{start};
 ghost use Rattle.ck_shared.specs.Accounts.{name_of};
 
 use crate::errors::SoakError;
-use crate::journals::{check_audit, check_count};
-use crate::races::{Race, Step};
-use crate::texts::{compare, reply_text};
-use crate::tokens::{Board, Shared, token_of};
+use crate::journals::check_journal;
+use crate::races::{Race, Step, compare};
+use crate::tokens::token_of;
+use ck_audit::are_same_replies;
 use ck_journal::{Call, Reply};
-use ck_shared::{Ask, Caller, Ends, NewIdentity, Status, TokenId};
+use ck_shared::{Ask, Ends, NewIdentity, Shared, SharedCaller, Status, TokenId};
 use ck_token::Token;
-use ck_types::NoMemory;
 use std::alloc::Global;
 use std::marker::Brand;
 use std::sync::Wait;
 
-/// The eight callers of a shared token, how many calls were answered, and how many were made again.
-#[derive(Drop)]
-struct Retrying<'a, K: TokenId, R: Wait + Drop> {
-    rt: &'a R,
-    token: &'a Shared<K, R>,
-    callers: Vec<Caller<K, Board<K>>>,
-    answered: u64,
-    retries: u64,
-}
-
-/// What a caller knows and sees of the token without a call.
+/// What a caller knows, and what it is answered without a call.
 #[derive(Drop)]
 struct View {
+    session: Option<Status>,
+    token: Option<Status>,
     seen: u64,
     count: u64,
-    session: String,
-    token: String,
-}
-
-impl View {
-    fn is_same(&self, other: &View) -> bool {
-        self.seen == other.seen
-            && self.count == other.count
-            && self.session.as_str() == other.session.as_str()
-            && self.token.as_str() == other.token.as_str()
-    }
-}
-
-/// The text of the reply to an ask, empty where there is none.
-fn status_text<K: TokenId>(
-    alloc: Global,
-    caller: &mut Caller<K, Board<K>>,
-    ask: Ask,
-) -> Result<String, SoakError> {
-    match caller.status(ask) {
-        Some(Status::Reply(reply)) => reply_text(alloc, &reply),
-        _ => Ok(String::new(alloc)),
-    }
 }
 
 /// What a caller sees. It asks before it counts what it knows.
-fn view_of<K: TokenId>(alloc: Global, caller: &mut Caller<K, Board<K>>) -> Result<View, SoakError> {
-    let session = status_text(alloc, caller, Ask::Session(1))?;
-    let token = status_text(alloc, caller, Ask::Token)?;
-    Ok(View {
+fn view_of<K: TokenId>(caller: &mut SharedCaller<K>) -> View {
+    View {
+        session: caller.status(Ask::Session(1)),
+        token: caller.status(Ask::Token),
         seen: caller.seen(),
         count: caller.count(),
-        session,
-        token,
-    })
+    }
+}
+
+fn are_same(one: &Option<Status>, other: &Option<Status>) -> bool {
+    match (one, other) {
+        (Some(Status::Reply(one)), Some(Status::Reply(other))) => are_same_replies(one, other),
+        (one, other) => one.is_none() && other.is_none(),
+    }
+}
+
+/// The eight callers of a shared token, and how many of their calls were answered.
+#[derive(Drop)]
+struct Retrying<'a, K: TokenId, R: Wait + Drop> {
+    rt: &'a R,
+    alloc: Global,
+    token: &'a Shared<K, R>,
+    callers: Vec<SharedCaller<K>>,
+    answered: u64,
+}
+
+fn caller_of<K: TokenId>(
+    callers: &mut [SharedCaller<K>],
+    number: u32,
+    line: u64,
+) -> Result<&mut SharedCaller<K>, SoakError> {
+    let mut all = callers.iter_mut();
+    let found = all.find(|caller| caller.number() == number);
+    found.ok_or(SoakError::NoRace(line))
 }
 
 impl<'a, K: TokenId, R: Wait + Drop> Retrying<'a, K, R> {
-    fn caller(&mut self, number: u32, line: u64) -> Result<&mut Caller<K, Board<K>>, SoakError> {
-        let mut all = self.callers.iter_mut();
-        let found = all.find(|caller| caller.number() == number);
-        found.ok_or(SoakError::NoRace(line))
-    }
-
-    /// A call of the step's caller, and whether it found no memory.
-    fn call(&mut self, alloc: Global, step: &Step) -> Result<Result<Reply, NoMemory>, SoakError> {
-        let (rt, token) = (self.rt, self.token);
-        let call = step.call.duplicate(alloc)?;
-        let caller = self.caller(step.caller, step.line)?;
-        let before = view_of(alloc, caller)?;
-        let reply = token.call(rt, alloc, caller, call);
-        if reply.is_err() && !view_of(alloc, caller)?.is_same(&before) {
-            return Err(SoakError::Changed(step.line));
-        }
-        Ok(reply)
-    }
-
-    /// The next call of another caller adds one entry to those that were there.
-    fn call_by_another(&mut self, alloc: Global, step: &Step) -> Result<(), SoakError> {
-        let (rt, token) = (self.rt, self.token);
-        let number = if step.caller == 8 { 7 } else { 8 };
-        let other = self.caller(number, step.line)?;
-        token.call(rt, alloc, other, Call::GetTokenInfo)?;
-        let seen = other.seen();
-        self.answered = self.answered.saturating_add(1);
-        if seen != self.answered {
-            return Err(SoakError::Changed(step.line));
-        }
-        Ok(())
-    }
-
-    /// Makes a step, again where it finds no memory.
-    fn make(&mut self, alloc: Global, step: &Step) -> Result<(), SoakError> {
-        let reply = match self.call(alloc, step)? {
-            Ok(reply) => reply,
-            Err(NoMemory) => {
-                self.retries = self.retries.saturating_add(1);
-                self.call_by_another(alloc, step)?;
-                self.call(alloc, step)??
-            }
+    /// A call adds one entry to those that were there. Where it finds no memory, its caller sees
+    /// what it saw, and there is no reply.
+    fn call(&mut self, number: u32, line: u64, call: Call) -> Result<Option<Reply>, SoakError> {
+        let (rt, alloc, token) = (self.rt, self.alloc, self.token);
+        let caller = caller_of(self.callers.as_mut_slice(), number, line)?;
+        let before = view_of(caller);
+        let reply = token.call(rt, alloc, caller, call).ok();
+        let after = view_of(caller);
+        let is_right = if reply.is_some() {
+            self.answered = self.answered.saturating_add(1);
+            after.seen == self.answered
+        } else {
+            after.seen == before.seen
+                && after.count == before.count
+                && are_same(&after.session, &before.session)
+                && are_same(&after.token, &before.token)
         };
-        self.answered = self.answered.saturating_add(1);
+        if is_right {
+            return Ok(reply);
+        }
+        Err(SoakError::Changed(line))
+    }
+
+    /// Makes a step, again behind a call of another caller where it finds no memory.
+    fn make(&mut self, step: &Step) -> Result<(), SoakError> {
+        let (alloc, line) = (self.alloc, step.line);
+        let mut reply = self.call(step.caller, line, step.call.duplicate(alloc)?)?;
+        if reply.is_none() {
+            let other = if step.caller == 8 { 7 } else { 8 };
+            let added = self.call(other, line, Call::GetTokenInfo)?;
+            let _added = added.ok_or(SoakError::Memory)?;
+            reply = self.call(step.caller, line, step.call.duplicate(alloc)?)?;
+        }
+        let reply = reply.ok_or(SoakError::Memory)?;
         compare(alloc, step, &reply)
     }
 
-    fn make_all(&mut self, alloc: Global, steps: &[Step]) -> Result<(), SoakError> {
+    fn make_all(&mut self, steps: &[Step]) -> Result<(), SoakError> {
         for step in steps {
-            self.make(alloc, step)?;
+            self.make(step)?;
         }
         Ok(())
     }
-
-    fn make_race(&mut self, alloc: Global, race: &Race) -> Result<(), SoakError> {
-        self.make_all(alloc, race.first.as_slice())?;
-        self.make_all(alloc, race.together.as_slice())?;
-        self.make_all(alloc, race.afterwards.as_slice())
-    }
 }
 
-/// Shares the token and makes the steps of the race in their order. Says how often one was made
-/// again.
+/// Shares the token and makes the steps of the race in their order. Says how many entries the
+/// journal has that are of no step.
 fn retry_shared<K: TokenId, R: Wait + Copy + Drop>(
     rt: R,
     alloc: Global,
@@ -151,25 +128,20 @@ fn retry_shared<K: TokenId, R: Wait + Copy + Drop>(
     let Ends { token, callers } = ends;
     let mut retrying = Retrying {
         rt: &rt,
+        alloc,
         token: &token,
         callers,
         answered: 0,
-        retries: 0,
     };
-    let outcome = retrying.make_race(alloc, race);
-    let Retrying {
-        callers,
-        answered,
-        retries,
-        ..
-    } = retrying;
+    retrying.make_all(race.steps.as_slice())?;
+    retrying.make_all(race.afterwards.as_slice())?;
+    let Retrying { callers, .. } = retrying;
     let Ok(token) = token.close(&rt, callers) else {
         return Err(SoakError::NotClosed);
     };
-    outcome?;
-    check_count(&token, answered)?;
-    check_audit(alloc, &token)?;
-    Ok(retries)
+    check_journal(alloc, &token, &[])?;
+    let steps = race.steps.len().saturating_add(race.afterwards.len());
+    Ok(token.journal().len().saturating_sub(steps as u64))
 }
 
 /// Makes the steps of a race one after the other on a shared token, and says how often one was made

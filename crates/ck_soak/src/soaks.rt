@@ -1,17 +1,15 @@
 //! Eight callers in threads of their own make drawn calls of one token at once, until each has made
-//! its number. Then the token is taken back, and its journal is compared with what each caller got,
-//! audited, and made again by one thread.
+//! its number. Then the token is taken back, and its journal is audited and compared with what each
+//! caller got.
 ghost use Rattle.std.specs.Prelude.{◌≡◌, ℕ};
-ghost use Rattle.ck_journal.specs.Histories.{start};
+ghost use Rattle.ck_journal.specs.Bases.{empty_base};
 ghost use Rattle.ck_shared.specs.Accounts.{name_of};
 
 use crate::drawing_callers::{DrawingCaller, Target};
 use crate::errors::SoakError;
-use crate::journals::{CallerReplies, check_audit, check_count, check_replay, check_replies};
-use crate::mix::{FIRST_CALLS, Handles, NEXT_CALLS, PLACES};
-use crate::tokens::{Board, Finished, Shared};
-use ck_shared::{Caller, Ends, NewIdentity, TokenId};
-use ck_token::Token;
+use crate::journals::{CallerReplies, check_journal};
+use crate::mix::{FIRST_ROW, Place};
+use ck_shared::{Ends, NewIdentity, Shared, SharedCaller, TokenId};
 use ck_types::Limits;
 use std::alloc::Global;
 use std::marker::Brand;
@@ -19,19 +17,9 @@ use std::sync::Wait;
 use std::thread;
 use std::thread::Threads;
 
-/// How many calls each caller makes.
-const CALLS: usize = 5_000;
-
-/// How many calls were made, and how many entries the journal has.
-#[derive(Clone, Copy)]
-pub(crate) struct Counts {
-    pub(crate) calls: u64,
-    pub(crate) entries: u64,
-}
-
 fn drawing_callers_of<K: TokenId>(
     alloc: Global,
-    callers: Vec<Caller<K, Board<K>>>,
+    callers: Vec<SharedCaller<K>>,
 ) -> Result<Vec<DrawingCaller<K>>, SoakError> {
     let mut drawing_callers = Vec::with_capacity(alloc, callers.len())?;
     for caller in callers {
@@ -40,16 +28,14 @@ fn drawing_callers_of<K: TokenId>(
     Ok(drawing_callers)
 }
 
-/// The first caller makes the first calls, until each place has its session.
+/// The first caller opens a session for each place.
 fn prepare<K: TokenId, R: Wait + Drop>(
-    alloc: Global,
     target: &Target<K, R>,
     drawing_callers: &mut [DrawingCaller<K>],
 ) -> Result<(), SoakError> {
     if let Some(first) = drawing_callers.first_mut() {
-        first.make_row(alloc, target, 0, FIRST_CALLS)?;
-        for place in 1..PLACES {
-            first.make_row(alloc, target, place as u64, NEXT_CALLS)?;
+        for place in target.places.iter() {
+            first.make_row(target, place, FIRST_ROW)?;
         }
     }
     Ok(())
@@ -64,17 +50,17 @@ fn soak_together<K: TokenId + Send + Sync, R: Threads + Wait + Drop + Send + Syn
 ) -> Result<(), SoakError> {
     let target = Target {
         rt,
+        alloc,
         token,
-        handles: Handles::new(),
-        most: CALLS,
+        places: [Place::new(), Place::new(), Place::new(), Place::new()],
     };
-    prepare(alloc, &target, drawing_callers)?;
+    prepare(&target, drawing_callers)?;
     thread::for_each_mut(
         rt,
         drawing_callers,
         8,
         &|_: usize, drawing_caller: &mut DrawingCaller<K>| {
-            drawing_caller.make_calls(alloc, &target)
+            drawing_caller.outcome = drawing_caller.make_calls(&target);
         },
     );
     Ok(())
@@ -84,7 +70,7 @@ fn soak_together<K: TokenId + Send + Sync, R: Threads + Wait + Drop + Send + Syn
 fn finish<K: TokenId>(
     alloc: Global,
     drawing_callers: Vec<DrawingCaller<K>>,
-) -> Result<Finished<K>, SoakError> {
+) -> Result<(Vec<SharedCaller<K>>, Vec<CallerReplies>), SoakError> {
     let mut callers = Vec::with_capacity(alloc, drawing_callers.len())?;
     let mut all = Vec::with_capacity(alloc, drawing_callers.len())?;
     for drawing_caller in drawing_callers {
@@ -95,60 +81,42 @@ fn finish<K: TokenId>(
             ..
         } = drawing_caller;
         outcome?;
-        let number = caller.number();
+        all.push((caller.number(), replies))?;
         callers.push(caller)?;
-        all.push(CallerReplies { number, replies })?;
     }
     Ok((callers, all))
 }
 
-/// Checks the journal against the replies of all callers.
-fn check_all(alloc: Global, token: &Token, all: &[CallerReplies]) -> Result<Counts, SoakError> {
-    let mut calls = 0u64;
-    for got in all {
-        check_replies(alloc, token.journal().entries(), got)?;
-        calls = calls.saturating_add(got.replies.len() as u64);
-    }
-    check_count(token, calls)?;
-    check_audit(alloc, token)?;
-    check_replay(alloc, token)?;
-    Ok(Counts {
-        calls,
-        entries: token.journal().len(),
-    })
-}
-
-/// Shares the token among eight callers, and takes it back where all are done.
+/// Shares a new token among eight callers, and takes it back where all are done. Says how many
+/// calls its journal has.
 fn soak_shared<K: TokenId + Send + Sync, R: Threads + Wait + Copy + Drop + Send + Sync>(
     rt: R,
     alloc: Global,
-    token: Token,
+    limits: Limits,
     identity: NewIdentity,
-) -> Result<Counts, SoakError>
-    requires history { token.history ≡ start K.base }
-    requires limits { token.limits ≡ K.limits }
+) -> Result<u64, SoakError>
+    requires base { K.base ≡ empty_base }
+    requires limits { limits ≡ K.limits }
     requires callers { K.callers ≡ 8 }
     requires book { identity.history.seen.book ≡ K.book }
     requires ledgers { (n : ℕ) → K.ledger n ≡ name_of identity.ledgers n }
 {
-    let Ok(ends) = Shared::<K, R>::adopt(rt, alloc, token, 8, identity) else {
-        return Err(SoakError::Memory);
-    };
-    let Ends { token, callers } = ends;
+    let Ends { token, callers } = Shared::<K, R>::open(rt, alloc, limits, 8, identity)?;
     let mut drawing_callers = drawing_callers_of(alloc, callers)?;
     soak_together(&rt, alloc, &token, drawing_callers.as_mut_slice())?;
     let (callers, all) = finish(alloc, drawing_callers)?;
-    match token.close(&rt, callers) {
-        Ok(token) => check_all(alloc, &token, all.as_slice()),
-        Err(_) => Err(SoakError::NotClosed),
-    }
+    let Ok(token) = token.close(&rt, callers) else {
+        return Err(SoakError::NotClosed);
+    };
+    check_journal(alloc, &token, all.as_slice())?;
+    Ok(token.journal().len())
 }
 
-/// Makes the drawn calls of eight callers on a new token, and checks its journal.
+/// Makes the drawn calls of eight callers on a new token, and checks its journal. Says how many
+/// they are.
 pub(crate) fn soak_once<R: Threads + Wait + Copy + Drop + Send + Sync>(
     rt: R,
     alloc: Global,
-) -> Result<Counts, SoakError> {
-    let token = Token::new(alloc, Limits::largest());
-    soak_shared::<Brand, R>(rt, alloc, token, NewIdentity::new())
+) -> Result<u64, SoakError> {
+    soak_shared::<Brand, R>(rt, alloc, Limits::largest(), NewIdentity::new())
 }

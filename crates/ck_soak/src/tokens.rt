@@ -1,21 +1,11 @@
-//! The types of shared tokens, and the token of a race before it is shared.
+//! The token of a race before it is shared, and steps that are made without sharing it.
 ghost use Rattle.std.specs.Prelude.{◌≡◌, IfOk};
 ghost use Rattle.ck_journal.specs.Histories.{start, start_of};
 
 use crate::errors::SoakError;
-use crate::journals::CallerReplies;
-use crate::races::{Race, Step};
-use crate::texts::compare;
-use ck_shared::{BoardCopy, Caller, EntrySlot, SharedToken};
+use crate::races::{Race, Step, compare};
 use ck_token::{Token, Uncut};
 use std::alloc::Global;
-
-pub(crate) type Shared<K, R> = SharedToken<K, EntrySlot<K>, BoardCopy<K>, R>;
-
-pub(crate) type Board<K> = BoardCopy<K>;
-
-/// What there is when all callers are done: themselves, and what each got.
-pub(crate) type Finished<K> = (Vec<Caller<K, Board<K>>>, Vec<CallerReplies>);
 
 /// Makes steps one after the other.
 pub(crate) fn make_steps(
@@ -39,6 +29,6 @@ pub(crate) fn token_of(alloc: Global, race: &Race) -> Result<Token, SoakError>
     match token.cut(alloc) {
         Ok(_) => Ok(token),
         Err(Uncut::Memory) => Err(SoakError::Memory),
-        Err(Uncut::Session) => Err(SoakError::NoRace(race.line)),
+        Err(Uncut::Session) => Err(SoakError::OpenAtCut(race.line)),
     }
 }

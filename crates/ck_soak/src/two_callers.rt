@@ -1,12 +1,10 @@
 //! Two callers share a token, each in a thread of its own. docs/threads.md goes through it.
 ghost use Rattle.std.specs.Prelude.{◌≡◌, ℕ};
-ghost use Rattle.ck_journal.specs.Histories.{start};
+ghost use Rattle.ck_journal.specs.Bases.{empty_base};
 ghost use Rattle.ck_shared.specs.Accounts.{name_of};
 
-use crate::tokens::{Board, Shared};
-use ck_journal::{Body, Call, Reply};
-use ck_shared::{Ask, Caller, Ends, NewIdentity, Status, TokenId};
-use ck_token::Token;
+use ck_journal::{Body, Call, RW_SESSION, Reply, SERIAL_SESSION};
+use ck_shared::{Ask, Ends, NewIdentity, Shared, SharedCaller, Status, TokenId};
 use ck_types::{Limits, Pin};
 use std::alloc::Global;
 use std::marker::Brand;
@@ -14,21 +12,24 @@ use std::sync::Wait;
 use std::thread;
 use std::thread::Threads;
 
+/// The flags of a read/write session.
+pub(crate) const READ_WRITE: u64 = SERIAL_SESSION | RW_SESSION;
+
 /// Opens three sessions. What finds no memory isn't called again.
 fn open_sessions<K: TokenId, R: Wait + Drop>(
     rt: &R,
     alloc: Global,
     token: &Shared<K, R>,
-    mut caller: Caller<K, Board<K>>,
-) -> Caller<K, Board<K>> {
+    caller: &mut SharedCaller<K>,
+) {
     for _ in 0..3u32 {
-        let _reply = token.call(rt, alloc, &mut caller, Call::OpenSession { flags: 6 });
+        let call = Call::OpenSession { flags: READ_WRITE };
+        let _reply = token.call(rt, alloc, caller, call);
     }
-    caller
 }
 
 /// How many sessions are open, read without the lock.
-fn open_count<K: TokenId>(caller: &mut Caller<K, Board<K>>) -> Option<u64> {
+fn open_count<K: TokenId>(caller: &mut SharedCaller<K>) -> Option<u64> {
     match caller.status(Ask::Token)? {
         Status::Reply(
             Reply {
@@ -45,16 +46,16 @@ fn call_both<K: TokenId + Send + Sync, R: Threads + Wait + Drop + Send + Sync>(
     rt: &R,
     alloc: Global,
     token: &Shared<K, R>,
-    mut one: Caller<K, Board<K>>,
-    two: Caller<K, Board<K>>,
-) -> (Caller<K, Board<K>>, Caller<K, Board<K>>) {
+    one: &mut SharedCaller<K>,
+    two: &mut SharedCaller<K>,
+) {
     let pin = Pin::of(b"1234");
-    let _reply = token.call(rt, alloc, &mut one, Call::InitToken { pin });
+    let _reply = token.call(rt, alloc, one, Call::InitToken { pin });
     thread::join(
         rt,
         || open_sessions(rt, alloc, token, one),
         || open_sessions(rt, alloc, token, two),
-    )
+    );
 }
 
 /// What is there when both callers are done.
@@ -65,28 +66,28 @@ pub(crate) struct Counts {
     pub(crate) entries: u64,
 }
 
-/// Shares the token between two callers, and takes it back where both are done. `None` where there
-/// is no memory, the question has no answer or the token isn't taken back.
+/// Shares a new token between two callers, and takes it back where both are done. `None` where
+/// there is no memory, the question has no answer or the token isn't taken back.
 fn shared_by_two<K: TokenId + Send + Sync, R: Threads + Wait + Copy + Drop + Send + Sync>(
     rt: R,
     alloc: Global,
-    token: Token,
+    limits: Limits,
     identity: NewIdentity,
 ) -> Option<Counts>
-    requires history { token.history ≡ start K.base }
-    requires limits { token.limits ≡ K.limits }
+    requires base { K.base ≡ empty_base }
+    requires limits { limits ≡ K.limits }
     requires callers { K.callers ≡ 2 }
     requires book { identity.history.seen.book ≡ K.book }
     requires ledgers { (n : ℕ) → K.ledger n ≡ name_of identity.ledgers n }
 {
-    let Ends { token, mut callers } = Shared::<K, R>::adopt(rt, alloc, token, 2, identity).ok()?;
-    let two = callers.pop()?;
-    let one = callers.pop()?;
-    let (mut one, two) = call_both(&rt, alloc, &token, one, two);
+    let ends = Shared::<K, R>::open(rt, alloc, limits, 2, identity).ok()?;
+    let Ends { token, mut callers } = ends;
+    let mut two = callers.pop()?;
+    let one = callers.last_mut()?;
+    call_both(&rt, alloc, &token, one, &mut two);
     one.learn(&two.news());
-    let sessions = open_count(&mut one)?;
+    let sessions = open_count(one)?;
     let calls = (one.count(), two.count());
-    callers.push(one).ok()?;
     callers.push(two).ok()?;
     let token = token.close(&rt, callers).ok()?;
     Some(Counts {
@@ -101,6 +102,5 @@ pub(crate) fn counts_of_two<R: Threads + Wait + Copy + Drop + Send + Sync>(
     rt: R,
     alloc: Global,
 ) -> Option<Counts> {
-    let token = Token::new(alloc, Limits::largest());
-    shared_by_two::<Brand, R>(rt, alloc, token, NewIdentity::new())
+    shared_by_two::<Brand, R>(rt, alloc, Limits::largest(), NewIdentity::new())
 }

@@ -1,19 +1,21 @@
-//! What the cases of ck_cases don't show of a token: long messages, room for entries and what a
-//! stopped run is printed as.
-use ck_journal::{Body, Call};
+//! What the cases of ck_cases don't show of a token: long messages, an empty journal, room for
+//! entries and what a stopped run is printed as.
+use ck_journal::{Body, Call, RW_SESSION, SERIAL_SESSION};
 use ck_token::{Stopped, Token};
 use ck_types::{Bytes, Limits, Mechanism, NoMemory, Pin, Rv, RvError};
 use std::alloc::Global;
 use std::process::Abort;
 use std::test::Fail;
 
-fn so_pin() -> Pin {
-    Pin::of(b"1234")
-}
+/// CKM_SHA256.
+const SHA256: u64 = 0x250;
+
+/// The most bytes of a piece of a message.
+const LONGEST_PIECE: usize = 0x10_0000;
 
 fn start_sha256(alloc: Global) -> Call {
     let mechanism = Mechanism {
-        kind: 0x250,
+        kind: SHA256,
         parameter: Bytes::new(alloc),
     };
     Call::DigestInit {
@@ -38,6 +40,15 @@ fn stopped_runs_are_printed(rt: HostRuntime) -> Result<(), Fail> {
     let stopped = Stopped { answered: 3 };
     let text = format!(in rt.alloc(); "{stopped}")?;
     assert!(rt; text.as_str() == "out of memory after 3 calls");
+    Ok(())
+}
+
+#[test]
+fn a_journal_is_empty_until_a_call_is_answered(rt: HostRuntime) -> Result<(), Fail> {
+    let mut token = Token::new(rt.alloc(), Limits::largest());
+    assert!(rt; token.journal().is_empty());
+    token.call(rt.alloc(), 1, Call::CloseAllSessions)?;
+    assert!(rt; !token.journal().is_empty());
     Ok(())
 }
 
@@ -98,9 +109,9 @@ fn check_million(rt: &impl Abort, alloc: Global, token: &mut Token) -> Result<()
 /// A piece that is as long as one may be, and one that is longer.
 fn check_longest(rt: &impl Abort, alloc: Global, token: &mut Token) -> Result<(), NoMemory> {
     answered(rt, alloc, token, start_sha256(alloc), Rv::Ok)?;
-    let longest = filled(alloc, 0x10_0000)?;
+    let longest = filled(alloc, LONGEST_PIECE)?;
     answered(rt, alloc, token, update(longest), Rv::Ok)?;
-    let longer = filled(alloc, 0x10_0001)?;
+    let longer = filled(alloc, LONGEST_PIECE + 1)?;
     let refused = Rv::Error(RvError::DataLenRange);
     answered(rt, alloc, token, update(longer), refused)?;
     let ended = Rv::Error(RvError::OperationNotInitialized);
@@ -109,8 +120,10 @@ fn check_longest(rt: &impl Abort, alloc: Global, token: &mut Token) -> Result<()
 }
 
 fn check_pieces(rt: &impl Abort, alloc: Global, token: &mut Token) -> Result<(), Fail> {
-    answered(rt, alloc, token, Call::InitToken { pin: so_pin() }, Rv::Ok)?;
-    answered(rt, alloc, token, Call::OpenSession { flags: 6 }, Rv::Ok)?;
+    let pin = Pin::of(b"1234");
+    answered(rt, alloc, token, Call::InitToken { pin }, Rv::Ok)?;
+    let flags = SERIAL_SESSION | RW_SESSION;
+    answered(rt, alloc, token, Call::OpenSession { flags }, Rv::Ok)?;
     check_million(rt, alloc, token)?;
     check_longest(rt, alloc, token)?;
     Ok(())

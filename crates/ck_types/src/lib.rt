@@ -45,4 +45,4 @@ pub use sequences::{Bytes, Sequence};
 pub use templates::Template;
 pub use token_flags::TokenFlags;
 pub use token_limits::Limits;
-pub use users::{SessionState, UserType};
+pub use users::{MOST_CALLERS, SessionState, UserType};
