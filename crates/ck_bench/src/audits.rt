@@ -23,7 +23,8 @@ fn token_after(alloc: Global, entries: u64) -> Result<Token, Failed> {
     Ok(token)
 }
 
-/// The processor time in nanoseconds of an audit of so many entries.
+/// The processor time in nanoseconds of an audit of so many entries, which are legal by its
+/// contract.
 pub(crate) fn audit_time<R: CpuClock + AllocGlobal>(rt: &R, entries: u64) -> Result<u128, Failed> {
     let alloc = rt.alloc();
     let token = token_after(alloc, entries)?;

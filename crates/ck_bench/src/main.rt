@@ -1,7 +1,7 @@
 //! Measures what calls of a token take, without a script. With no argument it makes each kind of
 //! call a few times and writes nothing. With the argument `measure` it writes, by the clock, what
-//! calls and asks of a token take that callers share, and then, in processor time, what single calls
-//! of a token alone take: each the best of some tries.
+//! calls and asks of a token take that callers share, and then, in processor time, what single
+//! calls of a token alone take: each the best of some tries.
 #![tactic(auto)]
 
 mod audits;

@@ -1,6 +1,6 @@
 //! A caller asks for the state of a session, without the lock, while another logs in. Then both
-//! call and ask at once. A third caller makes no call, and looks before and behind. In the end the
-//! token is taken back.
+//! call and ask at once. A third caller makes no call: it asks before the first one and after the
+//! last. In the end the token is taken back.
 ghost use Rattle.std.specs.Prelude.{◌≡◌, ℕ};
 ghost use Rattle.ck_journal.specs.Bases.{empty_base};
 ghost use Rattle.ck_shared.specs.Accounts.{name_of};
@@ -17,7 +17,7 @@ use std::marker::Brand;
 use std::sync::Wait;
 use std::thread::Threads;
 
-/// How often each of the two callers asks before it calls.
+/// How often each of the two callers asks for the state of the session.
 const ASKS: u32 = 1_000;
 
 /// How often each then calls.
@@ -141,10 +141,11 @@ fn scripts_of<K: TokenId>(
     Ok(scripts)
 }
 
-/// Each step is answered OK. The login is the call behind the first ones: who knows of it is
-/// answered that the user is logged in, and who doesn't, that nobody is. What is known stays.
+/// Each step is answered OK, and what is known stays. A caller that asks for the session has made
+/// no other call since the first ones than the login. So the next entry that it knows is the login:
+/// exactly where it knows one, the user is logged in.
 fn check_answers(answers: &[Answered]) -> Result<(), SoakError> {
-    let mut known = 0;
+    let (mut known, mut asks) = (0, 0u32);
     for answer in answers {
         let (Answered::Reply(reply, seen) | Answered::Status(Some(Status::Reply(reply)), seen)) =
             answer
@@ -157,9 +158,10 @@ fn check_answers(answers: &[Answered]) -> Result<(), SoakError> {
             let has_login = *state == SessionState::RwUser;
             let is_open = has_login || *state == SessionState::RwPublic;
             expect(is_open && *flags == READ_WRITE && has_login == (known > FIRST_CALLS))?;
+            asks = asks.saturating_add(1);
         }
     }
-    Ok(())
+    expect(asks == ASKS)
 }
 
 /// The callers of the scripts, where all answers are right.

@@ -92,13 +92,16 @@ impl<K: TokenId> DrawingCaller<K> {
         Ok(())
     }
 
-    /// Draws as many rows as there are calls to make, since each has one or more. After each it
-    /// asks for the state of a session, without the lock.
+    /// Draws rows until the caller has made its calls. Behind each row it asks for the state of a
+    /// session without the lock: which one it sees depends on the others.
     pub(crate) fn make_calls<R: Wait + Drop>(
         &mut self,
         target: &Target<K, R>,
     ) -> Result<(), SoakError> {
         for _ in 0..CALLS {
+            if self.replies.len() >= CALLS {
+                break;
+            }
             let row = row_of(self.draws.next_u64());
             let number = self.draws.next_u64();
             if let Some(place) = target.places.get(number as usize % PLACES) {

@@ -17,7 +17,7 @@ pub(crate) enum SoakError {
     /// What came of the call.
     #[error("line {0}: came {1}")]
     Differs(u64, String),
-    #[error("line {0}: without memory something changed, or not one entry was added")]
+    #[error("line {0}: a call without memory changed something, or another didn't add one entry")]
     Changed(u64),
     #[error("the replies are not those of the race")]
     Replies,

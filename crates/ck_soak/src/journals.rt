@@ -23,6 +23,14 @@ fn check_replies(entries: &[Entry], number: u32, replies: &[Reply]) -> Result<()
     }
 }
 
+/// An audit finds the journal legal.
+pub(crate) fn check_audit(alloc: Global, token: &Token) -> Result<(), SoakError> {
+    match audit_token(alloc, token)? {
+        Verdict::Legal => Ok(()),
+        Verdict::Wrong(number) => Err(SoakError::Wrong(number)),
+    }
+}
+
 /// An audit finds the journal legal, and each caller got the replies of its entries.
 pub(crate) fn check_journal(
     alloc: Global,
@@ -32,8 +40,5 @@ pub(crate) fn check_journal(
     for (number, replies) in all {
         check_replies(token.journal().entries(), *number, replies.as_slice())?;
     }
-    match audit_token(alloc, token)? {
-        Verdict::Legal => Ok(()),
-        Verdict::Wrong(number) => Err(SoakError::Wrong(number)),
-    }
+    check_audit(alloc, token)
 }

@@ -1,10 +1,10 @@
 //! What threads of callers do to a shared token. The program plays the races of the files that its
-//! arguments name: each by one thread, and by threads of its callers, in orders that a gate keeps
-//! and in none but of the first steps. Then two callers open sessions, a caller asks while another
-//! logs in, and eight callers make drawn calls at once. What it writes is the same in every order of
-//! the calls. Where the first argument is `alone`, only the steps of each race are made, one after
-//! the other on a shared token, again where there was no memory, and the line of a file says how
-//! many were.
+//! arguments name: each by one thread, and by threads of its callers, with all calls in an order
+//! that a gate keeps and with the first ones alone. Then two callers open sessions, a caller asks
+//! while another logs in, and eight callers make drawn calls at once. What it writes is the same in
+//! every order of the calls. Where the first argument is `alone`, only the steps of each race are
+//! made, one after the other on a shared token, again where there was no memory, and the line of a
+//! file says how many were.
 #![tactic(auto)]
 
 mod asks;
@@ -72,7 +72,7 @@ fn play_all<R: Env + Files + Print + AllocGlobal + Threads + Wait + Copy + Drop 
         return Ok(all_pass);
     }
     if let Err(error) = play_callers(rt) {
-        println!(rt; "{error}")?;
+        println!(rt; "callers: {error}")?;
         return Ok(false);
     }
     Ok(all_pass)

@@ -14,7 +14,7 @@ use std::thread;
 const MOST_YIELDS: u32 = 20_000_000;
 
 /// A turn behind all turns of an order.
-const LATE: u64 = 1 << 62;
+const LATE: u64 = u64::MAX / 2;
 
 /// A gate that holds each call until its caller's turn has come.
 #[derive(Drop)]

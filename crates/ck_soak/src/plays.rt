@@ -11,7 +11,7 @@ use std::alloc::Global;
 use std::sync::Wait;
 use std::thread::Threads;
 
-/// How often a race is run in orders that a gate keeps, and how often in none.
+/// How often a race is run with all its calls in order, and how often with the first ones alone.
 const RUNS: u64 = 100;
 
 /// Makes all steps of a race on a token by one thread.
@@ -21,9 +21,9 @@ fn check_alone(alloc: Global, race: &Race) -> Result<(), SoakError> {
     make_steps(alloc, &mut token, race.afterwards.as_slice())
 }
 
-/// The first calls were made in this order of their callers.
-fn check_order(entries: &[Entry], order: &[u32]) -> Result<(), SoakError> {
-    let is_kept = entries.len() >= order.len()
+/// Each step has an entry, and the first were made in this order of their callers.
+fn check_order(entries: &[Entry], steps: &[Step], order: &[u32]) -> Result<(), SoakError> {
+    let is_kept = entries.len() == steps.len()
         && entries
             .iter()
             .zip(order)
@@ -34,8 +34,8 @@ fn check_order(entries: &[Entry], order: &[u32]) -> Result<(), SoakError> {
     Err(SoakError::Order)
 }
 
-/// As long as the callers are those of the steps, in their order, so are the replies. Says whether
-/// the callers of all are.
+/// Compares the replies with those of the steps, up to the first entry of another caller. Says
+/// whether there is no such entry.
 fn check_in_order(alloc: Global, steps: &[Step], entries: &[Entry]) -> Result<bool, SoakError> {
     for (entry, step) in entries.iter().zip(steps) {
         if entry.caller != step.caller {
@@ -72,7 +72,7 @@ fn check_run<R: Threads + Wait + Copy + Drop + Send + Sync>(
     let mut token = run_race(rt, alloc, race, order)?;
     let steps = race.steps.as_slice();
     let entries = token.journal().entries();
-    check_order(entries, order)?;
+    check_order(entries, steps, order)?;
     let is_in_order = check_in_order(alloc, steps, entries)?;
     if race.is_in_any_order {
         check_in_any(alloc, steps, entries)?;

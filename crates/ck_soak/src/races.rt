@@ -39,8 +39,8 @@ pub(crate) struct Race<'a> {
     pub(crate) first: usize,
     pub(crate) is_in_any_order: bool,
     pub(crate) afterwards: Vec<Step<'a>>,
-    /// Whether the lines that follow are the steps afterwards.
-    is_over: bool,
+    /// Whether the steps that follow are made afterwards.
+    is_afterwards: bool,
 }
 
 impl<'a> Race<'a> {
@@ -53,7 +53,7 @@ impl<'a> Race<'a> {
             first: 0,
             is_in_any_order: false,
             afterwards: Vec::new(alloc),
-            is_over: false,
+            is_afterwards: false,
         }
     }
 }
@@ -120,14 +120,17 @@ fn add_line<'a>(
     }
     let race = races.last_mut().ok_or(SoakError::NoRace(line))?;
     match text {
-        "cut" => race.earlier = mem::replace(&mut race.steps, Vec::new(alloc)),
+        "cut" => {
+            race.earlier = mem::replace(&mut race.steps, Vec::new(alloc));
+            race.first = 0;
+        }
         "together" => race.first = race.steps.len(),
         "together in any order" => {
             race.first = race.steps.len();
             race.is_in_any_order = true;
         }
-        "afterwards" => race.is_over = true,
-        _ if race.is_over => race.afterwards.push(step_in(alloc, line, text)?)?,
+        "afterwards" => race.is_afterwards = true,
+        _ if race.is_afterwards => race.afterwards.push(step_in(alloc, line, text)?)?,
         _ => race.steps.push(step_in(alloc, line, text)?)?,
     }
     Ok(())

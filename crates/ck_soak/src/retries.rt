@@ -4,7 +4,7 @@ ghost use Rattle.ck_journal.specs.Histories.{start};
 ghost use Rattle.ck_shared.specs.Accounts.{name_of};
 
 use crate::errors::SoakError;
-use crate::journals::check_journal;
+use crate::journals::check_audit;
 use crate::races::{Race, Step, compare};
 use crate::tokens::token_of;
 use ck_audit::are_same_replies;
@@ -107,8 +107,8 @@ impl<'a, K: TokenId, R: Wait + Drop> Retrying<'a, K, R> {
     }
 }
 
-/// Shares the token and makes the steps of the race in their order. Says how many entries the
-/// journal has that are of no step.
+/// Shares the token and makes the steps of the race in their order. Says how many calls were
+/// answered beside them.
 fn retry_shared<K: TokenId, R: Wait + Copy + Drop>(
     rt: R,
     alloc: Global,
@@ -135,13 +135,20 @@ fn retry_shared<K: TokenId, R: Wait + Copy + Drop>(
     };
     retrying.make_all(race.steps.as_slice())?;
     retrying.make_all(race.afterwards.as_slice())?;
-    let Retrying { callers, .. } = retrying;
+    let Retrying {
+        callers,
+        answered,
+        ..
+    } = retrying;
     let Ok(token) = token.close(&rt, callers) else {
         return Err(SoakError::NotClosed);
     };
-    check_journal(alloc, &token, &[])?;
+    check_audit(alloc, &token)?;
+    if token.journal().len() != answered {
+        return Err(SoakError::Changed(race.line));
+    }
     let steps = race.steps.len().saturating_add(race.afterwards.len());
-    Ok(token.journal().len().saturating_sub(steps as u64))
+    Ok(answered.saturating_sub(steps as u64))
 }
 
 /// Makes the steps of a race one after the other on a shared token, and says how often one was made

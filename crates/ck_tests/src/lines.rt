@@ -1,5 +1,5 @@
 use crate::line_tables::MEANINGS;
-use ck_script::{Line, cut_line};
+use ck_script::{BadLine, LONGEST_LINE, Line, LineError, cut_line};
 use std::alloc::Global;
 use std::process::Abort;
 use std::test::Fail;
@@ -30,6 +30,17 @@ fn check_rows(rt: &impl Abort, alloc: Global, rows: &str) -> Result<(), Fail> {
 #[test]
 fn lines_have_their_meanings(rt: HostRuntime) -> Result<(), Fail> {
     check_rows(&rt, rt.alloc(), MEANINGS)
+}
+
+#[test]
+fn a_comment_is_no_longer_than_a_line(rt: HostRuntime) -> Result<(), Fail> {
+    let mut comment = vec![in rt.alloc(); b'#'; LONGEST_LINE]?;
+    let line = Line::parse(rt.alloc(), comment.as_slice());
+    assert!(rt; matches!(line, Ok(Line::Skipped)));
+    comment.push(b'#')?;
+    let line = Line::parse(rt.alloc(), comment.as_slice());
+    assert!(rt; matches!(line, Err(LineError::Bad(BadLine::TooLong))));
+    Ok(())
 }
 
 #[test]
