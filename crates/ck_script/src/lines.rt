@@ -54,7 +54,7 @@ impl Line {
     }
 }
 
-/// A caller's number, from 1 to 8.
+/// A caller's number, from 1 to the most.
 fn caller_in(text: &[u8]) -> Option<u32>
     ensures { result ≡ caller_in text.now }
 {

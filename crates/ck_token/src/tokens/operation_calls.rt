@@ -4,6 +4,7 @@ ghost use Rattle.ck_types.specs.declared.return_codes.Rv.TheVariants as rv;
 ghost use Rattle.ck_journal.specs.Answers.{ok, bytes_reply, key_state_error, may_serve, usage_flag};
 ghost use Rattle.ck_journal.specs.Answers.{usage_error};
 ghost use Rattle.ck_journal.specs.declared.replies.Body.TheVariants as body;
+ghost use Rattle.ck_parts.specs.Changes.{finish_change};
 ghost use Rattle.ck_parts.specs.declared.changes.Change.TheVariants as change;
 ghost use Rattle.ck_token.specs.declared.decisions.Refused.TheVariants as refused;
 
@@ -20,20 +21,6 @@ use ck_types::{
 };
 use std::alloc::Global;
 
-/// The code of a reply that gives a length alone: where it is asked for, and where the room is too
-/// small.
-fn length_code(len: u64, room: Option<u64>) -> Option<Rv>
-    ensures { (bytes : List ℕ) → length bytes ≡ len → MatchOption result
-        (bytes_reply room bytes ≡ ok (body.Bytes bytes))
-        (λ code. bytes_reply room bytes ≡ record { rv = code; body = body.Length len }) }
-{
-    match room {
-        None => Some(Rv::Ok),
-        Some(room) if room < len => Some(Rv::Error(RvError::BufferTooSmall)),
-        Some(_) => None,
-    }
-}
-
 /// What the reply makes of the session's operation.
 fn finish(kind: OperationKind, session: u64, ends: bool) -> Change
     ensures { result ≡ change.FinishOperation kind session ends }
@@ -43,6 +30,26 @@ fn finish(kind: OperationKind, session: u64, ends: bool) -> Change
         session,
         ends,
     }
+}
+
+/// Gives the length alone, where it is asked for and where the room is too small. The operation
+/// stays.
+fn give_length(kind: OperationKind, session: u64, len: u64, room: Option<u64>) -> Option<Decision>
+    ensures { (bytes : List ℕ) → length bytes ≡ len → MatchOption result
+        (bytes_reply room bytes ≡ ok (body.Bytes bytes))
+        (λ d. (bytes_reply room bytes ≡ record { rv = d.rv; body = d.body })
+        × (d.change ≡ finish_change kind session rv.Ok d.body)) }
+{
+    let rv = match room {
+        None => Rv::Ok,
+        Some(room) if room < len => Rv::Error(RvError::BufferTooSmall),
+        Some(_) => return None,
+    };
+    Some(Decision {
+        rv,
+        body: Body::Length(len),
+        change: finish(kind, session, false),
+    })
 }
 
 /// Gives a digest or a signature, which ends the session's operation.
@@ -279,13 +286,8 @@ impl Token {
             Err(error) => return Err(refused(kind, session, error)),
             Ok(operation) => operation,
         };
-        let len = operation.len();
-        if let Some(rv) = length_code(len, room) {
-            return Ok(Decision {
-                rv,
-                body: Body::Length(len),
-                change: finish(kind, session, false),
-            });
+        if let Some(length) = give_length(kind, session, operation.len(), room) {
+            return Ok(length);
         }
         Ok(give(alloc, kind, session, &operation.tag_with(bytes))?)
     }
@@ -325,13 +327,8 @@ impl Token {
             Err(error) => return Err(refused(kind, session, error)),
             Ok(operation) => operation,
         };
-        let len = operation.len();
-        if let Some(rv) = length_code(len, room) {
-            return Ok(Decision {
-                rv,
-                body: Body::Length(len),
-                change: finish(kind, session, false),
-            });
+        if let Some(length) = give_length(kind, session, operation.len(), room) {
+            return Ok(length);
         }
         Ok(give(alloc, kind, session, &operation.tag())?)
     }

@@ -21,8 +21,9 @@ returns-in-Some c =
     let holds = c.in-Ok.ensures.agrees.message in
     let tag = tag_of computation c.args.bytes.now in
     let len =
-    length-tag_of computation _ message holds c.args.bytes.now ∙ sym (c.len-len.ensures computation message holds) in
-    (c.in-Ok.ensures.passes, sym (c.in-Some.ensures tag len), c.finish.ensures)
+    length-tag_of computation _ message holds c.args.bytes.now ∙ sym (c.len.ensures computation message holds) in
+    let given = c.in-Some.ensures tag len in
+    (c.in-Ok.ensures.passes, sym given.0, given.1)
 
 pub returns : goal.returns
 returns c =
@@ -33,7 +34,7 @@ returns c =
     let holds = c.in-Ok.ensures.agrees.message in
     let tag = tag_of computation c.args.bytes.now in
     let len =
-    length-tag_of computation _ message holds c.args.bytes.now ∙ sym (c.len-len.ensures computation message holds) in
+    length-tag_of computation _ message holds c.args.bytes.now ∙ sym (c.len.ensures computation message holds) in
     let given =
     gives-bytes k c.args.session _ _ _ _ c.in_ok-give.ensures (c.in_default.ensures tag len)
     (c.tag_with.ensures computation message holds
@@ -50,7 +51,7 @@ returns-in_err-give c =
     let holds = c.in-Ok.ensures.agrees.message in
     let tag = tag_of computation c.args.bytes.now in
     let len =
-    length-tag_of computation _ message holds c.args.bytes.now ∙ sym (c.len-len.ensures computation message holds) in
+    length-tag_of computation _ message holds c.args.bytes.now ∙ sym (c.len.ensures computation message holds) in
     memory-decided (message_error k h c.args.session c.args.bytes.now) (bytes_reply c.args.room tag)
     (λ b. finish_change k c.args.session rv.Ok b)
     (λ code. finish_change k c.args.session (rv.Error code) body.Empty) (is_some c.args.room) _
