@@ -141,9 +141,9 @@ fn scripts_of<K: TokenId>(
     Ok(scripts)
 }
 
-/// Each step is answered OK, and what is known stays. A caller that asks for the session has made
-/// no other call since the first ones than the login. So the next entry that it knows is the login:
-/// exactly where it knows one, the user is logged in.
+/// Each step is answered OK, and what is known stays. The first caller asks for the session once it
+/// has logged in, the second before it calls. So where either knows more than the first calls, the
+/// login is among it: exactly then the user is logged in.
 fn check_answers(answers: &[Answered]) -> Result<(), SoakError> {
     let (mut known, mut asks) = (0, 0u32);
     for answer in answers {
