@@ -8,11 +8,11 @@ memory. The calls of a case are also played as a script: all replies are written
 then the program says that it is out of memory. Where anything else comes, it is printed, and the status is 1. Bad lines
 are left out: they make no call, and without memory one may have another reason. Changed journals aren't audited.
 
-The calls of each race in crates/ck_soak/data are made one after the other, by callers of a shared token. Where one
+The calls of each race in crates/ck_races/data are made one after the other, by callers of a shared token. Where one
 finds no memory, its caller knows and sees what it did before, and the next call of another caller adds one entry; then
 it is made again. With the argument `shared` these alone are played.
 
-The programs are crates/ck_cases/out/ck_cases, crates/ck_run/out/ck_run and crates/ck_soak/out/ck_soak, built by
+The programs are crates/ck_cases/out/ck_cases, crates/ck_run/out/ck_run and crates/ck_races/out/ck_races, built by
 `rt run` in their folders. This needs Linux with the GNU C library, and a C compiler, `cc`, for growths.c beside this
 file.
 """
@@ -28,8 +28,8 @@ HERE = os.path.dirname(os.path.abspath(__file__))
 CRATES = os.path.join(HERE, "..", "crates")
 CASES = os.path.join(CRATES, "ck_cases", "out", "ck_cases")
 SCRIPTS = os.path.join(CRATES, "ck_run", "out", "ck_run")
-RACES = os.path.join(CRATES, "ck_soak", "out", "ck_soak")
-RACES_DATA = os.path.join(CRATES, "ck_soak", "data", "callers.races")
+RACES = os.path.join(CRATES, "ck_races", "out", "ck_races")
+RACES_DATA = os.path.join(CRATES, "ck_races", "data", "callers.races")
 DATA = os.path.join(CRATES, "ck_cases", "data", "*.cases")
 LONG = os.path.join(CRATES, "ck_cases", "data", "many_objects.cases")
 LARGEST = "limits largest"

@@ -1,6 +1,40 @@
-ghost use Rattle.std.specs.Prelude.{◌≡◌, ◌↔◌, IsTrue};
+ghost use Rattle.std.specs.Prelude.{◌≡◌, ◌↔◌, List, ◌∷◌, IsTrue, IfSome, IfNone};
+ghost use Rattle.ck_journal.specs.declared.calls.Entry.{Entry};
+ghost use Rattle.ck_audit.specs.Replies.{replies_to};
 
-use ck_journal::{Answer, Body, Reply};
+use ck_journal::{Answer, Body, Entry, Reply};
+
+/// The replies that are left for later entries, where the entry is another caller's or its reply
+/// is the first of them.
+fn replies_left<'a>(caller: u32, entry: &Entry, replies: &'a [Reply]) -> Option<&'a [Reply]>
+    ensures left { IfSome result (λ left. (later : List Entry)
+        → (replies.now ≡ replies_to caller (entry.now ∷ later))
+        ↔ (left.now ≡ replies_to caller later)) }
+    ensures none { IfNone result ((later : List Entry)
+        → replies.now ≡ replies_to caller (entry.now ∷ later) → ⊥) }
+{
+    if entry.caller != caller {
+        return Some(replies);
+    }
+    match replies {
+        [reply, left @ ..] if are_same_replies(reply, &entry.reply) => Some(left),
+        _ => None,
+    }
+}
+
+/// Whether these are the replies to the caller's calls among the entries, in their order.
+pub fn are_replies_of(caller: u32, entries: &[Entry], replies: &[Reply]) -> bool
+    ensures { IsTrue result ↔ (replies.now ≡ replies_to caller entries.now) }
+{
+    let mut left = replies;
+    for entry in entries {
+        match replies_left(caller, entry, left) {
+            Some(later) => left = later,
+            None => return false,
+        }
+    }
+    left.is_empty()
+}
 
 /// Whether two replies have the same code and the same body.
 pub fn are_same_replies(one: &Reply, other: &Reply) -> bool

@@ -3,28 +3,13 @@ use std::alloc::{AllocError, AllocFailed};
 use std::io;
 use thiserror::Error;
 
-/// Why races, asks or drawn calls don't pass.
+/// Why asks or drawn calls don't pass.
 #[derive(Debug, Drop, Error)]
 pub(crate) enum SoakError {
     #[error("out of memory")]
     Memory,
     #[error("no line can be written")]
     Output,
-    #[error("line {0}: not a line of a race")]
-    NoRace(u64),
-    #[error("line {0}: a session is open where the journal is cut")]
-    OpenAtCut(u64),
-    /// What came of the call.
-    #[error("line {0}: came {1}")]
-    Differs(u64, String),
-    #[error("line {0}: a call without memory changed something, or another didn't add one entry")]
-    Changed(u64),
-    #[error("the replies are not those of the race")]
-    Replies,
-    #[error("a call's turn didn't come")]
-    Late,
-    #[error("the calls were not made in the order of their turns")]
-    Order,
     #[error("the token doesn't take its callers back")]
     NotClosed,
     #[error("the replies of caller {0} are not those of its entries")]

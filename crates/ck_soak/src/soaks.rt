@@ -7,15 +7,20 @@ ghost use Rattle.ck_shared.specs.Accounts.{name_of};
 
 use crate::drawing_callers::{DrawingCaller, Target};
 use crate::errors::SoakError;
-use crate::journals::{CallerReplies, check_journal};
 use crate::mix::{FIRST_ROW, Place};
+use ck_audit::{Verdict, are_replies_of, audit_token};
+use ck_journal::Reply;
 use ck_shared::{Ends, NewIdentity, Shared, SharedCaller, TokenId};
+use ck_token::Token;
 use ck_types::Limits;
 use std::alloc::Global;
 use std::marker::Brand;
 use std::sync::Wait;
 use std::thread;
 use std::thread::Threads;
+
+/// A caller's number, and the replies that it got, in the order of its calls.
+type CallerReplies = (u32, Vec<Reply>);
 
 fn drawing_callers_of<K: TokenId>(
     alloc: Global,
@@ -85,6 +90,20 @@ fn finish<K: TokenId>(
         callers.push(caller)?;
     }
     Ok((callers, all))
+}
+
+/// An audit finds the journal legal, and each caller got the replies of its entries.
+fn check_journal(alloc: Global, token: &Token, all: &[CallerReplies]) -> Result<(), SoakError> {
+    let entries = token.journal().entries();
+    for (number, replies) in all {
+        if !are_replies_of(*number, entries, replies.as_slice()) {
+            return Err(SoakError::NotEntered(*number));
+        }
+    }
+    match audit_token(alloc, token)? {
+        Verdict::Legal => Ok(()),
+        Verdict::Wrong(number) => Err(SoakError::Wrong(number)),
+    }
 }
 
 /// Shares a new token among eight callers, and takes it back where all are done. Says how many

@@ -1,5 +1,5 @@
 //! The races of a file are played, and what came is written.
-use crate::errors::SoakError;
+use crate::errors::RaceError;
 use crate::plays::check_race;
 use crate::races::{Race, races_in};
 use crate::retries::retry_race;
@@ -15,7 +15,7 @@ fn play_race<R: Threads + Wait + Copy + Drop + Send + Sync>(
     alloc: Global,
     race: &Race,
     is_alone: bool,
-) -> Result<u64, SoakError> {
+) -> Result<u64, RaceError> {
     if is_alone {
         return retry_race(rt, alloc, race);
     }

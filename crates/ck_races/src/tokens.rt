@@ -2,7 +2,7 @@
 ghost use Rattle.std.specs.Prelude.{◌≡◌, IfOk};
 ghost use Rattle.ck_journal.specs.Histories.{start, start_of};
 
-use crate::errors::SoakError;
+use crate::errors::RaceError;
 use crate::races::{Race, Step, compare};
 use ck_token::{Token, Uncut};
 use std::alloc::Global;
@@ -12,7 +12,7 @@ pub(crate) fn make_steps(
     alloc: Global,
     token: &mut Token,
     steps: &[Step],
-) -> Result<(), SoakError> {
+) -> Result<(), RaceError> {
     for step in steps {
         let reply = token.call(alloc, step.caller, step.call.duplicate(alloc)?)?;
         compare(alloc, step, &reply)?;
@@ -21,14 +21,14 @@ pub(crate) fn make_steps(
 }
 
 /// The token of a race: its earlier steps are made, and its journal is cut.
-pub(crate) fn token_of(alloc: Global, race: &Race) -> Result<Token, SoakError>
+pub(crate) fn token_of(alloc: Global, race: &Race) -> Result<Token, RaceError>
     ensures { IfOk result (λ token. token.history ≡ start (start_of token.history)) }
 {
     let mut token = Token::new(alloc, race.limits);
     make_steps(alloc, &mut token, race.earlier.as_slice())?;
     match token.cut(alloc) {
         Ok(_) => Ok(token),
-        Err(Uncut::Memory) => Err(SoakError::Memory),
-        Err(Uncut::Session) => Err(SoakError::OpenAtCut(race.line)),
+        Err(Uncut::Memory) => Err(RaceError::Memory),
+        Err(Uncut::Session) => Err(RaceError::OpenAtCut(race.line)),
     }
 }

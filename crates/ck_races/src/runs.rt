@@ -3,8 +3,8 @@ ghost use Rattle.std.specs.Prelude.{◌≡◌, ℕ};
 ghost use Rattle.ck_journal.specs.Histories.{start};
 ghost use Rattle.ck_shared.specs.Accounts.{name_of};
 
-use crate::errors::SoakError;
-use crate::journals::{CallerReplies, check_journal};
+use crate::errors::RaceError;
+use crate::journals::{CallerReplies, check_audit, check_replies};
 use crate::orders::OrderedGate;
 use crate::races::{Race, Step};
 use crate::tokens::token_of;
@@ -18,7 +18,7 @@ use std::sync::Wait;
 use std::thread::Threads;
 
 /// The calls of one caller among the steps.
-fn calls_by(alloc: Global, caller: u32, steps: &[Step]) -> Result<Vec<Call>, SoakError> {
+fn calls_by(alloc: Global, caller: u32, steps: &[Step]) -> Result<Vec<Call>, RaceError> {
     let mut calls = Vec::new(alloc);
     for step in steps.iter().filter(|step| step.caller == caller) {
         calls.push(step.call.duplicate(alloc)?)?;
@@ -30,11 +30,11 @@ fn scripts_of<K: TokenId>(
     alloc: Global,
     callers: Vec<SharedCaller<K>>,
     steps: &[Step],
-) -> Result<Vec<Script<K, BoardCopy<K>>>, SoakError> {
+) -> Result<Vec<Script<K, BoardCopy<K>>>, RaceError> {
     let mut scripts = Vec::with_capacity(alloc, callers.len())?;
     for caller in callers {
         let calls = calls_by(alloc, caller.number(), steps)?;
-        let script = Script::new(alloc, caller, calls).map_err(|_| SoakError::Memory)?;
+        let script = Script::new(alloc, caller, calls).map_err(|_| RaceError::Memory)?;
         scripts.push(script)?;
     }
     Ok(scripts)
@@ -47,11 +47,11 @@ fn run_together<K: TokenId + Send + Sync, R: Threads + Wait + Drop + Send + Sync
     token: &Shared<K, R>,
     scripts: &mut [Script<K, BoardCopy<K>>],
     order: &[u32],
-) -> Result<(), SoakError> {
+) -> Result<(), RaceError> {
     let gate = OrderedGate::new(token, order);
     run_scripts(rt, alloc, &gate, scripts);
     if gate.is_late() {
-        return Err(SoakError::Late);
+        return Err(RaceError::Late);
     }
     Ok(())
 }
@@ -60,7 +60,7 @@ fn run_together<K: TokenId + Send + Sync, R: Threads + Wait + Drop + Send + Sync
 fn finish<K: TokenId>(
     alloc: Global,
     scripts: Vec<Script<K, BoardCopy<K>>>,
-) -> Result<(Vec<SharedCaller<K>>, Vec<CallerReplies>), SoakError> {
+) -> Result<(Vec<SharedCaller<K>>, Vec<CallerReplies>), RaceError> {
     let mut callers = Vec::with_capacity(alloc, scripts.len())?;
     let mut all = Vec::with_capacity(alloc, scripts.len())?;
     for script in scripts {
@@ -80,7 +80,7 @@ fn run_shared<K: TokenId + Send + Sync, R: Threads + Wait + Copy + Drop + Send +
     identity: NewIdentity,
     steps: &[Step],
     order: &[u32],
-) -> Result<Token, SoakError>
+) -> Result<Token, RaceError>
     requires history { token.history ≡ start K.base }
     requires limits { token.limits ≡ K.limits }
     requires callers { K.callers ≡ 8 }
@@ -88,16 +88,17 @@ fn run_shared<K: TokenId + Send + Sync, R: Threads + Wait + Copy + Drop + Send +
     requires ledgers { (n : ℕ) → K.ledger n ≡ name_of identity.ledgers n }
 {
     let Ok(ends) = Shared::<K, R>::adopt(rt, alloc, token, 8, identity) else {
-        return Err(SoakError::Memory);
+        return Err(RaceError::Memory);
     };
     let Ends { token, callers } = ends;
     let mut scripts = scripts_of(alloc, callers, steps)?;
     run_together(&rt, alloc, &token, scripts.as_mut_slice(), order)?;
     let (callers, all) = finish(alloc, scripts)?;
     let Ok(token) = token.close(&rt, callers) else {
-        return Err(SoakError::NotClosed);
+        return Err(RaceError::NotClosed);
     };
-    check_journal(alloc, &token, all.as_slice())?;
+    check_replies(&token, all.as_slice())?;
+    check_audit(alloc, &token)?;
     Ok(token)
 }
 
@@ -108,7 +109,7 @@ pub(crate) fn run_race<R: Threads + Wait + Copy + Drop + Send + Sync>(
     alloc: Global,
     race: &Race,
     order: &[u32],
-) -> Result<Token, SoakError> {
+) -> Result<Token, RaceError> {
     let token = token_of(alloc, race)?;
     let steps = race.steps.as_slice();
     run_shared::<Brand, R>(rt, alloc, token, NewIdentity::new(), steps, order)

@@ -3,7 +3,7 @@ ghost use Rattle.std.specs.Prelude.{◌≡◌, ℕ};
 ghost use Rattle.ck_journal.specs.Histories.{start};
 ghost use Rattle.ck_shared.specs.Accounts.{name_of};
 
-use crate::errors::SoakError;
+use crate::errors::RaceError;
 use crate::journals::check_audit;
 use crate::races::{Race, Step, compare};
 use crate::tokens::token_of;
@@ -55,16 +55,16 @@ fn caller_of<K: TokenId>(
     callers: &mut [SharedCaller<K>],
     number: u32,
     line: u64,
-) -> Result<&mut SharedCaller<K>, SoakError> {
+) -> Result<&mut SharedCaller<K>, RaceError> {
     let mut all = callers.iter_mut();
     let found = all.find(|caller| caller.number() == number);
-    found.ok_or(SoakError::NoRace(line))
+    found.ok_or(RaceError::NoRace(line))
 }
 
 impl<'a, K: TokenId, R: Wait + Drop> Retrying<'a, K, R> {
     /// A call adds one entry to those that were there. Where it finds no memory, its caller sees
     /// what it saw, and there is no reply.
-    fn call(&mut self, number: u32, line: u64, call: Call) -> Result<Option<Reply>, SoakError> {
+    fn call(&mut self, number: u32, line: u64, call: Call) -> Result<Option<Reply>, RaceError> {
         let (rt, alloc, token) = (self.rt, self.alloc, self.token);
         let caller = caller_of(self.callers.as_mut_slice(), number, line)?;
         let before = view_of(caller);
@@ -82,24 +82,24 @@ impl<'a, K: TokenId, R: Wait + Drop> Retrying<'a, K, R> {
         if is_right {
             return Ok(reply);
         }
-        Err(SoakError::Changed(line))
+        Err(RaceError::Changed(line))
     }
 
     /// Makes a step, again behind a call of another caller where it finds no memory.
-    fn make(&mut self, step: &Step) -> Result<(), SoakError> {
+    fn make(&mut self, step: &Step) -> Result<(), RaceError> {
         let (alloc, line) = (self.alloc, step.line);
         let mut reply = self.call(step.caller, line, step.call.duplicate(alloc)?)?;
         if reply.is_none() {
             let other = if step.caller == 8 { 7 } else { 8 };
             let added = self.call(other, line, Call::GetTokenInfo)?;
-            let _added = added.ok_or(SoakError::Memory)?;
+            let _added = added.ok_or(RaceError::Memory)?;
             reply = self.call(step.caller, line, step.call.duplicate(alloc)?)?;
         }
-        let reply = reply.ok_or(SoakError::Memory)?;
+        let reply = reply.ok_or(RaceError::Memory)?;
         compare(alloc, step, &reply)
     }
 
-    fn make_all(&mut self, steps: &[Step]) -> Result<(), SoakError> {
+    fn make_all(&mut self, steps: &[Step]) -> Result<(), RaceError> {
         for step in steps {
             self.make(step)?;
         }
@@ -115,7 +115,7 @@ fn retry_shared<K: TokenId, R: Wait + Copy + Drop>(
     token: Token,
     identity: NewIdentity,
     race: &Race,
-) -> Result<u64, SoakError>
+) -> Result<u64, RaceError>
     requires history { token.history ≡ start K.base }
     requires limits { token.limits ≡ K.limits }
     requires callers { K.callers ≡ 8 }
@@ -123,7 +123,7 @@ fn retry_shared<K: TokenId, R: Wait + Copy + Drop>(
     requires ledgers { (n : ℕ) → K.ledger n ≡ name_of identity.ledgers n }
 {
     let Ok(ends) = Shared::<K, R>::adopt(rt, alloc, token, 8, identity) else {
-        return Err(SoakError::Memory);
+        return Err(RaceError::Memory);
     };
     let Ends { token, callers } = ends;
     let mut retrying = Retrying {
@@ -141,11 +141,11 @@ fn retry_shared<K: TokenId, R: Wait + Copy + Drop>(
         ..
     } = retrying;
     let Ok(token) = token.close(&rt, callers) else {
-        return Err(SoakError::NotClosed);
+        return Err(RaceError::NotClosed);
     };
     check_audit(alloc, &token)?;
     if token.journal().len() != answered {
-        return Err(SoakError::Changed(race.line));
+        return Err(RaceError::Changed(race.line));
     }
     let steps = race.steps.len().saturating_add(race.afterwards.len());
     Ok(answered.saturating_sub(steps as u64))
@@ -157,7 +157,7 @@ pub(crate) fn retry_race<R: Wait + Copy + Drop>(
     rt: R,
     alloc: Global,
     race: &Race,
-) -> Result<u64, SoakError> {
+) -> Result<u64, RaceError> {
     let token = token_of(alloc, race)?;
     retry_shared::<Brand, R>(rt, alloc, token, NewIdentity::new(), race)
 }

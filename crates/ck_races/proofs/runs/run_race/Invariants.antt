@@ -1,6 +1,6 @@
 use Rattle.ck_journal.specs.Histories.{start_of}
 use Rattle.ck_shared.specs.Accounts.{name_of}
-use Rattle.ck_soak.proofs.runs.run_race.Given as goal
+use Rattle.ck_races.proofs.runs.run_race.Given as goal
 
 -- the token that was just made
 abbrev pub ghosts-run_shared-K-TokenId : goal.ghosts-run_shared-K-TokenId

@@ -1,5 +1,5 @@
 //! A race by one thread, in orders that a gate keeps, and with its first steps alone in order.
-use crate::errors::SoakError;
+use crate::errors::RaceError;
 use crate::orders::reorder;
 use crate::races::{Race, Step, compare, reply_text};
 use crate::runs::run_race;
@@ -15,14 +15,14 @@ use std::thread::Threads;
 const RUNS: u64 = 100;
 
 /// Makes all steps of a race on a token by one thread.
-fn check_alone(alloc: Global, race: &Race) -> Result<(), SoakError> {
+fn check_alone(alloc: Global, race: &Race) -> Result<(), RaceError> {
     let mut token = token_of(alloc, race)?;
     make_steps(alloc, &mut token, race.steps.as_slice())?;
     make_steps(alloc, &mut token, race.afterwards.as_slice())
 }
 
 /// Each step has an entry, and the first were made in this order of their callers.
-fn check_order(entries: &[Entry], steps: &[Step], order: &[u32]) -> Result<(), SoakError> {
+fn check_order(entries: &[Entry], steps: &[Step], order: &[u32]) -> Result<(), RaceError> {
     let is_kept = entries.len() == steps.len()
         && entries
             .iter()
@@ -31,12 +31,12 @@ fn check_order(entries: &[Entry], steps: &[Step], order: &[u32]) -> Result<(), S
     if is_kept {
         return Ok(());
     }
-    Err(SoakError::Order)
+    Err(RaceError::Order)
 }
 
 /// Compares the replies with those of the steps, up to the first entry of another caller. Says
 /// whether there is no such entry.
-fn check_in_order(alloc: Global, steps: &[Step], entries: &[Entry]) -> Result<bool, SoakError> {
+fn check_in_order(alloc: Global, steps: &[Step], entries: &[Entry]) -> Result<bool, RaceError> {
     for (entry, step) in entries.iter().zip(steps) {
         if entry.caller != step.caller {
             return Ok(false);
@@ -47,7 +47,7 @@ fn check_in_order(alloc: Global, steps: &[Step], entries: &[Entry]) -> Result<bo
 }
 
 /// The replies are those of the steps, to whichever callers: each as often.
-fn check_in_any(alloc: Global, steps: &[Step], entries: &[Entry]) -> Result<(), SoakError> {
+fn check_in_any(alloc: Global, steps: &[Step], entries: &[Entry]) -> Result<(), RaceError> {
     let mut texts = Vec::with_capacity(alloc, entries.len())?;
     for entry in entries {
         texts.push(reply_text(alloc, &entry.reply)?)?;
@@ -56,7 +56,7 @@ fn check_in_any(alloc: Global, steps: &[Step], entries: &[Entry]) -> Result<(), 
         let came = texts.iter().filter(|text| text.as_str() == step.reply);
         let wanted = steps.iter().filter(|other| other.reply == step.reply);
         if came.count() != wanted.count() {
-            return Err(SoakError::Replies);
+            return Err(RaceError::Replies);
         }
     }
     Ok(())
@@ -68,7 +68,7 @@ fn check_run<R: Threads + Wait + Copy + Drop + Send + Sync>(
     alloc: Global,
     race: &Race,
     order: &[u32],
-) -> Result<(), SoakError> {
+) -> Result<(), RaceError> {
     let mut token = run_race(rt, alloc, race, order)?;
     let steps = race.steps.as_slice();
     let entries = token.journal().entries();
@@ -89,7 +89,7 @@ pub(crate) fn check_race<R: Threads + Wait + Copy + Drop + Send + Sync>(
     rt: R,
     alloc: Global,
     race: &Race,
-) -> Result<(), SoakError> {
+) -> Result<(), RaceError> {
     check_alone(alloc, race)?;
     let callers = race.steps.iter().map(|step| step.caller);
     let mut order: Vec<u32> = callers.collect(alloc)?;

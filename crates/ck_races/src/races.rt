@@ -11,7 +11,7 @@
 //! - The steps behind `afterwards` are made where these replies have come.
 //!
 //! Empty lines and lines that begin with `#` are skipped.
-use crate::errors::SoakError;
+use crate::errors::RaceError;
 use ck_journal::{Call, Reply};
 use ck_script::{Line, LineError, push_reply};
 use ck_types::Limits;
@@ -59,7 +59,7 @@ impl<'a> Race<'a> {
 }
 
 /// The text of a reply, without a line end.
-pub(crate) fn reply_text(alloc: Global, reply: &Reply) -> Result<String, SoakError> {
+pub(crate) fn reply_text(alloc: Global, reply: &Reply) -> Result<String, RaceError> {
     let mut line = Vec::new(alloc);
     push_reply(&mut line, reply)?;
     let text = line.as_slice();
@@ -68,12 +68,12 @@ pub(crate) fn reply_text(alloc: Global, reply: &Reply) -> Result<String, SoakErr
 }
 
 /// The reply is that of the step.
-pub(crate) fn compare(alloc: Global, step: &Step, reply: &Reply) -> Result<(), SoakError> {
+pub(crate) fn compare(alloc: Global, step: &Step, reply: &Reply) -> Result<(), RaceError> {
     let came = reply_text(alloc, reply)?;
     if came.as_str() == step.reply {
         return Ok(());
     }
-    Err(SoakError::Differs(step.line, came))
+    Err(RaceError::Differs(step.line, came))
 }
 
 /// The limits that stand behind the word `race`.
@@ -89,8 +89,8 @@ fn limits_in(text: &str) -> Option<Limits> {
     Limits::of(sessions, openings, creations, logins)
 }
 
-fn step_in<'a>(alloc: Global, line: u64, text: &'a str) -> Result<Step<'a>, SoakError> {
-    let (text, reply) = text.split_once(" -> ").ok_or(SoakError::NoRace(line))?;
+fn step_in<'a>(alloc: Global, line: u64, text: &'a str) -> Result<Step<'a>, RaceError> {
+    let (text, reply) = text.split_once(" -> ").ok_or(RaceError::NoRace(line))?;
     match Line::parse(alloc, text.as_bytes()) {
         Ok(Line::Called { caller, call }) => Ok(Step {
             line,
@@ -98,8 +98,8 @@ fn step_in<'a>(alloc: Global, line: u64, text: &'a str) -> Result<Step<'a>, Soak
             call,
             reply,
         }),
-        Err(LineError::Memory) => Err(SoakError::Memory),
-        Ok(Line::Skipped) | Err(LineError::Bad(_)) => Err(SoakError::NoRace(line)),
+        Err(LineError::Memory) => Err(RaceError::Memory),
+        Ok(Line::Skipped) | Err(LineError::Bad(_)) => Err(RaceError::NoRace(line)),
     }
 }
 
@@ -109,16 +109,16 @@ fn add_line<'a>(
     races: &mut Vec<Race<'a>>,
     line: u64,
     text: &'a str,
-) -> Result<(), SoakError> {
+) -> Result<(), RaceError> {
     if text.is_empty() || text.starts_with('#') {
         return Ok(());
     }
     if let Some(limits) = text.strip_prefix("race") {
-        let limits = limits_in(limits).ok_or(SoakError::NoRace(line))?;
+        let limits = limits_in(limits).ok_or(RaceError::NoRace(line))?;
         races.push(Race::new(alloc, line, limits))?;
         return Ok(());
     }
-    let race = races.last_mut().ok_or(SoakError::NoRace(line))?;
+    let race = races.last_mut().ok_or(RaceError::NoRace(line))?;
     match text {
         "cut" => {
             race.earlier = mem::replace(&mut race.steps, Vec::new(alloc));
@@ -137,7 +137,7 @@ fn add_line<'a>(
 }
 
 /// The races of a file.
-pub(crate) fn races_in<'a>(alloc: Global, text: &'a str) -> Result<Vec<Race<'a>>, SoakError> {
+pub(crate) fn races_in<'a>(alloc: Global, text: &'a str) -> Result<Vec<Race<'a>>, RaceError> {
     let mut races = Vec::new(alloc);
     let mut line = 0u64;
     for text in text.lines() {
