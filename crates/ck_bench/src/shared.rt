@@ -2,7 +2,7 @@
 //! callers do in threads.
 ghost use Rattle.std.specs.Prelude.{◌≡◌, ℕ};
 ghost use Rattle.ck_journal.specs.Bases.{empty_base};
-ghost use Rattle.ck_shared.specs.Accounts.{name_of};
+ghost use Rattle.ck_callers.specs.Accounts.{name_of};
 
 use crate::rounds::{Failed, Kind, Target, make_rounds, prepare};
 use crate::threads::{SharedTarget, Task, Worker, best_together};

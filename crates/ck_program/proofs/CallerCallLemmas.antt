@@ -15,8 +15,8 @@ use Rattle.ck_journal.specs.declared.calls.Call.{Call}
 use Rattle.ck_journal.specs.declared.replies.Reply.{Reply}
 use Rattle.ck_journal.specs.Histories.{History, start}
 use Rattle.ck_journal.proofs.FrontLemmas.{front_trans}
-use Rattle.ck_shared.specs.Accounts.{AccountState}
-use Rattle.ck_shared.specs.Callers.{CallerState, IsSettled, are_all, new_caller}
+use Rattle.ck_callers.specs.Accounts.{AccountState}
+use Rattle.ck_callers.specs.Callers.{CallerState, IsSettled, are_all, new_caller}
 use Rattle.ck_runs.specs.Runs.{IsPlayed}
 use Rattle.ck_runs.specs.Scripts.{answered}
 use Rattle.ck_runs.specs.declared.scripts.Script.{Script}

@@ -9,8 +9,8 @@ use Rattle.std.proofs.lemmas.List.Folds.{list_any-append}
 use Rattle.ck_journal.specs.declared.bases.Base.{Base}
 use Rattle.ck_journal.specs.declared.calls.Call.{Call}
 use Rattle.ck_journal.specs.declared.replies.Reply.{Reply}
-use Rattle.ck_shared.specs.Accounts.{AccountState, new_account, new_accounts}
-use Rattle.ck_shared.specs.Callers.{CallerState, are_all, new_caller, new_callers}
+use Rattle.ck_callers.specs.Accounts.{AccountState, new_account, new_accounts}
+use Rattle.ck_callers.specs.Callers.{CallerState, are_all, new_caller, new_callers}
 use Rattle.ck_runs.specs.declared.scripts.Script.{Script}
 use Rattle.ck_program.specs.CallerCalls.{numbers, script_numbers}
 

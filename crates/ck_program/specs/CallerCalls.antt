@@ -6,7 +6,7 @@ use Rattle.ck_journal.specs.Fronts.{IsFront}
 use Rattle.ck_journal.specs.Histories.{History, start}
 use Rattle.ck_journal.specs.declared.calls.Call.{Call}
 use Rattle.ck_journal.specs.declared.replies.Reply.{Reply}
-use Rattle.ck_shared.specs.Callers.{CallerState}
+use Rattle.ck_callers.specs.Callers.{CallerState}
 use Rattle.ck_runs.specs.Scripts.{answered}
 use Rattle.ck_runs.specs.declared.scripts.Script.{Script}
 

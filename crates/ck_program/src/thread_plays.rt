@@ -6,7 +6,7 @@ ghost use Rattle.ck_journal.specs.Callers.{AreCallers};
 ghost use Rattle.ck_journal.specs.Fronts.{IsFront};
 ghost use Rattle.ck_journal.specs.Histories.{start, entry_count};
 ghost use Rattle.ck_journal.specs.declared.calls.Call.{Call};
-ghost use Rattle.ck_shared.specs.Accounts.{name_of};
+ghost use Rattle.ck_callers.specs.Accounts.{name_of};
 ghost use Rattle.ck_program.specs.CallerCalls.{calls_by, IsNewCaller, HasMadeAll, HasEntriesOf};
 ghost use Rattle.ck_program.specs.CallerCalls.{IsUnplayed, IsPlayedAll, numbers, script_numbers};
 ghost use Rattle.ck_program.specs.CallerScripts.{IsSummary, summary_text};

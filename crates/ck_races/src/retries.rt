@@ -1,15 +1,16 @@
 //! The steps of a race, one after the other on a shared token. What finds no memory is made again.
 ghost use Rattle.std.specs.Prelude.{◌≡◌, ℕ};
 ghost use Rattle.ck_journal.specs.Histories.{start};
-ghost use Rattle.ck_shared.specs.Accounts.{name_of};
+ghost use Rattle.ck_callers.specs.Accounts.{name_of};
 
 use crate::errors::RaceError;
 use crate::journals::check_audit;
 use crate::races::{Race, Step, compare};
 use crate::tokens::token_of;
 use ck_audit::are_same_replies;
+use ck_callers::{Ask, NewIdentity, Status, TokenId};
 use ck_journal::{Call, Reply};
-use ck_shared::{Ask, Ends, NewIdentity, Shared, SharedCaller, Status, TokenId};
+use ck_shared::{Ends, Shared, SharedCaller};
 use ck_token::Token;
 use std::alloc::Global;
 use std::marker::Brand;

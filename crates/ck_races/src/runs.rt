@@ -1,16 +1,17 @@
 //! One run of a race on a shared token.
 ghost use Rattle.std.specs.Prelude.{◌≡◌, ℕ};
 ghost use Rattle.ck_journal.specs.Histories.{start};
-ghost use Rattle.ck_shared.specs.Accounts.{name_of};
+ghost use Rattle.ck_callers.specs.Accounts.{name_of};
 
 use crate::errors::RaceError;
 use crate::journals::{CallerReplies, check_audit, check_replies};
 use crate::orders::OrderedGate;
 use crate::races::{Race, Step};
 use crate::tokens::token_of;
+use ck_callers::{BoardCopy, NewIdentity, TokenId};
 use ck_journal::Call;
 use ck_runs::{Script, run_scripts};
-use ck_shared::{BoardCopy, Ends, NewIdentity, Shared, SharedCaller, TokenId};
+use ck_shared::{Ends, Shared, SharedCaller};
 use ck_token::Token;
 use std::alloc::Global;
 use std::marker::Brand;

@@ -4,7 +4,7 @@ use Rattle.ck_journal.specs.declared.calls.Entry.{Entry}
 use Rattle.ck_journal.specs.Fronts.{IsFront}
 use Rattle.ck_journal.specs.Histories.{History, start, ◌◁◌, followed_by, entry_count, entry_at}
 use Rattle.ck_journal.proofs.NumberTests.{below_suc, same_number}
-use Rattle.ck_shared.proofs.KnownLemmas.{longer_later}
+use Rattle.ck_callers.proofs.KnownLemmas.{longer_later}
 use Rattle.ck_runs.specs.Steps.{front_at}
 
 -- ---- entries

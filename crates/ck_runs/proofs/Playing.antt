@@ -8,7 +8,7 @@ use Rattle.ck_journal.specs.Fronts.{IsFront}
 use Rattle.ck_journal.specs.declared.calls.Call.{Call}
 use Rattle.ck_journal.specs.declared.replies.Reply.{Reply}
 use Rattle.ck_journal.proofs.FrontLemmas.{front_refl, front_trans}
-use Rattle.ck_shared.specs.Callers.{CallerState, HasCalled, entry_by}
+use Rattle.ck_callers.specs.Callers.{CallerState, HasCalled, entry_by}
 use Rattle.ck_runs.specs.Scripts.{answered, HasPlayed}
 use Rattle.ck_runs.specs.Turns.{EndsAt, HasMade}
 

@@ -10,10 +10,10 @@ use Rattle.ck_journal.specs.Histories.{entry_count, entry_at}
 use Rattle.ck_journal.specs.declared.calls.Call.{Call}
 use Rattle.ck_journal.specs.declared.replies.Reply.{Reply}
 use Rattle.ck_journal.proofs.FrontLemmas.{front_trans}
-use Rattle.ck_shared.specs.Asks.{call_of, reply_of}
-use Rattle.ck_shared.specs.Callers.{CallerState, HasCalled, entry_by}
-use Rattle.ck_shared.specs.declared.asks.Ask.{Ask}
-use Rattle.ck_shared.specs.declared.asks.Status.{Status}
+use Rattle.ck_callers.specs.Asks.{call_of, reply_of}
+use Rattle.ck_callers.specs.Callers.{CallerState, HasCalled, entry_by}
+use Rattle.ck_callers.specs.declared.asks.Ask.{Ask}
+use Rattle.ck_callers.specs.declared.asks.Status.{Status}
 use Rattle.ck_runs.specs.Scripts.{answered, HasPlayed}
 use Rattle.ck_runs.specs.Steps.{HasAsked, HasStepped, HasTaken, IsCall, Rises, AreAnswersIn}
 use Rattle.ck_runs.specs.Steps.{calls_of, replies_of, front_at}
@@ -22,7 +22,7 @@ use Rattle.ck_runs.specs.declared.steps.Answered.{Answered}
 use Rattle.ck_runs.specs.declared.steps.Answered.TheVariants as answered
 use Rattle.ck_runs.specs.declared.steps.Step.{Step}
 use Rattle.ck_runs.specs.declared.steps.Step.TheVariants as step
-use Rattle.ck_shared.proofs.KnownLemmas.{longer_front}
+use Rattle.ck_callers.proofs.KnownLemmas.{longer_front}
 use Rattle.ck_runs.proofs.Places.{entry_at-front, front_at-front}
 use Rattle.ck_runs.proofs.Playing.{played_none, played_call}
 

@@ -4,7 +4,7 @@ use Rattle.std.proofs.lemmas.List.{append-nil}
 use mathlib.Core.List.{append_assoc}
 use Rattle.std.specs.Prelude.{Result, Ok, Err, IsErr}
 use Rattle.ck_types.specs.declared.memory.NoMemory.{NoMemory}
-use Rattle.ck_shared.specs.Callers.{CallerState}
+use Rattle.ck_callers.specs.Callers.{CallerState}
 use Rattle.ck_runs.specs.Turns.{EndsAt, HasMade}
 
 none_left : {S : Type 0} → (left : List S) → length left ≡ 0 → left ≡ []

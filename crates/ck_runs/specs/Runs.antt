@@ -3,7 +3,7 @@ use Rattle.std.specs.Prelude.{◌≡◌, [], vec_items}
 use Rattle.ck_types.specs.TokenLimits.{Ranges}
 use Rattle.ck_journal.specs.declared.calls.Call.{Call}
 use Rattle.ck_journal.specs.declared.replies.Reply.{Reply}
-use Rattle.ck_shared.specs.Callers.{CallerState}
+use Rattle.ck_callers.specs.Callers.{CallerState}
 use Rattle.ck_runs.specs.Scripts.{HasPlayed}
 use Rattle.ck_runs.specs.Steps.{HasTaken}
 use Rattle.ck_runs.specs.Turns.{HasMade}

@@ -6,7 +6,7 @@ use Rattle.ck_journal.specs.Fronts.{IsFront}
 use Rattle.ck_journal.specs.declared.calls.Call.{Call}
 use Rattle.ck_journal.specs.declared.calls.Entry.{Entry}
 use Rattle.ck_journal.specs.declared.replies.Reply.{Reply}
-use Rattle.ck_shared.specs.Callers.{CallerState, entry_by}
+use Rattle.ck_callers.specs.Callers.{CallerState, entry_by}
 
 -- a caller's entries, the newest first, after these replies to the first of these calls
 abbrev pub answered : ℕ → List Call → List Reply → List Entry → List Entry

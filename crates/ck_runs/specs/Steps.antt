@@ -8,10 +8,10 @@ use Rattle.ck_journal.specs.Fronts.{IsFront}
 use Rattle.ck_journal.specs.Histories.{History, start, ◌◁◌, entry_count, entry_at}
 use Rattle.ck_journal.specs.declared.calls.Call.{Call}
 use Rattle.ck_journal.specs.declared.replies.Reply.{Reply}
-use Rattle.ck_shared.specs.Asks.{call_of, reply_of}
-use Rattle.ck_shared.specs.Callers.{CallerState, HasCalled, entry_by}
-use Rattle.ck_shared.specs.declared.asks.Ask.{Ask}
-use Rattle.ck_shared.specs.declared.asks.Status.{Status}
+use Rattle.ck_callers.specs.Asks.{call_of, reply_of}
+use Rattle.ck_callers.specs.Callers.{CallerState, HasCalled, entry_by}
+use Rattle.ck_callers.specs.declared.asks.Ask.{Ask}
+use Rattle.ck_callers.specs.declared.asks.Status.{Status}
 use Rattle.ck_runs.specs.Scripts.{HasPlayed}
 use Rattle.ck_runs.specs.Turns.{EndsAt}
 use Rattle.ck_runs.specs.declared.steps.Answered.{Answered}

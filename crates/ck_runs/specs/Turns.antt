@@ -1,7 +1,7 @@
 -- What a caller does in turn, whatever it is
 use Rattle.std.specs.Prelude.{◌≡◌, List, [], ◌∷◌, Result, Ok, Err}
 use Rattle.ck_types.specs.declared.memory.NoMemory.{NoMemory}
-use Rattle.ck_shared.specs.Callers.{CallerState}
+use Rattle.ck_callers.specs.Callers.{CallerState}
 
 -- what is left when it ends: nothing, or first one that may find no memory and found none
 abbrev pub EndsAt : {S : Type 0} → (S → Type 0) → List S → Result (Unit {0}) NoMemory → Type 0

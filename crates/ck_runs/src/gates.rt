@@ -11,8 +11,8 @@ pub trait Gate<K: TokenId, T: Drop> {
     ghost use Rattle.ck_journal.specs.Answers.{IsLegal, answer};
     ghost use Rattle.ck_journal.specs.Callers.{entries_by};
     ghost use Rattle.ck_journal.specs.Fronts.{IsFront};
-    ghost use Rattle.ck_shared.specs.Asks.{call_of, reply_of};
-    ghost use Rattle.ck_shared.specs.Callers.{HasCalled};
+    ghost use Rattle.ck_callers.specs.Asks.{call_of, reply_of};
+    ghost use Rattle.ck_callers.specs.Callers.{HasCalled};
 
     /// One call of a caller.
     fn call<W: Wait>(

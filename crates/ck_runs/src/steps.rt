@@ -21,7 +21,7 @@ pub enum Answered {
 }
 
 impl<K: TokenId> Turn<K, Reply> for Call {
-    ghost use Rattle.ck_shared.specs.Callers.{HasCalled};
+    ghost use Rattle.ck_callers.specs.Callers.{HasCalled};
 
     ghost does = { HasCalled K.limits };
 

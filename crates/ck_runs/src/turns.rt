@@ -8,7 +8,7 @@ use std::sync::Wait;
 
 /// What a caller does in one turn at a gate. What is answered to it is an `A`.
 pub trait Turn<K: TokenId, A: Drop>: Drop {
-    ghost use Rattle.ck_shared.specs.Callers.{CallerState};
+    ghost use Rattle.ck_callers.specs.Callers.{CallerState};
 
     // what it does: the caller before it, the turn, what is answered, the caller after it
     ghost does: { CallerState → Self → A → CallerState → Type 0 };

@@ -2,7 +2,7 @@
 use Rattle.std.proofs.Common.{◌≡◌, ℕ, zero, suc, ◌-◌, ◌==◌, ◌&&◌, Bool, true, false, List, refl, sym}
 use Rattle.std.proofs.Common.{ap, ◌∙◌, arith}
 use Rattle.std.specs.List.{list_any}
-use Rattle.ck_shared.specs.Callers.{CallerState, are_all}
+use Rattle.ck_callers.specs.Callers.{CallerState, are_all}
 
 pub all_here : (most : ℕ) (callers : List CallerState) (rest : Bool) → (most ≡ 0 → ⊥)
     → list_any (λ c. c.number == most) callers ≡ true → rest ≡ are_all (most - 1) callers → rest ≡ are_all most callers

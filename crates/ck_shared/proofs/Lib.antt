@@ -1,5 +1,3 @@
 pub mod AllCallers
-pub mod Asked
-pub mod KnownLemmas
 pub mod Settling
-pub mod Steps
+pub mod Shown

@@ -1,6 +1,1 @@
-pub mod Accounts
-pub mod Asks
-pub mod Callers
-pub mod KnownHistories
 pub mod Locked
-pub mod Shares

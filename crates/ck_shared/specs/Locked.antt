@@ -3,7 +3,7 @@ use Rattle.std.specs.Prelude.{◌≡◌, ℕ, List}
 use Rattle.ck_types.specs.TokenLimits.{Ranges}
 use Rattle.ck_journal.specs.Callers.{call_counts, AreCallers}
 use Rattle.ck_journal.specs.Histories.{History}
-use Rattle.ck_shared.specs.KnownHistories.{KnownState, Covers}
+use Rattle.ck_callers.specs.KnownHistories.{KnownState, Covers}
 use Rattle.ck_token.specs.TokenStates.{TokenState}
 
 -- the token has these limits and no other callers; the books and what is known are of its history,

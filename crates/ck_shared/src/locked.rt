@@ -2,15 +2,10 @@ ghost use Rattle.std.specs.Prelude.{◌≡◌, [], ◌<◌, ◌-◌, ◌^◌, If
 ghost use Rattle.left_right.specs.Handles.{published, pending};
 ghost use Rattle.ck_journal.specs.Fronts.{IsFront};
 ghost use Rattle.ck_journal.specs.Histories.{◌◁◌, entry_count};
-ghost use Rattle.ck_shared.specs.KnownHistories.{Covers};
+ghost use Rattle.ck_callers.specs.KnownHistories.{Covers};
 ghost use Rattle.ck_journal.specs.declared.calls.Entry.{Entry};
 
-use crate::boards::ReadBoard;
-use crate::callers::Caller;
-use crate::identity::TokenId;
-use crate::known_histories::KnownHistory;
-use crate::ledgers::CallBooks;
-use crate::slots::Slot;
+use ck_callers::{CallBooks, Caller, KnownHistory, ReadBoard, Slot, TokenId};
 use ck_history::{Front, Head};
 use ck_journal::{Call, Reply};
 use ck_token::Token;
@@ -154,7 +149,7 @@ impl<K: TokenId, O: Slot<K>, T: Absorb<O> + ReadBoard<K> + Drop, R: Wait + Drop>
     ghost use Rattle.left_right.specs.Handles.{published, pending};
     ghost use Rattle.ck_journal.specs.Callers.{AreCallers};
     ghost use Rattle.ck_token.specs.TokenStates.{IsAnswered, IsUnchanged};
-    ghost use Rattle.ck_shared.specs.Callers.{HasCalled, IsSettled};
+    ghost use Rattle.ck_callers.specs.Callers.{HasCalled, IsSettled};
     ghost use Rattle.ck_shared.specs.Locked.{IsTied};
 
     /// Ties a token to its callers and to the board.
@@ -185,8 +180,8 @@ impl<K: TokenId, O: Slot<K>, T: Absorb<O> + ReadBoard<K> + Drop, R: Wait + Drop>
         ensures settled { IsSettled self.old.history caller }
     {
         let mut caller = caller;
-        self.books.compare(&mut caller.account);
-        await_front(rt, caller.seen.front(), self.known.front());
+        caller.compare(&mut self.books);
+        await_front(rt, caller.known().front(), self.known.front());
     }
 
     /// The token without its lock. It waits for those who still read the board.
@@ -215,7 +210,7 @@ impl<K: TokenId, O: Slot<K>, T: Absorb<O> + ReadBoard<K> + Drop, R: Wait + Drop>
         ensures unchanged { OnErr result (IsUnchanged self.old self.new) }
         ensures caller { OnErr result (caller.new ≡ caller.old) }
     {
-        let number = caller.account.number();
+        let number = caller.account().number();
         let leaves = call.leaves_board();
         let slot = add_slot(alloc, &mut self.writer, leaves)?;
         let Ok(reply) = self.token.call(alloc, number, call) else {
@@ -224,13 +219,11 @@ impl<K: TokenId, O: Slot<K>, T: Absorb<O> + ReadBoard<K> + Drop, R: Wait + Drop>
         };
         // Tells the prover that one more entry can be counted.
         let _bound = self.token.journal().len();
-        self.books.count(&mut caller.account);
         let mut front = self.known.front().duplicate();
-        extend(rt, &mut front, &self.head, caller.seen.front(), &self.token);
+        extend(rt, &mut front, &self.head, caller.known().front(), &self.token);
         self.known.follow(&front, number, leaves);
+        caller.follow(&mut self.books, &self.known);
         show_by(rt, &mut self.writer, slot, &self.token, &self.known);
-        caller.last = front;
-        caller.seen = self.known.duplicate();
         Ok(reply)
     }
 }

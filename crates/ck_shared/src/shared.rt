@@ -3,16 +3,15 @@ ghost use Rattle.std.specs.List.{list_any};
 ghost use Rattle.left_right.specs.Handles.{published, pending};
 ghost use Rattle.ck_journal.specs.Boards.{board_of};
 ghost use Rattle.ck_journal.specs.Histories.{start};
-ghost use Rattle.ck_shared.specs.Accounts.{AreNew, name_of, no_calls};
-ghost use Rattle.ck_shared.specs.Callers.{are_all, new_caller, new_callers};
+ghost use Rattle.ck_callers.specs.Accounts.{AreNew, name_of, no_calls};
+ghost use Rattle.ck_callers.specs.Callers.{are_all, new_caller, new_callers};
 
-use crate::boards::{BoardCopy, ReadBoard, WriteBoard};
-use crate::callers::Caller;
-use crate::identity::{CallerCount, NewIdentity, TokenId};
-use crate::known_histories::KnownHistory;
-use crate::ledgers::{Account, CallBooks};
+use crate::counts::CallerCount;
 use crate::locked::Locked;
-use crate::slots::{EntrySlot, Slot};
+use ck_callers::{
+    Account, BoardCopy, CallBooks, Caller, EntrySlot, KnownHistory, NewIdentity, ReadBoard, Slot,
+    TokenId, WriteBoard,
+};
 use ck_history::Head;
 use ck_journal::{Call, Reply, TokenBoard};
 use ck_token::Token;
@@ -35,7 +34,7 @@ pub struct Ends<K: TokenId, O: Slot<K>, T: Absorb<O> + ReadBoard<K> + Drop, R: W
     pub callers: Vec<Caller<K, T>>,
 }
 
-/// A shared token with this crate's own slots and board.
+/// A shared token with the slots and the board of ck_callers.
 pub type Shared<K, R> = SharedToken<K, EntrySlot<K>, BoardCopy<K>, R>;
 
 /// A caller of such a token.
@@ -121,8 +120,8 @@ impl<K: TokenId, O: Slot<K>, T: WriteBoard<K, O> + Drop, R: Wait + Drop> SharedT
     ghost use Rattle.std.specs.Prelude.{◌≡◌, ◌≤◌, ℕ, IfOk, IfErr};
     ghost use Rattle.ck_journal.specs.Bases.{empty_base};
     ghost use Rattle.ck_journal.specs.Histories.{start};
-    ghost use Rattle.ck_shared.specs.Accounts.{name_of};
-    ghost use Rattle.ck_shared.specs.Callers.{new_callers};
+    ghost use Rattle.ck_callers.specs.Accounts.{name_of};
+    ghost use Rattle.ck_callers.specs.Callers.{new_callers};
 
     /// Shares a token whose journal has no entry among the callers 1 to `callers`. Where there is
     /// no memory, the token comes back.
@@ -187,7 +186,7 @@ impl<K: TokenId, O: Slot<K>, T: Absorb<O> + ReadBoard<K> + Drop, R: Wait + Drop>
 > {
     ghost use Rattle.std.specs.Prelude.{◌≡◌, true, false, All, IfOk, OnOk, IfErr, OnErr};
     ghost use Rattle.ck_journal.specs.Callers.{AreCallers};
-    ghost use Rattle.ck_shared.specs.Callers.{HasCalled, IsSettled, are_all};
+    ghost use Rattle.ck_callers.specs.Callers.{HasCalled, IsSettled, are_all};
 
     /// One call of a caller, under the lock.
     pub fn call<W: Wait>(

@@ -3,14 +3,15 @@
 //! last. In the end the token is taken back.
 ghost use Rattle.std.specs.Prelude.{◌≡◌, ℕ};
 ghost use Rattle.ck_journal.specs.Bases.{empty_base};
-ghost use Rattle.ck_shared.specs.Accounts.{name_of};
+ghost use Rattle.ck_callers.specs.Accounts.{name_of};
 
 use crate::errors::SoakError;
 use crate::two_callers::READ_WRITE;
 use ck_audit::are_same_replies;
+use ck_callers::{Ask, BoardCopy, NewIdentity, News, Status, TokenId};
 use ck_journal::{Body, Call, Reply};
 use ck_runs::{Answered, Script, Step, run_steps};
-use ck_shared::{Ask, BoardCopy, Ends, NewIdentity, News, Shared, SharedCaller, Status, TokenId};
+use ck_shared::{Ends, Shared, SharedCaller};
 use ck_types::{Limits, Pin, Rv, RvError, SessionState, TokenFlags, mechanism_types};
 use std::alloc::Global;
 use std::marker::Brand;

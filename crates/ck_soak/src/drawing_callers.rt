@@ -1,8 +1,9 @@
 //! A caller that draws its calls.
 use crate::errors::SoakError;
 use crate::mix::{PLACES, Place, ROWS, SELDOM, call_of};
+use ck_callers::{Ask, TokenId};
 use ck_journal::{Body, Reply};
-use ck_shared::{Ask, Shared, SharedCaller, TokenId};
+use ck_shared::{Shared, SharedCaller};
 use ck_types::Rv;
 use rand_core::{Rng, SeedableRng};
 use rand_xoshiro::Xoshiro256PlusPlus;

@@ -3,14 +3,15 @@
 //! caller got.
 ghost use Rattle.std.specs.Prelude.{◌≡◌, ℕ};
 ghost use Rattle.ck_journal.specs.Bases.{empty_base};
-ghost use Rattle.ck_shared.specs.Accounts.{name_of};
+ghost use Rattle.ck_callers.specs.Accounts.{name_of};
 
 use crate::drawing_callers::{DrawingCaller, Target};
 use crate::errors::SoakError;
 use crate::mix::{FIRST_ROW, Place};
 use ck_audit::{Verdict, are_replies_of, audit_token};
+use ck_callers::{NewIdentity, TokenId};
 use ck_journal::Reply;
-use ck_shared::{Ends, NewIdentity, Shared, SharedCaller, TokenId};
+use ck_shared::{Ends, Shared, SharedCaller};
 use ck_token::Token;
 use ck_types::Limits;
 use std::alloc::Global;

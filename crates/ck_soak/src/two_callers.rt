@@ -1,10 +1,11 @@
 //! Two callers share a token, each in a thread of its own. docs/threads.md goes through it.
 ghost use Rattle.std.specs.Prelude.{◌≡◌, ℕ};
 ghost use Rattle.ck_journal.specs.Bases.{empty_base};
-ghost use Rattle.ck_shared.specs.Accounts.{name_of};
+ghost use Rattle.ck_callers.specs.Accounts.{name_of};
 
+use ck_callers::{Ask, NewIdentity, Status, TokenId};
 use ck_journal::{Body, Call, RW_SESSION, Reply, SERIAL_SESSION};
-use ck_shared::{Ask, Ends, NewIdentity, Shared, SharedCaller, Status, TokenId};
+use ck_shared::{Ends, Shared, SharedCaller};
 use ck_types::{Limits, Pin};
 use std::alloc::Global;
 use std::marker::Brand;

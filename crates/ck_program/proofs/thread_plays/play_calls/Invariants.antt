@@ -1,5 +1,5 @@
 use Rattle.ck_journal.specs.Bases.{empty_base}
-use Rattle.ck_shared.specs.Accounts.{name_of}
+use Rattle.ck_callers.specs.Accounts.{name_of}
 use Rattle.ck_program.proofs.thread_plays.play_calls.Given as goal
 
 -- the token that is made

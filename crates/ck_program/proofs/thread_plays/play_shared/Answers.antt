@@ -1,7 +1,7 @@
 use Rattle.std.proofs.Common.{◌≡◌, ℕ, ◌≤◌, true, false, sym, ap, ◌∙◌, subst}
 use Rattle.std.specs.Prelude.{All, vec_items}
-use Rattle.ck_shared.specs.Accounts.{new_accounts}
-use Rattle.ck_shared.specs.Callers.{new_callers}
+use Rattle.ck_callers.specs.Accounts.{new_accounts}
+use Rattle.ck_callers.specs.Callers.{new_callers}
 use Rattle.ck_program.specs.CallerCalls.{numbers, IsNewCaller}
 use Rattle.ck_program.proofs.CallerCallLemmas.{none_made, of_each, was_new}
 use Rattle.ck_program.proofs.NumberLemmas.{all_back}

@@ -1,5 +1,5 @@
 use Rattle.ck_journal.specs.Histories.{start_of}
-use Rattle.ck_shared.specs.Accounts.{name_of}
+use Rattle.ck_callers.specs.Accounts.{name_of}
 use Rattle.ck_races.proofs.runs.run_race.Given as goal
 
 -- the token that was just made

@@ -1,8 +1,8 @@
 use Rattle.std.proofs.Common.{◌≡◌, ◌++◌, map}
 use Rattle.std.specs.Prelude.{vec_items}
 use Rattle.std.specs.Vec.Iter.{into_iter_items}
-use Rattle.ck_shared.specs.Accounts.{AreNew}
-use Rattle.ck_shared.specs.Callers.{new_caller}
+use Rattle.ck_callers.specs.Accounts.{AreNew}
+use Rattle.ck_callers.specs.Callers.{new_caller}
 use Rattle.ck_shared.proofs.shared.callers_of.Given as goal
 
 -- the callers that were made, and then those of the accounts that are left

@@ -1,7 +1,7 @@
 use Rattle.std.proofs.Common.{sym, ap, ◌∙◌, subst}
 use Rattle.std.specs.Prelude.{All, vec_items}
 use Rattle.std.specs.Vec.Iter.{into_iter_items}
-use Rattle.ck_shared.specs.Callers.{IsSettled}
+use Rattle.ck_callers.specs.Callers.{IsSettled}
 use Rattle.ck_shared.proofs.Settling.{settled_next, settled_last}
 use Rattle.ck_shared.proofs.shared.SharedToken.close.Goals as goal
 

@@ -1,6 +1,6 @@
 use Rattle.std.specs.Prelude.{All, vec_items}
 use Rattle.std.specs.Vec.Iter.{into_iter_items}
-use Rattle.ck_shared.specs.Callers.{IsSettled}
+use Rattle.ck_callers.specs.Callers.{IsSettled}
 use Rattle.ck_shared.proofs.shared.SharedToken.close.Given as goal
 
 -- where the callers that are left are settled, all are

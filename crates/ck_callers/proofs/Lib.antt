@@ -1,0 +1,4 @@
+pub mod Asked
+pub mod KnownLemmas
+pub mod Settling
+pub mod Steps

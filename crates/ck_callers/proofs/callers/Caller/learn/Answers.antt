@@ -1,0 +1,23 @@
+use Rattle.std.proofs.Common.{sym, subst}
+use Rattle.ck_journal.specs.Fronts.{IsFront}
+use Rattle.ck_journal.proofs.FrontLemmas.{front_trans}
+use Rattle.ck_callers.specs.KnownHistories.{KnownState}
+use Rattle.ck_callers.proofs.callers.Caller.learn.Goals as goal
+
+pub invariant_of-self : goal.invariant_of-self
+invariant_of-self g c =
+    let front : IsFront c.self.inside.seen.history c.news.inside.known.history =
+    subst (λ h. IsFront h c.news.inside.known.history) c.front-3.ensures
+    (subst (IsFront c.front-3.result.now) c.front-4.ensures (c.begins-2.ensures.front c.if-begins-2.true)) in (
+      subst (λ (k : KnownState). IsFront c.self.inside.last k.history) (sym c.duplicate.ensures)
+          (front_trans c.self.inside.last c.self.inside.seen.history c.news.inside.known.history c.self.invariant.0
+          front),
+      c.self.invariant.1,
+    )
+
+pub returns-then-begins-2-clause-own : goal.returns-then-begins-2-clause-own
+returns-then-begins-2-clause-own g c =
+    let front : IsFront c.self.inside.seen.history c.news.inside.known.history =
+    subst (λ h. IsFront h c.news.inside.known.history) c.front-3.ensures
+    (subst (IsFront c.front-3.result.now) c.front-4.ensures (c.begins-2.ensures.front c.if-begins-2.true)) in
+    rw (← c.self.view_is, c.duplicate.ensures) front

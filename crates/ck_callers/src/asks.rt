@@ -1,0 +1,40 @@
+ghost use Rattle.std.specs.Prelude.{◌≡◌};
+ghost use Rattle.ck_types.specs.TokenLimits.{Ranges};
+ghost use Rattle.ck_journal.specs.Answers.{answer};
+ghost use Rattle.ck_journal.specs.Boards.{board_of};
+ghost use Rattle.ck_journal.specs.Histories.{History};
+ghost use Rattle.ck_callers.specs.Asks.{call_of, reply_of};
+
+use ck_journal::{Reply, TokenBoard};
+use ck_types::mechanism_types;
+
+/// What reads the state of a token without a call.
+#[derive(Clone, Copy, Debug, PartialEq, Eq)]
+pub enum Ask {
+    /// What C_GetSessionInfo gives of the session of this handle.
+    Session(u64),
+    /// What C_GetTokenInfo gives.
+    Token,
+    /// What C_GetMechanismList gives.
+    Mechanisms,
+}
+
+/// What is answered to an ask: the reply of the call of the same name, or the types of all
+/// mechanisms, rising.
+#[derive(Debug, Drop)]
+pub enum Status {
+    Reply(Reply),
+    Mechanisms([u64; 13]),
+}
+
+/// What a board answers.
+pub(crate) fn status_on(board: &TokenBoard, ask: Ask) -> Status
+    ensures { (limits : Ranges) (h : History) → board.now ≡ board_of limits h
+        → reply_of result ≡ answer limits h (call_of ask) }
+{
+    match ask {
+        Ask::Session(session) => Status::Reply(board.session_info(session)),
+        Ask::Token => Status::Reply(board.token_info()),
+        Ask::Mechanisms => Status::Mechanisms(mechanism_types()),
+    }
+}

@@ -1,0 +1,244 @@
+ghost use Rattle.std.specs.Prelude.{◌≡◌, IfSome};
+ghost use Rattle.ck_journal.specs.Answers.{IsLegal, answer};
+ghost use Rattle.ck_journal.specs.Callers.{call_count};
+ghost use Rattle.ck_journal.specs.Fronts.{IsFront};
+ghost use Rattle.ck_callers.specs.Asks.{call_of, reply_of};
+
+use crate::asks::{Ask, Status, status_on};
+use crate::boards::ReadBoard;
+use crate::identity::TokenId;
+use crate::known_histories::KnownHistory;
+use crate::ledgers::{Account, CallBooks};
+use ck_history::Front;
+use left_right::ReadHandle;
+use std::marker::Model;
+
+/// One of the callers of a shared token. Contracts see its number, how many of its calls were
+/// answered, the history of its last reply and the longest that it knows.
+#[derive(Drop)]
+pub struct Caller<K: TokenId, T: Drop> {
+    account: Account<K>,
+    last: Front<K>,
+    seen: KnownHistory<K>,
+    reader: ReadHandle<T>,
+}
+
+impl<K: TokenId, T: Drop> Model for Caller<K, T> {
+    ghost use Rattle.std.specs.Prelude.{◌≡◌};
+    ghost use Rattle.std.specs.Coded.{codes};
+    ghost use Rattle.ck_journal.specs.Callers.{call_count};
+    ghost use Rattle.ck_journal.specs.Fronts.{IsFront};
+    ghost use Rattle.ck_journal.specs.HistoryCode.{history_code};
+    ghost use Rattle.ck_callers.specs.Callers.{CallerState};
+
+    ghost Value = { CallerState };
+
+    ghost coded = { Prim.hlevel (codes, history_code) };
+
+    ghost view = { λ c. record {
+      number = c.account.number;
+      count = c.account.count;
+      last = c.last;
+      seen = c.seen.history;
+    } };
+
+    ghost invariant = { λ c. IsFront c.last c.seen.history
+        × (call_count c.account.number c.last ≡ c.account.count) };
+}
+
+impl<K: TokenId, T: Drop> Caller<K, T> {
+    ghost use Rattle.std.specs.Prelude.{◌≡◌, ◌⊎◌};
+    ghost use Rattle.ck_journal.specs.Fronts.{IsFront};
+    ghost use Rattle.ck_journal.specs.Answers.{IsLegal};
+    ghost use Rattle.ck_journal.specs.Callers.{call_counts};
+    ghost use Rattle.ck_journal.specs.Histories.{History, start, entry_count};
+    ghost use Rattle.ck_journal.specs.declared.calls.Call.{Call};
+    ghost use Rattle.ck_journal.specs.declared.replies.Reply.{Reply};
+    ghost use Rattle.ck_callers.specs.Callers.{HasCalled, IsNextCall, IsSettled, new_caller};
+
+    /// A caller that has made no call.
+    pub fn new(account: Account<K>, known: &KnownHistory<K>, reader: ReadHandle<T>) -> Caller<K, T>
+        requires count { account.count ≡ 0 }
+        requires known { known.now.history ≡ start K.base }
+        ensures { result ≡ new_caller K.base account }
+    {
+        Caller {
+            account,
+            last: known.front().duplicate(),
+            seen: known.duplicate(),
+            reader,
+        }
+    }
+
+    pub fn number(&self) -> u32
+        ensures { result ≡ self.now.number }
+    {
+        self.account.number()
+    }
+
+    /// How many of its calls were answered.
+    pub fn count(&self) -> u64
+        ensures { result ≡ self.now.count }
+    {
+        self.account.count()
+    }
+
+    /// How many entries the longest history has that it knows.
+    pub fn seen(&self) -> u64
+        ensures length { result ≡ entry_count self.now.seen }
+        ensures legal { IsLegal K.limits self.now.seen }
+    {
+        self.seen.front().len()
+    }
+
+    /// Its number and its count, as the books know them.
+    pub fn account(&self) -> &Account<K>
+        ensures number { result.now.number ≡ self.now.number }
+        ensures count { result.now.count ≡ self.now.count }
+    {
+        &self.account
+    }
+
+    /// The longest history that it knows.
+    pub fn known(&self) -> &KnownHistory<K>
+        ensures { result.now.history ≡ self.now.seen }
+    {
+        &self.seen
+    }
+
+    /// What the caller knows of the history, for others to learn.
+    pub fn news(&self) -> News<K>
+        ensures { result ≡ self.now.seen }
+    {
+        News {
+            known: self.seen.duplicate(),
+        }
+    }
+
+    /// Learns what another caller knew: afterwards it knows the longer of the two histories.
+    pub fn learn(&mut self, news: &News<K>)
+        ensures seen { (self.new.seen ≡ self.old.seen) ⊎ (self.new.seen ≡ news.now) }
+        ensures own { IsFront self.old.seen self.new.seen }
+        ensures news { IsFront news.now self.new.seen }
+        ensures same { self.new ≡ record self.old { seen = self.new.seen } }
+    {
+        if news.known.front().begins(self.seen.front()) {
+            return;
+        }
+        if self.seen.front().begins(news.known.front()) {
+            self.seen = news.known.duplicate();
+        }
+    }
+
+    /// Takes up the reply to a call of it: the books count the call, and it knows the history that
+    /// ends with the call's entry.
+    pub fn follow(&mut self, books: &mut CallBooks<K>, known: &KnownHistory<K>)
+        requires { (call : Call) × (reply : Reply)
+            × IsNextCall self.old books.old call reply known.now.history }
+        ensures called { (call : Call) (reply : Reply)
+            → IsNextCall self.old books.old call reply known.now.history
+            → HasCalled K.limits self.old call reply self.new }
+        ensures seen { self.new.seen ≡ known.now.history }
+        ensures books { books.new ≡ call_counts known.now.history }
+    {
+        // Tells the prover that one of the books is the caller's, and that it isn't full.
+        let _number = self.account.number();
+        let _entries = known.front().len();
+        books.count(&mut self.account);
+        self.last = known.front().duplicate();
+        self.seen = known.duplicate();
+    }
+
+    /// Shows, by the books of a history that goes on from all that it knows, that this has no other
+    /// entries of it than those of its replies. It changes nothing.
+    pub fn compare(&mut self, books: &mut CallBooks<K>)
+        ensures settled { (h : History) → books.old ≡ call_counts h
+            → IsFront self.old.seen h → IsSettled h self.old }
+        ensures books { books.new ≡ books.old }
+        ensures caller { self.new ≡ self.old }
+    {
+        books.compare(&mut self.account);
+    }
+}
+
+/// What a board answers, and a history which that is the answer of: it is no shorter than all that
+/// the caller knows and has all entries of the caller.
+fn look<K: TokenId, T: ReadBoard<K>>(
+    board: &T,
+    account: &Account<K>,
+    seen: &KnownHistory<K>,
+    ask: Ask,
+) -> Option<(Status, KnownHistory<K>)>
+    ensures front { IfSome result (λ found. IsFront seen.now.history found.1.history) }
+    ensures count { IfSome result (λ found.
+        call_count account.now.number found.1.history ≡ account.now.count) }
+    ensures legal { IfSome result (λ found. IsLegal K.limits found.1.history) }
+    ensures answer { IfSome result (λ found.
+        reply_of found.0 ≡ answer K.limits found.1.history (call_of ask)) }
+{
+    let newest = seen.newest(board.known())?;
+    if newest.calls(account.number()) != account.count() {
+        return None;
+    }
+    // Tells the prover that the history is legal.
+    let _entries = newest.front().len();
+    Some((status_on(board.board(), ask), newest.duplicate()))
+}
+
+impl<K: TokenId, T: ReadBoard<K> + Drop> Caller<K, T> {
+    ghost use Rattle.std.specs.Prelude.{◌≡◌, IfNone, IfSome, OnSome};
+    ghost use Rattle.ck_journal.specs.Answers.{IsLegal, answer};
+    ghost use Rattle.ck_journal.specs.Callers.{entries_by};
+    ghost use Rattle.ck_journal.specs.Fronts.{IsFront};
+    ghost use Rattle.ck_callers.specs.Asks.{call_of, reply_of};
+
+    /// What the token's state was when it had answered the calls that the caller then knows. It
+    /// takes neither the lock nor memory and waits for nobody. `None` where the board can't be
+    /// read, or lacks an entry that the caller knows and that may have changed it.
+    pub fn status(&mut self, ask: Ask) -> Option<Status>
+        ensures answer { IfSome result (λ status.
+            reply_of status ≡ answer K.limits self.new.seen (call_of ask)) }
+        ensures legal { OnSome result (IsLegal K.limits self.new.seen) }
+        ensures own { OnSome result (entries_by self.new.number self.new.seen
+            ≡ entries_by self.new.number self.new.last) }
+        ensures front { IsFront self.old.seen self.new.seen }
+        ensures same { self.new ≡ record self.old { seen = self.new.seen } }
+        ensures unchanged { IfNone result (self.new ≡ self.old) }
+    {
+        let board = self.reader.enter()?;
+        let found = look(&*board, &self.account, &self.seen, ask);
+        drop(board);
+        let (status, known) = found?;
+        self.seen = known;
+        Some(status)
+    }
+}
+
+/// A history that a caller knows, which may go to another caller.
+#[derive(Drop)]
+pub struct News<K: TokenId> {
+    known: KnownHistory<K>,
+}
+
+impl<K: TokenId> Model for News<K> {
+    ghost use Rattle.ck_journal.specs.Histories.{History};
+    ghost use Rattle.ck_journal.specs.HistoryCode.{history_code};
+
+    ghost Value = { History };
+
+    ghost coded = { history_code };
+
+    ghost view = { λ n. n.known.history };
+}
+
+impl<K: TokenId> News<K> {
+    ghost use Rattle.std.specs.Prelude.{◌≡◌};
+    ghost use Rattle.ck_journal.specs.Histories.{entry_count};
+
+    /// How many entries the history has.
+    pub fn seen(&self) -> u64
+        ensures { result ≡ entry_count self.now }
+    {
+        self.known.front().len()
+    }
+}

@@ -1,0 +1,42 @@
+use crate::ledgers::NewLedgers;
+use ck_history::{HistoryId, NewHistory};
+use std::marker::Brand;
+
+/// Which token it is: its one history, how many callers it has, and the ledger of each caller's
+/// calls. A type stands for them.
+pub trait TokenId: HistoryId {
+    ghost use Rattle.std.specs.Prelude.{ℕ};
+
+    ghost ledger: { ℕ → ℕ };
+
+    ghost callers: { ℕ };
+}
+
+impl TokenId for Brand {
+    ghost ledger = { λ caller. 0 };
+
+    ghost callers = { 1 };
+}
+
+/// What a type may come to stand for: a history without entries, and ledgers without calls.
+pub struct NewIdentity {
+    pub history: NewHistory,
+    pub ledgers: NewLedgers,
+}
+
+impl NewIdentity {
+    ghost use Rattle.std.specs.Prelude.{◌≡◌, []};
+    ghost use Rattle.ck_history.specs.Rules.{head_of};
+
+    /// An identity that no other has: which names its book and its ledgers get is left open, so that
+    /// a type may take them over.
+    pub fn new() -> NewIdentity
+        ensures entries { result.history.seen.log ≡ [] }
+        ensures head { result.history.head ≡ head_of result.history.seen.book }
+    {
+        NewIdentity {
+            history: NewHistory::new(),
+            ledgers: NewLedgers::new(),
+        }
+    }
+}

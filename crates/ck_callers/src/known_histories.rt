@@ -1,0 +1,124 @@
+ghost use Rattle.std.specs.Prelude.{◌≡◌, ◌≤◌, ◌↔◌, IfNone, IfSome, IsTrue, if◌then◌else◌};
+ghost use Rattle.ck_journal.specs.Boards.{board_of};
+ghost use Rattle.ck_journal.specs.Callers.{call_count};
+ghost use Rattle.ck_journal.specs.Fronts.{IsFront};
+ghost use Rattle.ck_journal.specs.Histories.{start};
+ghost use Rattle.ck_callers.specs.KnownHistories.{Covers, HasNext};
+
+use crate::identity::TokenId;
+use ck_history::Front;
+use std::marker::Model;
+
+/// A history with how many calls of each caller it has, and a front of it since which no entry has
+/// changed the board. Contracts see the two histories.
+#[derive(Drop)]
+pub struct KnownHistory<K: TokenId> {
+    front: Front<K>,
+    changed: Front<K>,
+    calls: [u64; 8],
+}
+
+impl<K: TokenId> Model for KnownHistory<K> {
+    ghost use Rattle.std.specs.Prelude.{◌≡◌};
+    ghost use Rattle.std.specs.Coded.{codes};
+    ghost use Rattle.ck_journal.specs.Callers.{call_counts};
+    ghost use Rattle.ck_journal.specs.Fronts.{IsFront};
+    ghost use Rattle.ck_journal.specs.HistoryCode.{history_code};
+    ghost use Rattle.ck_callers.specs.KnownHistories.{KnownState, KeepsBoard};
+
+    ghost Value = { KnownState };
+
+    ghost coded = { Prim.hlevel (codes, history_code) };
+
+    ghost view = { λ k. record { history = k.front; changed = k.changed } };
+
+    ghost invariant = { λ k. (k.calls ≡ call_counts k.front) × IsFront k.changed k.front
+        × KeepsBoard K.limits k.changed k.front };
+}
+
+/// The front that ends with the last change of the board: the one before, where the newest call
+/// leaves the board.
+fn last_change<K: TokenId>(before: &Front<K>, front: &Front<K>, leaves: bool) -> Front<K>
+    ensures { result ≡ (if leaves then before.now else front.now) }
+{
+    if leaves {
+        before.duplicate()
+    } else {
+        front.duplicate()
+    }
+}
+
+impl<K: TokenId> KnownHistory<K> {
+    /// A history without entries.
+    pub fn new(front: &Front<K>) -> KnownHistory<K>
+        requires { front.now ≡ start K.base }
+        ensures { result ≡ record { history = start K.base; changed = start K.base } }
+    {
+        KnownHistory {
+            front: front.duplicate(),
+            changed: front.duplicate(),
+            calls: [0; 8],
+        }
+    }
+
+    /// A copy, which takes no memory.
+    pub fn duplicate(&self) -> KnownHistory<K>
+        ensures { result ≡ self.now }
+    {
+        KnownHistory {
+            front: self.front.duplicate(),
+            changed: self.changed.duplicate(),
+            calls: self.calls,
+        }
+    }
+
+    pub fn front(&self) -> &Front<K>
+        ensures { result.now ≡ self.now.history }
+    {
+        &self.front
+    }
+
+    /// How many calls of the caller were answered.
+    pub fn calls(&self, caller: u32) -> u64
+        requires { (1 ≤ caller) × (caller ≤ 8) }
+        ensures { result ≡ call_count caller self.now.history }
+    {
+        self.calls[(caller - 1) as usize]
+    }
+
+    /// Whether another history is a front of this one that has all entries which changed the board.
+    pub fn covers(&self, other: &KnownHistory<K>) -> bool
+        ensures { IsTrue result ↔ Covers self.now other.now.history }
+    {
+        self.changed.begins(&other.front) && other.front.begins(&self.front)
+    }
+
+    /// A history that is no shorter than this one, and whose board is that of another history: the
+    /// longer one of the two. `None` where the other lacks an entry which changed the board.
+    pub(crate) fn newest<'a>(&'a self, other: &'a KnownHistory<K>) -> Option<&'a KnownHistory<K>>
+        ensures front { IfSome result (λ newest. IsFront self.now.history newest.now.history) }
+        ensures board { IfSome result (λ newest. board_of K.limits other.now.history
+            ≡ board_of K.limits newest.now.history) }
+        ensures none { IfNone result (Covers self.now other.now.history → ⊥) }
+    {
+        if self.front.begins(&other.front) {
+            return Some(other);
+        }
+        if self.covers(other) {
+            return Some(self);
+        }
+        None
+    }
+
+    /// Goes on with the one entry more that a front has, which is that of a call of this caller.
+    pub fn follow(&mut self, front: &Front<K>, caller: u32, leaves: bool)
+        requires { HasNext caller leaves self.old.history front.now }
+        ensures history { self.new.history ≡ front.now }
+        ensures changed { self.new.changed
+            ≡ (if leaves then self.old.changed else front.now) }
+    {
+        self.calls[(caller - 1) as usize] += 1;
+        self.changed = last_change(&self.changed, front, leaves);
+        self.front = front.duplicate();
+    }
+}
