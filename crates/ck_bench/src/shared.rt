@@ -6,7 +6,8 @@ ghost use Rattle.ck_callers.specs.Accounts.{name_of};
 
 use crate::rounds::{Failed, Kind, Target, make_rounds, prepare};
 use crate::threads::{SharedTarget, Task, Worker, best_together};
-use ck_shared::{Ends, NewIdentity, Shared, SharedCaller, TokenId};
+use ck_callers::{NewIdentity, TokenId};
+use ck_shared::{Ends, Shared, SharedCaller};
 use ck_token::Token;
 use ck_types::{Limits, NoMemory};
 use std::alloc::Global;

@@ -1,7 +1,8 @@
 //! Callers of a shared token, in threads of their own.
 use crate::rounds::{Failed, Kind, RW, Target, make_rounds, round};
+use ck_callers::{Ask, Status, TokenId};
 use ck_journal::{Body, Call, Reply};
-use ck_shared::{Ask, Shared, SharedCaller, Status, TokenId};
+use ck_shared::{Shared, SharedCaller};
 use ck_types::{NoMemory, Rv};
 use crossbeam_utils::CachePadded;
 use std::alloc::Global;

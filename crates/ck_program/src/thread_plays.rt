@@ -12,10 +12,11 @@ ghost use Rattle.ck_program.specs.CallerCalls.{IsUnplayed, IsPlayedAll, numbers,
 ghost use Rattle.ck_program.specs.CallerScripts.{IsSummary, summary_text};
 
 use ck_audit::{Verdict, audit_token};
+use ck_callers::{Caller, NewIdentity, TokenId};
 use ck_journal::Call;
 use ck_options::Callers;
 use ck_runs::{Script, run_scripts};
-use ck_shared::{Caller, Ends, NewIdentity, Shared, SharedCaller, TokenId};
+use ck_shared::{Ends, Shared, SharedCaller};
 use ck_token::Token;
 use ck_types::{Limits, NoMemory};
 use std::alloc::Global;

@@ -1,5 +1,6 @@
+use ck_callers::{Ask, Caller, ReadBoard, Slot, Status, TokenId};
 use ck_journal::{Call, Reply};
-use ck_shared::{Ask, Caller, ReadBoard, SharedToken, Slot, Status, TokenId};
+use ck_shared::SharedToken;
 use ck_types::NoMemory;
 use left_right::Absorb;
 use std::alloc::Global;

@@ -7,7 +7,7 @@ use crate::gates::Gate;
 use crate::scripts::Script;
 use crate::steps::{Answered, Step};
 use crate::turns::Turn;
-use ck_shared::{Caller, TokenId};
+use ck_callers::{Caller, TokenId};
 use ck_types::NoMemory;
 use std::alloc::Global;
 use std::sync::Wait;

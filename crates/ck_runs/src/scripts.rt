@@ -1,7 +1,7 @@
 ghost use Rattle.std.specs.Prelude.{◌≤◌, vec_len, vec_capacity};
 
+use ck_callers::{Caller, TokenId};
 use ck_journal::{Call, Reply};
-use ck_shared::{Caller, TokenId};
 use ck_types::NoMemory;
 use std::alloc::Global;
 

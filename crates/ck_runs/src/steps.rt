@@ -1,7 +1,7 @@
 use crate::gates::Gate;
 use crate::turns::Turn;
+use ck_callers::{Ask, Caller, Status, TokenId};
 use ck_journal::{Call, Reply};
-use ck_shared::{Ask, Caller, Status, TokenId};
 use ck_types::NoMemory;
 use std::alloc::Global;
 use std::sync::Wait;

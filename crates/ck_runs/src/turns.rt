@@ -1,7 +1,7 @@
 ghost use Rattle.std.specs.Prelude.{◌≡◌, IfOk, OnErr};
 
 use crate::gates::Gate;
-use ck_shared::{Caller, TokenId};
+use ck_callers::{Caller, TokenId};
 use ck_types::NoMemory;
 use std::alloc::Global;
 use std::sync::Wait;

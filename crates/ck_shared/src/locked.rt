@@ -220,7 +220,13 @@ impl<K: TokenId, O: Slot<K>, T: Absorb<O> + ReadBoard<K> + Drop, R: Wait + Drop>
         // Tells the prover that one more entry can be counted.
         let _bound = self.token.journal().len();
         let mut front = self.known.front().duplicate();
-        extend(rt, &mut front, &self.head, caller.known().front(), &self.token);
+        extend(
+            rt,
+            &mut front,
+            &self.head,
+            caller.known().front(),
+            &self.token,
+        );
         self.known.follow(&front, number, leaves);
         caller.follow(&mut self.books, &self.known);
         show_by(rt, &mut self.writer, slot, &self.token, &self.known);

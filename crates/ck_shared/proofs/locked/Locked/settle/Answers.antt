@@ -1,11 +1,11 @@
-use Rattle.std.proofs.Common.{◌∙◌, subst}
+use Rattle.std.proofs.Common.{ap, ◌∙◌, subst}
 use Rattle.ck_journal.specs.Fronts.{IsFront}
 use Rattle.ck_shared.proofs.locked.Locked.settle.Goals as goal
 
 pub returns-clause-settled : goal.returns-clause-settled
 returns-clause-settled g c =
     let front : IsFront c.args.caller.seen c.self.inside.token.history =
-    subst (λ h. IsFront h c.self.inside.token.history) c.known.ensures
-    (subst (λ h. IsFront h c.self.inside.token.history) c.front.ensures
-    (subst (IsFront c.front.result.now) (c.front-2.ensures ∙ c.self.invariant.0.history) c.await_front.ensures)) in
+    subst (λ h. IsFront h c.self.inside.token.history)
+    (c.front.ensures ∙ c.known.ensures ∙ ap (λ caller. caller.seen) c.compare.ensures.caller)
+    (subst (IsFront c.front.result.now) (c.front-2.ensures ∙ c.self.invariant.0.history) c.await_front.ensures) in
     rw (← c.self.view_is) (c.compare.ensures.settled c.self.inside.token.history c.self.invariant.0.books front)

@@ -6,8 +6,8 @@ use Rattle.ck_callers.specs.Callers.{IsNextCall, entry_by}
 use Rattle.ck_shared.proofs.Shown.{covered_on, if_none}
 use Rattle.ck_shared.proofs.locked.Locked.step.Goals as goal
 
-pub follow-2-requires : goal.follow-2-requires
-follow-2-requires g c =
+pub follow-requires-2 : goal.follow-requires-2
+follow-requires-2 g c =
     let caller = c.args.caller.now in
     let h = c.self.inside.token.history in
     let told = c.in-Ok.ensures.answered in
