@@ -3,7 +3,7 @@ use Rattle.std.proofs.Common.{◌≡◌, ℕ, ◌+◌, ◌-◌, ◌<◌, ◌≤�
 use Rattle.std.proofs.Common.{refl, sym, ap, ◌∙◌, arith}
 use Rattle.ck_types.specs.TokenLimits.{Ranges}
 use Rattle.ck_journal.specs.Answers.{IsLegal}
-use Rattle.ck_journal.specs.Callers.{entries_by, call_count, call_counts}
+use Rattle.ck_journal.specs.Callers.{entries_by, call_count}
 use Rattle.ck_journal.specs.Fronts.{IsFront}
 use Rattle.ck_journal.specs.Histories.{History, entry_count}
 use Rattle.ck_journal.specs.declared.calls.Call.{Call}
