@@ -1,4 +1,5 @@
-//! Auditors of journals: the calls of a journal are made again, and each reply is compared.
+//! Auditors of journals: the calls of a journal are made again, and each reply is compared. Also
+//! whether a caller got the replies of its entries.
 #![tactic(auto)]
 
 mod audits;

@@ -30,12 +30,6 @@ nothing_later : (g h : History) (later : List Entry) → h ≡ followed_by g lat
 nothing_later g h [] e short = sym e
 nothing_later g h (x ∷ later) e short = absurd (omega (arith, ap entry_count e, entry_count-later g later))
 
-before_later : (e : Entry) (g h : History) (later : List Entry) → e ◁ h ≡ followed_by g later
-    → entry_count g ≡ entry_count h → g ≡ h
-before_later e g h [] is counts = let longer = ap entry_count is in absurd (omega arith)
-before_later e g h (x ∷ later) is counts = let rest : h ≡ followed_by g later = cc is in nothing_later g h
-    later rest (omega arith)
-
 -- ---- logs
 
 pub front_extended : (h : History) (log : List Entry) → IsFront h (extended_by h log)

@@ -11,7 +11,8 @@ pub struct AttributeQuery {
     pub room: Option<u64>,
 }
 
-/// A call of the application with its arguments, named after the standard's function.
+/// A call of the application with its arguments, named after the standard's function (PKCS #11 Base
+/// 3.0, Functions). SetKeyState alone is no function of the standard.
 #[derive(Debug, Drop)]
 pub enum Call {
     InitToken {

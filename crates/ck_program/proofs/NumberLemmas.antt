@@ -26,12 +26,6 @@ one_moved f g moved longer a left rest b all before next pushed same =
     ∙ ap (λ n. map f moved ++ n ∷ map g rest) same
     ∙ ap (λ xs. map f moved ++ map g xs) (sym next) ∙ before
 
--- none is left to be moved
-pub all_moved : {A B : Type 0} (f : A → ℕ) (g : B → ℕ) (moved : List A) (left : List B)
-    (all : List ℕ) → map f moved ++ map g left ≡ all → left ≡ [] → map f moved ≡ all
-all_moved f g moved left all before none =
-    sym (append-nil (map f moved)) ∙ ap (λ xs. map f moved ++ map g xs) (sym none) ∙ before
-
 -- scripts keep the numbers of their callers where each does
 pub same_numbers : {K T : Type 0} (old new : List (Script K T Call Reply)) → length new ≡ length old
     → ((k : ℕ) (d : Script K T Call Reply) → k < length old

@@ -99,7 +99,7 @@ pub fn run<R: Source, W: Sink, RT: Eprint + Threads + Wait + Copy + Drop + Send 
             }
         },
         Err(ArgumentFault::Bad) => {
-            let _ = eprintln!(&rt; "ck_run: bad arguments");
+            let _ = eprintln!(&rt; "ck_run: bad arguments, --help names those there are");
             BAD_ARGUMENTS
         }
         Err(ArgumentFault::Memory) => {

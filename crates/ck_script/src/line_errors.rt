@@ -3,7 +3,7 @@ ghost use Rattle.ck_script.specs.declared.line_errors.LineError.TheVariants.{Mem
 
 use crate::call_names::{Arity, CallName};
 use crate::lines::LONGEST_LINE;
-use ck_types::NoMemory;
+use ck_types::{MOST_CALLERS, NoMemory};
 use std::alloc::{AllocError, AllocFailed};
 use thiserror::Error;
 
@@ -35,7 +35,7 @@ pub enum BadLine {
     Space,
     #[error("a line is a caller, a call and its arguments")]
     NoCall,
-    #[error("the caller is a number from 1 to 8")]
+    #[error("the caller is a number from 1 to {MOST_CALLERS}")]
     UnknownCaller,
     /// A caller above so many, who play the script.
     #[error("the caller is a number from 1 to {0}")]

@@ -35,7 +35,7 @@ fn play_callers<R: Print + AllocGlobal + Threads + Wait + Copy + Drop + Send + S
     run_asks(rt, alloc)?;
     println!(rt; "asks: {RUNS} passed")?;
     let calls = soak_once(rt, alloc)?;
-    println!(rt; "calls: {calls}")?;
+    println!(rt; "drawn calls: {calls}")?;
     println!(rt; "audit ok")?;
     Ok(())
 }
@@ -44,7 +44,7 @@ fn main(rt: HostRuntime) -> ExitCode {
     match play_callers(rt) {
         Ok(()) => ExitCode::SUCCESS,
         Err(error) => {
-            let _ = println!(rt; "callers: {error}");
+            let _ = println!(rt; "ck_soak: {error}");
             ExitCode::FAILURE
         }
     }

@@ -25,7 +25,8 @@ use crate::memory::NoMemory;
 use std::alloc::Global;
 use std::mem;
 
-/// One attribute of a template or of an object (CK_ATTRIBUTE): its type and the bytes of its value.
+/// One attribute of a template or of an object (CK_ATTRIBUTE; PKCS #11 Base 3.0, Objects): its type
+/// and the bytes of its value.
 #[derive(Debug, Drop)]
 pub struct Item {
     /// The attribute's type (CK_ATTRIBUTE_TYPE), known to the token or not.

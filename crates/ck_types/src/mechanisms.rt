@@ -8,7 +8,7 @@ use crate::memory::NoMemory;
 use crate::sequences::Bytes;
 use std::alloc::Global;
 
-/// A mechanism with its parameter (CK_MECHANISM).
+/// A mechanism with its parameter (CK_MECHANISM; PKCS #11 Base 3.0, General data types).
 #[derive(Debug, Drop)]
 pub struct Mechanism {
     /// The mechanism's type (CK_MECHANISM_TYPE), known to the token or not.
@@ -92,7 +92,8 @@ const MECHANISMS: [(u64, Algorithm); 13] = [
     (0x350, Algorithm::GenericSecretKey),
 ];
 
-/// The types of all mechanisms that the token has, rising (C_GetMechanismList).
+/// The types of all mechanisms that the token has, rising (C_GetMechanismList, PKCS #11 Base 3.0;
+/// the types are those of the Current Mechanisms 3.0).
 pub fn mechanism_types() -> [u64; 13]
     ensures { result ≡ mechanism_types }
 {
