@@ -9,6 +9,7 @@ use std::io;
 fn copy_front(from: &[u8], to: &mut [u8], most: usize) -> usize
     requires some { 0 < most }
     ensures bound { (result ≤ length to.new) × (result ≤ length from.now) }
+    ensures most { result ≤ most }
     ensures copied { take result to.new ≡ take result from.now }
     ensures end { result ≡ 0 → 0 < length to.old → from.now ≡ [] }
 {
@@ -45,6 +46,7 @@ impl<'a> MemorySource<'a> {
               ends = 0;
               failures = 0;
             }) }
+        ensures piece { result.piece ≡ piece }
         ensures fails_at { result.fails_at ≡ fails_at }
     {
         MemorySource {
@@ -68,7 +70,7 @@ impl<'a> MemorySource<'a> {
 }
 
 impl<'a> Source for MemorySource<'a> {
-    ghost use Rattle.std.specs.Prelude.{◌≡◌, ◌≤◌, length, IfOk, IsErr};
+    ghost use Rattle.std.specs.Prelude.{◌≡◌, ◌≤◌, ◌↔◌, length, max, IfOk, IsErr};
     ghost use Rattle.ck_play.specs.Devices.{Reading, after_read};
     ghost use Rattle.ck_play.specs.MemoryDevices.{IsReadOf};
 
@@ -78,8 +80,10 @@ impl<'a> Source for MemorySource<'a> {
         ensures bound { IfOk result (λ count. count ≤ length buffer.new) }
         ensures reading { (r : Reading) → ⟦<MemorySource<'a> as Source>⟧.is_read self.old r
             → ⟦<MemorySource<'a> as Source>⟧.is_read self.new (after_read r result buffer.new) }
-        ensures failing { self.new.reads ≡ self.new.fails_at → IsErr result }
-        ensures set { self.new.fails_at ≡ self.old.fails_at }
+        ensures piece { IfOk result (λ count. count ≤ max self.new.piece 1) }
+        ensures failing { IsErr result ↔ (self.new.reads ≡ self.new.fails_at) }
+        ensures set { (self.new.piece ≡ self.old.piece)
+            × (self.new.fails_at ≡ self.old.fails_at) }
     {
         self.reads = self.reads.saturating_add(1);
         if self.reads == self.fails_at {
@@ -116,6 +120,7 @@ impl MemorySink {
         ensures writing { ⟦<MemorySink as Sink>⟧.is_written result
             (record { bytes = []; failures = 0 }) }
         ensures writes { result.writes ≡ 0 }
+        ensures piece { result.piece ≡ piece }
         ensures fails_at { result.fails_at ≡ fails_at }
         ensures stops_at { result.stops_at ≡ stops_at }
     {
@@ -139,9 +144,10 @@ impl MemorySink {
 }
 
 impl Sink for MemorySink {
-    ghost use Rattle.std.specs.Prelude.{◌≡◌, ◌≤◌, ◌<◌, suc, length, IfOk, IsErr};
+    ghost use Rattle.std.specs.Prelude.{◌≡◌, ◌≤◌, ◌<◌, ◌+◌, ◌⊎◌, suc, length, IfOk, IsErr};
+    ghost use Rattle.std.specs.Prelude.{OnErr, vec_len, vec_capacity};
     ghost use Rattle.ck_play.specs.Devices.{Writing, after_write, IsCount};
-    ghost use Rattle.ck_play.specs.MemoryDevices.{IsWrittenTo};
+    ghost use Rattle.ck_play.specs.MemoryDevices.{IsWrittenTo, count_taken};
 
     ghost is_written = { λ s w. IsWrittenTo s.bytes.items s.failures w };
 
@@ -153,7 +159,12 @@ impl Sink for MemorySink {
         ensures counted { IsCount self.new.writes (suc self.old.writes) }
         ensures failing { self.new.writes ≡ self.new.fails_at → IsErr result }
         ensures stopping { self.new.writes ≡ self.new.stops_at → IfOk result (λ count. count ≡ 0) }
-        ensures set { (self.new.fails_at ≡ self.old.fails_at)
+        ensures piece { IfOk result (λ count. count ≡
+            count_taken (length bytes.now) self.new.piece self.new.stops_at self.new.writes) }
+        ensures err { OnErr result ((self.new.writes ≡ self.new.fails_at)
+            ⊎ (vec_capacity self.old.bytes < vec_len self.old.bytes
+            + count_taken (length bytes.now) self.new.piece self.new.stops_at self.new.writes)) }
+        ensures set { (self.new.piece ≡ self.old.piece) × (self.new.fails_at ≡ self.old.fails_at)
             × (self.new.stops_at ≡ self.old.stops_at) }
     {
         self.writes = self.writes.saturating_add(1);
