@@ -54,7 +54,8 @@ impl Model for NewLedgers {
         × (l.seven.parts ≡ 1) × (l.eight.parts ≡ 1) };
 }
 
-/// How many calls of each of the callers 1 to 8 were answered, as the lock keeps it.
+/// How many calls of each of the callers 1 to 8 were answered. The counts are in the proofs alone:
+/// a book takes no bytes.
 #[derive(Drop)]
 pub struct CallBooks<K: TokenId> {
     one: Book<CallerLedger<K, 1>>,

@@ -1,7 +1,7 @@
 //! Plays files of races: lists of calls that callers of a shared token make, with the replies that
-//! they get. Each race is played by one thread, and by threads of its callers, with all calls in an
-//! order that a gate keeps and with the first ones alone. What is written is the same in every
-//! order of the calls. Of files behind the word `alone` only the steps of each race are made, one
+//! they get. Each race is played by one thread, and by threads of its callers, with all calls in a
+//! set order and with the first ones alone. What is written is the same in every order of the
+//! calls. Of files behind the word `alone` only the steps of each race are made, one
 //! after the other on a shared token, again where there was no memory, and the line of a file says
 //! how many were.
 #![tactic(auto)]

@@ -204,7 +204,8 @@ impl<K: TokenId, O: Slot<K>, T: Absorb<O> + ReadBoard<K> + Drop, R: Wait + Drop>
     }
 
     /// Takes the token back, where all of its callers are given back, of which each then knew a
-    /// front of its journal. Else nothing has changed.
+    /// front of its journal. Else nothing has changed. It may wait for those who still read the
+    /// board.
     pub fn close<W: Wait>(
         self,
         rt: &W,
