@@ -22,7 +22,13 @@ fn play_file<R: Files + Print + AllocGlobal>(
     name: &str,
     changes: bool,
 ) -> io::Result<bool> {
-    let text = fs::read_to_string(rt, name)?;
+    let text = match fs::read_to_string(rt, name) {
+        Ok(text) => text,
+        Err(error) => {
+            println!(rt; "{name}: {error}")?;
+            return Ok(false);
+        }
+    };
     match play_text(rt.alloc(), text.as_str(), changes) {
         Ok(passed) => {
             println!(rt; "{name}: {passed}")?;

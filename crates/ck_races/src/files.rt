@@ -54,7 +54,13 @@ fn play_races<R: Print + AllocGlobal + Threads + Wait + Copy + Drop + Send + Syn
 pub(crate) fn play_file<
     R: Files + Print + AllocGlobal + Threads + Wait + Copy + Drop + Send + Sync,
 >(rt: R, name: &str, is_alone: bool) -> io::Result<bool> {
-    let text = fs::read_to_string(&rt, name)?;
+    let text = match fs::read_to_string(&rt, name) {
+        Ok(text) => text,
+        Err(error) => {
+            println!(rt; "{name}: {error}")?;
+            return Ok(false);
+        }
+    };
     match races_in(rt.alloc(), text.as_str()) {
         Ok(races) => play_races(rt, name, races.as_slice(), is_alone),
         Err(error) => {
