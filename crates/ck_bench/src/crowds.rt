@@ -2,11 +2,11 @@
 ghost use Rattle.std.specs.Prelude.{◌<◌, ◌^◌};
 
 use crate::rounds::{
-    Failed, RW, call, destroy, get_label, label_alone, labelled_of, open_and_close, prepared,
+    Failed, RW, Target, call, destroy, get_label, label_alone, labelled_of, open_and_close, prepare,
 };
 use ck_journal::{Body, Call};
 use ck_token::Token;
-use ck_types::Pin;
+use ck_types::{Limits, Pin};
 use std::alloc::Global;
 use std::time::CpuClock;
 
@@ -74,9 +74,10 @@ impl Phase {
     }
 }
 
-/// Makes a user PIN and so many session objects of session 2. Their numbers begin with 3, and their
-/// labels are numbers that begin with 0.
+/// Makes, beside what `prepare` does, a user PIN and so many session objects of session 2. Their
+/// numbers begin with 3, and their labels are numbers that begin with 0.
 fn crowd(token: &mut Token, alloc: Global, objects: u32) -> Result<(), Failed> {
+    prepare(token, alloc)?;
     let pin = Pin::of(b"1234");
     let user = 0;
     let session = 1;
@@ -89,13 +90,6 @@ fn crowd(token: &mut Token, alloc: Global, objects: u32) -> Result<(), Failed> {
         create(token, alloc, 2, number)?;
     }
     Ok(())
-}
-
-/// A token with a user PIN and so many session objects of session 2, beside what `prepared` makes.
-fn crowded(alloc: Global, objects: u32) -> Result<Token, Failed> {
-    let mut token = prepared(alloc)?;
-    crowd(&mut token, alloc, objects)?;
-    Ok(token)
 }
 
 fn create(token: &mut Token, alloc: Global, session: u64, number: u64) -> Result<(), Failed> {
@@ -137,7 +131,7 @@ fn search(token: &mut Token, alloc: Global, label: u64) -> Result<(), Failed> {
     let session = 1;
     let template = label_alone(alloc, &label.to_le_bytes())?;
     call(token, alloc, Call::FindObjectsInit { session, template })?;
-    let found = token.call(alloc, 1, Call::FindObjects { session, max: 9 })?;
+    let found = Target::call(token, alloc, Call::FindObjects { session, max: 9 })?;
     call(token, alloc, Call::FindObjectsFinal { session })?;
     match &found.body {
         Body::Handles(handles) if handles.as_slice().len() == 1 => Ok(()),
@@ -194,15 +188,25 @@ fn phase_time<R: CpuClock + AllocGlobal>(
     Ok(time.as_nanos() / u128::from(phase.rounds(objects).max(1)))
 }
 
+/// The nanoseconds of a round of each phase on a token that is new.
+fn phase_times<R: CpuClock + AllocGlobal>(
+    rt: &R,
+    token: &mut Token,
+    objects: u32,
+) -> Result<[u128; 9], Failed> {
+    crowd(token, rt.alloc(), objects)?;
+    let mut times = [0; 9];
+    for (time, phase) in times.iter_mut().zip(PHASES) {
+        *time = phase_time(rt, token, phase, objects)?;
+    }
+    Ok(times)
+}
+
 /// The nanoseconds of a round of each phase on a new token.
 pub(crate) fn times_among<R: CpuClock + AllocGlobal>(
     rt: &R,
     objects: u32,
 ) -> Result<[u128; 9], Failed> {
-    let mut token = crowded(rt.alloc(), objects)?;
-    let mut times = [0; 9];
-    for (time, phase) in times.iter_mut().zip(PHASES) {
-        *time = phase_time(rt, &mut token, phase, objects)?;
-    }
-    Ok(times)
+    let mut token = Token::new(rt.alloc(), Limits::largest());
+    phase_times(rt, &mut token, objects)
 }

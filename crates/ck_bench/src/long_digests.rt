@@ -1,8 +1,8 @@
 //! A long digest by a call, beside the library's own.
-use crate::rounds::{Failed, digest, prepared, start_digest};
-use ck_journal::{Body, Call, Reply};
+use crate::rounds::{Failed, Target, call, digest, prepare, start_digest};
+use ck_journal::{Body, Reply};
 use ck_token::Token;
-use ck_types::{Bytes, NoMemory};
+use ck_types::{Bytes, Limits, NoMemory};
 use sha2::{Digest, Sha256};
 use std::alloc::Global;
 use std::time::{CpuClock, Duration};
@@ -10,16 +10,26 @@ use std::time::{CpuClock, Duration};
 /// The length of the message in bytes, the most that one call takes.
 const LONG: usize = 0x10_0000;
 
-fn message(alloc: Global) -> Result<Bytes, NoMemory> {
-    let bytes = vec![in alloc; b'a'; LONG]?;
+/// A message of so many bytes.
+fn message(alloc: Global, length: usize) -> Result<Bytes, NoMemory> {
+    let bytes = vec![in alloc; b'a'; length]?;
     Ok(Bytes::from_vec(bytes))
 }
 
-/// A token with a digest that has begun, and the call that gives it the whole message.
-fn begun(alloc: Global) -> Result<(Token, Call), Failed> {
-    let mut token = prepared(alloc)?;
-    token.call(alloc, 1, start_digest(alloc))?;
-    Ok((token, digest(message(alloc)?)))
+/// The digest that a new token answers to the message, and the processor time of the call.
+fn digest_by_call<R: CpuClock + AllocGlobal>(
+    rt: &R,
+    token: &mut Token,
+) -> Result<(Bytes, Duration), Failed> {
+    let alloc = rt.alloc();
+    prepare(token, alloc)?;
+    call(token, alloc, start_digest(alloc))?;
+    let whole = digest(message(alloc, LONG)?);
+    let before = rt.process_cpu_time()?;
+    let reply = Target::call(token, alloc, whole)?;
+    let after = rt.process_cpu_time()?;
+    let time = after.checked_sub(before).ok_or(Failed)?;
+    Ok((digest_of(reply)?, time))
 }
 
 /// The digest of a reply.
@@ -30,21 +40,15 @@ fn digest_of(reply: Reply) -> Result<Bytes, Failed> {
     }
 }
 
-/// What the token answers to a digest of the message, and the processor time of its call.
 fn by_call<R: CpuClock + AllocGlobal>(rt: &R) -> Result<(Bytes, Duration), Failed> {
-    let alloc = rt.alloc();
-    let (mut token, call) = begun(alloc)?;
-    let before = rt.process_cpu_time()?;
-    let reply = token.call(alloc, 1, call)?;
-    let after = rt.process_cpu_time()?;
-    let time = after.checked_sub(before).ok_or(Failed)?;
-    Ok((digest_of(reply)?, time))
+    let mut token = Token::new(rt.alloc(), Limits::largest());
+    digest_by_call(rt, &mut token)
 }
 
 /// The library's digest of the message, and its processor time.
 fn by_library<R: CpuClock + AllocGlobal>(rt: &R) -> Result<(Bytes, Duration), Failed> {
     let alloc = rt.alloc();
-    let message = message(alloc)?;
+    let message = message(alloc, LONG)?;
     let before = rt.process_cpu_time()?;
     let mut hasher = Sha256::new();
     hasher.update(message.as_slice());

@@ -12,9 +12,11 @@ mod shared;
 mod threads;
 
 use audits::audit_time;
+use ck_token::Token;
+use ck_types::Limits;
 use crowds::{PHASES, times_among};
 use long_digests::best_times;
-use rounds::{Failed, KINDS, Kind, calls_in, make_rounds, prepared};
+use rounds::{Failed, KINDS, Kind, calls_in, make_rounds, prepare};
 use shared::measure_shared;
 use std::env;
 use std::env::Env;
@@ -37,14 +39,24 @@ const CROWDS: u64 = 7;
 /// How often a journal is audited.
 const AUDITS: u64 = 7;
 
-/// The processor time of one run of rounds on a token of its own.
-fn run_time<R: CpuClock + AllocGlobal>(rt: &R, kind: Kind, count: u64) -> Result<Duration, Failed> {
+/// The processor time of one run of rounds on a new token.
+fn time_of_run<R: CpuClock + AllocGlobal>(
+    rt: &R,
+    token: &mut Token,
+    kind: Kind,
+    count: u64,
+) -> Result<Duration, Failed> {
     let alloc = rt.alloc();
-    let mut token = prepared(alloc)?;
+    prepare(token, alloc)?;
     let before = rt.process_cpu_time()?;
-    make_rounds(&mut token, alloc, kind, count)?;
+    make_rounds(token, alloc, kind, count)?;
     let after = rt.process_cpu_time()?;
     after.checked_sub(before).ok_or(Failed)
+}
+
+fn run_time<R: CpuClock + AllocGlobal>(rt: &R, kind: Kind, count: u64) -> Result<Duration, Failed> {
+    let mut token = Token::new(rt.alloc(), Limits::largest());
+    time_of_run(rt, &mut token, kind, count)
 }
 
 /// Writes what one call of the kind takes at best.

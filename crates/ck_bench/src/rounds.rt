@@ -3,9 +3,7 @@ ghost use Rattle.std.specs.Prelude.{◌≤◌};
 
 use ck_journal::{AttributeQuery, Body, Call, RW_SESSION, Reply, SERIAL_SESSION};
 use ck_token::Token;
-use ck_types::{
-    AttributeValue, Bytes, Item, Limits, Mechanism, NoMemory, Pin, Rv, Sequence, Template,
-};
+use ck_types::{AttributeValue, Bytes, Item, Mechanism, NoMemory, Pin, Rv, Sequence, Template};
 use std::alloc::Global;
 use std::io;
 
@@ -213,13 +211,6 @@ pub(crate) fn prepare<T: Target>(target: &mut T, alloc: Global) -> Result<(), Fa
     call(target, alloc, labelled(alloc)?)?;
     call(target, alloc, secret_key(alloc)?)?;
     Ok(())
-}
-
-/// A token that has answered the first calls.
-pub(crate) fn prepared(alloc: Global) -> Result<Token, Failed> {
-    let mut token = Token::new(alloc, Limits::largest());
-    prepare(&mut token, alloc)?;
-    Ok(token)
 }
 
 #[inline(never)]

@@ -234,6 +234,17 @@ fn write_threads<R: Print>(rt: &R, times: ThreadTimes) -> Result<(), Failed> {
     Ok(())
 }
 
+/// The same calls of a token that isn't shared.
+fn times_alone<C: Clock>(
+    clock: &C,
+    alloc: Global,
+    limits: Limits,
+    effort: Effort,
+) -> Result<CallTimes, Failed> {
+    let mut token = Token::new(alloc, limits);
+    call_times(clock, alloc, &mut token, effort)
+}
+
 /// Makes calls and asks of a shared token, and writes what they take by the clock where that is
 /// asked for.
 pub(crate) fn measure_shared<
@@ -242,8 +253,7 @@ pub(crate) fn measure_shared<
     let alloc = rt.alloc();
     let effort = if measures { MEASURED } else { TRIED };
     let limits = Limits::largest();
-    let mut direct = Token::new(alloc, limits);
-    let alone = call_times(&rt, alloc, &mut direct, effort)?;
+    let alone = times_alone(&rt, alloc, limits, effort)?;
     let identity = NewIdentity::new();
     let (locked, threads) = times_shared::<Brand, _>(rt, alloc, limits, identity, effort)?;
     if measures {

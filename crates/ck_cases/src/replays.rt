@@ -4,9 +4,10 @@ use crate::cases::{Action, Case, Step, cases_in};
 use crate::changed_journals::check_changes;
 use crate::retries::RetryingToken;
 use ck_audit::Verdict;
-use ck_journal::{Call, Journal, Reply};
+use ck_journal::{Journal, Reply};
 use ck_script::push_reply;
 use ck_token::Uncut;
+use ck_types::Limits;
 use std::alloc::Global;
 use std::fmt;
 
@@ -72,37 +73,28 @@ fn compare(step: &Step, came: String) -> Result<(), CaseError> {
     Err(CaseError::Differs(step.number, came))
 }
 
-/// Takes the steps of a case one after the other. Says how often one was made again.
-fn play_by_steps(alloc: Global, case: &Case) -> Result<u64, CaseError> {
-    let mut token = RetryingToken::new(alloc, case.limits);
+/// Takes the steps of a case one after the other.
+fn play_by_steps(alloc: Global, token: &mut RetryingToken, case: &Case) -> Result<(), CaseError> {
+    token.start(alloc, case.limits);
     for step in case.steps.iter() {
-        let came = outcome_of(alloc, &mut token, &step.action)?;
+        let came = outcome_of(alloc, token, &step.action)?;
         compare(step, came)?;
     }
-    Ok(token.retries())
+    Ok(())
 }
 
-/// Cuts the journal, where no session is open, and then makes a call.
-fn call_behind_cut(
-    alloc: Global,
-    token: &mut RetryingToken,
-    caller: u32,
-    call: &Call,
-) -> Result<Reply, CaseError> {
-    let _cut = token.cut(alloc)?;
-    token.call(alloc, caller, call)
-}
-
-/// Makes the calls of a case alone, each behind a cut: they are answered alike.
-fn play_with_cuts(alloc: Global, case: &Case) -> Result<u64, CaseError> {
-    let mut token = RetryingToken::new(alloc, case.limits);
+/// Makes the calls of a case alone, each behind a cut where no session is open: they are answered
+/// alike.
+fn play_with_cuts(alloc: Global, token: &mut RetryingToken, case: &Case) -> Result<(), CaseError> {
+    token.start(alloc, case.limits);
     for step in case.steps.iter() {
         if let Some((caller, call)) = step.call() {
-            let reply = call_behind_cut(alloc, &mut token, caller, call)?;
+            token.try_cut(alloc)?;
+            let reply = token.call(alloc, caller, call)?;
             compare(step, reply_text(alloc, &reply)?)?;
         }
     }
-    Ok(token.retries())
+    Ok(())
 }
 
 /// Compares the replies of the entries after so many with those of the steps.
@@ -123,40 +115,66 @@ fn compare_entries(
     Ok(())
 }
 
+/// Audits the journal as one of a token of these limits, where that is asked for with each of its
+/// first replies changed too.
+fn audit_runs(
+    alloc: Global,
+    token: &mut RetryingToken,
+    limits: Limits,
+    changes: bool,
+) -> Result<(), CaseError> {
+    if let Verdict::Wrong(number) = token.audit(alloc, limits)? {
+        return Err(CaseError::Wrong(number));
+    }
+    if changes {
+        check_changes(alloc, token.journal(), limits)?;
+    }
+    Ok(())
+}
+
 /// Makes the calls of a case up to each cut by one run, looks for the replies in the journal, and
-/// audits it; where that is asked for, with each of its first replies changed too.
-fn play_by_runs(alloc: Global, case: &Case, changes: bool) -> Result<u64, CaseError> {
-    let mut token = RetryingToken::new(alloc, case.limits);
+/// audits it.
+fn play_by_runs(
+    alloc: Global,
+    token: &mut RetryingToken,
+    case: &Case,
+    changes: bool,
+) -> Result<(), CaseError> {
+    token.start(alloc, case.limits);
     for steps in case.steps.split(|step| step.is_cut()) {
         let before = token.journal().len();
         token.run(alloc, steps)?;
         compare_entries(alloc, token.journal(), before, steps)?;
-        if let Verdict::Wrong(number) = token.audit(alloc, case.limits)? {
-            return Err(CaseError::Wrong(number));
-        }
-        if changes {
-            check_changes(alloc, token.journal(), case.limits)?;
-        }
-        let _cut = token.cut(alloc)?;
+        audit_runs(alloc, token, case.limits, changes)?;
+        token.try_cut(alloc)?;
+    }
+    Ok(())
+}
+
+/// Plays each case in all three ways. Says how often something was made again.
+fn play_cases(
+    alloc: Global,
+    token: &mut RetryingToken,
+    cases: &[Case],
+    changes: bool,
+) -> Result<u64, CaseError> {
+    for case in cases {
+        play_by_steps(alloc, token, case)?;
+        play_with_cuts(alloc, token, case)?;
+        play_by_runs(alloc, token, case, changes)?;
     }
     Ok(token.retries())
 }
 
-/// Plays a case in all three ways.
-fn play_case(alloc: Global, case: &Case, changes: bool) -> Result<u64, CaseError> {
-    let by_steps = play_by_steps(alloc, case)?;
-    let with_cuts = play_with_cuts(alloc, case)?;
-    let by_runs = play_by_runs(alloc, case, changes)?;
-    Ok(by_steps.saturating_add(with_cuts).saturating_add(by_runs))
+fn retries_of(alloc: Global, cases: &[Case], changes: bool) -> Result<u64, CaseError> {
+    let mut token = RetryingToken::new(alloc);
+    play_cases(alloc, &mut token, cases, changes)
 }
 
 /// Plays the cases of a file, and audits changed journals too where that is asked for.
 pub(crate) fn play_text(alloc: Global, text: &str, changes: bool) -> Result<Passed, CaseError> {
     let cases = cases_in(alloc, text)?;
-    let mut retries = 0u64;
-    for case in cases.iter() {
-        retries = retries.saturating_add(play_case(alloc, case, changes)?);
-    }
+    let retries = retries_of(alloc, cases.as_slice(), changes)?;
     Ok(Passed {
         cases: cases.len(),
         retries,

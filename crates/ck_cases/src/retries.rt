@@ -25,11 +25,16 @@ fn calls_after(alloc: Global, steps: &[Step], count: u64) -> Result<Vec<(u32, Ca
 }
 
 impl RetryingToken {
-    pub(crate) fn new(alloc: Global, limits: Limits) -> RetryingToken {
+    pub(crate) fn new(alloc: Global) -> RetryingToken {
         RetryingToken {
-            token: Token::new(alloc, limits),
+            token: Token::new(alloc, Limits::largest()),
             retries: 0,
         }
+    }
+
+    /// Begins with a new token of these limits. What was made again before counts on.
+    pub(crate) fn start(&mut self, alloc: Global, limits: Limits) {
+        self.token = Token::new(alloc, limits);
     }
 
     pub(crate) fn journal(&self) -> &Journal {
@@ -100,5 +105,11 @@ impl RetryingToken {
             }
             cut => Ok(cut),
         }
+    }
+
+    /// Cuts the journal where no session is open.
+    pub(crate) fn try_cut(&mut self, alloc: Global) -> Result<(), CaseError> {
+        let _cut = self.cut(alloc)?;
+        Ok(())
     }
 }

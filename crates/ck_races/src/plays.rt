@@ -5,6 +5,7 @@ use crate::races::{Race, Step, compare, reply_text};
 use crate::runs::run_race;
 use crate::tokens::{make_steps, token_of};
 use ck_journal::Entry;
+use ck_token::Token;
 use rand_core::SeedableRng;
 use rand_xoshiro::Xoshiro256PlusPlus;
 use std::alloc::Global;
@@ -14,11 +15,16 @@ use std::thread::Threads;
 /// How often a race is run with all its calls in order, and how often with the first ones alone.
 const RUNS: u64 = 100;
 
-/// Makes all steps of a race on a token by one thread.
+/// Makes all steps of a race on its token.
+fn make_all(alloc: Global, token: &mut Token, race: &Race) -> Result<(), RaceError> {
+    make_steps(alloc, token, race.steps.as_slice())?;
+    make_steps(alloc, token, race.afterwards.as_slice())
+}
+
+/// Makes them by one thread.
 fn check_alone(alloc: Global, race: &Race) -> Result<(), RaceError> {
     let mut token = token_of(alloc, race)?;
-    make_steps(alloc, &mut token, race.steps.as_slice())?;
-    make_steps(alloc, &mut token, race.afterwards.as_slice())
+    make_all(alloc, &mut token, race)
 }
 
 /// Each step has an entry, and the first were made in this order of their callers.
@@ -62,6 +68,36 @@ fn check_in_any(alloc: Global, steps: &[Step], entries: &[Entry]) -> Result<(), 
     Ok(())
 }
 
+/// Says whether the entries of a race, whose first calls were made in this order of their callers,
+/// are those of its steps, and so what is made afterwards is answered as it says.
+fn check_entries(
+    alloc: Global,
+    entries: &[Entry],
+    race: &Race,
+    order: &[u32],
+) -> Result<bool, RaceError> {
+    let steps = race.steps.as_slice();
+    check_order(entries, steps, order)?;
+    let is_in_order = check_in_order(alloc, steps, entries)?;
+    if race.is_in_any_order {
+        check_in_any(alloc, steps, entries)?;
+    }
+    Ok(is_in_order || race.is_in_any_order)
+}
+
+/// Checks what came of a race, and makes what is made afterwards.
+fn check_token(
+    alloc: Global,
+    token: &mut Token,
+    race: &Race,
+    order: &[u32],
+) -> Result<(), RaceError> {
+    if check_entries(alloc, token.journal().entries(), race, order)? {
+        make_steps(alloc, token, race.afterwards.as_slice())?;
+    }
+    Ok(())
+}
+
 /// Runs a race, the first calls in this order of their callers, and checks what came.
 fn check_run<R: Threads + Wait + Copy + Drop + Send + Sync>(
     rt: R,
@@ -70,17 +106,7 @@ fn check_run<R: Threads + Wait + Copy + Drop + Send + Sync>(
     order: &[u32],
 ) -> Result<(), RaceError> {
     let mut token = run_race(rt, alloc, race, order)?;
-    let steps = race.steps.as_slice();
-    let entries = token.journal().entries();
-    check_order(entries, steps, order)?;
-    let is_in_order = check_in_order(alloc, steps, entries)?;
-    if race.is_in_any_order {
-        check_in_any(alloc, steps, entries)?;
-    }
-    if is_in_order || race.is_in_any_order {
-        make_steps(alloc, &mut token, race.afterwards.as_slice())?;
-    }
-    Ok(())
+    check_token(alloc, &mut token, race, order)
 }
 
 /// Checks a race by one thread. Then runs it again and again in threads: with all steps in an order

@@ -56,6 +56,27 @@ impl<'a> Race<'a> {
             is_afterwards: false,
         }
     }
+
+    /// The steps so far are made before the token is shared.
+    fn cut(&mut self, alloc: Global) {
+        self.earlier = mem::replace(&mut self.steps, Vec::new(alloc));
+        self.first = 0;
+    }
+
+    /// The steps that follow are made together.
+    fn gather(&mut self, is_in_any_order: bool) {
+        self.first = self.steps.len();
+        self.is_in_any_order = is_in_any_order;
+    }
+
+    fn add(&mut self, step: Step<'a>) -> Result<(), RaceError> {
+        if self.is_afterwards {
+            self.afterwards.push(step)?;
+        } else {
+            self.steps.push(step)?;
+        }
+        Ok(())
+    }
 }
 
 /// The text of a reply, without a line end.
@@ -120,18 +141,11 @@ fn add_line<'a>(
     }
     let race = races.last_mut().ok_or(RaceError::NoRace(line))?;
     match text {
-        "cut" => {
-            race.earlier = mem::replace(&mut race.steps, Vec::new(alloc));
-            race.first = 0;
-        }
-        "together" => race.first = race.steps.len(),
-        "together in any order" => {
-            race.first = race.steps.len();
-            race.is_in_any_order = true;
-        }
+        "cut" => race.cut(alloc),
+        "together" => race.gather(false),
+        "together in any order" => race.gather(true),
         "afterwards" => race.is_afterwards = true,
-        _ if race.is_afterwards => race.afterwards.push(step_in(alloc, line, text)?)?,
-        _ => race.steps.push(step_in(alloc, line, text)?)?,
+        _ => race.add(step_in(alloc, line, text)?)?,
     }
     Ok(())
 }

@@ -16,6 +16,10 @@ use std::alloc::Global;
 use std::marker::Brand;
 use std::sync::Wait;
 
+/// A call that found no memory changed something.
+#[derive(Clone, Copy, Drop)]
+struct Changed;
+
 /// What a caller knows, and what it is answered without a call.
 #[derive(Drop)]
 struct View {
@@ -42,6 +46,31 @@ fn are_same(one: &Option<Status>, other: &Option<Status>) -> bool {
     }
 }
 
+/// Whether a caller sees what it saw.
+fn sees<K: TokenId>(caller: &mut SharedCaller<K>, before: &View) -> bool {
+    let after = view_of(caller);
+    after.seen == before.seen
+        && after.count == before.count
+        && are_same(&after.session, &before.session)
+        && are_same(&after.token, &before.token)
+}
+
+/// Makes a call. Where it finds no memory, its caller sees what it saw, and there is no reply.
+fn make_call<K: TokenId, R: Wait + Drop>(
+    rt: &R,
+    alloc: Global,
+    token: &Shared<K, R>,
+    caller: &mut SharedCaller<K>,
+    call: Call,
+) -> Result<Option<Reply>, Changed> {
+    let before = view_of(caller);
+    let reply = token.call(rt, alloc, caller, call).ok();
+    if reply.is_some() || sees(caller, &before) {
+        return Ok(reply);
+    }
+    Err(Changed)
+}
+
 /// The eight callers of a shared token, and how many of their calls were answered.
 #[derive(Drop)]
 struct Retrying<'a, K: TokenId, R: Wait + Drop> {
@@ -63,41 +92,40 @@ fn caller_of<K: TokenId>(
 }
 
 impl<'a, K: TokenId, R: Wait + Drop> Retrying<'a, K, R> {
-    /// A call adds one entry to those that were there. Where it finds no memory, its caller sees
-    /// what it saw, and there is no reply.
+    /// Makes a call, which adds one entry to those that were there, or finds no memory.
     fn call(&mut self, number: u32, line: u64, call: Call) -> Result<Option<Reply>, RaceError> {
-        let (rt, alloc, token) = (self.rt, self.alloc, self.token);
         let caller = caller_of(self.callers.as_mut_slice(), number, line)?;
-        let before = view_of(caller);
-        let reply = token.call(rt, alloc, caller, call).ok();
-        let after = view_of(caller);
-        let is_right = if reply.is_some() {
+        let reply = make_call(self.rt, self.alloc, self.token, caller, call).map_err(
+            |_| RaceError::Changed(line),
+        )?;
+        if reply.is_some() {
             self.answered = self.answered.saturating_add(1);
-            after.seen == self.answered
-        } else {
-            after.seen == before.seen
-                && after.count == before.count
-                && are_same(&after.session, &before.session)
-                && are_same(&after.token, &before.token)
-        };
-        if is_right {
-            return Ok(reply);
+            if caller.seen() != self.answered {
+                return Err(RaceError::Changed(line));
+            }
         }
-        Err(RaceError::Changed(line))
+        Ok(reply)
     }
 
-    /// Makes a step, again behind a call of another caller where it finds no memory.
-    fn make(&mut self, step: &Step) -> Result<(), RaceError> {
-        let (alloc, line) = (self.alloc, step.line);
-        let mut reply = self.call(step.caller, line, step.call.duplicate(alloc)?)?;
-        if reply.is_none() {
-            let other = if step.caller == 8 { 7 } else { 8 };
-            let added = self.call(other, line, Call::GetTokenInfo)?;
-            let _added = added.ok_or(RaceError::Memory)?;
-            reply = self.call(step.caller, line, step.call.duplicate(alloc)?)?;
+    /// Makes a step behind a call of another caller.
+    fn make_again(&mut self, step: &Step) -> Result<Reply, RaceError> {
+        let other = if step.caller == 8 { 7 } else { 8 };
+        if self.call(other, step.line, Call::GetTokenInfo)?.is_none() {
+            return Err(RaceError::Memory);
         }
-        let reply = reply.ok_or(RaceError::Memory)?;
-        compare(alloc, step, &reply)
+        let call = step.call.duplicate(self.alloc)?;
+        self.call(step.caller, step.line, call)?
+            .ok_or(RaceError::Memory)
+    }
+
+    /// Makes a step, again where it finds no memory.
+    fn make(&mut self, step: &Step) -> Result<(), RaceError> {
+        let call = step.call.duplicate(self.alloc)?;
+        let reply = match self.call(step.caller, step.line, call)? {
+            Some(reply) => reply,
+            None => self.make_again(step)?,
+        };
+        compare(self.alloc, step, &reply)
     }
 
     fn make_all(&mut self, steps: &[Step]) -> Result<(), RaceError> {
@@ -106,6 +134,47 @@ impl<'a, K: TokenId, R: Wait + Drop> Retrying<'a, K, R> {
         }
         Ok(())
     }
+
+    fn make_race(&mut self, race: &Race) -> Result<(), RaceError> {
+        self.make_all(race.steps.as_slice())?;
+        self.make_all(race.afterwards.as_slice())
+    }
+}
+
+/// Makes the steps of the race in their order. The callers come back, with the count of answered
+/// calls.
+fn make_steps<K: TokenId, R: Wait + Drop>(
+    rt: &R,
+    alloc: Global,
+    token: &Shared<K, R>,
+    callers: Vec<SharedCaller<K>>,
+    race: &Race,
+) -> Result<(Vec<SharedCaller<K>>, u64), RaceError> {
+    let mut retrying = Retrying {
+        rt,
+        alloc,
+        token,
+        callers,
+        answered: 0,
+    };
+    retrying.make_race(race)?;
+    Ok((retrying.callers, retrying.answered))
+}
+
+/// The journal is legal and has the entries of the answered calls. Says how many they are beside
+/// the steps.
+fn count_others(
+    alloc: Global,
+    token: &Token,
+    race: &Race,
+    answered: u64,
+) -> Result<u64, RaceError> {
+    check_audit(alloc, token)?;
+    if token.journal().len() != answered {
+        return Err(RaceError::Changed(race.line));
+    }
+    let steps = race.steps.len().saturating_add(race.afterwards.len());
+    Ok(answered.saturating_sub(steps as u64))
 }
 
 /// Shares the token and makes the steps of the race in their order. Says how many calls were
@@ -123,33 +192,11 @@ fn retry_shared<K: TokenId, R: Wait + Copy + Drop>(
     requires book { identity.history.seen.book ≡ K.book }
     requires ledgers { (n : ℕ) → K.ledger n ≡ name_of identity.ledgers n }
 {
-    let Ok(ends) = Shared::<K, R>::adopt(rt, alloc, token, 8, identity) else {
-        return Err(RaceError::Memory);
-    };
-    let Ends { token, callers } = ends;
-    let mut retrying = Retrying {
-        rt: &rt,
-        alloc,
-        token: &token,
-        callers,
-        answered: 0,
-    };
-    retrying.make_all(race.steps.as_slice())?;
-    retrying.make_all(race.afterwards.as_slice())?;
-    let Retrying {
-        callers,
-        answered,
-        ..
-    } = retrying;
-    let Ok(token) = token.close(&rt, callers) else {
-        return Err(RaceError::NotClosed);
-    };
-    check_audit(alloc, &token)?;
-    if token.journal().len() != answered {
-        return Err(RaceError::Changed(race.line));
-    }
-    let steps = race.steps.len().saturating_add(race.afterwards.len());
-    Ok(answered.saturating_sub(steps as u64))
+    let adopted = Shared::<K, R>::adopt(rt, alloc, token, 8, identity);
+    let Ends { token, callers } = adopted.map_err(|_| RaceError::Memory)?;
+    let (callers, answered) = make_steps(&rt, alloc, &token, callers, race)?;
+    let token = token.close(&rt, callers).map_err(|_| RaceError::NotClosed)?;
+    count_others(alloc, &token, race, answered)
 }
 
 /// Makes the steps of a race one after the other on a shared token, and says how often one was made

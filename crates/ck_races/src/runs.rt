@@ -4,7 +4,7 @@ ghost use Rattle.ck_journal.specs.Histories.{start};
 ghost use Rattle.ck_callers.specs.Accounts.{name_of};
 
 use crate::errors::RaceError;
-use crate::journals::{CallerReplies, check_audit, check_replies};
+use crate::journals::{CallerReplies, check_journal};
 use crate::orders::OrderedGate;
 use crate::races::{Race, Step};
 use crate::tokens::token_of;
@@ -73,6 +73,21 @@ fn finish<K: TokenId>(
     Ok((callers, all))
 }
 
+/// The callers make the steps in threads, the first of them in this order of their callers. They
+/// come back, with the replies of each.
+fn race<K: TokenId + Send + Sync, R: Threads + Wait + Drop + Send + Sync>(
+    rt: &R,
+    alloc: Global,
+    token: &Shared<K, R>,
+    callers: Vec<SharedCaller<K>>,
+    steps: &[Step],
+    order: &[u32],
+) -> Result<(Vec<SharedCaller<K>>, Vec<CallerReplies>), RaceError> {
+    let mut scripts = scripts_of(alloc, callers, steps)?;
+    run_together(rt, alloc, token, scripts.as_mut_slice(), order)?;
+    finish(alloc, scripts)
+}
+
 /// Shares the token among eight callers, which make the steps in threads, and takes it back.
 fn run_shared<K: TokenId + Send + Sync, R: Threads + Wait + Copy + Drop + Send + Sync>(
     rt: R,
@@ -88,18 +103,11 @@ fn run_shared<K: TokenId + Send + Sync, R: Threads + Wait + Copy + Drop + Send +
     requires book { identity.history.seen.book ≡ K.book }
     requires ledgers { (n : ℕ) → K.ledger n ≡ name_of identity.ledgers n }
 {
-    let Ok(ends) = Shared::<K, R>::adopt(rt, alloc, token, 8, identity) else {
-        return Err(RaceError::Memory);
-    };
-    let Ends { token, callers } = ends;
-    let mut scripts = scripts_of(alloc, callers, steps)?;
-    run_together(&rt, alloc, &token, scripts.as_mut_slice(), order)?;
-    let (callers, all) = finish(alloc, scripts)?;
-    let Ok(token) = token.close(&rt, callers) else {
-        return Err(RaceError::NotClosed);
-    };
-    check_replies(&token, all.as_slice())?;
-    check_audit(alloc, &token)?;
+    let adopted = Shared::<K, R>::adopt(rt, alloc, token, 8, identity);
+    let Ends { token, callers } = adopted.map_err(|_| RaceError::Memory)?;
+    let (callers, all) = race(&rt, alloc, &token, callers, steps, order)?;
+    let token = token.close(&rt, callers).map_err(|_| RaceError::NotClosed)?;
+    check_journal(alloc, &token, all.as_slice())?;
     Ok(token)
 }
 

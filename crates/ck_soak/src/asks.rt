@@ -12,6 +12,7 @@ use ck_callers::{Ask, BoardCopy, NewIdentity, News, Status, TokenId};
 use ck_journal::{Body, Call, Reply};
 use ck_runs::{Answered, Script, Step, run_steps};
 use ck_shared::{Ends, Shared, SharedCaller};
+use ck_token::Token;
 use ck_types::{Limits, Pin, Rv, RvError, SessionState, TokenFlags, mechanism_types};
 use std::alloc::Global;
 use std::marker::Brand;
@@ -96,33 +97,52 @@ fn make_first_calls<K: TokenId, R: Wait + Drop>(
     Ok(())
 }
 
-/// The first caller prepares the token. The second learns that.
+/// A caller learns what another knows, and has made no call.
+fn check_learnt<K: TokenId>(
+    caller: &mut SharedCaller<K>,
+    first: &News<K>,
+) -> Result<(), SoakError> {
+    caller.learn(first);
+    expect(caller.count() == 0 && caller.seen() == FIRST_CALLS && first.seen() == FIRST_CALLS)
+}
+
+/// The third caller asks a new token. Then the first prepares it, and the second learns that.
 fn prepare<K: TokenId, R: Wait + Drop>(
     rt: &R,
     alloc: Global,
     token: &Shared<K, R>,
     callers: &mut [SharedCaller<K>],
 ) -> Result<News<K>, SoakError> {
+    check_new(callers.last_mut().ok_or(SoakError::Asked)?)?;
     let one = callers.first_mut().ok_or(SoakError::Asked)?;
     make_first_calls(rt, alloc, token, one)?;
     expect(one.count() == FIRST_CALLS && one.seen() == FIRST_CALLS)?;
     let first = one.news();
-    let two = callers.last_mut().ok_or(SoakError::Asked)?;
-    two.learn(&first);
-    expect(two.count() == 0 && two.seen() == FIRST_CALLS && first.seen() == FIRST_CALLS)?;
+    check_learnt(callers.get_mut(1).ok_or(SoakError::Asked)?, &first)?;
     Ok(first)
 }
 
-/// The first caller logs in. Both ask again and again, and then call, and ask after each call.
+/// How often the caller of this number asks for the session.
+fn asks_of(caller: u32) -> u32 {
+    if caller == 3 { 0 } else { ASKS }
+}
+
+/// How often it calls, but for the login.
+fn calls_of(caller: u32) -> u32 {
+    if caller == 3 { 0 } else { CALLS }
+}
+
+/// The first caller logs in. It and the second ask again and again, and then call, and ask after
+/// each call. The third does nothing.
 fn steps_of(alloc: Global, caller: u32) -> Result<Vec<Step>, SoakError> {
     let mut steps = Vec::new(alloc);
     if caller == 1 {
         steps.push(Step::Call(log_in(1, b"user")))?;
     }
-    for _ in 0..ASKS {
+    for _ in 0..asks_of(caller) {
         steps.push(Step::Ask(Ask::Session(1)))?;
     }
-    for _ in 0..CALLS {
+    for _ in 0..calls_of(caller) {
         steps.push(Step::Call(Call::GetTokenInfo))?;
         steps.push(Step::Ask(Ask::Token))?;
     }
@@ -145,7 +165,7 @@ fn scripts_of<K: TokenId>(
 /// Each step is answered OK, and what is known stays. The first caller asks for the session once it
 /// has logged in, the second before it calls. So where either knows more than the first calls, the
 /// login is among it: exactly then the user is logged in.
-fn check_answers(answers: &[Answered]) -> Result<(), SoakError> {
+fn check_answers(answers: &[Answered], wanted: u32) -> Result<(), SoakError> {
     let (mut known, mut asks) = (0, 0u32);
     for answer in answers {
         let (Answered::Reply(reply, seen) | Answered::Status(Some(Status::Reply(reply)), seen)) =
@@ -162,7 +182,7 @@ fn check_answers(answers: &[Answered]) -> Result<(), SoakError> {
             asks = asks.saturating_add(1);
         }
     }
-    expect(asks == ASKS)
+    expect(asks == wanted)
 }
 
 /// The callers of the scripts, where all answers are right.
@@ -173,14 +193,30 @@ fn callers_of<K: TokenId>(
     let mut callers = Vec::with_capacity(alloc, scripts.len())?;
     for script in scripts {
         script.outcome()?;
-        check_answers(script.replies())?;
+        check_answers(script.replies(), asks_of(script.caller.number()))?;
         callers.push(script.into_parts().0)?;
     }
     Ok(callers)
 }
 
+/// The callers take their steps, each in a thread of its own.
+fn play<K: TokenId + Send + Sync, R: Threads + Wait + Drop + Send + Sync>(
+    rt: &R,
+    alloc: Global,
+    token: &Shared<K, R>,
+    callers: Vec<SharedCaller<K>>,
+) -> Result<Vec<SharedCaller<K>>, SoakError> {
+    let mut scripts = scripts_of(alloc, callers)?;
+    run_steps(rt, alloc, token, scripts.as_mut_slice());
+    callers_of(alloc, scripts)
+}
+
 /// The third caller sees that the user has logged in, and loses nothing by what is older.
-fn check_after<K: TokenId>(caller: &mut SharedCaller<K>, first: &News<K>) -> Result<(), SoakError> {
+fn check_after<K: TokenId>(
+    callers: &mut [SharedCaller<K>],
+    first: &News<K>,
+) -> Result<(), SoakError> {
+    let caller = callers.last_mut().ok_or(SoakError::Asked)?;
     let body = Body::Session {
         state: SessionState::RwUser,
         flags: READ_WRITE,
@@ -189,6 +225,24 @@ fn check_after<K: TokenId>(caller: &mut SharedCaller<K>, first: &News<K>) -> Res
     let seen = caller.seen();
     caller.learn(first);
     expect(caller.count() == 0 && caller.seen() == seen && seen > first.seen())
+}
+
+/// All that three callers do. They come back.
+fn ask<K: TokenId + Send + Sync, R: Threads + Wait + Drop + Send + Sync>(
+    rt: &R,
+    alloc: Global,
+    token: &Shared<K, R>,
+    mut callers: Vec<SharedCaller<K>>,
+) -> Result<Vec<SharedCaller<K>>, SoakError> {
+    let first = prepare(rt, alloc, token, callers.as_mut_slice())?;
+    let mut callers = play(rt, alloc, token, callers)?;
+    check_after(callers.as_mut_slice(), &first)?;
+    Ok(callers)
+}
+
+/// The journal has the entries of all calls.
+fn check_length(token: &Token) -> Result<(), SoakError> {
+    expect(token.journal().len() == FIRST_CALLS + 1 + 2 * u64::from(CALLS))
 }
 
 /// Three callers share a new token. Without the third the token isn't taken back, and all is handed
@@ -205,22 +259,15 @@ fn ask_shared<K: TokenId + Send + Sync, R: Threads + Wait + Copy + Drop + Send +
     requires book { identity.history.seen.book ≡ K.book }
     requires ledgers { (n : ℕ) → K.ledger n ≡ name_of identity.ledgers n }
 {
-    let Ends { token, mut callers } = Shared::<K, R>::open(rt, alloc, limits, 3, identity)?;
-    let mut third = callers.pop().ok_or(SoakError::Asked)?;
-    check_new(&mut third)?;
-    let first = prepare(&rt, alloc, &token, callers.as_mut_slice())?;
-    let mut scripts = scripts_of(alloc, callers)?;
-    run_steps(&rt, alloc, &token, scripts.as_mut_slice());
-    let callers = callers_of(alloc, scripts)?;
-    check_after(&mut third, &first)?;
+    let Ends { token, callers } = Shared::<K, R>::open(rt, alloc, limits, 3, identity)?;
+    let mut callers = ask(&rt, alloc, &token, callers)?;
+    let third = callers.pop().ok_or(SoakError::Asked)?;
     let Err((token, mut callers)) = token.close(&rt, callers) else {
         return Err(SoakError::Asked);
     };
     callers.push(third)?;
-    let Ok(token) = token.close(&rt, callers) else {
-        return Err(SoakError::NotClosed);
-    };
-    expect(token.journal().len() == FIRST_CALLS + 1 + 2 * u64::from(CALLS))
+    let token = token.close(&rt, callers).map_err(|_| SoakError::NotClosed)?;
+    check_length(&token)
 }
 
 fn ask_once<R: Threads + Wait + Copy + Drop + Send + Sync>(

@@ -10,7 +10,7 @@ use crate::errors::SoakError;
 use crate::mix::{FIRST_ROW, Place};
 use ck_audit::{Verdict, are_replies_of, audit_token};
 use ck_callers::{NewIdentity, TokenId};
-use ck_journal::Reply;
+use ck_journal::{Entry, Reply};
 use ck_shared::{Ends, Shared, SharedCaller};
 use ck_token::Token;
 use ck_types::Limits;
@@ -93,16 +93,33 @@ fn finish<K: TokenId>(
     Ok((callers, all))
 }
 
-/// An audit finds the journal legal, and each caller got the replies of its entries.
-fn check_journal(alloc: Global, token: &Token, all: &[CallerReplies]) -> Result<(), SoakError> {
-    let entries = token.journal().entries();
+/// All that eight callers do. They come back, with the replies of each.
+fn soak<K: TokenId + Send + Sync, R: Threads + Wait + Drop + Send + Sync>(
+    rt: &R,
+    alloc: Global,
+    token: &Shared<K, R>,
+    callers: Vec<SharedCaller<K>>,
+) -> Result<(Vec<SharedCaller<K>>, Vec<CallerReplies>), SoakError> {
+    let mut drawing_callers = drawing_callers_of(alloc, callers)?;
+    soak_together(rt, alloc, token, drawing_callers.as_mut_slice())?;
+    finish(alloc, drawing_callers)
+}
+
+/// Each caller got the replies of its entries.
+fn check_replies(entries: &[Entry], all: &[CallerReplies]) -> Result<(), SoakError> {
     for (number, replies) in all {
         if !are_replies_of(*number, entries, replies.as_slice()) {
             return Err(SoakError::NotEntered(*number));
         }
     }
+    Ok(())
+}
+
+/// An audit finds the journal legal. Says how many calls it has.
+fn check_journal(alloc: Global, token: &Token, all: &[CallerReplies]) -> Result<u64, SoakError> {
+    check_replies(token.journal().entries(), all)?;
     match audit_token(alloc, token)? {
-        Verdict::Legal => Ok(()),
+        Verdict::Legal => Ok(token.journal().len()),
         Verdict::Wrong(number) => Err(SoakError::Wrong(number)),
     }
 }
@@ -122,14 +139,9 @@ fn soak_shared<K: TokenId + Send + Sync, R: Threads + Wait + Copy + Drop + Send 
     requires ledgers { (n : ℕ) → K.ledger n ≡ name_of identity.ledgers n }
 {
     let Ends { token, callers } = Shared::<K, R>::open(rt, alloc, limits, 8, identity)?;
-    let mut drawing_callers = drawing_callers_of(alloc, callers)?;
-    soak_together(&rt, alloc, &token, drawing_callers.as_mut_slice())?;
-    let (callers, all) = finish(alloc, drawing_callers)?;
-    let Ok(token) = token.close(&rt, callers) else {
-        return Err(SoakError::NotClosed);
-    };
-    check_journal(alloc, &token, all.as_slice())?;
-    Ok(token.journal().len())
+    let (callers, all) = soak(&rt, alloc, &token, callers)?;
+    let token = token.close(&rt, callers).map_err(|_| SoakError::NotClosed)?;
+    check_journal(alloc, &token, all.as_slice())
 }
 
 /// Makes the drawn calls of eight callers on a new token, and checks its journal. Says how many

@@ -59,6 +59,22 @@ fn call_both<K: TokenId + Send + Sync, R: Threads + Wait + Drop + Send + Sync>(
     );
 }
 
+/// Both callers call, and the first learns what the second knows. Gives how many sessions are then
+/// open, and how often each caller has called.
+fn use_token<K: TokenId + Send + Sync, R: Threads + Wait + Drop + Send + Sync>(
+    rt: &R,
+    alloc: Global,
+    token: &Shared<K, R>,
+    callers: &mut [SharedCaller<K>],
+) -> Option<(u64, (u64, u64))> {
+    let (one, others) = callers.split_first_mut()?;
+    let two = others.first_mut()?;
+    call_both(rt, alloc, token, one, two);
+    one.learn(&two.news());
+    let sessions = open_count(one)?;
+    Some((sessions, (one.count(), two.count())))
+}
+
 /// What is there when both callers are done.
 #[derive(Clone, Copy)]
 pub(crate) struct Counts {
@@ -83,13 +99,7 @@ fn shared_by_two<K: TokenId + Send + Sync, R: Threads + Wait + Copy + Drop + Sen
 {
     let ends = Shared::<K, R>::open(rt, alloc, limits, 2, identity).ok()?;
     let Ends { token, mut callers } = ends;
-    let mut two = callers.pop()?;
-    let one = callers.last_mut()?;
-    call_both(&rt, alloc, &token, one, &mut two);
-    one.learn(&two.news());
-    let sessions = open_count(one)?;
-    let calls = (one.count(), two.count());
-    callers.push(two).ok()?;
+    let (sessions, calls) = use_token(&rt, alloc, &token, callers.as_mut_slice())?;
     let token = token.close(&rt, callers).ok()?;
     Some(Counts {
         sessions,

@@ -28,6 +28,14 @@ fn fronts_of_one_history(rt: HostRuntime) -> Result<(), Fail> {
     grown::<Brand, _>(&rt, NewHistory::new(), &closing())
 }
 
+/// A front that has an entry more than another, or two.
+fn check_fronts<K: HistoryId, R: Abort>(rt: &R, shorter: &Front<K>, longer: &Front<K>) {
+    assert!(rt; shorter.begins(longer));
+    assert!(rt; !longer.begins(shorter));
+    assert!(rt; shorter.is_same(&shorter.duplicate()));
+    assert!(rt; !shorter.is_same(longer));
+}
+
 fn grown<K: HistoryId, R: Abort>(rt: &R, new: NewHistory, entry: &Entry) -> Result<(), Fail>
     requires book { new.seen.book ≡ K.book }
     requires legal { (h : History) → entry.now.reply ≡ answer K.limits h entry.now.call }
@@ -40,8 +48,7 @@ fn grown<K: HistoryId, R: Abort>(rt: &R, new: NewHistory, entry: &Entry) -> Resu
     assert!(rt; !first.add_after(&head, &empty, entry));
     assert!(rt; !empty.duplicate().add_after(&head, &second, entry));
     assert_eq!(rt; second.len(), 2);
-    assert!(rt; empty.begins(&second) && first.begins(&second) && second.begins(&second));
-    assert!(rt; !second.begins(&first));
-    assert!(rt; first.is_same(&first.duplicate()) && !first.is_same(&second));
+    check_fronts(rt, &empty, &second);
+    check_fronts(rt, &first, &second);
     Ok(())
 }

@@ -43,13 +43,30 @@ fn stopped_runs_are_printed(rt: HostRuntime) -> Result<(), Fail> {
     Ok(())
 }
 
+/// Makes a call that must be answered with this code, and gives the body of the reply.
+fn answered(
+    rt: &impl Abort,
+    alloc: Global,
+    token: &mut Token,
+    call: Call,
+    rv: Rv,
+) -> Result<Body, NoMemory> {
+    let reply = token.call(alloc, 1, call)?;
+    assert!(rt; reply.rv == rv);
+    Ok(reply.body)
+}
+
+fn check_empty(rt: &impl Abort, alloc: Global, token: &mut Token) -> Result<(), NoMemory> {
+    assert!(rt; token.journal().is_empty());
+    answered(rt, alloc, token, Call::CloseAllSessions, Rv::Ok)?;
+    assert!(rt; !token.journal().is_empty());
+    Ok(())
+}
+
 #[test]
 fn a_journal_is_empty_until_a_call_is_answered(rt: HostRuntime) -> Result<(), Fail> {
     let mut token = Token::new(rt.alloc(), Limits::largest());
-    assert!(rt; token.journal().is_empty());
-    token.call(rt.alloc(), 1, Call::CloseAllSessions)?;
-    assert!(rt; !token.journal().is_empty());
-    Ok(())
+    Ok(check_empty(&rt, rt.alloc(), &mut token)?)
 }
 
 fn check_room(rt: &impl Abort, alloc: Global, token: &mut Token) -> Result<(), NoMemory> {
@@ -57,7 +74,7 @@ fn check_room(rt: &impl Abort, alloc: Global, token: &mut Token) -> Result<(), N
     token.reserve(3)?;
     assert!(rt; token.spare() >= 3);
     assert!(rt; token.journal().len() == 0);
-    token.call(alloc, 1, Call::CloseAllSessions)?;
+    answered(rt, alloc, token, Call::CloseAllSessions, Rv::Ok)?;
     assert!(rt; token.spare() >= 2);
     Ok(())
 }
@@ -65,8 +82,7 @@ fn check_room(rt: &impl Abort, alloc: Global, token: &mut Token) -> Result<(), N
 #[test]
 fn room_for_entries(rt: HostRuntime) -> Result<(), Fail> {
     let mut token = Token::new(rt.alloc(), Limits::largest());
-    check_room(&rt, rt.alloc(), &mut token)?;
-    Ok(())
+    Ok(check_room(&rt, rt.alloc(), &mut token)?)
 }
 
 /// So many bytes `a`.
@@ -80,19 +96,6 @@ const MILLION: [u8; 32] = [
     0xcd, 0xc7, 0x6e, 0x5c, 0x99, 0x14, 0xfb, 0x92, 0x81, 0xa1, 0xc7, 0xe2, 0x84, 0xd7, 0x3e, 0x67,
     0xf1, 0x80, 0x9a, 0x48, 0xa4, 0x97, 0x20, 0x0e, 0x04, 0x6d, 0x39, 0xcc, 0xc7, 0x11, 0x2c, 0xd0,
 ];
-
-/// Makes a call that must be answered with this code, and gives the body of the reply.
-fn answered(
-    rt: &impl Abort,
-    alloc: Global,
-    token: &mut Token,
-    call: Call,
-    rv: Rv,
-) -> Result<Body, NoMemory> {
-    let reply = token.call(alloc, 1, call)?;
-    assert!(rt; reply.rv == rv);
-    Ok(reply.body)
-}
 
 /// A message that is one long piece.
 fn check_million(rt: &impl Abort, alloc: Global, token: &mut Token) -> Result<(), Fail> {

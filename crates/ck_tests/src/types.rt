@@ -35,26 +35,47 @@ fn check_value(
     Ok(())
 }
 
-/// A copy and a change of the object by the template have another label.
-fn check_labels(
+/// An object that is created with these items.
+fn created(alloc: Global, items: &[(u64, &[u8])]) -> Result<Record, Refusal> {
+    let template = template_of(alloc, items)?;
+    Record::created(alloc, &template)
+}
+
+/// A copy of the object with these items.
+fn copied(alloc: Global, object: &Record, items: &[(u64, &[u8])]) -> Result<Record, Refusal> {
+    let template = template_of(alloc, items)?;
+    object.copied(alloc, &template)
+}
+
+/// A change of the object with these items.
+fn changed(alloc: Global, object: &Record, items: &[(u64, &[u8])]) -> Result<Record, Refusal> {
+    let template = template_of(alloc, items)?;
+    object.changed(alloc, &template)
+}
+
+/// What was made has this label.
+fn check_label(
     rt: &impl Abort,
     alloc: Global,
-    object: &Record,
-    template: &Template,
+    made: Result<Record, Refusal>,
+    label: &[u8],
 ) -> Result<(), Refusal> {
-    let copy = object.copied(alloc, template)?;
-    check_value(rt, alloc, &copy, LABEL, b"b")?;
-    let changed = object.changed(alloc, template)?;
-    check_value(rt, alloc, &changed, LABEL, b"b")?;
-    check_value(rt, alloc, object, LABEL, b"a")?;
-    Ok(())
+    Ok(check_value(rt, alloc, &made?, LABEL, label)?)
+}
+
+/// A copy and a change of the object have another label, and it keeps its own.
+fn check_labels(rt: &impl Abort, alloc: Global, object: &Record) -> Result<(), Refusal> {
+    let label: &[(u64, &[u8])] = &[(LABEL, b"b")];
+    check_label(rt, alloc, copied(alloc, object, label), b"b")?;
+    check_label(rt, alloc, changed(alloc, object, label), b"b")?;
+    Ok(check_value(rt, alloc, object, LABEL, b"a")?)
 }
 
 /// A value has these bytes, and so has its copy.
 fn check_bytes(
     rt: &impl Abort,
     alloc: Global,
-    value: &AttributeValue,
+    value: AttributeValue,
     bytes: &[u8],
 ) -> Result<(), NoMemory> {
     assert!(rt; value.as_slice() == bytes);
@@ -65,16 +86,15 @@ fn check_bytes(
 /// A value has these bytes where they are copied, and where they are moved into it.
 fn check_made(rt: &impl Abort, alloc: Global, bytes: &[u8]) -> Result<(), NoMemory> {
     let copied = AttributeValue::from_slice(alloc, bytes)?;
-    check_bytes(rt, alloc, &copied, bytes)?;
+    check_bytes(rt, alloc, copied, bytes)?;
     let moved = AttributeValue::from_vec(Vec::from_slice(alloc, bytes)?);
-    check_bytes(rt, alloc, &moved, bytes)?;
-    Ok(())
+    check_bytes(rt, alloc, moved, bytes)
 }
 
 /// Values that lie in themselves, and longer ones.
 #[test]
 fn attribute_values(rt: HostRuntime) -> Result<(), Fail> {
-    check_bytes(&rt, rt.alloc(), &AttributeValue::new(rt.alloc()), &[])?;
+    check_bytes(&rt, rt.alloc(), AttributeValue::new(rt.alloc()), &[])?;
     check_made(&rt, rt.alloc(), &[b'a'; 16])?;
     check_made(&rt, rt.alloc(), &[b'a'; 17])?;
     Ok(())
@@ -82,20 +102,21 @@ fn attribute_values(rt: HostRuntime) -> Result<(), Fail> {
 
 #[test]
 fn data_objects(rt: HostRuntime) -> Result<(), Fail> {
-    let template = template_of(rt.alloc(), &[(0, &[0; 8]), (LABEL, b"a")])?;
-    let object = Record::created(rt.alloc(), &template)?;
-    let template = template_of(rt.alloc(), &[(LABEL, b"b")])?;
-    check_labels(&rt, rt.alloc(), &object, &template)?;
-    Ok(())
+    let object = created(rt.alloc(), &[(0, &[0; 8]), (LABEL, b"a")])?;
+    Ok(check_labels(&rt, rt.alloc(), &object)?)
+}
+
+/// A key of these bytes, which are three.
+fn generated(alloc: Global, bytes: &[u8]) -> Result<Record, Refusal> {
+    let length: &[u8] = &[3, 0, 0, 0, 0, 0, 0, 0];
+    let template = template_of(alloc, &[(VALUE_LEN, length)])?;
+    Record::generated(alloc, &template, bytes)
 }
 
 #[test]
 fn generated_keys(rt: HostRuntime) -> Result<(), Fail> {
-    let length: &[u8] = &[3, 0, 0, 0, 0, 0, 0, 0];
-    let template = template_of(rt.alloc(), &[(VALUE_LEN, length)])?;
-    let key = Record::generated(rt.alloc(), &template, &[0, 1, 2])?;
-    check_value(&rt, rt.alloc(), &key, VALUE, &[0, 1, 2])?;
-    Ok(())
+    let key = generated(rt.alloc(), &[0, 1, 2])?;
+    Ok(check_value(&rt, rt.alloc(), &key, VALUE, &[0, 1, 2])?)
 }
 
 /// Adds 300,000 items of this type, without values.
