@@ -7,5 +7,6 @@ pub use Rattle.ck_journal.specs.Sessions
 pub mod Agreement
 pub mod Cuts
 pub mod Decisions
+pub mod QueryCodes
 pub mod Runs
 pub mod TokenStates

@@ -1,104 +1,60 @@
-ghost use Rattle.std.specs.Prelude.{◌≡◌, IfOk, map};
-ghost use Rattle.std.specs.List.{list_any};
-ghost use Rattle.ck_journal.specs.Queries.{query_answer, is_sensitive, is_missing};
-ghost use Rattle.ck_journal.specs.Queries.{lacks_room, queries_code, queries_reply};
+ghost use Rattle.std.specs.Prelude.{◌≡◌, [], ◌∷◌, IfOk};
+ghost use Rattle.ck_journal.specs.Queries.{query_answer, queries_code, queries_reply};
+ghost use Rattle.ck_token.specs.QueryCodes.{gravity, graver};
 
 use ck_journal::{Answer, AttributeQuery, Body, Reply};
 use ck_types::{NoMemory, Record, Rv, RvError, Sequence};
 use std::alloc::Global;
 
-fn is_sensitive(attributes: &Record, query: &AttributeQuery) -> bool
-    ensures { result ≡ is_sensitive attributes.now query.now }
+fn gravity(code: Rv) -> u64
+    ensures { result ≡ gravity code }
 {
-    attributes.is_hidden(query.kind)
-}
-
-fn is_missing(attributes: &Record, query: &AttributeQuery) -> bool
-    ensures { result ≡ is_missing attributes.now query.now }
-{
-    attributes.length(query.kind).is_none()
-}
-
-fn lacks_room(attributes: &Record, query: &AttributeQuery) -> bool
-    ensures { result ≡ lacks_room attributes.now query.now }
-{
-    match attributes.readable(query.kind) {
-        Err(_) => false,
-        Ok(value) => match query.room {
-            None => false,
-            Some(room) => room < value.len(),
+    match code {
+        Rv::Ok => 0,
+        Rv::Error(error) => match error {
+            RvError::BufferTooSmall => 1,
+            RvError::AttributeTypeInvalid => 2,
+            _ => 3,
         },
     }
 }
 
-fn any_is_sensitive(attributes: &Record, queries: &[AttributeQuery]) -> bool
-    ensures { result ≡ list_any (is_sensitive attributes.now) queries.now }
+/// Of the codes of two queries the one that both together have.
+fn graver(one: Rv, other: Rv) -> Rv
+    ensures { result ≡ graver one other }
 {
-    queries.iter().any(|query| is_sensitive(attributes, query))
-}
-
-fn any_is_missing(attributes: &Record, queries: &[AttributeQuery]) -> bool
-    ensures { result ≡ list_any (is_missing attributes.now) queries.now }
-{
-    queries.iter().any(|query| is_missing(attributes, query))
-}
-
-fn any_lacks_room(attributes: &Record, queries: &[AttributeQuery]) -> bool
-    ensures { result ≡ list_any (lacks_room attributes.now) queries.now }
-{
-    queries.iter().any(|query| lacks_room(attributes, query))
-}
-
-/// The one code of the call.
-fn queries_code(attributes: &Record, queries: &[AttributeQuery]) -> Rv
-    ensures { result ≡ queries_code attributes.now queries.now }
-{
-    if any_is_sensitive(attributes, queries) {
-        Rv::Error(RvError::AttributeSensitive)
-    } else if any_is_missing(attributes, queries) {
-        Rv::Error(RvError::AttributeTypeInvalid)
-    } else if any_lacks_room(attributes, queries) {
-        Rv::Error(RvError::BufferTooSmall)
+    if gravity(one) < gravity(other) {
+        other
     } else {
-        Rv::Ok
+        one
     }
 }
 
-fn query_answer(
+/// The answer to a query, and the code that it has alone.
+fn query_reply(
     alloc: Global,
     attributes: &Record,
     query: &AttributeQuery,
-) -> Result<Answer, NoMemory>
-    ensures { IfOk result (λ answer. answer ≡ query_answer attributes.now query.now) }
+) -> Result<(Answer, Rv), NoMemory>
+    ensures answer { IfOk result (λ reply. reply.0 ≡ query_answer attributes.now query.now) }
+    ensures code { IfOk result (λ reply.
+        reply.1 ≡ queries_code attributes.now (query.now ∷ [])) }
 {
     let value = match attributes.readable(query.kind) {
-        Err(_) => return Ok(Answer::Unavailable),
+        Err(error) => return Ok((Answer::Unavailable, Rv::Error(error))),
         Ok(value) => value,
     };
+    let length = value.len();
     match query.room {
-        None => Ok(Answer::Length(value.len())),
-        Some(room) if room < value.len() => Ok(Answer::Unavailable),
+        None => Ok((Answer::Length(length), Rv::Ok)),
+        Some(room) if room < length => {
+            Ok((Answer::Unavailable, Rv::Error(RvError::BufferTooSmall)))
+        }
         Some(_) => {
             let value = value.to_value(alloc)?;
-            Ok(Answer::Value(value))
+            Ok((Answer::Value(value), Rv::Ok))
         }
     }
-}
-
-fn query_answers(
-    alloc: Global,
-    attributes: &Record,
-    queries: &[AttributeQuery],
-) -> Result<Vec<Answer>, NoMemory>
-    ensures { IfOk result (λ answers.
-        answers.items ≡ map (query_answer attributes.now) queries.now) }
-{
-    let mut answers = Vec::with_capacity(alloc, queries.len())?;
-    for query in queries {
-        let answer = query_answer(alloc, attributes, query)?;
-        answers.push(answer)?;
-    }
-    Ok(answers)
 }
 
 /// The reply to queries of an object with these attributes: one answer for each, and one code.
@@ -109,9 +65,15 @@ pub(crate) fn queries_reply(
 ) -> Result<Reply, NoMemory>
     ensures { IfOk result (λ reply. reply ≡ queries_reply attributes.now queries.now) }
 {
-    let answers = query_answers(alloc, attributes, queries)?;
+    let mut answers = Vec::with_capacity(alloc, queries.len())?;
+    let mut rv = Rv::Ok;
+    for query in queries {
+        let (answer, code) = query_reply(alloc, attributes, query)?;
+        answers.push(answer)?;
+        rv = graver(rv, code);
+    }
     Ok(Reply {
-        rv: queries_code(attributes, queries),
+        rv,
         body: Body::Attributes(Sequence::from_vec(answers)),
     })
 }

@@ -1,8 +1,0 @@
-use Rattle.std.proofs.Common.{◌≡◌, take}
-use Rattle.std.specs.Prelude.{map}
-use Rattle.ck_journal.specs.Queries.{query_answer}
-use Rattle.ck_token.proofs.queries.query_answers.Given as goal
-
--- the answers to the queries so far
-abbrev pub invariant-loop-query : goal.invariant-loop-query
-invariant-loop-query l = l.answers.items ≡ map (query_answer l.attributes) (take l.query-index l.queries)
