@@ -2,8 +2,9 @@
 ghost use Rattle.std.specs.Prelude.{◌≤◌};
 
 use ck_journal::{AttributeQuery, Body, Call, RW_SESSION, Reply, SERIAL_SESSION};
+use ck_objects::{AttributeValue, Item, Template};
 use ck_token::Token;
-use ck_types::{AttributeValue, Bytes, Item, Mechanism, NoMemory, Pin, Rv, Sequence, Template};
+use ck_types::{Bytes, Mechanism, NoMemory, Pin, Rv, Sequence};
 use std::alloc::Global;
 use std::io;
 

@@ -8,11 +8,11 @@ use Rattle.std.proofs.Math.Path.{fun_ext}
 use Rattle.std.proofs.lemmas.Bool.{eqb-true, false_from_ne_true, true≢false, not-false}
 use Rattle.std.proofs.lemmas.Option.{same_Some}
 use Rattle.ck_types.specs.Checks.{error_if}
-use Rattle.ck_types.specs.Records.{is_set}
+use Rattle.ck_objects.specs.Records.{is_set}
 use Rattle.ck_types.specs.TokenLimits.{Ranges}
-use Rattle.ck_types.specs.declared.attributes.Attribute.TheVariants as attribute
+use Rattle.ck_objects.specs.declared.attributes.Attribute.TheVariants as attribute
 use Rattle.ck_types.specs.declared.errors.RvError.TheVariants as rv_error
-use Rattle.ck_types.specs.declared.items.Item.{Item}
+use Rattle.ck_objects.specs.declared.items.Item.{Item}
 use Rattle.ck_types.specs.declared.pins.Pin.{Pin}
 use Rattle.ck_types.specs.declared.users.UserType.{UserType}
 use Rattle.ck_types.specs.declared.users.UserType.TheVariants as user

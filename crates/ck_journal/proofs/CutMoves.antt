@@ -4,11 +4,11 @@ use Rattle.std.proofs.Common.{Option, Some, None, length, refl, sym, ap, ◌∙�
 use Rattle.std.specs.Prelude.{◌==◌, filter, map, option_and_then}
 use Rattle.std.proofs.Math.Path.{fun_ext}
 use Rattle.ck_types.specs.Checks.{error_if, or_else}
-use Rattle.ck_types.specs.Records.{key_value}
+use Rattle.ck_objects.specs.Records.{key_value}
 use Rattle.ck_types.specs.TokenLimits.{Ranges}
 use Rattle.ck_types.specs.declared.errors.RvError.{RvError}
 use Rattle.ck_types.specs.declared.errors.RvError.TheVariants as rv_error
-use Rattle.ck_types.specs.declared.items.Item.{Item}
+use Rattle.ck_objects.specs.declared.items.Item.{Item}
 use Rattle.ck_types.specs.declared.users.UserType.{UserType}
 use Rattle.ck_types.proofs.CheckLemmas.{or_else-none}
 use Rattle.ck_journal.specs.declared.calls.Call.{Call}

@@ -10,15 +10,15 @@ use Rattle.ck_types.specs.Checks.{error_if, or_else, first_of}
 use Rattle.ck_types.specs.Pins.{fits_a_pin}
 use Rattle.ck_mac.specs.Computations.{tag_of}
 use Rattle.ck_mac.specs.Macs.{signature_error}
-use Rattle.ck_types.specs.Records.{created_items, generated_items, with_given, is_key}
-use Rattle.ck_types.specs.Records.{placement_of}
+use Rattle.ck_objects.specs.Records.{created_items, generated_items, with_given, is_key}
+use Rattle.ck_objects.specs.Records.{placement_of}
 use Rattle.ck_types.specs.TokenLimits.{Ranges}
 use Rattle.ck_types.specs.Users.{user_of}
 use Rattle.ck_types.specs.declared.errors.RvError.{RvError}
 use Rattle.ck_types.specs.declared.errors.RvError.TheVariants as rv_error
-use Rattle.ck_types.specs.declared.items.Item.{Item}
+use Rattle.ck_objects.specs.declared.items.Item.{Item}
 use Rattle.ck_types.specs.declared.mechanisms.Mechanism.{Mechanism}
-use Rattle.ck_types.specs.declared.object_flags.Placement.{Placement}
+use Rattle.ck_objects.specs.declared.object_flags.Placement.{Placement}
 use Rattle.ck_types.specs.declared.pins.Pin.{Pin}
 use Rattle.ck_types.specs.declared.users.UserType.{UserType}
 use Rattle.ck_types.specs.declared.users.UserType.TheVariants as user

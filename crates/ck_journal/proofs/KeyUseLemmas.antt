@@ -5,17 +5,17 @@ use Rattle.std.specs.Prelude.{◌==◌, ◌&&◌, ◌||◌, is_none, option_and_
 use Rattle.std.specs.Option.{option_map_or}
 use Rattle.std.proofs.lemmas.Bool.{eqb-true, false≢true}
 use Rattle.ck_types.specs.Checks.{error_if}
-use Rattle.ck_types.specs.KeyStates.{may_sign, may_verify}
+use Rattle.ck_objects.specs.KeyStates.{may_sign, may_verify}
 use Rattle.ck_types.specs.Mechanisms.{hmac_hash, tag_length}
-use Rattle.ck_types.specs.Records.{state_in, is_key}
+use Rattle.ck_objects.specs.Records.{state_in, is_key}
 use Rattle.ck_types.specs.TokenLimits.{Ranges}
 use Rattle.ck_types.specs.declared.errors.RvError.{RvError}
 use Rattle.ck_types.specs.declared.errors.RvError.TheVariants as rv_error
-use Rattle.ck_types.specs.declared.items.Item.{Item}
-use Rattle.ck_types.specs.declared.key_states.KeyState.{KeyState}
+use Rattle.ck_objects.specs.declared.items.Item.{Item}
+use Rattle.ck_objects.specs.declared.key_states.KeyState.{KeyState}
 use Rattle.ck_types.specs.declared.mechanisms.Mechanism.{Mechanism}
 use Rattle.ck_types.proofs.CheckLemmas.{or_else-none, error_if-none}
-use Rattle.ck_types.proofs.GivenLemmas.{form_holds}
+use Rattle.ck_objects.proofs.GivenLemmas.{form_holds}
 use Rattle.ck_journal.specs.declared.calls.Call.{Call}
 use Rattle.ck_journal.specs.declared.calls.Call.TheVariants as call
 use Rattle.ck_journal.specs.declared.calls.Entry.{Entry}

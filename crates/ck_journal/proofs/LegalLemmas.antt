@@ -9,24 +9,24 @@ use Rattle.std.proofs.lemmas.Bool.{false_from_ne_true, false≢true}
 use Rattle.std.proofs.lemmas.Option.{same_Some}
 use Rattle.ck_types.specs.Checks.{error_if, or_else, first_of}
 use Rattle.ck_types.specs.Pins.{fits_a_pin}
-use Rattle.ck_types.specs.KeyStates.{state_of_number}
+use Rattle.ck_objects.specs.KeyStates.{state_of_number}
 use Rattle.ck_types.specs.Mechanisms.{is_key_generator}
-use Rattle.ck_types.specs.Records.{created_items, generated_items, with_given, with_state, is_set}
-use Rattle.ck_types.specs.Records.{protections_of, placement_of, copied_error, changed_error}
-use Rattle.ck_types.specs.Templates.{class_of, created_error, generated_error}
+use Rattle.ck_objects.specs.Records.{created_items, generated_items, with_given, with_state, is_set}
+use Rattle.ck_objects.specs.Records.{protections_of, placement_of, copied_error, changed_error}
+use Rattle.ck_objects.specs.Templates.{class_of, created_error, generated_error}
 use Rattle.ck_types.specs.TokenLimits.{Ranges, AreInRange}
 use Rattle.ck_types.specs.Users.{user_of}
-use Rattle.ck_types.specs.declared.attributes.Attribute.TheVariants as attribute
+use Rattle.ck_objects.specs.declared.attributes.Attribute.TheVariants as attribute
 use Rattle.ck_types.specs.declared.errors.RvError.{RvError}
 use Rattle.ck_types.specs.declared.errors.RvError.TheVariants as rv_error
-use Rattle.ck_types.specs.declared.items.Item.{Item}
-use Rattle.ck_types.specs.declared.key_states.KeyState.{KeyState}
+use Rattle.ck_objects.specs.declared.items.Item.{Item}
+use Rattle.ck_objects.specs.declared.key_states.KeyState.{KeyState}
 use Rattle.ck_types.specs.declared.pins.Pin.{Pin}
 use Rattle.ck_types.specs.declared.return_codes.Rv.TheVariants as rv
 use Rattle.ck_types.specs.declared.users.UserType.{UserType}
 use Rattle.ck_types.specs.declared.users.UserType.TheVariants as user
-use Rattle.ck_types.proofs.ChangeLemmas.{token-kept, private-kept, token-in_state}
-use Rattle.ck_types.proofs.ChangeLemmas.{private-in_state}
+use Rattle.ck_objects.proofs.ChangeLemmas.{token-kept, private-kept, token-in_state}
+use Rattle.ck_objects.proofs.ChangeLemmas.{private-in_state}
 use Rattle.ck_types.proofs.CheckLemmas.{or_else-none, error_if-none}
 use Rattle.ck_journal.specs.declared.bases.Base.{Base}
 use Rattle.ck_journal.specs.declared.calls.Call.{Call}

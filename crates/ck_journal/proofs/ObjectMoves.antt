@@ -5,7 +5,7 @@ use Rattle.std.specs.Prelude.{◌==◌, filter_map, find, option_and_then, optio
 use Rattle.std.specs.List.{cons_option}
 use Rattle.std.proofs.lemmas.Bool.{eqb-true}
 use Rattle.std.proofs.lemmas.List.Elements.{All-head, All-tail}
-use Rattle.ck_types.specs.declared.items.Item.{Item}
+use Rattle.ck_objects.specs.declared.items.Item.{Item}
 use Rattle.ck_journal.specs.declared.bases.KeptObject.{KeptObject}
 use Rattle.ck_journal.specs.declared.calls.Call.{Call}
 use Rattle.ck_journal.specs.declared.calls.Call.TheVariants as call

@@ -3,10 +3,10 @@ use Rattle.std.proofs.Common.{◌≡◌, ℕ, List, [], ◌∷◌, Some, sym}
 use Rattle.std.proofs.Common.{ap, ◌∙◌, subst, arith}
 use Rattle.std.specs.Prelude.{unwrap_or}
 use Rattle.std.proofs.lemmas.Option.{same_Some}
-use Rattle.ck_types.specs.Records.{with_given}
+use Rattle.ck_objects.specs.Records.{with_given}
 use Rattle.ck_types.specs.TokenLimits.{Ranges}
-use Rattle.ck_types.specs.declared.items.Item.{Item}
-use Rattle.ck_types.proofs.ChangeLemmas.{KeepsProtection}
+use Rattle.ck_objects.specs.declared.items.Item.{Item}
+use Rattle.ck_objects.proofs.ChangeLemmas.{KeepsProtection}
 use Rattle.ck_journal.specs.declared.calls.Call.TheVariants as call
 use Rattle.ck_journal.specs.declared.calls.Entry.{Entry}
 use Rattle.ck_journal.specs.Histories.{History, ◌◁◌, followed_by}

@@ -5,19 +5,19 @@ use Rattle.std.specs.Prelude.{◌==◌, find, option_and_then, option_map, unwra
 use Rattle.std.proofs.lemmas.Bool.{false≢true}
 use Rattle.std.proofs.lemmas.List.Elements.{All-head, All-tail}
 use Rattle.std.proofs.lemmas.Option.{same_Some}
-use Rattle.ck_types.specs.Records.{created_items, generated_items, with_given}
-use Rattle.ck_types.specs.Records.{protections_of, copied_error, changed_error}
-use Rattle.ck_types.specs.Templates.{class_of, created_error}
+use Rattle.ck_objects.specs.Records.{created_items, generated_items, with_given}
+use Rattle.ck_objects.specs.Records.{protections_of, copied_error, changed_error}
+use Rattle.ck_objects.specs.Templates.{class_of, created_error}
 use Rattle.ck_types.specs.TokenLimits.{Ranges, AreInRange}
-use Rattle.ck_types.specs.declared.attributes.Attribute.TheVariants as attribute
+use Rattle.ck_objects.specs.declared.attributes.Attribute.TheVariants as attribute
 use Rattle.ck_types.specs.declared.errors.RvError.TheVariants as rv_error
-use Rattle.ck_types.specs.declared.items.Item.{Item}
-use Rattle.ck_types.specs.declared.templates.Template.{Template}
-use Rattle.ck_types.proofs.ChangeLemmas.{KeepsProtection, copied-protection, changed-protection}
-use Rattle.ck_types.proofs.ChangeLemmas.{protection-in_state}
+use Rattle.ck_objects.specs.declared.items.Item.{Item}
+use Rattle.ck_objects.specs.declared.templates.Template.{Template}
+use Rattle.ck_objects.proofs.ChangeLemmas.{KeepsProtection, copied-protection, changed-protection}
+use Rattle.ck_objects.proofs.ChangeLemmas.{protection-in_state}
 use Rattle.ck_types.proofs.CheckLemmas.{or_else-none}
-use Rattle.ck_types.proofs.KeyLemmas.{created-unprotected, generated-sensitive}
-use Rattle.ck_types.proofs.KeyLemmas.{generated-extractable}
+use Rattle.ck_objects.proofs.KeyLemmas.{created-unprotected, generated-sensitive}
+use Rattle.ck_objects.proofs.KeyLemmas.{generated-extractable}
 use Rattle.ck_journal.specs.declared.bases.KeptObject.{KeptObject}
 use Rattle.ck_journal.specs.declared.calls.Call.{Call}
 use Rattle.ck_journal.specs.declared.calls.Call.TheVariants as call

@@ -6,15 +6,15 @@ use Rattle.std.specs.List.{slice_get}
 use Rattle.std.specs.Option.{option_map_or}
 use Rattle.std.proofs.lemmas.Bool.{false≢true}
 use Rattle.std.proofs.lemmas.Option.{same_Some, slice_get-map}
-use Rattle.ck_types.specs.Records.{created_items, generated_items, with_given, is_set}
-use Rattle.ck_types.specs.Records.{placement_of, copied_error, protections_of}
+use Rattle.ck_objects.specs.Records.{created_items, generated_items, with_given, is_set}
+use Rattle.ck_objects.specs.Records.{placement_of, copied_error, protections_of}
 use Rattle.ck_types.specs.Checks.{error_if}
 use Rattle.ck_types.specs.Mechanisms.{is_key_generator}
-use Rattle.ck_types.specs.Templates.{class_of, created_error, generated_error}
+use Rattle.ck_objects.specs.Templates.{class_of, created_error, generated_error}
 use Rattle.ck_types.specs.TokenLimits.{Ranges}
-use Rattle.ck_types.specs.declared.attributes.Attribute.TheVariants as attribute
+use Rattle.ck_objects.specs.declared.attributes.Attribute.TheVariants as attribute
 use Rattle.ck_types.specs.declared.errors.RvError.TheVariants as rv_error
-use Rattle.ck_types.specs.declared.items.Item.{Item}
+use Rattle.ck_objects.specs.declared.items.Item.{Item}
 use Rattle.ck_types.specs.declared.users.UserType.TheVariants as user
 use Rattle.ck_types.proofs.CheckLemmas.{or_else-none, error_if-none}
 use Rattle.ck_journal.specs.declared.calls.Call.{Call}

@@ -4,12 +4,12 @@ use Rattle.std.proofs.Common.{[], length, refl, sym, ap, ◌∙◌}
 use Rattle.std.specs.Prelude.{map, nat_lt, option_map}
 use Rattle.std.specs.List.{slice_get}
 use Rattle.std.proofs.lemmas.Option.{slice_get-map}
-use Rattle.ck_types.specs.Attributes.{type_of}
-use Rattle.ck_types.specs.Records.{is_revealable, readable_value}
-use Rattle.ck_types.specs.Templates.{value_at}
-use Rattle.ck_types.specs.declared.attributes.Attribute.TheVariants as attribute
+use Rattle.ck_objects.specs.Attributes.{type_of}
+use Rattle.ck_objects.specs.Records.{is_revealable, readable_value}
+use Rattle.ck_objects.specs.Templates.{value_at}
+use Rattle.ck_objects.specs.declared.attributes.Attribute.TheVariants as attribute
 use Rattle.ck_types.specs.declared.errors.RvError.{RvError}
-use Rattle.ck_types.specs.declared.items.Item.{Item}
+use Rattle.ck_objects.specs.declared.items.Item.{Item}
 use Rattle.ck_journal.specs.declared.calls.AttributeQuery.{AttributeQuery}
 use Rattle.ck_journal.specs.declared.replies.Answer.{Answer}
 use Rattle.ck_journal.specs.declared.replies.Answer.TheVariants as answer

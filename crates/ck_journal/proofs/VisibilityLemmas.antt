@@ -4,12 +4,12 @@ use Rattle.std.proofs.Common.{List, Option, Some, None, sym, ◌∙◌, subst}
 use Rattle.std.specs.Prelude.{◌==◌}
 use Rattle.std.proofs.lemmas.Bool.{and_parts}
 use Rattle.std.proofs.lemmas.Option.{same_Some}
-use Rattle.ck_types.specs.Records.{is_set}
+use Rattle.ck_objects.specs.Records.{is_set}
 use Rattle.ck_types.specs.TokenLimits.{Ranges}
-use Rattle.ck_types.specs.declared.attributes.Attribute.TheVariants as attribute
+use Rattle.ck_objects.specs.declared.attributes.Attribute.TheVariants as attribute
 use Rattle.ck_types.specs.declared.errors.RvError.{RvError}
 use Rattle.ck_types.specs.declared.errors.RvError.TheVariants as rv_error
-use Rattle.ck_types.specs.declared.items.Item.{Item}
+use Rattle.ck_objects.specs.declared.items.Item.{Item}
 use Rattle.ck_types.specs.declared.users.UserType.TheVariants as user
 use Rattle.ck_journal.specs.declared.calls.Call.{Call}
 use Rattle.ck_journal.specs.declared.calls.Call.TheVariants as call

@@ -6,24 +6,24 @@ use Rattle.std.specs.Prelude.{bit_and, if◌then◌else◌}
 use Rattle.std.specs.List.{list_any}
 use Rattle.std.specs.Option.{option_map_or}
 use Rattle.ck_types.specs.Checks.{error_if, first_of}
-use Rattle.ck_types.specs.KeyStates.{state_of_number, may_become, may_sign, may_verify}
+use Rattle.ck_objects.specs.KeyStates.{state_of_number, may_become, may_sign, may_verify}
 use Rattle.ck_types.specs.Mechanisms.{mechanism_types, digest_hash, hmac_hash, tag_length}
 use Rattle.ck_types.specs.Mechanisms.{is_key_generator}
 use Rattle.ck_types.specs.Pins.{fits_a_pin}
-use Rattle.ck_types.specs.Records.{created_items, generated_items, with_given, is_set, state_in}
-use Rattle.ck_types.specs.Records.{protections_of, placement_of, copied_error, changed_error}
-use Rattle.ck_types.specs.Templates.{class_of, created_error, generated_error}
+use Rattle.ck_objects.specs.Records.{created_items, generated_items, with_given, is_set, state_in}
+use Rattle.ck_objects.specs.Records.{protections_of, placement_of, copied_error, changed_error}
+use Rattle.ck_objects.specs.Templates.{class_of, created_error, generated_error}
 use Rattle.ck_types.specs.TokenFlagBits.{token_flags}
 use Rattle.ck_types.specs.TokenLimits.{Ranges}
 use Rattle.ck_types.specs.Users.{user_of, same_user}
-use Rattle.ck_types.specs.declared.attributes.Attribute.{Attribute}
-use Rattle.ck_types.specs.declared.attributes.Attribute.TheVariants as attribute
+use Rattle.ck_objects.specs.declared.attributes.Attribute.{Attribute}
+use Rattle.ck_objects.specs.declared.attributes.Attribute.TheVariants as attribute
 use Rattle.ck_types.specs.declared.errors.RvError.{RvError}
 use Rattle.ck_types.specs.declared.errors.RvError.TheVariants as rv_error
-use Rattle.ck_types.specs.declared.items.Item.{Item}
-use Rattle.ck_types.specs.declared.key_states.KeyState.{KeyState}
+use Rattle.ck_objects.specs.declared.items.Item.{Item}
+use Rattle.ck_objects.specs.declared.key_states.KeyState.{KeyState}
 use Rattle.ck_types.specs.declared.mechanisms.Mechanism.{Mechanism}
-use Rattle.ck_types.specs.declared.object_flags.Placement.{Placement}
+use Rattle.ck_objects.specs.declared.object_flags.Placement.{Placement}
 use Rattle.ck_types.specs.declared.pins.Pin.{Pin}
 use Rattle.ck_types.specs.declared.return_codes.Rv.TheVariants as rv
 use Rattle.ck_types.specs.declared.token_flags.TokenFlags.{TokenFlags}

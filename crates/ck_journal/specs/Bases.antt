@@ -2,9 +2,9 @@
 use Rattle.std.specs.Prelude.{◌≡◌, ℕ, ◌<◌, ◌≤◌, ◌^◌, true, false, List, [], Option, None, ◌==◌, find}
 use Rattle.std.specs.Prelude.{option_map, is_some}
 use Rattle.std.specs.List.{All, AllPairs}
-use Rattle.ck_types.specs.Records.{is_set}
-use Rattle.ck_types.specs.declared.attributes.Attribute.TheVariants as attribute
-use Rattle.ck_types.specs.declared.items.Item.{Item}
+use Rattle.ck_objects.specs.Records.{is_set}
+use Rattle.ck_objects.specs.declared.attributes.Attribute.TheVariants as attribute
+use Rattle.ck_objects.specs.declared.items.Item.{Item}
 use Rattle.ck_types.specs.declared.users.UserType.{UserType}
 use Rattle.ck_types.specs.declared.users.UserType.TheVariants as user
 use Rattle.ck_journal.specs.declared.bases.Base.{Base}

@@ -2,7 +2,7 @@
 -- after it to be answered as before
 use Rattle.std.specs.Prelude.{◌≡◌, ◌↔◌, ℕ, List, [], filter_map, option_map}
 use Rattle.ck_types.specs.TokenLimits.{Ranges}
-use Rattle.ck_types.specs.declared.items.Item.{Item}
+use Rattle.ck_objects.specs.declared.items.Item.{Item}
 use Rattle.ck_types.specs.declared.users.UserType.TheVariants as user
 use Rattle.ck_journal.specs.declared.bases.Base.{Base}
 use Rattle.ck_journal.specs.declared.bases.KeptObject.{KeptObject}

@@ -2,14 +2,14 @@
 -- states and of what protects them
 use Rattle.std.specs.Prelude.{◌≡◌, ℕ, suc, Bool, true, false, List, Option, Some, ◌==◌}
 use Rattle.std.specs.List.{slice_get}
-use Rattle.ck_types.specs.Attributes.{type_of}
-use Rattle.ck_types.specs.KeyStates.{may_sign, may_verify}
-use Rattle.ck_types.specs.Records.{is_set, is_revealable, state_in}
+use Rattle.ck_objects.specs.Attributes.{type_of}
+use Rattle.ck_objects.specs.KeyStates.{may_sign, may_verify}
+use Rattle.ck_objects.specs.Records.{is_set, is_revealable, state_in}
 use Rattle.ck_types.specs.TokenLimits.{Ranges}
-use Rattle.ck_types.specs.declared.attributes.Attribute.TheVariants as attribute
-use Rattle.ck_types.specs.declared.items.Item.{Item}
-use Rattle.ck_types.specs.declared.key_states.KeyState.{KeyState}
-use Rattle.ck_types.specs.declared.templates.Template.{Template}
+use Rattle.ck_objects.specs.declared.attributes.Attribute.TheVariants as attribute
+use Rattle.ck_objects.specs.declared.items.Item.{Item}
+use Rattle.ck_objects.specs.declared.key_states.KeyState.{KeyState}
+use Rattle.ck_objects.specs.declared.templates.Template.{Template}
 use Rattle.ck_journal.specs.declared.calls.AttributeQuery.{AttributeQuery}
 use Rattle.ck_journal.specs.declared.calls.Call.{Call}
 use Rattle.ck_journal.specs.declared.calls.Call.TheVariants as call

@@ -3,12 +3,12 @@
 use Rattle.std.specs.Prelude.{ℕ, suc, ◌+◌, ◌*◌, ◌^◌, Bool, true, false, List, [], Option, Some, None}
 use Rattle.std.specs.Prelude.{◌==◌, ◌&&◌, ◌||◌, not, find, option_and_then, unwrap_or, if◌then◌else◌}
 use Rattle.std.specs.Option.{option_map_or}
-use Rattle.ck_types.specs.KeyStates.{state_of_number}
-use Rattle.ck_types.specs.Records.{created_items, generated_items, with_given, with_state, is_set}
-use Rattle.ck_types.specs.Records.{is_key}
-use Rattle.ck_types.specs.declared.attributes.Attribute.TheVariants as attribute
-use Rattle.ck_types.specs.declared.items.Item.{Item}
-use Rattle.ck_types.specs.declared.key_states.KeyState.{KeyState}
+use Rattle.ck_objects.specs.KeyStates.{state_of_number}
+use Rattle.ck_objects.specs.Records.{created_items, generated_items, with_given, with_state, is_set}
+use Rattle.ck_objects.specs.Records.{is_key}
+use Rattle.ck_objects.specs.declared.attributes.Attribute.TheVariants as attribute
+use Rattle.ck_objects.specs.declared.items.Item.{Item}
+use Rattle.ck_objects.specs.declared.key_states.KeyState.{KeyState}
 use Rattle.ck_types.specs.declared.users.UserType.TheVariants as user
 use Rattle.ck_journal.specs.declared.views.View.{View}
 use Rattle.ck_journal.specs.declared.calls.Call.{Call}

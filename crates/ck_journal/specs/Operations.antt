@@ -6,7 +6,7 @@ use Rattle.std.specs.Prelude.{option_and_then, unwrap_or, if◌then◌else◌}
 use Rattle.std.specs.List.{concat}
 use Rattle.std.specs.Option.{option_map_or}
 use Rattle.ck_types.specs.Mechanisms.{digest_hash, hmac_hash, tag_length}
-use Rattle.ck_types.specs.Records.{key_value}
+use Rattle.ck_objects.specs.Records.{key_value}
 use Rattle.ck_types.specs.declared.errors.RvError.TheVariants as rv_error
 use Rattle.ck_types.specs.declared.hashes.Hash.TheVariants as hash
 use Rattle.ck_types.specs.declared.mechanisms.Mechanism.{Mechanism}

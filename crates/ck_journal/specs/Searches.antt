@@ -1,8 +1,8 @@
 -- Searches for objects (PKCS #11 Base 3.0, Object management functions)
 use Rattle.std.specs.Prelude.{ℕ, ◌^◌, ◌%◌, Bool, true, false, List, [], ◌∷◌, Option, Some, ◌==◌, ◌&&◌}
 use Rattle.std.specs.Prelude.{nat_lt, filter, map, if◌then◌else◌}
-use Rattle.ck_types.specs.Records.{matches}
-use Rattle.ck_types.specs.declared.items.Item.{Item}
+use Rattle.ck_objects.specs.Records.{matches}
+use Rattle.ck_objects.specs.declared.items.Item.{Item}
 use Rattle.ck_journal.specs.declared.replies.Body.{Body}
 use Rattle.ck_journal.specs.declared.replies.Body.TheVariants as body
 use Rattle.ck_journal.specs.declared.calls.Call.{Call}

@@ -1,6 +1,7 @@
 ghost use Rattle.std.specs.Prelude.{◌≡◌, IfOk};
 
-use ck_types::{NoMemory, Pin, Record, Sequence};
+use ck_objects::Record;
+use ck_types::{NoMemory, Pin, Sequence};
 use std::alloc::Global;
 
 /// A token object as a journal starts with it.

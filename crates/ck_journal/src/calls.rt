@@ -1,5 +1,6 @@
 use crate::replies::Reply;
-use ck_types::{Bytes, Mechanism, NoMemory, Pin, Sequence, Template};
+use ck_objects::Template;
+use ck_types::{Bytes, Mechanism, NoMemory, Pin, Sequence};
 use std::alloc::Global;
 
 /// What C_GetAttributeValue is asked of one attribute: its type, and the room for its value in

@@ -1,6 +1,7 @@
 ghost use Rattle.std.specs.Prelude.{◌≡◌, IfOk};
 
-use ck_types::{AttributeValue, Bytes, NoMemory, Rv, Sequence, SessionState, TokenFlags};
+use ck_objects::AttributeValue;
+use ck_types::{Bytes, NoMemory, Rv, Sequence, SessionState, TokenFlags};
 use std::alloc::Global;
 
 /// What one query of an attribute is answered.

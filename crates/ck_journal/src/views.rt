@@ -2,7 +2,7 @@ ghost use Rattle.std.specs.Prelude.{◌≡◌, ◌<◌, ◌^◌};
 ghost use Rattle.ck_journal.specs.Objects.{handle_with};
 ghost use Rattle.ck_journal.specs.Searches.{number_of_handle};
 
-use ck_types::{Attribute, Record};
+use ck_objects::{Attribute, Record};
 
 /// How far the handles of private objects move with each login of the user.
 const LOGIN_STEP: u64 = 0x1_0000_0000;

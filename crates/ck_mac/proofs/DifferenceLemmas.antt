@@ -7,7 +7,7 @@ use Rattle.std.specs.Int.Bits.{or_zero_l, xor_self}
 use Rattle.std.proofs.lemmas.Nat.{le_or_l, le_or_r}
 use Rattle.std.proofs.lemmas.Nat.Bits.{bit_at_xor, bit_at-zero, bit_at-lt, same_from_bits}
 use Rattle.std.proofs.lemmas.Bool.Decides.{nat_tests}
-use Rattle.ck_types.specs.Attributes.{same_bytes}
+use Rattle.ck_types.specs.Numbers.{same_bytes}
 
 -- two bits whose sum is even are equal
 same_bits : (x y : ℕ) → x < 2 → y < 2 → (x + y) % 2 ≡ 0 → x ≡ y

@@ -1,7 +1,7 @@
 -- The keyed-hash message authentication code (HMAC, FIPS 198-1) of messages that come in pieces
 use Rattle.std.specs.Prelude.{◌≡◌, ℕ, ◌≤◌, List, ◌++◌, Option, Some, None, ◌==◌}
 use Rattle.std.specs.Prelude.{nat_le, if◌then◌else◌, length, map, bit_xor}
-use Rattle.ck_types.specs.Attributes.{same_bytes}
+use Rattle.ck_types.specs.Numbers.{same_bytes}
 use Rattle.ck_types.specs.Hashes.{block_length, digest_length}
 use Rattle.ck_types.specs.declared.hashes.Hash.{Hash}
 use Rattle.ck_types.specs.declared.errors.RvError.{RvError}

@@ -1,5 +1,5 @@
 ghost use Rattle.std.specs.Prelude.{◌≡◌, ◌≤◌, length, take};
-ghost use Rattle.ck_types.specs.Attributes.{same_bytes};
+ghost use Rattle.ck_types.specs.Numbers.{same_bytes};
 ghost use Rattle.ck_types.specs.Checks.{check_of};
 ghost use Rattle.ck_mac.specs.Macs.{signature_error};
 ghost use Rattle.ck_mac.specs.Padding.{with_zeros};

@@ -4,26 +4,26 @@ use Rattle.std.proofs.Common.{refl, ap, ◌∙◌}
 use Rattle.std.specs.Prelude.{option_and_then, unwrap_or, is_none, if◌then◌else◌}
 use Rattle.std.specs.Option.{option_map_or}
 use Rattle.ck_types.specs.Checks.{error_if, or_else, first_of}
-use Rattle.ck_types.specs.KeyStates.{state_of_number}
+use Rattle.ck_objects.specs.KeyStates.{state_of_number}
 use Rattle.ck_types.specs.Mechanisms.{hmac_hash, tag_length}
-use Rattle.ck_types.specs.Records.{is_key, state_in, protections_of, placement_of}
-use Rattle.ck_types.specs.Records.{changed_error}
-use Rattle.ck_types.specs.Templates.{class_of}
+use Rattle.ck_objects.specs.Records.{is_key, state_in, protections_of, placement_of}
+use Rattle.ck_objects.specs.Records.{changed_error}
+use Rattle.ck_objects.specs.Templates.{class_of}
 use Rattle.ck_types.specs.TokenLimits.{Ranges}
 use Rattle.ck_types.specs.Users.{user_of}
-use Rattle.ck_types.specs.declared.attributes.Attribute.TheVariants as attribute
+use Rattle.ck_objects.specs.declared.attributes.Attribute.TheVariants as attribute
 use Rattle.ck_types.specs.declared.errors.RvError.{RvError}
 use Rattle.ck_types.specs.declared.errors.RvError.TheVariants as rv_error
 use Rattle.ck_types.specs.declared.hashes.Hash.{Hash}
 use Rattle.ck_types.specs.declared.hashes.Hash.TheVariants as hash
-use Rattle.ck_types.specs.declared.items.Item.{Item}
-use Rattle.ck_types.specs.declared.key_states.KeyState.{KeyState}
-use Rattle.ck_types.specs.declared.key_states.KeyState.TheVariants as state
+use Rattle.ck_objects.specs.declared.items.Item.{Item}
+use Rattle.ck_objects.specs.declared.key_states.KeyState.{KeyState}
+use Rattle.ck_objects.specs.declared.key_states.KeyState.TheVariants as state
 use Rattle.ck_types.specs.declared.mechanisms.Mechanism.{Mechanism}
 use Rattle.ck_types.specs.declared.pins.Pin.{Pin}
 use Rattle.ck_types.specs.declared.return_codes.Rv.{Rv}
 use Rattle.ck_types.specs.declared.return_codes.Rv.TheVariants as rv
-use Rattle.ck_types.specs.declared.templates.Template.{Template}
+use Rattle.ck_objects.specs.declared.templates.Template.{Template}
 use Rattle.ck_types.specs.declared.users.UserType.{UserType}
 use Rattle.ck_types.specs.declared.users.UserType.TheVariants as user
 use Rattle.ck_types.proofs.CheckLemmas.{or_else-none, error_if-none}

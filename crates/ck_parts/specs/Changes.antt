@@ -1,16 +1,16 @@
 -- What an answered call changes of sessions, objects and operations, read off the history just
 -- before it
 use Rattle.std.specs.Prelude.{ℕ, true, not, Option, Some, None, map, unwrap_or}
-use Rattle.ck_types.specs.KeyStates.{state_of_number}
+use Rattle.ck_objects.specs.KeyStates.{state_of_number}
 use Rattle.ck_types.specs.Mechanisms.{digest_hash, hmac_hash, tag_length}
-use Rattle.ck_types.specs.Records.{created_items, generated_items, with_given}
+use Rattle.ck_objects.specs.Records.{created_items, generated_items, with_given}
 use Rattle.ck_types.specs.Users.{user_of}
 use Rattle.ck_types.specs.declared.return_codes.Rv.{Rv}
 use Rattle.ck_types.specs.declared.return_codes.Rv.TheVariants as rv
 use Rattle.ck_types.specs.declared.errors.RvError.{RvError}
 use Rattle.ck_types.specs.declared.errors.RvError.TheVariants as rv_error
 use Rattle.ck_types.specs.declared.hashes.Hash.TheVariants as hash
-use Rattle.ck_types.specs.declared.key_states.KeyState.TheVariants as state
+use Rattle.ck_objects.specs.declared.key_states.KeyState.TheVariants as state
 use Rattle.ck_types.specs.declared.mechanisms.Mechanism.{Mechanism}
 use Rattle.ck_types.specs.declared.users.UserType.{UserType}
 use Rattle.ck_types.specs.declared.users.UserType.TheVariants as user

@@ -1,6 +1,7 @@
 use crate::boxed::Boxed;
 use ck_journal::OperationKind;
-use ck_types::{Hash, KeyState, Pin, Record, Sequence, Template, UserType};
+use ck_objects::{KeyState, Record, Template};
+use ck_types::{Hash, Pin, Sequence, UserType};
 
 /// What an answered call changes of sessions, objects and operations.
 #[derive(Drop)]

@@ -18,7 +18,7 @@ pub struct Parts {
 
 impl Parts {
     ghost use Rattle.std.specs.Prelude.{◌≡◌, [], IfOk, IsOk, OnOk, false, unwrap_or};
-    ghost use Rattle.ck_types.specs.Records.{key_value};
+    ghost use Rattle.ck_objects.specs.Records.{key_value};
     ghost use Rattle.ck_types.specs.TokenLimits.{Ranges};
     ghost use Rattle.ck_journal.specs.Answers.{IsLegal};
     ghost use Rattle.ck_journal.specs.Bases.{empty_base, IsSound};

@@ -7,12 +7,12 @@ use Rattle.std.specs.Result.{result_ok}
 use Rattle.std.specs.Char.{is_ascii_digit}
 use Rattle.std.specs.Str.Parse.{digits_value}
 use Rattle.hex.specs.Hex.{decode_of}
-use Rattle.ck_types.specs.Attributes.{same_bytes}
+use Rattle.ck_types.specs.Numbers.{same_bytes}
 use Rattle.ck_types.specs.Pins.{pin_of}
 use Rattle.ck_types.specs.declared.pins.Pin.{Pin}
-use Rattle.ck_types.specs.declared.items.Item.{Item}
+use Rattle.ck_objects.specs.declared.items.Item.{Item}
 use Rattle.ck_types.specs.declared.mechanisms.Mechanism.{Mechanism}
-use Rattle.ck_types.specs.declared.templates.Template.{Template}
+use Rattle.ck_objects.specs.declared.templates.Template.{Template}
 use Rattle.ck_journal.specs.declared.calls.AttributeQuery.{AttributeQuery}
 use Rattle.ck_script.specs.Parts.{parts_of, with_two}
 

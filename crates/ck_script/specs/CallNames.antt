@@ -1,7 +1,7 @@
 -- The names of calls in a script
 use Rattle.std.specs.Prelude.{ℕ, List, [], ◌∷◌, Option, codes}
 use Rattle.std.specs.List.{find}
-use Rattle.ck_types.specs.Attributes.{same_bytes}
+use Rattle.ck_types.specs.Numbers.{same_bytes}
 use Rattle.ck_script.specs.declared.call_names.Function.{Function}
 use Rattle.ck_script.specs.declared.call_names.Function.TheVariants as function
 

@@ -1,6 +1,6 @@
 ghost use Rattle.std.specs.Prelude.{◌≡◌, map, option_map};
 ghost use Rattle.std.specs.List.{find};
-ghost use Rattle.ck_types.specs.Attributes.{same_bytes};
+ghost use Rattle.ck_types.specs.Numbers.{same_bytes};
 ghost use Rattle.ck_script.specs.CallNames.{names, row_named};
 
 use std::fmt;

@@ -33,7 +33,7 @@ use Rattle.ck_journal.proofs.SessionMoves.{session_rows, openings-opened, sessio
 use Rattle.ck_journal.proofs.SessionMoves.{openings-later, session_rows-later, session_rows-changed}
 use Rattle.ck_journal.proofs.SessionMoves.{session_rows-same, open_sessions-rows, length-session_rows}
 use Rattle.ck_sessions.specs.Agreement.{SessionsState, SessionsAgree, CredentialAgrees, session_row}
-use Rattle.ck_types.specs.declared.templates.Template.{Template}
+use Rattle.ck_objects.specs.declared.templates.Template.{Template}
 use Rattle.ck_sessions.proofs.Readings.{list_any-open}
 use Rattle.ck_sessions.proofs.SearchRows.{row-left, row-below, row-opened, row-other, row-logged_out}
 use Rattle.ck_sessions.proofs.SearchRows.{session_rows-started, session_rows-found, session_rows-ended}

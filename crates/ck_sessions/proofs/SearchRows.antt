@@ -4,7 +4,7 @@ use Rattle.std.proofs.Common.{length, take, drop, Option, Some, None, refl, sym,
 use Rattle.std.specs.Prelude.{◌==◌, map, option_map}
 use Rattle.std.proofs.lemmas.Bool.{eqb-true, eqb-false, eq-eqb, ne_eqb, and_parts, not-true}
 use Rattle.std.proofs.lemmas.List.{append-nil, length-map, take_all, drop_all}
-use Rattle.ck_types.specs.declared.templates.Template.{Template}
+use Rattle.ck_objects.specs.declared.templates.Template.{Template}
 use Rattle.ck_journal.specs.declared.calls.Call.{Call}
 use Rattle.ck_journal.specs.declared.calls.Call.TheVariants as call
 use Rattle.ck_journal.specs.declared.calls.Entry.{Entry}

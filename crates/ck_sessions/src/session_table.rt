@@ -49,7 +49,7 @@ impl Sessions {
     ghost use Rattle.ck_types.specs.TokenLimits.{Ranges};
     ghost use Rattle.ck_types.specs.Users.{user_of};
     ghost use Rattle.ck_types.specs.declared.pins.Pin.{Pin};
-    ghost use Rattle.ck_types.specs.declared.templates.Template.{Template};
+    ghost use Rattle.ck_objects.specs.declared.templates.Template.{Template};
     ghost use Rattle.ck_types.specs.declared.users.UserType.TheVariants as user;
     ghost use Rattle.ck_journal.specs.Bases.{empty_base, IsSound};
     ghost use Rattle.ck_journal.specs.Boards.{board_of, login_status};

@@ -6,7 +6,7 @@ use Rattle.std.specs.List.{cons_option}
 use Rattle.std.proofs.lemmas.List.{take_more, map-append, get_or_default}
 use Rattle.std.proofs.lemmas.List.Elements.{All-get_or, filter_map-append}
 use Rattle.slab.specs.Slab.{Slab}
-use Rattle.ck_types.specs.declared.items.Item.{Item}
+use Rattle.ck_objects.specs.declared.items.Item.{Item}
 use Rattle.ck_journal.specs.declared.bases.Base.{Base}
 use Rattle.ck_journal.specs.declared.bases.KeptObject.{KeptObject}
 use Rattle.ck_journal.specs.Bases.{IsSound, IsCreated}

@@ -9,17 +9,18 @@ use Rattle.std.proofs.lemmas.Bool.{cases_eq, eqb-true}
 use Rattle.std.proofs.lemmas.Option.{same_Some}
 use Rattle.slab.specs.Slab.{Slab, get, with_value, Updates}
 use Rattle.slab.proofs.SlabLemmas.{Contains-cons_cases, Updates-with_value}
-use Rattle.ck_types.specs.Attributes.{type_of, same_bytes}
-use Rattle.ck_types.specs.Templates.{value_at, value_or, class_of, template_error}
-use Rattle.ck_types.specs.Records.{readable_value, has_item, matches}
-use Rattle.ck_types.specs.declared.attributes.Attribute.TheVariants as attribute
-use Rattle.ck_types.specs.declared.items.Item.{Item}
+use Rattle.ck_types.specs.Numbers.{same_bytes}
+use Rattle.ck_objects.specs.Attributes.{type_of}
+use Rattle.ck_objects.specs.Templates.{value_at, value_or, class_of, template_error}
+use Rattle.ck_objects.specs.Records.{readable_value, has_item, matches}
+use Rattle.ck_objects.specs.declared.attributes.Attribute.TheVariants as attribute
+use Rattle.ck_objects.specs.declared.items.Item.{Item}
 use Rattle.ck_journal.specs.Objects.{is_visible_with}
 use Rattle.ck_journal.specs.declared.views.View.{View}
 use Rattle.ck_journal.proofs.NumberTests.{same_number}
-use Rattle.ck_types.specs.Records.{with_given, with_state, state_item}
-use Rattle.ck_types.specs.declared.attributes.Purpose.TheVariants as purpose
-use Rattle.ck_types.specs.declared.key_states.KeyState.{KeyState}
+use Rattle.ck_objects.specs.Records.{with_given, with_state, state_item}
+use Rattle.ck_objects.specs.declared.attributes.Purpose.TheVariants as purpose
+use Rattle.ck_objects.specs.declared.key_states.KeyState.{KeyState}
 use Rattle.ck_store.specs.Index.{object_at, IsChanged, IsGiven, IsKeyOf}
 use Rattle.ck_store.specs.Labels.{label_mark, IsMarkOf, IsWanted, IsMarked, is_refused}
 use Rattle.ck_store.specs.Rows.{ObjectRow, has_number, is_match, is_private_row, matching_number}

@@ -3,15 +3,15 @@ use Rattle.std.proofs.Common.{◌≡◌, ℕ, suc, ◌+◌, ◌<◌, ◌^◌, Bo
 use Rattle.std.proofs.Common.{[], ◌∷◌, ◌++◌, Option, Some, None, refl, sym, ap, ◌∙◌, add-one}
 use Rattle.std.specs.Prelude.{◌==◌, map, filter, filter_map, option_map}
 use Rattle.std.proofs.lemmas.Bool.{eqb-true}
-use Rattle.ck_types.specs.KeyStates.{state_of_number}
-use Rattle.ck_types.specs.Records.{with_given, with_state, is_set, changed_error, protections_of}
-use Rattle.ck_types.specs.Templates.{class_of}
-use Rattle.ck_types.specs.declared.attributes.Attribute.TheVariants as attribute
-use Rattle.ck_types.specs.declared.items.Item.{Item}
-use Rattle.ck_types.specs.declared.key_states.KeyState.{KeyState}
+use Rattle.ck_objects.specs.KeyStates.{state_of_number}
+use Rattle.ck_objects.specs.Records.{with_given, with_state, is_set, changed_error, protections_of}
+use Rattle.ck_objects.specs.Templates.{class_of}
+use Rattle.ck_objects.specs.declared.attributes.Attribute.TheVariants as attribute
+use Rattle.ck_objects.specs.declared.items.Item.{Item}
+use Rattle.ck_objects.specs.declared.key_states.KeyState.{KeyState}
 use Rattle.ck_types.specs.declared.pins.Pin.{Pin}
-use Rattle.ck_types.specs.declared.templates.Template.{Template}
-use Rattle.ck_types.proofs.ChangeLemmas.{token-in_state, token-kept}
+use Rattle.ck_objects.specs.declared.templates.Template.{Template}
+use Rattle.ck_objects.proofs.ChangeLemmas.{token-in_state, token-kept}
 use Rattle.ck_journal.specs.declared.calls.Call.{Call}
 use Rattle.ck_journal.specs.declared.calls.Call.TheVariants as call
 use Rattle.ck_journal.specs.declared.calls.Entry.{Entry}

@@ -3,7 +3,7 @@ use Rattle.std.proofs.Common.{◌≡◌, ◌⊎◌, ℕ, ◌<◌, Bool, true, fa
 use Rattle.std.proofs.Common.{Option, Some, None, Contains, refl, sym, ap, ◌∙◌, subst, inl, inr}
 use Rattle.std.proofs.Common.{arith, position, length, get_or, take, ◌++◌, ◌+◌}
 use Rattle.std.proofs.lemmas.List.{take_more, map-append}
-use Rattle.ck_types.specs.declared.items.Item.{Item}
+use Rattle.ck_objects.specs.declared.items.Item.{Item}
 use Rattle.ck_journal.specs.declared.views.View.{View}
 use Rattle.std.proofs.lemmas.List.Elements.{All-contains, All-filter, All-contains_itself}
 use Rattle.std.proofs.lemmas.List.Elements.{Contains-get_or, Contains-push_cases, filter_map-append}

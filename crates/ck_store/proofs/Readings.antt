@@ -7,9 +7,9 @@ use Rattle.std.proofs.lemmas.Bool.{eqb-true, and_parts}
 use Rattle.std.proofs.lemmas.List.Elements.{filter_agree}
 use Rattle.std.proofs.lemmas.Nat.{mod-mul-add}
 use Rattle.std.proofs.lemmas.Option.{same_Some}
-use Rattle.ck_types.specs.Records.{is_set}
-use Rattle.ck_types.specs.declared.attributes.Attribute.TheVariants as attribute
-use Rattle.ck_types.specs.declared.items.Item.{Item}
+use Rattle.ck_objects.specs.Records.{is_set}
+use Rattle.ck_objects.specs.declared.attributes.Attribute.TheVariants as attribute
+use Rattle.ck_objects.specs.declared.items.Item.{Item}
 use Rattle.ck_journal.specs.declared.views.View.{View}
 use Rattle.ck_journal.specs.Histories.{History}
 use Rattle.ck_journal.specs.Objects.{creations, session_of, object_at, view_of, is_visible_with}

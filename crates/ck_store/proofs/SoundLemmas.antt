@@ -12,11 +12,11 @@ use Rattle.std.proofs.lemmas.List.Kept.{AllPairs-filter}
 use Rattle.std.proofs.lemmas.List.Quantifiers.{all_pairs_push}
 use Rattle.std.proofs.lemmas.Option.{same_Some}
 use Rattle.slab.specs.Slab.{Slab, get, Updates}
-use Rattle.ck_types.specs.Records.{is_set, with_state}
-use Rattle.ck_types.proofs.ChangeLemmas.{private-in_state}
-use Rattle.ck_types.specs.declared.items.Item.{Item}
-use Rattle.ck_types.specs.declared.key_states.KeyState.{KeyState}
-use Rattle.ck_types.specs.declared.attributes.Attribute.TheVariants as attribute
+use Rattle.ck_objects.specs.Records.{is_set, with_state}
+use Rattle.ck_objects.proofs.ChangeLemmas.{private-in_state}
+use Rattle.ck_objects.specs.declared.items.Item.{Item}
+use Rattle.ck_objects.specs.declared.key_states.KeyState.{KeyState}
+use Rattle.ck_objects.specs.declared.attributes.Attribute.TheVariants as attribute
 use Rattle.ck_store.specs.Index.{place, numbered, object_at, objects_at, is_there, IsIndex, IsListed}
 use Rattle.ck_store.specs.Index.{IsSound, IsOwn, IsChanged, IsLeft, EndsAll, HasNone}
 use Rattle.ck_store.specs.Rows.{ObjectRow, has_number, is_ended_by, concerns, is_private_row}

@@ -4,11 +4,11 @@ use Rattle.std.specs.Prelude.{is_some, filter_map, option_map, option_and_then, 
 use Rattle.std.specs.Prelude.{if◌then◌else◌, ◌&&◌}
 use Rattle.std.specs.Bool.{beq}
 use Rattle.slab.specs.Slab.{Slab, get}
-use Rattle.ck_types.specs.Records.{is_set, with_given}
-use Rattle.ck_types.specs.Templates.{class_of, template_error}
-use Rattle.ck_types.specs.declared.attributes.Attribute.TheVariants as attribute
-use Rattle.ck_types.specs.declared.attributes.Purpose.TheVariants as purpose
-use Rattle.ck_types.specs.declared.items.Item.{Item}
+use Rattle.ck_objects.specs.Records.{is_set, with_given}
+use Rattle.ck_objects.specs.Templates.{class_of, template_error}
+use Rattle.ck_objects.specs.declared.attributes.Attribute.TheVariants as attribute
+use Rattle.ck_objects.specs.declared.attributes.Purpose.TheVariants as purpose
+use Rattle.ck_objects.specs.declared.items.Item.{Item}
 use Rattle.ck_store.specs.Rows.{ObjectRow, has_number, is_private_row, with_attributes}
 use Rattle.ck_store.specs.declared.places.Place.{Place}
 use Rattle.ck_store.specs.declared.session_lists.SessionList.{SessionList}

@@ -3,10 +3,10 @@ use Rattle.std.specs.Prelude.{◌≡◌, ◌⊎◌, ℕ, ◌+◌, ◌*◌, ◌%�
 use Rattle.std.specs.Prelude.{Contains, get_or}
 use Rattle.std.specs.List.{fold}
 use Rattle.slab.specs.Slab.{Slab, get}
-use Rattle.ck_types.specs.Attributes.{type_of}
-use Rattle.ck_types.specs.Records.{readable_value}
-use Rattle.ck_types.specs.declared.attributes.Attribute.TheVariants as attribute
-use Rattle.ck_types.specs.declared.items.Item.{Item}
+use Rattle.ck_objects.specs.Attributes.{type_of}
+use Rattle.ck_objects.specs.Records.{readable_value}
+use Rattle.ck_objects.specs.declared.attributes.Attribute.TheVariants as attribute
+use Rattle.ck_objects.specs.declared.items.Item.{Item}
 use Rattle.ck_store.specs.Rows.{ObjectRow}
 
 abbrev pub label_mark : List ℕ → ℕ

@@ -2,7 +2,8 @@
 ghost use Rattle.std.specs.Prelude.{◌≡◌, ◌≢◌, ◌⊎◌, ℕ, get_or};
 ghost use Rattle.ck_store.specs.Labels.{label_mark, IsMarkOf, IsWanted, is_refused};
 
-use ck_types::{Attribute, Field, NoMemory, Record, Template};
+use ck_objects::{Attribute, Field, Record, Template};
+use ck_types::NoMemory;
 
 /// The mark of a label. Equal labels have equal marks, and others seldom do.
 fn label_mark(label: &[u8]) -> u32

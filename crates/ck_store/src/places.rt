@@ -12,7 +12,8 @@ ghost use Rattle.ck_store.specs.declared.places.Place.{Place};
 use crate::labels::{is_refused, mark_of, wanted_mark};
 use crate::stored_objects::StoredObject;
 use ck_journal::View;
-use ck_types::{KeyState, NoMemory, Template};
+use ck_objects::{KeyState, Template};
+use ck_types::NoMemory;
 use slab::Slab;
 use std::alloc::Global;
 

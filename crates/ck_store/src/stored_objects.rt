@@ -1,6 +1,7 @@
 use crate::endings::Ending;
 use ck_journal::{KeptObject, View};
-use ck_types::{Attribute, KeyState, NoMemory, Record, Template};
+use ck_objects::{Attribute, KeyState, Record, Template};
+use ck_types::NoMemory;
 use std::alloc::Global;
 use std::marker::Model;
 
@@ -30,9 +31,9 @@ impl Model for StoredObject {
 
 impl StoredObject {
     ghost use Rattle.std.specs.Prelude.{◌≡◌, ◌<◌, ◌^◌, None, IfOk};
-    ghost use Rattle.ck_types.specs.Records.{with_given, with_state};
-    ghost use Rattle.ck_types.specs.Templates.{class_of, template_error};
-    ghost use Rattle.ck_types.specs.declared.attributes.Purpose.TheVariants as purpose;
+    ghost use Rattle.ck_objects.specs.Records.{with_given, with_state};
+    ghost use Rattle.ck_objects.specs.Templates.{class_of, template_error};
+    ghost use Rattle.ck_objects.specs.declared.attributes.Purpose.TheVariants as purpose;
     ghost use Rattle.ck_journal.specs.Objects.{is_visible_with};
     ghost use Rattle.ck_store.specs.Rows.{is_of_session, is_session_row, is_private_row};
     ghost use Rattle.ck_store.specs.Rows.{is_private_session_row};

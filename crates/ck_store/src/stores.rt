@@ -7,7 +7,8 @@ use crate::places::{
 use crate::session_lists::{SessionList, list_newest};
 use crate::stored_objects::StoredObject;
 use ck_journal::{Base, KeptObject, View, number_of_handle};
-use ck_types::{KeyState, NoMemory, Record, Sequence, Template};
+use ck_objects::{KeyState, Record, Template};
+use ck_types::{NoMemory, Sequence};
 use slab::Slab;
 use std::alloc::Global;
 use std::marker::Model;
@@ -57,9 +58,9 @@ impl Store {
     ghost use Rattle.ck_store.specs.Rows.{is_ended_by, object_row};
     ghost use Rattle.std.specs.Prelude.{IfNone, IfOk, IfSome, OnOk};
     ghost use Rattle.std.specs.Option.{option_copied};
-    ghost use Rattle.ck_types.specs.KeyStates.{state_of_number};
-    ghost use Rattle.ck_types.specs.Records.{changed_error, protections_of};
-    ghost use Rattle.ck_types.specs.Templates.{class_of};
+    ghost use Rattle.ck_objects.specs.KeyStates.{state_of_number};
+    ghost use Rattle.ck_objects.specs.Records.{changed_error, protections_of};
+    ghost use Rattle.ck_objects.specs.Templates.{class_of};
     ghost use Rattle.ck_types.specs.declared.pins.Pin.{Pin};
     ghost use Rattle.ck_journal.specs.Bases.{empty_base, IsSound};
     ghost use Rattle.ck_journal.specs.Cuts.{kept_objects};

@@ -1,6 +1,7 @@
 use ck_journal::{Answer, Body, Reply};
+use ck_objects::AttributeValue;
 use ck_script::push_reply;
-use ck_types::{AttributeValue, Bytes, NoMemory, Rv, Sequence};
+use ck_types::{Bytes, NoMemory, Rv, Sequence};
 use std::alloc::Global;
 use std::process::Abort;
 use std::test::Fail;

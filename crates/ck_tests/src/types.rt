@@ -1,6 +1,5 @@
-use ck_types::{
-    AttributeValue, Item, Limits, NoMemory, Record, Refusal, Rv, RvError, Sequence, Template,
-};
+use ck_objects::{AttributeValue, Item, Record, Refusal, Template};
+use ck_types::{Limits, NoMemory, Rv, RvError, Sequence};
 use std::alloc::Global;
 use std::process::Abort;
 use std::test::Fail;

@@ -9,7 +9,7 @@ use Rattle.ck_types.specs.Checks.{error_if, or_else}
 use Rattle.ck_types.specs.TokenLimits.{Ranges}
 use Rattle.ck_types.specs.declared.errors.RvError.{RvError}
 use Rattle.ck_types.specs.declared.errors.RvError.TheVariants as rv_error
-use Rattle.ck_types.specs.declared.items.Item.{Item}
+use Rattle.ck_objects.specs.declared.items.Item.{Item}
 use Rattle.ck_journal.specs.declared.calls.Call.{Call}
 use Rattle.ck_types.specs.declared.return_codes.Rv.TheVariants as rv
 use Rattle.ck_types.specs.declared.users.UserType.{UserType}
@@ -17,8 +17,8 @@ use Rattle.ck_journal.specs.declared.calls.Call.TheVariants as call
 use Rattle.ck_journal.specs.declared.replies.Body.{Body}
 use Rattle.ck_journal.specs.declared.replies.Reply.{Reply}
 use Rattle.ck_mac.specs.Macs.{signature_error}
-use Rattle.ck_types.specs.Attributes.{same_bytes}
-use Rattle.ck_types.specs.Records.{state_in}
+use Rattle.ck_types.specs.Numbers.{same_bytes}
+use Rattle.ck_objects.specs.Records.{state_in}
 use Rattle.ck_journal.specs.declared.operations.OperationKind.{OperationKind}
 use Rattle.ck_journal.specs.declared.operations.OperationKind.TheVariants as kind
 use Rattle.ck_journal.specs.declared.replies.Body.TheVariants as body

@@ -6,13 +6,13 @@ use Rattle.std.specs.List.{list_any}
 use Rattle.std.proofs.Math.Seq.{take-suc}
 use Rattle.std.proofs.lemmas.List.Folds.{list_any-append}
 use Rattle.ck_types.specs.Checks.{error_if, first_of}
-use Rattle.ck_types.specs.Records.{is_hidden, readable_value, read_error}
-use Rattle.ck_types.specs.Templates.{value_at}
+use Rattle.ck_objects.specs.Records.{is_hidden, readable_value, read_error}
+use Rattle.ck_objects.specs.Templates.{value_at}
 use Rattle.ck_types.specs.declared.errors.RvError.{RvError}
 use Rattle.ck_types.specs.declared.errors.RvError.TheVariants as rv_error
 use Rattle.ck_types.specs.declared.return_codes.Rv.{Rv}
 use Rattle.ck_types.specs.declared.return_codes.Rv.TheVariants as rv
-use Rattle.ck_types.specs.declared.items.Item.{Item}
+use Rattle.ck_objects.specs.declared.items.Item.{Item}
 use Rattle.ck_journal.specs.Queries.{queries_code, is_sensitive, is_missing, lacks_room, is_longer}
 use Rattle.ck_journal.specs.declared.calls.AttributeQuery.{AttributeQuery}
 use Rattle.ck_token.specs.QueryCodes.{graver}

@@ -3,7 +3,8 @@ ghost use Rattle.ck_journal.specs.Queries.{query_answer, queries_code, queries_r
 ghost use Rattle.ck_token.specs.QueryCodes.{gravity, graver};
 
 use ck_journal::{Answer, AttributeQuery, Body, Reply};
-use ck_types::{NoMemory, Record, Rv, RvError, Sequence};
+use ck_objects::Record;
+use ck_types::{NoMemory, Rv, RvError, Sequence};
 use std::alloc::Global;
 
 fn gravity(code: Rv) -> u64

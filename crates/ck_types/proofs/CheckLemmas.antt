@@ -1,14 +1,10 @@
 -- Checks that find no error
-use Rattle.std.proofs.Common.{◌≡◌, Bool, true, false, List, Option, Some, None, Result, Ok, Err}
+use Rattle.std.proofs.Common.{◌≡◌, Bool, true, false, Option, Some, None, Ok, Err}
 use Rattle.std.proofs.Common.{refl, drop-cons}
 use Rattle.std.proofs.lemmas.Grind.{common_steps}
 use Rattle.std.specs.Result.{result_and}
 use Rattle.ck_types.specs.Checks.{error_if, or_else, check_of}
-use Rattle.ck_types.specs.Records.{IsRecordUnless}
 use Rattle.ck_types.specs.declared.errors.RvError.{RvError}
-use Rattle.ck_types.specs.declared.items.Item.{Item}
-use Rattle.ck_types.specs.declared.refusals.Refusal.{Refusal}
-use Rattle.ck_types.specs.declared.refusals.Refusal.TheVariants as refusal
 
 -- where neither of two checks finds an error
 pub or_else-none : (first later : Option RvError) → or_else first later ≡ None
@@ -42,9 +38,3 @@ pub ruleset checks = (check_of-or_else)
 
 -- for loops whose checks do
 pub ruleset item_checks = (check_of-or_else, drop-cons, common_steps)
-
--- what makes an object is refused with the error of its check
-pub record-refused : (check : Option RvError) (items : List Item) (r : Result (List Item) Refusal)
-    (error : RvError)
-    → check_of check ≡ Err error → r ≡ Err (refusal.Code error) → IsRecordUnless check items r
-record-refused check items r error e refused = rw refused (check_of-err check error e)

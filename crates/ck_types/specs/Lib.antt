@@ -1,13 +1,9 @@
-pub mod Attributes
 pub mod Checks
-pub mod Fields
 pub mod Hashes
-pub mod KeyStates
 pub mod Mechanisms
+pub mod Numbers
 pub mod Pins
-pub mod Records
 pub mod ReturnCodes
-pub mod Templates
 pub mod TokenFlagBits
 pub mod TokenLimits
 pub mod Users

@@ -2,9 +2,9 @@ ghost use Rattle.std.specs.Prelude.{◌≡◌, IfOk};
 ghost use Rattle.ck_types.specs.Mechanisms.{digest_hash, hmac_hash, is_key_generator};
 ghost use Rattle.ck_types.specs.Mechanisms.{given_tag_length, algorithm_of, mechanism_types};
 
-use crate::forms::number_of;
 use crate::hashes::Hash;
 use crate::memory::NoMemory;
+use crate::numbers::number_of;
 use crate::sequences::Bytes;
 use std::alloc::Global;
 

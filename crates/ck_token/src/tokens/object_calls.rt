@@ -1,19 +1,17 @@
 ghost use Rattle.std.specs.Prelude.{◌≡◌, Some, None, IfOk, IfErr};
 ghost use Rattle.ck_types.specs.Checks.{check_of};
-ghost use Rattle.ck_types.specs.KeyStates.{state_of_number};
-ghost use Rattle.ck_types.specs.Records.{state_in};
+ghost use Rattle.ck_objects.specs.KeyStates.{state_of_number};
+ghost use Rattle.ck_objects.specs.Records.{state_in};
 ghost use Rattle.ck_journal.specs.Answers.{prohibited_error, parameter_error, transition_error};
 
 use super::Token;
 use crate::decisions::{Decision, Refused};
 use crate::queries::queries_reply;
 use ck_journal::{AttributeQuery, Body};
+use ck_objects::{Attribute, KeyState, Placement, Record, Template};
 use ck_parts::{Boxed, Change};
 use ck_sessions::Session;
-use ck_types::{
-    Attribute, KeyState, Mechanism, Placement, Record, Rv, RvError, Template, error_if,
-    is_key_generator,
-};
+use ck_types::{Mechanism, Rv, RvError, error_if, is_key_generator};
 use std::alloc::Global;
 
 /// CKR_ACTION_PROHIBITED where the flag (CKA_COPYABLE, CKA_MODIFIABLE or CKA_DESTROYABLE) is false.

@@ -13,12 +13,10 @@ use super::object_calls::check_no_parameter;
 use crate::decisions::{Decision, Refused};
 use ck_journal::{Body, OperationKind, is_long_piece};
 use ck_mac::Tag;
+use ck_objects::{Attribute, KeyState, Record};
 use ck_operations::Operation;
 use ck_parts::Change;
-use ck_types::{
-    Attribute, Bytes, KeyState, Mechanism, NoMemory, Record, Rv, RvError, digest_of, error_if,
-    mac_of,
-};
+use ck_types::{Bytes, Mechanism, NoMemory, Rv, RvError, digest_of, error_if, mac_of};
 use std::alloc::Global;
 
 /// What the reply makes of the session's operation.

@@ -4,9 +4,10 @@ ghost use Rattle.ck_journal.specs.Pins.{is_user};
 
 use super::Token;
 use ck_journal::{OperationKind, View, session_state};
+use ck_objects::{Class, Record};
 use ck_operations::Operation;
 use ck_sessions::{Credential, Session};
-use ck_types::{Class, Record, RvError, SessionState, UserType};
+use ck_types::{RvError, SessionState, UserType};
 
 /// Whether the normal user is logged in.
 fn is_user_in(login: Option<UserType>) -> bool

@@ -1,5 +1,5 @@
 use Rattle.std.proofs.Common.{◌≡◌, ◌==◌, length, take}
-use Rattle.ck_types.specs.Attributes.{same_bytes}
+use Rattle.ck_types.specs.Numbers.{same_bytes}
 use Rattle.ck_mac.proofs.tags.constant_time_eq.Given as goal
 
 -- no byte differed so far where the first bytes are the same

@@ -2,7 +2,7 @@ use Rattle.std.proofs.Common.{◌≡◌, ◌<◌, Some, true, false, nat_lt, len
 use Rattle.std.proofs.lemmas.Bool.Decides.{nat_tests}
 use Rattle.std.specs.Result.{result_err}
 use Rattle.ck_journal.specs.Queries.{is_longer}
-use Rattle.ck_types.specs.Fields.{field_bytes}
+use Rattle.ck_objects.specs.Fields.{field_bytes}
 use Rattle.ck_token.proofs.QueryLemmas.{unreadable, unreadable-code, readable-code}
 use Rattle.ck_token.proofs.queries.query_reply.Goals as goal
 

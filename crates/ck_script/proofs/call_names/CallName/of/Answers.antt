@@ -1,6 +1,6 @@
 use Rattle.std.proofs.Common.{ℕ, Bool, List, ap, ◌∙◌, option_map}
 use Rattle.std.specs.List.{find}
-use Rattle.ck_types.specs.Attributes.{same_bytes}
+use Rattle.ck_types.specs.Numbers.{same_bytes}
 use Rattle.ck_script.specs.declared.call_names.CallName.{CallName}
 use Rattle.ck_script.specs.declared.call_names.Function.{Function}
 use Rattle.ck_script.proofs.NameLemmas.{find-map}

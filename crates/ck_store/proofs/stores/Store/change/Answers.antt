@@ -1,7 +1,7 @@
 use Rattle.std.proofs.Common.{◌≡◌, ◌∙◌, None, Some, refl, sym}
-use Rattle.ck_types.specs.Records.{with_given}
-use Rattle.ck_types.specs.declared.attributes.Purpose.TheVariants as purpose
-use Rattle.ck_types.specs.Templates.{class_of, template_error}
+use Rattle.ck_objects.specs.Records.{with_given}
+use Rattle.ck_objects.specs.declared.attributes.Purpose.TheVariants as purpose
+use Rattle.ck_objects.specs.Templates.{class_of, template_error}
 use Rattle.ck_types.proofs.CheckLemmas.{or_else-none}
 use Rattle.ck_journal.specs.Objects.{named_attributes}
 use Rattle.ck_store.specs.Rows.{with_attributes}

@@ -1,10 +1,10 @@
 use Rattle.std.proofs.Common.{List, [], refl, sym, ap, ◌∙◌}
 use Rattle.std.specs.Prelude.{unwrap_or}
-use Rattle.ck_types.specs.Records.{with_given, protections_of, copied_error}
-use Rattle.ck_types.specs.Templates.{class_of}
-use Rattle.ck_types.specs.declared.attributes.Attribute.TheVariants as attribute
-use Rattle.ck_types.specs.declared.items.Item.{Item}
-use Rattle.ck_types.specs.declared.object_flags.Placement.{Placement}
+use Rattle.ck_objects.specs.Records.{with_given, protections_of, copied_error}
+use Rattle.ck_objects.specs.Templates.{class_of}
+use Rattle.ck_objects.specs.declared.attributes.Attribute.TheVariants as attribute
+use Rattle.ck_objects.specs.declared.items.Item.{Item}
+use Rattle.ck_objects.specs.declared.object_flags.Placement.{Placement}
 use Rattle.ck_types.proofs.CheckLemmas.{check_of-ok, check_of-err}
 use Rattle.ck_journal.specs.Answers.{ok, new_handle, placement_error, prohibited_error}
 use Rattle.ck_journal.specs.declared.calls.Call.TheVariants as call

@@ -1,8 +1,8 @@
 use Rattle.std.proofs.Common.{List, refl, sym, ap, ◌∙◌}
-use Rattle.ck_types.specs.Templates.{created_error}
-use Rattle.ck_types.specs.declared.object_flags.Placement.{Placement}
+use Rattle.ck_objects.specs.Templates.{created_error}
+use Rattle.ck_objects.specs.declared.object_flags.Placement.{Placement}
 use Rattle.ck_types.proofs.CheckLemmas.{check_of-ok, check_of-err}
-use Rattle.ck_types.specs.declared.items.Item.{Item}
+use Rattle.ck_objects.specs.declared.items.Item.{Item}
 use Rattle.ck_journal.specs.Answers.{ok, new_handle, placement_error}
 use Rattle.ck_journal.specs.declared.replies.Body.TheVariants as body
 use Rattle.ck_journal.specs.declared.calls.Call.TheVariants as call

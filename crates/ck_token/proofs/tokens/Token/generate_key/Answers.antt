@@ -1,9 +1,9 @@
 use Rattle.std.proofs.Common.{List, not, refl, sym, ap, ◌∙◌}
 use Rattle.ck_types.specs.Checks.{error_if}
-use Rattle.ck_types.specs.Templates.{generated_error}
+use Rattle.ck_objects.specs.Templates.{generated_error}
 use Rattle.ck_types.specs.declared.errors.RvError.TheVariants as rv_error
-use Rattle.ck_types.specs.declared.items.Item.{Item}
-use Rattle.ck_types.specs.declared.object_flags.Placement.{Placement}
+use Rattle.ck_objects.specs.declared.items.Item.{Item}
+use Rattle.ck_objects.specs.declared.object_flags.Placement.{Placement}
 use Rattle.ck_types.proofs.CheckLemmas.{check_of-ok, check_of-err}
 use Rattle.ck_journal.specs.Answers.{ok, new_handle, parameter_error, placement_error}
 use Rattle.ck_journal.specs.declared.replies.Body.TheVariants as body

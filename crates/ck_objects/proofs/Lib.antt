@@ -1,0 +1,8 @@
+pub mod ChangeLemmas
+pub mod ConflictLemmas
+pub mod FlagLemmas
+pub mod GivenLemmas
+pub mod KeyLemmas
+pub mod RefusalLemmas
+pub mod SetLemmas
+pub mod ValueLemmas

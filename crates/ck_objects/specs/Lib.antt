@@ -1,0 +1,5 @@
+pub mod Attributes
+pub mod Fields
+pub mod KeyStates
+pub mod Records
+pub mod Templates

@@ -1,0 +1,66 @@
+use ck_types::NoMemory;
+use smallvec::SmallVec;
+use std::alloc::Global;
+use std::marker::Model;
+
+/// The bytes of an attribute's value (PKCS #11 Base 3.0, CK_ATTRIBUTE). A copy of at most 16 bytes
+/// lies in the value itself, so most labels, identifiers and flags take no memory of their own; a
+/// longer one lies in a vector. Contracts see the bytes.
+#[derive(Debug, Drop)]
+pub struct AttributeValue {
+    bytes: SmallVec<u8, 16>,
+}
+
+impl Model for AttributeValue {
+    ghost use Rattle.std.specs.Prelude.{List, ℕ};
+
+    ghost Value = { List ℕ };
+
+    ghost view = { λ v. v.bytes.items };
+}
+
+impl AttributeValue {
+    ghost use Rattle.std.specs.Prelude.{◌≡◌, ◌≤◌, [], IfOk, IsOk, length};
+
+    /// A value of no bytes, which takes no memory.
+    pub fn new(alloc: Global) -> AttributeValue
+        ensures { result ≡ [] }
+    {
+        AttributeValue {
+            bytes: SmallVec::new(alloc),
+        }
+    }
+
+    /// A copy of these bytes.
+    pub fn from_slice(alloc: Global, bytes: &[u8]) -> Result<AttributeValue, NoMemory>
+        ensures copied { IfOk result (λ value. value ≡ bytes.now) }
+        ensures short { length bytes.now ≤ 16 → IsOk result }
+    {
+        let bytes = SmallVec::from_slice(alloc, bytes)?;
+        Ok(AttributeValue { bytes })
+    }
+
+    /// The bytes of a vector, which takes no memory. A vector with room for more than 16 is kept.
+    pub fn from_vec(bytes: Vec<u8>) -> AttributeValue
+        ensures { result ≡ bytes.items }
+    {
+        AttributeValue {
+            bytes: SmallVec::from_vec(bytes),
+        }
+    }
+
+    /// A copy of the value.
+    pub fn duplicate(&self, alloc: Global) -> Result<AttributeValue, NoMemory>
+        ensures copied { IfOk result (λ copy. copy ≡ self.now) }
+        ensures short { length self.now ≤ 16 → IsOk result }
+    {
+        AttributeValue::from_slice(alloc, self.as_slice())
+    }
+
+    /// The bytes, in their order.
+    pub fn as_slice(&self) -> &[u8]
+        ensures { result.now ≡ self.now }
+    {
+        self.bytes.as_slice()
+    }
+}

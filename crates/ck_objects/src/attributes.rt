@@ -1,0 +1,258 @@
+ghost use Rattle.std.specs.Prelude.{◌≡◌, Some, IfSome};
+ghost use Rattle.ck_objects.specs.declared.attributes.Class.TheVariants as class;
+
+use crate::forms::Form;
+
+/// An object's class (CK_OBJECT_CLASS; PKCS #11 Base 3.0, Objects): data objects and secret keys.
+#[derive(Clone, Copy, Debug, PartialEq, Eq)]
+pub enum Class {
+    Data,
+    SecretKey,
+}
+
+impl Class {
+    ghost use Rattle.ck_objects.specs.Records.{is_key_class};
+
+    pub(crate) fn is_key(self) -> bool
+        ensures { result ≡ is_key_class self }
+    {
+        self == Class::SecretKey
+    }
+}
+
+/// What a template is for.
+#[derive(Clone, Copy, Debug, PartialEq, Eq)]
+pub enum Purpose {
+    Create,
+    Generate,
+    Copy,
+    Set,
+}
+
+/// An attribute that the token knows (PKCS #11 Base 3.0, Common attributes; Current Mechanisms 3.0,
+/// Generic secret key). `KeyState` is a vendor attribute of this token.
+#[derive(Clone, Copy, Debug, PartialEq, Eq)]
+pub enum Attribute {
+    Class,
+    Token,
+    Private,
+    Label,
+    Application,
+    Value,
+    ObjectId,
+    KeyType,
+    Id,
+    Sensitive,
+    Encrypt,
+    Decrypt,
+    Wrap,
+    Unwrap,
+    Sign,
+    Verify,
+    Derive,
+    ValueLen,
+    Extractable,
+    Local,
+    NeverExtractable,
+    AlwaysSensitive,
+    KeyGenMechanism,
+    Modifiable,
+    Copyable,
+    Destroyable,
+    KeyState,
+}
+
+impl Attribute {
+    ghost use Rattle.ck_objects.specs.Attributes.{type_of, form_of, permission, attribute_of};
+    ghost use Rattle.ck_objects.specs.declared.attributes.Attribute.{Attribute};
+
+    /// Every attribute, in rising types.
+    pub(crate) const ALL: [Attribute; 27] = [
+        Attribute::Class,
+        Attribute::Token,
+        Attribute::Private,
+        Attribute::Label,
+        Attribute::Application,
+        Attribute::Value,
+        Attribute::ObjectId,
+        Attribute::KeyType,
+        Attribute::Id,
+        Attribute::Sensitive,
+        Attribute::Encrypt,
+        Attribute::Decrypt,
+        Attribute::Wrap,
+        Attribute::Unwrap,
+        Attribute::Sign,
+        Attribute::Verify,
+        Attribute::Derive,
+        Attribute::ValueLen,
+        Attribute::Extractable,
+        Attribute::Local,
+        Attribute::NeverExtractable,
+        Attribute::AlwaysSensitive,
+        Attribute::KeyGenMechanism,
+        Attribute::Modifiable,
+        Attribute::Copyable,
+        Attribute::Destroyable,
+        Attribute::KeyState,
+    ];
+
+    /// The number of the attribute's type (CK_ATTRIBUTE_TYPE).
+    pub fn number(self) -> u64
+        ensures { result ≡ type_of self }
+    {
+        match self {
+            Attribute::Class => 0x0,
+            Attribute::Token => 0x1,
+            Attribute::Private => 0x2,
+            Attribute::Label => 0x3,
+            Attribute::Application => 0x10,
+            Attribute::Value => 0x11,
+            Attribute::ObjectId => 0x12,
+            Attribute::KeyType => 0x100,
+            Attribute::Id => 0x102,
+            Attribute::Sensitive => 0x103,
+            Attribute::Encrypt => 0x104,
+            Attribute::Decrypt => 0x105,
+            Attribute::Wrap => 0x106,
+            Attribute::Unwrap => 0x107,
+            Attribute::Sign => 0x108,
+            Attribute::Verify => 0x10a,
+            Attribute::Derive => 0x10c,
+            Attribute::ValueLen => 0x161,
+            Attribute::Extractable => 0x162,
+            Attribute::Local => 0x163,
+            Attribute::NeverExtractable => 0x164,
+            Attribute::AlwaysSensitive => 0x165,
+            Attribute::KeyGenMechanism => 0x166,
+            Attribute::Modifiable => 0x170,
+            Attribute::Copyable => 0x171,
+            Attribute::Destroyable => 0x172,
+            Attribute::KeyState => 0x8000_0001,
+        }
+    }
+
+    /// The attribute of a type, or `None` where the token knows no such type.
+    pub fn of(kind: u64) -> Option<Attribute>
+        ensures attribute { result ≡ attribute_of kind }
+        ensures number { IfSome result (λ a. type_of a ≡ kind) }
+        ensures known { (a : Attribute) → type_of a ≡ kind → result ≡ Some a }
+    {
+        match kind {
+            0x0 => Some(Attribute::Class),
+            0x1 => Some(Attribute::Token),
+            0x2 => Some(Attribute::Private),
+            0x3 => Some(Attribute::Label),
+            0x10 => Some(Attribute::Application),
+            0x11 => Some(Attribute::Value),
+            0x12 => Some(Attribute::ObjectId),
+            0x100 => Some(Attribute::KeyType),
+            0x102 => Some(Attribute::Id),
+            0x103 => Some(Attribute::Sensitive),
+            0x104 => Some(Attribute::Encrypt),
+            0x105 => Some(Attribute::Decrypt),
+            0x106 => Some(Attribute::Wrap),
+            0x107 => Some(Attribute::Unwrap),
+            0x108 => Some(Attribute::Sign),
+            0x10a => Some(Attribute::Verify),
+            0x10c => Some(Attribute::Derive),
+            0x161 => Some(Attribute::ValueLen),
+            0x162 => Some(Attribute::Extractable),
+            0x163 => Some(Attribute::Local),
+            0x164 => Some(Attribute::NeverExtractable),
+            0x165 => Some(Attribute::AlwaysSensitive),
+            0x166 => Some(Attribute::KeyGenMechanism),
+            0x170 => Some(Attribute::Modifiable),
+            0x171 => Some(Attribute::Copyable),
+            0x172 => Some(Attribute::Destroyable),
+            0x8000_0001 => Some(Attribute::KeyState),
+            _ => None,
+        }
+    }
+
+    /// The form of the attribute's value.
+    pub fn form(self) -> Form
+        ensures { result ≡ form_of self }
+    {
+        match self {
+            Attribute::Class => Form::Class,
+            Attribute::KeyType => Form::KeyType,
+            Attribute::KeyState => Form::KeyState,
+            Attribute::Label
+            | Attribute::Application
+            | Attribute::Value
+            | Attribute::ObjectId
+            | Attribute::Id => Form::Bytes,
+            Attribute::ValueLen | Attribute::KeyGenMechanism => Form::Number,
+            Attribute::Token
+            | Attribute::Private
+            | Attribute::Sensitive
+            | Attribute::Encrypt
+            | Attribute::Decrypt
+            | Attribute::Wrap
+            | Attribute::Unwrap
+            | Attribute::Sign
+            | Attribute::Verify
+            | Attribute::Derive
+            | Attribute::Extractable
+            | Attribute::Local
+            | Attribute::NeverExtractable
+            | Attribute::AlwaysSensitive
+            | Attribute::Modifiable
+            | Attribute::Copyable
+            | Attribute::Destroyable => Form::Flag,
+        }
+    }
+
+    /// Whether the attribute may be given in a template of this purpose for an object of this
+    /// class, or `None` where objects of the class don't have it.
+    pub fn permission(self, class: Class, purpose: Purpose) -> Option<bool>
+        ensures { result ≡ permission class purpose self }
+    {
+        match class {
+            Class::Data => self.data_permission(purpose),
+            Class::SecretKey => self.key_permission(purpose),
+        }
+    }
+
+    fn data_permission(self, purpose: Purpose) -> Option<bool>
+        ensures { result ≡ permission class.Data purpose self }
+    {
+        match self {
+            Attribute::Class => { Some(matches!(purpose, Purpose::Create | Purpose::Generate)) }
+            Attribute::Token
+            | Attribute::Private
+            | Attribute::Modifiable
+            | Attribute::Copyable
+            | Attribute::Destroyable => Some(!matches!(purpose, Purpose::Set)),
+            Attribute::Label => Some(true),
+            Attribute::Application | Attribute::Value | Attribute::ObjectId => {
+                Some(!matches!(purpose, Purpose::Generate))
+            }
+            _ => None,
+        }
+    }
+
+    fn key_permission(self, purpose: Purpose) -> Option<bool>
+        ensures { result ≡ permission class.SecretKey purpose self }
+    {
+        match self {
+            Attribute::Class | Attribute::KeyType | Attribute::KeyState => {
+                Some(matches!(purpose, Purpose::Create | Purpose::Generate))
+            }
+            Attribute::Token
+            | Attribute::Private
+            | Attribute::Modifiable
+            | Attribute::Copyable
+            | Attribute::Destroyable => Some(!matches!(purpose, Purpose::Set)),
+            Attribute::Value => Some(matches!(purpose, Purpose::Create)),
+            Attribute::ValueLen => Some(matches!(purpose, Purpose::Generate)),
+            Attribute::Local
+            | Attribute::NeverExtractable
+            | Attribute::AlwaysSensitive
+            | Attribute::KeyGenMechanism => Some(false),
+            Attribute::Application | Attribute::ObjectId => None,
+            _ => Some(true),
+        }
+    }
+}

@@ -1,0 +1,44 @@
+ghost use Rattle.std.specs.Prelude.{◌≡◌};
+ghost use Rattle.ck_types.specs.Numbers.{same_bytes, number_bytes};
+
+/// What an attribute's value looks like.
+#[derive(Clone, Copy, Debug, PartialEq, Eq)]
+pub enum Form {
+    /// One byte, 0 or 1 (CK_BBOOL).
+    Flag,
+    /// 8 bytes, the least first (CK_ULONG).
+    Number,
+    /// A number that is CKO_DATA (0) or CKO_SECRET_KEY (4).
+    Class,
+    /// A number that is CKK_GENERIC_SECRET (16).
+    KeyType,
+    /// A number; in a template 0 (pre-activation) or 1 (active).
+    KeyState,
+    /// Any bytes.
+    Bytes,
+}
+
+impl Form {
+    ghost use Rattle.ck_objects.specs.Attributes.{is_of_form};
+
+    /// Whether a template may give these bytes as a value of this form.
+    pub fn admits(self, value: &[u8]) -> bool
+        ensures { result ≡ is_of_form self value.now }
+    {
+        match self {
+            Form::Flag => value == [0].as_slice() || value == [1].as_slice(),
+            Form::Number => value.len() == 8,
+            Form::Class => is_number(value, 0) || is_number(value, 4),
+            Form::KeyType => is_number(value, 16),
+            Form::KeyState => is_number(value, 0) || is_number(value, 1),
+            Form::Bytes => true,
+        }
+    }
+}
+
+/// Whether these are the 8 bytes of a number, the least first.
+pub(crate) fn is_number(value: &[u8], number: u64) -> bool
+    ensures { result ≡ same_bytes value.now (number_bytes number) }
+{
+    value == number.to_le_bytes().as_slice()
+}

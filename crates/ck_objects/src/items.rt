@@ -1,0 +1,242 @@
+ghost use Rattle.std.specs.Prelude.{◌≡◌, ◌≢◌, ◌==◌, ◌<◌, ◌&&◌, ℕ, [], None, IfOk, not, unwrap_or};
+ghost use Rattle.std.specs.Prelude.{length, position};
+ghost use Rattle.std.specs.Prelude.{option_map, Some, IfSome};
+ghost use Rattle.std.specs.Int.{w64, from_le_bytes};
+ghost use Rattle.std.specs.List.{list_any};
+ghost use Rattle.std.specs.Option.{option_copied};
+ghost use Rattle.ck_types.specs.Numbers.{same_bytes};
+ghost use Rattle.ck_objects.specs.Attributes.{type_of, form_of, flag_bytes};
+ghost use Rattle.ck_types.specs.Numbers.{number_bytes};
+ghost use Rattle.ck_types.specs.Checks.{check_of, first_error};
+ghost use Rattle.ck_objects.specs.Templates.{value_at, value_or, flag_at, has_two_values};
+ghost use Rattle.ck_objects.specs.Templates.{has_conflict, class_of};
+ghost use Rattle.ck_objects.specs.Templates.{form_error, permission_error};
+ghost use Rattle.ck_objects.specs.KeyStates.{state_number};
+ghost use Rattle.ck_objects.specs.declared.attributes.Attribute.TheVariants as attribute;
+ghost use Rattle.ck_objects.specs.declared.items.Item.{Item};
+ghost use Rattle.ck_objects.specs.declared.forms.Form.TheVariants as form;
+
+use crate::attribute_values::AttributeValue;
+use crate::attributes::{Attribute, Class, Purpose};
+use crate::forms::is_number;
+use crate::key_states::KeyState;
+use ck_types::{NoMemory, RvError, error_if, number_of};
+use std::alloc::Global;
+use std::mem;
+
+/// One attribute of a template or of an object (CK_ATTRIBUTE; PKCS #11 Base 3.0, Objects): its type
+/// and the bytes of its value.
+#[derive(Debug, Drop)]
+pub struct Item {
+    /// The attribute's type (CK_ATTRIBUTE_TYPE), known to the token or not.
+    pub kind: u64,
+    pub value: AttributeValue,
+}
+
+impl Item {
+    /// A copy of the item.
+    pub fn duplicate(&self, alloc: Global) -> Result<Item, NoMemory>
+        ensures { IfOk result (λ copy. copy ≡ self.now) }
+    {
+        let value = self.value.duplicate(alloc)?;
+        Ok(Item {
+            kind: self.kind,
+            value,
+        })
+    }
+
+    /// CKR_ATTRIBUTE_TYPE_INVALID for a type that the token doesn't know,
+    /// CKR_ATTRIBUTE_VALUE_INVALID for a value that isn't of the type's form.
+    fn check_form(&self) -> Result<(), RvError>
+        ensures { result ≡ check_of (form_error self.now) }
+    {
+        match Attribute::of(self.kind) {
+            None => Err(RvError::AttributeTypeInvalid),
+            Some(attribute) => {
+                let is_of_form = attribute.form().admits(self.value.as_slice());
+                error_if(!is_of_form, RvError::AttributeValueInvalid)
+            }
+        }
+    }
+
+    /// CKR_ATTRIBUTE_TYPE_INVALID for an attribute that objects of the class don't have,
+    /// CKR_ATTRIBUTE_READ_ONLY for one that a template of this purpose may not give.
+    fn check_permission(&self, class: Class, purpose: Purpose) -> Result<(), RvError>
+        ensures { result ≡ check_of (permission_error class purpose self.now) }
+    {
+        match Attribute::of(self.kind) {
+            None => Err(RvError::AttributeTypeInvalid),
+            Some(attribute) => match attribute.permission(class, purpose) {
+                None => Err(RvError::AttributeTypeInvalid),
+                Some(is_permitted) => error_if(!is_permitted, RvError::AttributeReadOnly),
+            },
+        }
+    }
+
+    /// Whether the item is of the attribute's type and has another value than this one.
+    fn differs(&self, attribute: Attribute, value: &AttributeValue) -> bool
+        ensures { result ≡ (type_of attribute == self.now.kind)
+            && not (same_bytes self.now.value value.now) }
+    {
+        attribute.number() == self.kind && self.value.as_slice() != value.as_slice()
+    }
+}
+
+#[tactic(auto, using(ck_types::proofs::CheckLemmas::item_checks))]
+pub(crate) fn check_forms(items: &[Item]) -> Result<(), RvError>
+    ensures { result ≡ check_of (first_error form_error items.now) }
+{
+    for item in items {
+        item.check_form()?;
+    }
+    Ok(())
+}
+
+#[tactic(auto, using(ck_types::proofs::CheckLemmas::item_checks))]
+pub(crate) fn check_permissions(
+    class: Class,
+    purpose: Purpose,
+    items: &[Item],
+) -> Result<(), RvError>
+    ensures { result ≡ check_of (first_error (permission_error class purpose) items.now) }
+{
+    for item in items {
+        item.check_permission(class, purpose)?;
+    }
+    Ok(())
+}
+
+/// The value that the items give a type: that of the first item of the type.
+pub(crate) fn value_at(items: &[Item], kind: u64) -> Option<&AttributeValue>
+    ensures { option_copied result ≡ value_at items.now kind }
+{
+    let item = items.iter().find(|item| item.kind == kind)?;
+    Some(&item.value)
+}
+
+/// The position of the first item of the type.
+fn position_of(items: &[Item], kind: u64) -> Option<usize>
+    ensures within { IfSome result (λ i. i < length items.now) }
+    ensures place { result ≡ position (λ (item : Item). item.kind == kind) items.now }
+{
+    items.iter().position(|item| item.kind == kind)
+}
+
+/// Moves the value that the items give the attribute, where they give one, into the place. The item
+/// gets what the place had.
+pub(crate) fn take_value(items: &mut [Item], attribute: Attribute, place: &mut AttributeValue)
+    ensures value { place.new ≡ value_or items.old (type_of attribute) place.old }
+    ensures others { (kind : ℕ) → kind ≢ type_of attribute
+        → value_at items.new kind ≡ value_at items.old kind }
+{
+    if let Some(i) = position_of(items, attribute.number()) {
+        mem::swap(&mut items[i].value, place);
+    }
+}
+
+/// The flag that the items give the attribute, else this one. Well-formed items give it one byte,
+/// 0 or 1.
+pub(crate) fn flag_or(items: &[Item], attribute: Attribute, other: bool) -> bool
+    requires { form_of attribute ≡ form.Flag }
+    ensures flag { result ≡ unwrap_or (flag_at items.now attribute) other }
+    ensures bytes { first_error form_error items.now ≡ None
+        → flag_bytes result ≡ value_or items.now (type_of attribute) (flag_bytes other) }
+{
+    match value_at(items, attribute.number()) {
+        None => other,
+        Some(value) => value.as_slice() == [1].as_slice(),
+    }
+}
+
+/// A copy of the value that the items give the attribute, of no bytes where they give none.
+pub(crate) fn copied_value(
+    alloc: Global,
+    items: &[Item],
+    attribute: Attribute,
+) -> Result<AttributeValue, NoMemory>
+    ensures { IfOk result (λ value. value ≡ value_or items.now (type_of attribute) []) }
+{
+    match value_at(items, attribute.number()) {
+        None => Ok(AttributeValue::new(alloc)),
+        Some(value) => value.duplicate(alloc),
+    }
+}
+
+/// The number that the items give the attribute. Well-formed items give a number 8 bytes.
+pub(crate) fn number_at(items: &[Item], attribute: Attribute) -> Option<u64>
+    requires form { form_of attribute ≡ form.Number }
+    requires well_formed { first_error form_error items.now ≡ None }
+    ensures number { result
+        ≡ option_map (from_le_bytes w64) (value_at items.now (type_of attribute)) }
+    ensures bytes { IfSome result (λ number.
+        value_at items.now (type_of attribute) ≡ Some (number_bytes number)) }
+{
+    match value_at(items, attribute.number()) {
+        None => None,
+        Some(value) => number_of(value.as_slice()),
+    }
+}
+
+/// The key state that the items give, else this one. Well-formed items give the number of
+/// Pre-Activation or of Active.
+pub(crate) fn state_or(items: &[Item], other: KeyState) -> KeyState
+    requires well_formed { first_error form_error items.now ≡ None }
+    ensures { number_bytes (state_number result)
+        ≡ value_or items.now (type_of attribute.KeyState) (number_bytes (state_number other)) }
+{
+    match value_at(items, Attribute::KeyState.number()) {
+        None => other,
+        Some(value) => {
+            if is_number(value.as_slice(), 0) {
+                KeyState::PreActivation
+            } else {
+                KeyState::Active
+            }
+        }
+    }
+}
+
+/// The class of an object with these attributes.
+pub(crate) fn class_of(items: &[Item]) -> Class
+    ensures { result ≡ class_of items.now }
+{
+    match value_at(items, Attribute::Class.number()) {
+        None => Class::Data,
+        Some(value) => {
+            if is_number(value.as_slice(), 4) {
+                Class::SecretKey
+            } else {
+                Class::Data
+            }
+        }
+    }
+}
+
+/// Whether items of the attribute's type have different values.
+#[tactic(auto, using(crate::proofs::ConflictLemmas::not_given))]
+fn has_two_values(items: &[Item], attribute: Attribute) -> bool
+    ensures { result ≡ has_two_values items.now attribute }
+{
+    match value_at(items, attribute.number()) {
+        None => false,
+        Some(first) => items.iter().any(|item| item.differs(attribute, first)),
+    }
+}
+
+/// Whether items of one of the attributes' types have different values.
+fn has_conflict_in(attributes: &[Attribute], items: &[Item]) -> bool
+    ensures { result ≡ list_any (has_two_values items.now) attributes.now }
+{
+    attributes
+        .iter()
+        .any(|attribute| has_two_values(items, *attribute))
+}
+
+/// Whether two items of one type have different values. Each attribute takes at most two walks over
+/// the items, so that the time stays in proportion to their number.
+pub(crate) fn has_conflict(items: &[Item]) -> bool
+    requires well_formed { first_error form_error items.now ≡ None }
+    ensures { result ≡ has_conflict items.now }
+{
+    has_conflict_in(Attribute::ALL.as_slice(), items)
+}

@@ -1,0 +1,26 @@
+//! Attributes, templates and the records of objects of a PKCS #11 token.
+#![tactic(auto)]
+
+mod attribute_values;
+mod attributes;
+mod data_objects;
+mod fields;
+mod forms;
+mod items;
+mod key_states;
+mod keys;
+mod object_flags;
+mod records;
+mod refusals;
+mod templates;
+
+pub use attribute_values::AttributeValue;
+pub use attributes::{Attribute, Class, Purpose};
+pub use fields::Field;
+pub use forms::Form;
+pub use items::Item;
+pub use key_states::KeyState;
+pub use object_flags::{Placement, Protections};
+pub use records::Record;
+pub use refusals::Refusal;
+pub use templates::Template;

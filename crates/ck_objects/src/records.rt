@@ -1,0 +1,422 @@
+ghost use Rattle.std.specs.Prelude.{◌≡◌, None, IfOk};
+
+use crate::attribute_values::AttributeValue;
+use crate::attributes::{Attribute, Class, Purpose};
+use crate::data_objects::Data;
+use crate::fields::Field;
+use crate::items::{Item, class_of};
+use crate::key_states::KeyState;
+use crate::keys::Key;
+use crate::object_flags::{Placement, Protections};
+use crate::refusals::Refusal;
+use crate::templates::{Template, duplicate_items};
+use ck_types::{NoMemory, RvError, error_if};
+use std::alloc::Global;
+use std::marker::Model;
+
+#[derive(Debug, Drop)]
+enum Object {
+    Data(Data),
+    Key(Key),
+}
+
+/// The attributes of one object. Contracts see them as items in the order of the table.
+#[derive(Debug, Drop)]
+pub struct Record {
+    object: Object,
+}
+
+impl Model for Record {
+    ghost use Rattle.std.specs.Prelude.{List};
+    ghost use Rattle.ck_objects.specs.declared.items.Item.{Item};
+
+    ghost Value = { List Item };
+
+    ghost use Rattle.ck_objects.specs.Records.{object_items};
+
+    ghost view = { λ r. object_items r.object };
+}
+
+impl Record {
+    ghost use Rattle.std.specs.Prelude.{option_map, length};
+    ghost use Rattle.ck_objects.specs.Attributes.{type_of};
+    ghost use Rattle.ck_types.specs.Checks.{check_of};
+    ghost use Rattle.std.specs.Prelude.{Some, true};
+    ghost use Rattle.std.specs.Result.{result_err};
+    ghost use Rattle.ck_objects.specs.Templates.{value_at, created_error, generated_error};
+    ghost use Rattle.ck_objects.specs.Templates.{template_error};
+    ghost use Rattle.ck_objects.specs.declared.attributes.Attribute.TheVariants as attribute;
+    ghost use Rattle.ck_objects.specs.declared.attributes.Purpose.TheVariants as purpose;
+    ghost use Rattle.ck_objects.specs.Records.{generated_items, data_items, key_items};
+    ghost use Rattle.ck_objects.specs.Records.{readable_value, read_error, state_in, key_value};
+    ghost use Rattle.ck_objects.specs.Records.{with_state};
+    ghost use Rattle.ck_objects.specs.Records.{IsRecordUnless, created_items, with_given};
+    ghost use Rattle.ck_objects.specs.Templates.{class_of, flag_at};
+    ghost use Rattle.ck_objects.specs.Records.{protections_of, placement_of, is_revealable};
+    ghost use Rattle.ck_objects.specs.Records.{is_hidden};
+    ghost use Rattle.ck_objects.specs.Records.{copied_error, changed_error};
+    ghost use Rattle.ck_objects.specs.Records.{flag_in, is_set, has_item, matches};
+    ghost use Rattle.ck_objects.specs.Fields.{field_bytes, flag_field};
+
+    /// The object that a template of C_CreateObject makes (PKCS #11 Base 3.0, Object management
+    /// functions). It is refused with the error of `Template::check_creation`.
+    pub fn created(alloc: Global, template: &Template) -> Result<Record, Refusal>
+        ensures { IsRecordUnless (created_error template.now.items)
+            (created_items template.now.items) result }
+    {
+        template.check_creation()?;
+        Ok(Record::create_with(alloc, template)?)
+    }
+
+    /// The object that a template makes which passes the checks of a creation.
+    pub fn create_with(alloc: Global, template: &Template) -> Result<Record, NoMemory>
+        requires { created_error template.now.items ≡ None }
+        ensures { IfOk result (λ made. made ≡ created_items template.now.items) }
+    {
+        let items = template.items.as_slice();
+        match class_of(items) {
+            Class::Data => {
+                let data = Data::created(alloc, items)?;
+                Ok(Record::of_data(data))
+            }
+            Class::SecretKey => {
+                let key = Key::created(alloc, items)?;
+                Ok(Record::of_key(key))
+            }
+        }
+    }
+
+    /// The key that C_GenerateKey makes by a template from random bytes (PKCS #11 Base 3.0, Key
+    /// management functions). The template is refused with the error of
+    /// `Template::check_generation`.
+    pub fn generated(alloc: Global, template: &Template, random: &[u8]) -> Result<Record, Refusal>
+        ensures { IsRecordUnless (generated_error template.now.items random.now)
+            (generated_items template.now.items random.now) result }
+    {
+        template.check_generation(random)?;
+        Ok(Record::generate_with(alloc, template, random)?)
+    }
+
+    /// The key that is made from random bytes by a template which passes the checks of a
+    /// generation.
+    pub fn generate_with(
+        alloc: Global,
+        template: &Template,
+        random: &[u8],
+    ) -> Result<Record, NoMemory>
+        requires { generated_error template.now.items random.now ≡ None }
+        ensures { IfOk result (λ made. made ≡ generated_items template.now.items random.now) }
+    {
+        let key = Key::generated(alloc, template.items.as_slice(), random)?;
+        Ok(Record::of_key(key))
+    }
+
+    fn of_data(object: Data) -> Record
+        ensures { result ≡ data_items object }
+    {
+        Record {
+            object: Object::Data(object),
+        }
+    }
+
+    fn of_key(key: Key) -> Record
+        ensures { result ≡ key_items key }
+    {
+        Record {
+            object: Object::Key(key),
+        }
+    }
+
+    /// A copy of the object with the values that a template of C_CopyObject gives (PKCS #11 Base
+    /// 3.0, Object management functions). The template is refused with the error of `check_copy`.
+    pub fn copied(&self, alloc: Global, template: &Template) -> Result<Record, Refusal>
+        ensures { IsRecordUnless
+            (copied_error (class_of self.now) (protections_of self.now) template.now.items)
+            (with_given template.now.items self.now) result }
+    {
+        self.check_copy(template)?;
+        Ok(self.copy_with(alloc, template)?)
+    }
+
+    /// The checks of a template of C_CopyObject for this object, of which the first that fails
+    /// answers: a type that the token doesn't know (CKR_ATTRIBUTE_TYPE_INVALID) or a value that
+    /// isn't of its form (CKR_ATTRIBUTE_VALUE_INVALID), item by item; two values of one type
+    /// (CKR_TEMPLATE_INCONSISTENT); an attribute that the object's class doesn't have
+    /// (CKR_ATTRIBUTE_TYPE_INVALID) or that a copy may not be given (CKR_ATTRIBUTE_READ_ONLY), item
+    /// by item; CKA_SENSITIVE false for a sensitive key or CKA_EXTRACTABLE true for a key that
+    /// isn't extractable (CKR_ATTRIBUTE_READ_ONLY); CKA_PRIVATE false for a private object
+    /// (CKR_TEMPLATE_INCONSISTENT).
+    #[tactic(auto, using(ck_types::proofs::CheckLemmas::checks))]
+    pub fn check_copy(&self, template: &Template) -> Result<(), RvError>
+        ensures { result ≡ check_of
+            (copied_error (class_of self.now) (protections_of self.now) template.now.items) }
+    {
+        let protections = self.protections();
+        template.check(self.class(), Purpose::Copy)?;
+        error_if(
+            template.exposes_key(protections),
+            RvError::AttributeReadOnly,
+        )?;
+        error_if(
+            template.makes_public(protections),
+            RvError::TemplateInconsistent,
+        )
+    }
+
+    /// CKA_TOKEN and CKA_PRIVATE of a copy that is made with the template.
+    pub fn copy_placement(&self, template: &Template) -> Placement
+        ensures { result ≡ placement_of (with_given template.now.items self.now) }
+    {
+        let items = template.items.as_slice();
+        match &self.object {
+            Object::Data(data) => data.placement().with(items),
+            Object::Key(key) => key.placement().with(items),
+        }
+    }
+
+    /// A copy of the object with the values that a template gives
+    /// which passes the checks of a copy.
+    pub fn copy_with(&self, alloc: Global, template: &Template) -> Result<Record, NoMemory>
+        requires { copied_error (class_of self.now) (protections_of self.now) template.now.items
+            ≡ None }
+        ensures { IfOk result (λ made. made ≡ with_given template.now.items self.now) }
+    {
+        let mut values = duplicate_items(alloc, template.items.as_slice())?;
+        let mut copy = self.duplicate(alloc)?;
+        match &mut copy.object {
+            Object::Data(data) => data.set(values.as_mut_slice()),
+            Object::Key(key) => key.set(values.as_mut_slice()),
+        }
+        Ok(copy)
+    }
+
+    /// A copy of the attributes.
+    pub fn duplicate(&self, alloc: Global) -> Result<Record, NoMemory>
+        ensures { IfOk result (λ copy. copy ≡ self.now) }
+    {
+        match &self.object {
+            Object::Data(data) => {
+                let data = data.duplicate(alloc)?;
+                Ok(Record::of_data(data))
+            }
+            Object::Key(key) => {
+                let key = key.duplicate(alloc)?;
+                Ok(Record::of_key(key))
+            }
+        }
+    }
+
+    /// A copy of the object with the values that a template of C_SetAttributeValue gives (PKCS #11
+    /// Base 3.0, Object management functions). The template is refused with the error of
+    /// `check_change`.
+    pub fn changed(&self, alloc: Global, template: &Template) -> Result<Record, Refusal>
+        ensures { IsRecordUnless
+            (changed_error (class_of self.now) (protections_of self.now) template.now.items)
+            (with_given template.now.items self.now) result }
+    {
+        self.check_change(template)?;
+        let values = template.duplicate(alloc)?;
+        let mut changed = self.duplicate(alloc)?;
+        changed.change(values);
+        Ok(changed)
+    }
+
+    /// The checks of a template of C_SetAttributeValue for this object: those of `check_copy` but
+    /// the last, for the attributes that may be set (else CKR_ATTRIBUTE_READ_ONLY).
+    #[tactic(auto, using(ck_types::proofs::CheckLemmas::checks))]
+    pub fn check_change(&self, template: &Template) -> Result<(), RvError>
+        ensures { result ≡ check_of
+            (changed_error (class_of self.now) (protections_of self.now) template.now.items) }
+    {
+        template.check(self.class(), Purpose::Set)?;
+        error_if(
+            template.exposes_key(self.protections()),
+            RvError::AttributeReadOnly,
+        )
+    }
+
+    /// Gives the object the values of a template that passes the checks of a change. They are moved
+    /// into the object, so this takes no memory. Whatever the template gives, CKA_PRIVATE stays as
+    /// it was.
+    pub fn change(&mut self, values: Template)
+        ensures given { template_error (class_of self.old) purpose.Set values.items ≡ None
+            → self.new ≡ with_given values.items self.old }
+        ensures private { is_set self.new attribute.Private ≡ is_set self.old attribute.Private }
+    {
+        let mut items = values.items.into_vec();
+        match &mut self.object {
+            Object::Data(data) => data.change(items.as_mut_slice()),
+            Object::Key(key) => key.change(items.as_mut_slice()),
+        }
+    }
+
+    /// The object's class (CKA_CLASS).
+    pub fn class(&self) -> Class
+        ensures { result ≡ class_of self.now }
+    {
+        match &self.object {
+            Object::Data(_) => Class::Data,
+            Object::Key(_) => Class::SecretKey,
+        }
+    }
+
+    /// The attributes of the object that a template may not weaken.
+    pub fn protections(&self) -> Protections
+        ensures { result ≡ protections_of self.now }
+    {
+        Protections {
+            private: self.is_set(Attribute::Private),
+            sensitive: self.is_set(Attribute::Sensitive),
+            extractable: self.is_set(Attribute::Extractable),
+        }
+    }
+
+    /// CKA_TOKEN and CKA_PRIVATE of the object.
+    pub fn placement(&self) -> Placement
+        ensures { result ≡ placement_of self.now }
+    {
+        match &self.object {
+            Object::Data(data) => data.placement(),
+            Object::Key(key) => key.placement(),
+        }
+    }
+
+    /// Whether the object matches a template of C_FindObjectsInit (PKCS #11 Base 3.0, Object
+    /// management functions): it has each attribute of the template with equal bytes, none of them
+    /// hidden. The template isn't checked: one without items matches every object, and a type that
+    /// the object doesn't have, or two different values of one type, match none.
+    pub fn matches(&self, template: &Template) -> bool
+        ensures { result ≡ matches self.now template.now.items }
+    {
+        template.items.as_slice().iter().all(|item| self.has(item))
+    }
+
+    /// Whether the value may be revealed (CKA_VALUE; PKCS #11 Base 3.0, Secret key objects).
+    pub fn is_revealable(&self) -> bool
+        ensures { result ≡ is_revealable self.now }
+    {
+        match &self.object {
+            Object::Data(_) => true,
+            Object::Key(key) => key.is_revealable(),
+        }
+    }
+
+    /// The bytes of the value (CKA_VALUE), whether or not they may be revealed.
+    pub fn value_bytes(&self) -> &[u8]
+        ensures { result.now ≡ key_value self.now }
+    {
+        match &self.object {
+            Object::Data(data) => data.value.as_slice(),
+            Object::Key(key) => key.value.as_slice(),
+        }
+    }
+
+    /// Whether the attribute is a value that may not be revealed.
+    pub fn is_hidden(&self, kind: u64) -> bool
+        ensures { result ≡ is_hidden self.now kind }
+    {
+        kind == Attribute::Value.number() && !self.is_revealable()
+    }
+
+    /// Whether the object has the item's attribute with equal bytes, and it isn't hidden.
+    fn has(&self, item: &Item) -> bool
+        ensures { result ≡ has_item self.now item.now }
+    {
+        if self.is_hidden(item.kind) {
+            return false;
+        }
+        match self.field(item.kind) {
+            None => false,
+            Some(field) => field.has_bytes(item.value.as_slice()),
+        }
+    }
+
+    /// Whether the object has the flag and it is true.
+    pub fn is_set(&self, flag: Attribute) -> bool
+        ensures { result ≡ is_set self.now flag }
+    {
+        matches!(self.field_of(flag), Some(Field::Flag(true)))
+    }
+
+    /// How many bytes the value of an attribute has, or `None` where the object
+    /// doesn't have the attribute.
+    pub fn length(&self, kind: u64) -> Option<u64>
+        ensures { result ≡ option_map length (value_at self.now kind) }
+    {
+        match self.field(kind) {
+            None => None,
+            Some(field) => Some(field.len()),
+        }
+    }
+
+    /// A copy of the value of an attribute, or `None` where the object doesn't have the attribute.
+    pub fn value(&self, alloc: Global, kind: u64) -> Result<Option<AttributeValue>, NoMemory>
+        ensures { IfOk result (λ value. value ≡ value_at self.now kind) }
+    {
+        match self.field(kind) {
+            None => Ok(None),
+            Some(field) => {
+                let value = field.to_value(alloc)?;
+                Ok(Some(value))
+            }
+        }
+    }
+
+    /// The value of an attribute as C_GetAttributeValue reads it (PKCS #11 Base 3.0, Object
+    /// management functions): CKR_ATTRIBUTE_SENSITIVE for a value that may not be revealed,
+    /// CKR_ATTRIBUTE_TYPE_INVALID for an attribute that the object doesn't have.
+    pub fn readable(&self, kind: u64) -> Result<Field, RvError>
+        ensures value { IfOk result (λ field.
+            readable_value self.now kind ≡ Some (field_bytes field)) }
+        ensures error { result_err result ≡ read_error self.now kind }
+    {
+        error_if(self.is_hidden(kind), RvError::AttributeSensitive)?;
+        self.field(kind).ok_or(RvError::AttributeTypeInvalid)
+    }
+
+    /// The state of a key, or `None` for a data object.
+    pub fn key_state(&self) -> Option<KeyState>
+        ensures { result ≡ state_in self.now }
+    {
+        match &self.object {
+            Object::Data(_) => None,
+            Object::Key(key) => Some(key.state),
+        }
+    }
+
+    /// Moves a key to another state, whether or not it may go over to it. A data object has no
+    /// state and stays as it is.
+    pub fn set_state(&mut self, state: KeyState)
+        ensures { self.new ≡ with_state state self.old }
+    {
+        if let Object::Key(key) = &mut self.object {
+            key.state = state;
+        }
+    }
+
+    fn field_of(&self, attribute: Attribute) -> Option<Field>
+        ensures value { option_map field_bytes result ≡ value_at self.now (type_of attribute) }
+        ensures flag { flag_field result ≡ flag_at self.now attribute }
+    {
+        match &self.object {
+            Object::Data(data) => data.field(attribute),
+            Object::Key(key) => key.field(attribute),
+        }
+    }
+
+    fn field(&self, kind: u64) -> Option<Field>
+        ensures value { option_map field_bytes result ≡ value_at self.now kind }
+        ensures flag { flag_field result ≡ flag_in self.now kind }
+    {
+        match &self.object {
+            Object::Data(data) => match Attribute::of(kind) {
+                None => None,
+                Some(attribute) => data.field(attribute),
+            },
+            Object::Key(key) => match Attribute::of(kind) {
+                None => None,
+                Some(attribute) => key.field(attribute),
+            },
+        }
+    }
+}
