@@ -27,6 +27,15 @@ fn calls_by(alloc: Global, caller: u32, steps: &[Step]) -> Result<Vec<Call>, Rac
     Ok(calls)
 }
 
+fn script_of<K: TokenId>(
+    alloc: Global,
+    caller: SharedCaller<K>,
+    steps: &[Step],
+) -> Result<Script<K, BoardCopy<K>>, RaceError> {
+    let calls = calls_by(alloc, caller.number(), steps)?;
+    Script::new(alloc, caller, calls).map_err(|_| RaceError::Memory)
+}
+
 fn scripts_of<K: TokenId>(
     alloc: Global,
     callers: Vec<SharedCaller<K>>,
@@ -34,9 +43,7 @@ fn scripts_of<K: TokenId>(
 ) -> Result<Vec<Script<K, BoardCopy<K>>>, RaceError> {
     let mut scripts = Vec::with_capacity(alloc, callers.len())?;
     for caller in callers {
-        let calls = calls_by(alloc, caller.number(), steps)?;
-        let script = Script::new(alloc, caller, calls).map_err(|_| RaceError::Memory)?;
-        scripts.push(script)?;
+        scripts.push(script_of(alloc, caller, steps)?)?;
     }
     Ok(scripts)
 }
@@ -57,7 +64,17 @@ fn run_together<K: TokenId + Send + Sync, R: Threads + Wait + Drop + Send + Sync
     Ok(())
 }
 
-/// Takes the callers and their replies apart, where each has made its calls.
+/// Takes a caller and its replies apart, where it has made its calls.
+fn finish_one<K: TokenId>(
+    script: Script<K, BoardCopy<K>>,
+) -> Result<(SharedCaller<K>, CallerReplies), RaceError> {
+    script.outcome()?;
+    let (caller, replies) = script.into_parts();
+    let number = caller.number();
+    Ok((caller, (number, replies)))
+}
+
+/// Takes all callers and their replies apart.
 fn finish<K: TokenId>(
     alloc: Global,
     scripts: Vec<Script<K, BoardCopy<K>>>,
@@ -65,9 +82,8 @@ fn finish<K: TokenId>(
     let mut callers = Vec::with_capacity(alloc, scripts.len())?;
     let mut all = Vec::with_capacity(alloc, scripts.len())?;
     for script in scripts {
-        script.outcome()?;
-        let (caller, replies) = script.into_parts();
-        all.push((caller.number(), replies))?;
+        let (caller, replies) = finish_one(script)?;
+        all.push(replies)?;
         callers.push(caller)?;
     }
     Ok((callers, all))

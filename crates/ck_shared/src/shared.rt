@@ -50,7 +50,21 @@ struct Opened<K: TokenId, O: Slot<K>, T: Absorb<O> + ReadBoard<K> + Drop, R: Wai
     callers: Vec<Caller<K, T>>,
 }
 
-/// The callers that have these accounts, each with a reader of the board.
+/// The caller that has this account, with a reader of the board.
+fn caller_of<K: TokenId, O: Slot<K>, T: Absorb<O> + ReadBoard<K> + Drop, R: Wait + Drop>(
+    account: Account<K>,
+    known: &KnownHistory<K>,
+    writer: &WriteHandle<T, O, R>,
+) -> Result<Caller<K, T>, NoMemory>
+    requires count { account.count ≡ 0 }
+    requires known { known.now.history ≡ start K.base }
+    ensures { IfOk result (λ caller. caller ≡ new_caller K.base account) }
+{
+    let reader = writer.handle()?;
+    Ok(Caller::new(account, known, reader))
+}
+
+/// The callers that have these accounts.
 fn callers_of<K: TokenId, O: Slot<K>, T: Absorb<O> + ReadBoard<K> + Drop, R: Wait + Drop>(
     alloc: Global,
     accounts: Vec<Account<K>>,
@@ -63,7 +77,7 @@ fn callers_of<K: TokenId, O: Slot<K>, T: Absorb<O> + ReadBoard<K> + Drop, R: Wai
 {
     let mut callers = Vec::with_capacity(alloc, accounts.len())?;
     for account in accounts {
-        callers.push(Caller::new(account, known, writer.handle()?))?;
+        callers.push(caller_of(account, known, writer)?)?;
     }
     Ok(callers)
 }

@@ -149,15 +149,21 @@ fn steps_of(alloc: Global, caller: u32) -> Result<Vec<Step>, SoakError> {
     Ok(steps)
 }
 
+fn script_of<K: TokenId>(
+    alloc: Global,
+    caller: SharedCaller<K>,
+) -> Result<AskingScript<K>, SoakError> {
+    let steps = steps_of(alloc, caller.number())?;
+    Script::new(alloc, caller, steps).map_err(|_| SoakError::Memory)
+}
+
 fn scripts_of<K: TokenId>(
     alloc: Global,
     callers: Vec<SharedCaller<K>>,
 ) -> Result<Vec<AskingScript<K>>, SoakError> {
     let mut scripts = Vec::with_capacity(alloc, callers.len())?;
     for caller in callers {
-        let steps = steps_of(alloc, caller.number())?;
-        let script = Script::new(alloc, caller, steps).map_err(|_| SoakError::Memory)?;
-        scripts.push(script)?;
+        scripts.push(script_of(alloc, caller)?)?;
     }
     Ok(scripts)
 }

@@ -1,6 +1,6 @@
-//! Tests of values, computations, definitions, scripts and a token: vectors and rows from outside,
-//! and what the cases of ck_cases don't show. They stand apart from what they test, since a crate
-//! with tests is proved a second time with them.
+//! Tests of values, computations, definitions and scripts: vectors and rows from outside, and what
+//! the cases of ck_cases don't show. They stand apart from what they test, since a crate with tests
+//! is proved a second time with them.
 #![tactic(auto)]
 
 #[cfg(test)]
@@ -13,7 +13,5 @@ mod lines;
 mod mac;
 #[cfg(test)]
 mod replies;
-#[cfg(test)]
-mod token;
 #[cfg(test)]
 mod types;
