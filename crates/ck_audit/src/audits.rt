@@ -27,7 +27,7 @@ pub fn audit(alloc: Global, journal: &Journal, limits: Limits) -> Result<Verdict
     ensures wrong { IfOk result (λ found. (number : ℕ)
         → (found ≡ verdict.Wrong number) ↔ IsFirstWrong limits journal.now.history number) }
 {
-    let base = journal.base().duplicate(alloc)?;
+    let base = journal.base().clone()?;
     let token = Token::from_base(alloc, limits, base)?;
     replay(alloc, token, journal)
 }
@@ -48,7 +48,7 @@ fn repeat_call(token: &mut Token, alloc: Global, entry: &Entry) -> Result<bool, 
     ensures limits { OnOk result (token.new.limits ≡ token.old.limits) }
     ensures legal { OnOk result (IsLegal token.new.limits token.new.history) }
 {
-    let call = entry.call.duplicate(alloc)?;
+    let call = entry.call.clone()?;
     let reply = token.call(alloc, entry.caller, call)?;
     Ok(are_same_replies(&reply, &entry.reply))
 }

@@ -58,13 +58,13 @@ fn other_code(rv: Rv) -> Rv {
 fn copied_entry(alloc: Global, entry: &Entry, changed: Option<Part>) -> Result<Entry, NoMemory> {
     let Reply { rv, body } = &entry.reply;
     let (rv, body) = match changed {
-        Some(Part::Code) => (other_code(*rv), body.duplicate(alloc)?),
+        Some(Part::Code) => (other_code(*rv), body.clone()?),
         Some(Part::Body) => (*rv, other_body(alloc, body)),
-        None => (*rv, body.duplicate(alloc)?),
+        None => (*rv, body.clone()?),
     };
     Ok(Entry {
         caller: entry.caller,
-        call: entry.call.duplicate(alloc)?,
+        call: entry.call.clone()?,
         reply: Reply { rv, body },
     })
 }
@@ -76,7 +76,7 @@ fn changed_journal(
     number: u64,
     part: Part,
 ) -> Result<Journal, NoMemory> {
-    let base = journal.base().duplicate(alloc)?;
+    let base = journal.base().clone()?;
     let mut copy = Journal::from_base(alloc, base);
     for entry in journal.entries().iter().take(MOST_ENTRIES as usize) {
         let is_changed = copy.len().saturating_add(1) == number;

@@ -19,7 +19,7 @@ pub(crate) struct RetryingToken {
 fn calls_after(alloc: Global, steps: &[Step], count: u64) -> Result<Vec<(u32, Call)>, CaseError> {
     let mut calls = Vec::new(alloc);
     for (caller, call) in steps.iter().filter_map(Step::call).skip(count as usize) {
-        calls.push((caller, call.duplicate(alloc)?))?;
+        calls.push((caller, call.clone()?))?;
     }
     Ok(calls)
 }
@@ -64,11 +64,11 @@ impl RetryingToken {
         call: &Call,
     ) -> Result<Reply, CaseError> {
         let entries = self.token.journal().len();
-        if let Ok(reply) = self.token.call(alloc, caller, call.duplicate(alloc)?) {
+        if let Ok(reply) = self.token.call(alloc, caller, call.clone()?) {
             return Ok(reply);
         }
         self.retry(entries)?;
-        Ok(self.token.call(alloc, caller, call.duplicate(alloc)?)?)
+        Ok(self.token.call(alloc, caller, call.clone()?)?)
     }
 
     /// Makes the calls of the steps by a run, and those that it leaves by a second one.

@@ -100,7 +100,7 @@ pub opens-left : (c : Option Call) → (effects_of c).sessions ≡ false → ope
 opens-left (Some (call.OpenSession flags)) l = cc
 opens-left other l = refl
 
-closes-left : (c : Option Call) (s : ℕ) → (effects_of c).sessions ≡ false → closes c s ≡ false
+pub closes-left : (c : Option Call) (s : ℕ) → (effects_of c).sessions ≡ false → closes c s ≡ false
 closes-left (Some (call.CloseSession session)) s l = cc
 closes-left (Some call.CloseAllSessions) s l = cc
 closes-left other s l = refl

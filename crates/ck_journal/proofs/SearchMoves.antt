@@ -21,19 +21,16 @@ use Rattle.ck_journal.proofs.ObjectMoves.{creations-left, object_at-left}
 -- ---- an entry that leaves searches as they are
 
 starts-left : (c : Option Call) (s : ℕ) → (effects_of c).searches ≡ false → starts_search c s ≡ false
-starts-left (Some (call.FindObjectsInit session template)) s l = cc
-starts-left other s l = refl
+starts-left (Some (call.InitToken pin)) s l = refl
+starts-left other s l = cc
 
 ends-left : (c : Option Call) (s : ℕ) → (effects_of c).searches ≡ false → ends_search c s ≡ false
-ends-left (Some (call.FindObjectsFinal session)) s l = cc
-ends-left (Some (call.CloseSession session)) s l = cc
-ends-left (Some call.CloseAllSessions) s l = cc
-ends-left (Some (call.Logout session)) s l = cc
-ends-left other s l = refl
+ends-left (Some (call.InitToken pin)) s l = refl
+ends-left other s l = cc
 
 asks-left : (c : Option Call) (s : ℕ) → (effects_of c).searches ≡ false → asks_search c s ≡ false
-asks-left (Some (call.FindObjects session max)) s l = cc
-asks-left other s l = refl
+asks-left (Some (call.InitToken pin)) s l = refl
+asks-left other s l = cc
 
 module _ (e : Entry) (h : History) (l : (effects e).searches ≡ false) (s : ℕ) where
   pub is_searching-left : is_searching (e ◁ h) s ≡ is_searching h s

@@ -1,11 +1,9 @@
-ghost use Rattle.std.specs.Prelude.{◌≡◌, IfOk};
-
 use ck_objects::Record;
-use ck_types::{NoMemory, Pin, Sequence};
+use ck_types::{Pin, Sequence};
 use std::alloc::Global;
 
 /// A token object as a journal starts with it.
-#[derive(Debug, Drop)]
+#[derive(Clone, Debug, Drop)]
 pub struct KeptObject {
     pub number: u64,
     pub attributes: Record,
@@ -13,7 +11,7 @@ pub struct KeptObject {
 
 /// What a journal starts from: what is left of the calls before its first entry where no session is
 /// open.
-#[derive(Debug, Drop)]
+#[derive(Clone, Debug, Drop)]
 pub struct Base {
     pub initialized: bool,
     /// The security officer's PIN.
@@ -32,20 +30,8 @@ pub struct Base {
     pub objects: Sequence<KeptObject>,
 }
 
-fn duplicate_objects(alloc: Global, objects: &[KeptObject]) -> Result<Vec<KeptObject>, NoMemory>
-    ensures { IfOk result (λ copies. copies.items ≡ objects.now) }
-{
-    let mut copies = Vec::with_capacity(alloc, objects.len())?;
-    for object in objects {
-        let attributes = object.attributes.duplicate(alloc)?;
-        let number = object.number;
-        copies.push(KeptObject { number, attributes })?;
-    }
-    Ok(copies)
-}
-
 impl Base {
-    ghost use Rattle.std.specs.Prelude.{◌≡◌, IfOk};
+    ghost use Rattle.std.specs.Prelude.{◌≡◌};
     ghost use Rattle.ck_journal.specs.Bases.{empty_base};
 
     /// The base of a new token, which takes no memory.
@@ -63,23 +49,5 @@ impl Base {
             logins: 0,
             objects: Sequence::new(alloc),
         }
-    }
-
-    /// A copy of the base.
-    pub fn duplicate(&self, alloc: Global) -> Result<Base, NoMemory>
-        ensures { IfOk result (λ copy. copy ≡ self.now) }
-    {
-        let objects = duplicate_objects(alloc, self.objects.as_slice())?;
-        Ok(Base {
-            initialized: self.initialized,
-            so: self.so,
-            user: self.user,
-            so_tries: self.so_tries,
-            user_tries: self.user_tries,
-            openings: self.openings,
-            creations: self.creations,
-            logins: self.logins,
-            objects: Sequence::from_vec(objects),
-        })
     }
 }

@@ -1,7 +1,6 @@
 use crate::replies::Reply;
 use ck_objects::Template;
-use ck_types::{Bytes, Mechanism, NoMemory, Pin, Sequence};
-use std::alloc::Global;
+use ck_types::{Bytes, Mechanism, Pin, Sequence};
 
 /// What C_GetAttributeValue is asked of one attribute: its type, and the room for its value in
 /// bytes. Room `None`, like a NULL pValue, asks for the value's length alone (PKCS #11 Base 3.0,
@@ -14,7 +13,7 @@ pub struct AttributeQuery {
 
 /// A call of the application with its arguments, named after the standard's function (PKCS #11 Base
 /// 3.0, Functions). SetKeyState alone is no function of the standard.
-#[derive(Debug, Drop)]
+#[derive(Clone, Debug, Drop)]
 pub enum Call {
     InitToken {
         pin: Pin,
@@ -165,181 +164,10 @@ pub enum Call {
 }
 
 impl Call {
-    ghost use Rattle.std.specs.Prelude.{◌≡◌, not, Some, IfOk, IsTrue};
+    ghost use Rattle.std.specs.Prelude.{◌≡◌, not, Some, IsTrue};
     ghost use Rattle.ck_journal.specs.Boards.{LeavesBoard};
     ghost use Rattle.ck_journal.specs.Histories.{effects_of};
     ghost use Rattle.ck_journal.specs.Operations.{added_bytes};
-
-    /// A copy of the call.
-    pub fn duplicate(&self, alloc: Global) -> Result<Call, NoMemory>
-        ensures { IfOk result (λ copy. copy ≡ self.now) }
-    {
-        Ok(match self {
-            Call::InitToken { pin } => Call::InitToken { pin: *pin },
-            Call::InitPin { session, pin } => Call::InitPin {
-                session: *session,
-                pin: *pin,
-            },
-            Call::SetPin { session, old, new } => Call::SetPin {
-                session: *session,
-                old: *old,
-                new: *new,
-            },
-            Call::OpenSession { flags } => Call::OpenSession { flags: *flags },
-            Call::CloseSession { session } => Call::CloseSession { session: *session },
-            Call::CloseAllSessions => Call::CloseAllSessions,
-            Call::Login { session, user, pin } => Call::Login {
-                session: *session,
-                user: *user,
-                pin: *pin,
-            },
-            Call::Logout { session } => Call::Logout { session: *session },
-            Call::GetSessionInfo { session } => Call::GetSessionInfo { session: *session },
-            Call::GetTokenInfo => Call::GetTokenInfo,
-            Call::GetMechanismList => Call::GetMechanismList,
-            Call::SessionCancel { session, flags } => Call::SessionCancel {
-                session: *session,
-                flags: *flags,
-            },
-            Call::CreateObject { session, template } => Call::CreateObject {
-                session: *session,
-                template: template.duplicate(alloc)?,
-            },
-            Call::GenerateKey {
-                session,
-                mechanism,
-                template,
-                random,
-            } => Call::GenerateKey {
-                session: *session,
-                mechanism: mechanism.duplicate(alloc)?,
-                template: template.duplicate(alloc)?,
-                random: Bytes::from_slice(alloc, random.as_slice())?,
-            },
-            Call::CopyObject {
-                session,
-                object,
-                template,
-            } => Call::CopyObject {
-                session: *session,
-                object: *object,
-                template: template.duplicate(alloc)?,
-            },
-            Call::GetAttributeValue {
-                session,
-                object,
-                queries,
-            } => Call::GetAttributeValue {
-                session: *session,
-                object: *object,
-                queries: Sequence::from_vec(Vec::from_slice(alloc, queries.as_slice())?),
-            },
-            Call::SetAttributeValue {
-                session,
-                object,
-                template,
-            } => Call::SetAttributeValue {
-                session: *session,
-                object: *object,
-                template: template.duplicate(alloc)?,
-            },
-            Call::SetKeyState {
-                session,
-                key,
-                state,
-            } => Call::SetKeyState {
-                session: *session,
-                key: *key,
-                state: *state,
-            },
-            Call::DestroyObject { session, object } => Call::DestroyObject {
-                session: *session,
-                object: *object,
-            },
-            Call::FindObjectsInit { session, template } => Call::FindObjectsInit {
-                session: *session,
-                template: template.duplicate(alloc)?,
-            },
-            Call::FindObjects { session, max } => Call::FindObjects {
-                session: *session,
-                max: *max,
-            },
-            Call::FindObjectsFinal { session } => Call::FindObjectsFinal { session: *session },
-            Call::DigestInit { session, mechanism } => Call::DigestInit {
-                session: *session,
-                mechanism: mechanism.duplicate(alloc)?,
-            },
-            Call::Digest {
-                session,
-                bytes,
-                room,
-            } => Call::Digest {
-                session: *session,
-                bytes: Bytes::from_slice(alloc, bytes.as_slice())?,
-                room: *room,
-            },
-            Call::DigestUpdate { session, bytes } => Call::DigestUpdate {
-                session: *session,
-                bytes: Bytes::from_slice(alloc, bytes.as_slice())?,
-            },
-            Call::DigestFinal { session, room } => Call::DigestFinal {
-                session: *session,
-                room: *room,
-            },
-            Call::SignInit {
-                session,
-                mechanism,
-                key,
-            } => Call::SignInit {
-                session: *session,
-                mechanism: mechanism.duplicate(alloc)?,
-                key: *key,
-            },
-            Call::Sign {
-                session,
-                bytes,
-                room,
-            } => Call::Sign {
-                session: *session,
-                bytes: Bytes::from_slice(alloc, bytes.as_slice())?,
-                room: *room,
-            },
-            Call::SignUpdate { session, bytes } => Call::SignUpdate {
-                session: *session,
-                bytes: Bytes::from_slice(alloc, bytes.as_slice())?,
-            },
-            Call::SignFinal { session, room } => Call::SignFinal {
-                session: *session,
-                room: *room,
-            },
-            Call::VerifyInit {
-                session,
-                mechanism,
-                key,
-            } => Call::VerifyInit {
-                session: *session,
-                mechanism: mechanism.duplicate(alloc)?,
-                key: *key,
-            },
-            Call::Verify {
-                session,
-                bytes,
-                signature,
-            } => Call::Verify {
-                session: *session,
-                bytes: Bytes::from_slice(alloc, bytes.as_slice())?,
-                signature: Bytes::from_slice(alloc, signature.as_slice())?,
-            },
-            Call::VerifyUpdate { session, bytes } => Call::VerifyUpdate {
-                session: *session,
-                bytes: Bytes::from_slice(alloc, bytes.as_slice())?,
-            },
-            Call::VerifyFinal { session, signature } => Call::VerifyFinal {
-                session: *session,
-                signature: Bytes::from_slice(alloc, signature.as_slice())?,
-            },
-        })
-    }
 
     /// The bytes that an update adds to the message of its operation; none for every other call.
     pub fn added_bytes(&self) -> &[u8]

@@ -3,6 +3,5 @@ pub mod ConflictLemmas
 pub mod FlagLemmas
 pub mod GivenLemmas
 pub mod KeyLemmas
-pub mod RefusalLemmas
 pub mod SetLemmas
 pub mod ValueLemmas

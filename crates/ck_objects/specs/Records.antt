@@ -1,6 +1,5 @@
 -- The attributes of an object, in the order of the table
-use Rattle.std.specs.Prelude.{◌≡◌, ℕ, Bool, true, false, List, [], ◌∷◌, Option, Some, None, Result}
-use Rattle.std.specs.Prelude.{Ok, Err}
+use Rattle.std.specs.Prelude.{◌≡◌, ℕ, Bool, true, false, List, [], ◌∷◌, Option, Some, None}
 use Rattle.std.specs.Prelude.{not, ◌&&◌, ◌||◌, ◌==◌, if◌then◌else◌, map, find, length}
 use Rattle.std.specs.Prelude.{option_map, option_and_then, unwrap_or, is_none}
 use Rattle.std.specs.Option.{option_map_or}
@@ -25,8 +24,6 @@ use Rattle.ck_objects.specs.declared.keys.Origin.{Origin}
 use Rattle.ck_objects.specs.declared.object_flags.Placement.{Placement}
 use Rattle.ck_objects.specs.declared.object_flags.Protections.{Protections}
 use Rattle.ck_objects.specs.declared.attributes.Purpose.TheVariants as purpose
-use Rattle.ck_objects.specs.declared.refusals.Refusal.{Refusal}
-use Rattle.ck_objects.specs.declared.refusals.Refusal.TheVariants as refusal
 use Rattle.ck_objects.specs.declared.data_objects.Data.{Data}
 use Rattle.ck_objects.specs.declared.records.Object.{Object}
 use Rattle.ck_objects.specs.declared.records.Object.TheVariants as object
@@ -311,13 +308,6 @@ changed_error class protections template = first_of (
     template_error class purpose.Set template
     ∷ error_if (exposes_key protections template) rv_error.AttributeReadOnly
     ∷ [])
-
--- the object with these attributes, or the refusal with this error; out of memory comes where the
--- checks find nothing
-abbrev pub IsRecordUnless : Option RvError → List Item → Result (List Item) Refusal → Type 0
-IsRecordUnless error items (Ok object) = (error ≡ None) × (object ≡ items)
-IsRecordUnless error items (Err (refusal.Code code)) = error ≡ Some code
-IsRecordUnless error items (Err refusal.Memory) = error ≡ None
 
 -- ---- search templates
 

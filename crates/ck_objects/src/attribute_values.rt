@@ -1,6 +1,6 @@
 use ck_types::NoMemory;
 use smallvec::SmallVec;
-use std::alloc::Global;
+use std::alloc::{AllocError, Global};
 use std::marker::Model;
 
 /// The bytes of an attribute's value (PKCS #11 Base 3.0, CK_ATTRIBUTE). A copy of at most 16 bytes
@@ -17,6 +17,20 @@ impl Model for AttributeValue {
     ghost Value = { List ℕ };
 
     ghost view = { λ v. v.bytes.items };
+}
+
+/// A copy of a value of at most 16 bytes takes no memory.
+impl Clone for AttributeValue {
+    ghost use Rattle.std.specs.Prelude.{◌≡◌, ◌≤◌, length};
+
+    ghost is_clone = { λ value copy. copy ≡ value };
+
+    ghost is_infallible = { λ value. length value ≤ 16 };
+
+    fn clone(&self) -> Result<AttributeValue, AllocError> {
+        let bytes = SmallVec::from_slice(*self.bytes.allocator(), self.as_slice())?;
+        Ok(AttributeValue { bytes })
+    }
 }
 
 impl AttributeValue {
@@ -47,14 +61,6 @@ impl AttributeValue {
         AttributeValue {
             bytes: SmallVec::from_vec(bytes),
         }
-    }
-
-    /// A copy of the value.
-    pub fn duplicate(&self, alloc: Global) -> Result<AttributeValue, NoMemory>
-        ensures copied { IfOk result (λ copy. copy ≡ self.now) }
-        ensures short { length self.now ≤ 16 → IsOk result }
-    {
-        AttributeValue::from_slice(alloc, self.as_slice())
     }
 
     /// The bytes, in their order.

@@ -1,14 +1,13 @@
 use crate::attribute_values::AttributeValue;
 use crate::attributes::Attribute;
 use crate::fields::Field;
-use crate::items::{Item, flag_or, take_value};
+use crate::items::{Item, copied_items, flag_or, take_value};
 use crate::object_flags::Placement;
-use crate::templates::duplicate_items;
 use ck_types::NoMemory;
 use std::alloc::Global;
 
 /// A data object (PKCS #11 Base 3.0, Data objects). Its class is no field.
-#[derive(Debug, Drop)]
+#[derive(Clone, Debug, Drop)]
 pub(crate) struct Data {
     token: bool,
     private: bool,
@@ -41,7 +40,7 @@ impl Data {
         requires passes { created_error items.now ≡ None }
         ensures { IfOk result (λ made. data_items made ≡ created_items items.now) }
     {
-        let mut values = duplicate_items(alloc, items)?;
+        let mut values = copied_items(alloc, items)?;
         let mut data = Data::blank(alloc);
         data.set(values.as_mut_slice());
         Ok(data)
@@ -62,23 +61,6 @@ impl Data {
             copyable: true,
             destroyable: true,
         }
-    }
-
-    /// A copy of the object.
-    pub(crate) fn duplicate(&self, alloc: Global) -> Result<Data, NoMemory>
-        ensures { IfOk result (λ copy. copy ≡ self.now) }
-    {
-        Ok(Data {
-            token: self.token,
-            private: self.private,
-            label: self.label.duplicate(alloc)?,
-            application: self.application.duplicate(alloc)?,
-            value: self.value.duplicate(alloc)?,
-            object_id: self.object_id.duplicate(alloc)?,
-            modifiable: self.modifiable,
-            copyable: self.copyable,
-            destroyable: self.destroyable,
-        })
     }
 
     /// Gives the object the items' values of the attributes that they give. The items get what the

@@ -46,7 +46,7 @@ impl<'a> Field<'a> {
             Field::Number(number) => {
                 AttributeValue::from_slice(alloc, number.to_le_bytes().as_slice())
             }
-            Field::Bytes(value) => value.duplicate(alloc),
+            Field::Bytes(value) => AttributeValue::from_slice(alloc, value.as_slice()),
         }
     }
 }

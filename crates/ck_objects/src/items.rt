@@ -26,7 +26,7 @@ use std::mem;
 
 /// One attribute of a template or of an object (CK_ATTRIBUTE; PKCS #11 Base 3.0, Objects): its type
 /// and the bytes of its value.
-#[derive(Debug, Drop)]
+#[derive(Clone, Debug, Drop)]
 pub struct Item {
     /// The attribute's type (CK_ATTRIBUTE_TYPE), known to the token or not.
     pub kind: u64,
@@ -34,17 +34,6 @@ pub struct Item {
 }
 
 impl Item {
-    /// A copy of the item.
-    pub fn duplicate(&self, alloc: Global) -> Result<Item, NoMemory>
-        ensures { IfOk result (λ copy. copy ≡ self.now) }
-    {
-        let value = self.value.duplicate(alloc)?;
-        Ok(Item {
-            kind: self.kind,
-            value,
-        })
-    }
-
     /// CKR_ATTRIBUTE_TYPE_INVALID for a type that the token doesn't know,
     /// CKR_ATTRIBUTE_VALUE_INVALID for a value that isn't of the type's form.
     fn check_form(&self) -> Result<(), RvError>
@@ -148,6 +137,13 @@ pub(crate) fn flag_or(items: &[Item], attribute: Attribute, other: bool) -> bool
     }
 }
 
+/// Copies of the items.
+pub(crate) fn copied_items(alloc: Global, items: &[Item]) -> Result<Vec<Item>, NoMemory>
+    ensures { IfOk result (λ copies. copies.items ≡ items.now) }
+{
+    Ok(Vec::from_clones(alloc, items)?)
+}
+
 /// A copy of the value that the items give the attribute, of no bytes where they give none.
 pub(crate) fn copied_value(
     alloc: Global,
@@ -158,7 +154,7 @@ pub(crate) fn copied_value(
 {
     match value_at(items, attribute.number()) {
         None => Ok(AttributeValue::new(alloc)),
-        Some(value) => value.duplicate(alloc),
+        Some(value) => Ok(value.clone()?),
     }
 }
 

@@ -1,10 +1,9 @@
 use crate::attribute_values::AttributeValue;
 use crate::attributes::Attribute;
 use crate::fields::Field;
-use crate::items::{Item, copied_value, flag_or, number_at, state_or, take_value};
+use crate::items::{Item, copied_items, copied_value, flag_or, number_at, state_or, take_value};
 use crate::key_states::KeyState;
 use crate::object_flags::Placement;
-use crate::templates::duplicate_items;
 use ck_types::NoMemory;
 use std::alloc::Global;
 
@@ -21,7 +20,7 @@ pub(crate) struct Origin {
 
 /// A generic secret key (PKCS #11 Current Mechanisms 3.0, Generic secret key objects). Its class,
 /// its key type and the length of its value are no fields.
-#[derive(Debug, Drop)]
+#[derive(Clone, Debug, Drop)]
 pub(crate) struct Key {
     pub(crate) token: bool,
     pub(crate) private: bool,
@@ -128,40 +127,13 @@ impl Key {
         ensures { IfOk result (λ made. key_items made
             ≡ with_given items.now (key_items (record (blank_key origin) { value = value }))) }
     {
-        let mut values = duplicate_items(alloc, items)?;
+        let mut values = copied_items(alloc, items)?;
         let mut key = Key {
             value,
             ..Key::blank(alloc, origin)
         };
         key.set(values.as_mut_slice());
         Ok(key)
-    }
-
-    /// A copy of the key.
-    pub(crate) fn duplicate(&self, alloc: Global) -> Result<Key, NoMemory>
-        ensures { IfOk result (λ copy. copy ≡ self.now) }
-    {
-        Ok(Key {
-            token: self.token,
-            private: self.private,
-            label: self.label.duplicate(alloc)?,
-            value: self.value.duplicate(alloc)?,
-            id: self.id.duplicate(alloc)?,
-            sensitive: self.sensitive,
-            encrypt: self.encrypt,
-            decrypt: self.decrypt,
-            wrap: self.wrap,
-            unwrap: self.unwrap,
-            sign: self.sign,
-            verify: self.verify,
-            derive: self.derive,
-            extractable: self.extractable,
-            origin: self.origin,
-            modifiable: self.modifiable,
-            copyable: self.copyable,
-            destroyable: self.destroyable,
-            state: self.state,
-        })
     }
 
     /// Gives the key the items' values of the attributes that they give. The items get what the

@@ -11,7 +11,6 @@ mod key_states;
 mod keys;
 mod object_flags;
 mod records;
-mod refusals;
 mod templates;
 
 pub use attribute_values::AttributeValue;
@@ -22,5 +21,4 @@ pub use items::Item;
 pub use key_states::KeyState;
 pub use object_flags::{Placement, Protections};
 pub use records::Record;
-pub use refusals::Refusal;
 pub use templates::Template;

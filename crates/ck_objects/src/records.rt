@@ -4,17 +4,16 @@ use crate::attribute_values::AttributeValue;
 use crate::attributes::{Attribute, Class, Purpose};
 use crate::data_objects::Data;
 use crate::fields::Field;
-use crate::items::{Item, class_of};
+use crate::items::{Item, class_of, copied_items};
 use crate::key_states::KeyState;
 use crate::keys::Key;
 use crate::object_flags::{Placement, Protections};
-use crate::refusals::Refusal;
-use crate::templates::{Template, duplicate_items};
+use crate::templates::Template;
 use ck_types::{NoMemory, RvError, error_if};
-use std::alloc::Global;
+use std::alloc::{AllocError, Global};
 use std::marker::Model;
 
-#[derive(Debug, Drop)]
+#[derive(Clone, Debug, Drop)]
 enum Object {
     Data(Data),
     Key(Key),
@@ -37,6 +36,17 @@ impl Model for Record {
     ghost view = { λ r. object_items r.object };
 }
 
+impl Clone for Record {
+    ghost use Rattle.std.specs.Prelude.{◌≡◌};
+
+    ghost is_clone = { λ r copy. copy ≡ r };
+
+    fn clone(&self) -> Result<Record, AllocError> {
+        let object = self.object.clone()?;
+        Ok(Record { object })
+    }
+}
+
 impl Record {
     ghost use Rattle.std.specs.Prelude.{option_map, length};
     ghost use Rattle.ck_objects.specs.Attributes.{type_of};
@@ -50,7 +60,7 @@ impl Record {
     ghost use Rattle.ck_objects.specs.Records.{generated_items, data_items, key_items};
     ghost use Rattle.ck_objects.specs.Records.{readable_value, read_error, state_in, key_value};
     ghost use Rattle.ck_objects.specs.Records.{with_state};
-    ghost use Rattle.ck_objects.specs.Records.{IsRecordUnless, created_items, with_given};
+    ghost use Rattle.ck_objects.specs.Records.{created_items, with_given};
     ghost use Rattle.ck_objects.specs.Templates.{class_of, flag_at};
     ghost use Rattle.ck_objects.specs.Records.{protections_of, placement_of, is_revealable};
     ghost use Rattle.ck_objects.specs.Records.{is_hidden};
@@ -58,17 +68,8 @@ impl Record {
     ghost use Rattle.ck_objects.specs.Records.{flag_in, is_set, has_item, matches};
     ghost use Rattle.ck_objects.specs.Fields.{field_bytes, flag_field};
 
-    /// The object that a template of C_CreateObject makes (PKCS #11 Base 3.0, Object management
-    /// functions). It is refused with the error of `Template::check_creation`.
-    pub fn created(alloc: Global, template: &Template) -> Result<Record, Refusal>
-        ensures { IsRecordUnless (created_error template.now.items)
-            (created_items template.now.items) result }
-    {
-        template.check_creation()?;
-        Ok(Record::create_with(alloc, template)?)
-    }
-
-    /// The object that a template makes which passes the checks of a creation.
+    /// The object that a template of C_CreateObject makes, which passes `Template::check_creation`
+    /// (PKCS #11 Base 3.0, Object management functions).
     pub fn create_with(alloc: Global, template: &Template) -> Result<Record, NoMemory>
         requires { created_error template.now.items ≡ None }
         ensures { IfOk result (λ made. made ≡ created_items template.now.items) }
@@ -86,19 +87,8 @@ impl Record {
         }
     }
 
-    /// The key that C_GenerateKey makes by a template from random bytes (PKCS #11 Base 3.0, Key
-    /// management functions). The template is refused with the error of
-    /// `Template::check_generation`.
-    pub fn generated(alloc: Global, template: &Template, random: &[u8]) -> Result<Record, Refusal>
-        ensures { IsRecordUnless (generated_error template.now.items random.now)
-            (generated_items template.now.items random.now) result }
-    {
-        template.check_generation(random)?;
-        Ok(Record::generate_with(alloc, template, random)?)
-    }
-
-    /// The key that is made from random bytes by a template which passes the checks of a
-    /// generation.
+    /// The key that C_GenerateKey makes from random bytes by a template, which pass
+    /// `Template::check_generation` (PKCS #11 Base 3.0, Key management functions).
     pub fn generate_with(
         alloc: Global,
         template: &Template,
@@ -125,17 +115,6 @@ impl Record {
         Record {
             object: Object::Key(key),
         }
-    }
-
-    /// A copy of the object with the values that a template of C_CopyObject gives (PKCS #11 Base
-    /// 3.0, Object management functions). The template is refused with the error of `check_copy`.
-    pub fn copied(&self, alloc: Global, template: &Template) -> Result<Record, Refusal>
-        ensures { IsRecordUnless
-            (copied_error (class_of self.now) (protections_of self.now) template.now.items)
-            (with_given template.now.items self.now) result }
-    {
-        self.check_copy(template)?;
-        Ok(self.copy_with(alloc, template)?)
     }
 
     /// The checks of a template of C_CopyObject for this object, of which the first that fails
@@ -174,51 +153,20 @@ impl Record {
         }
     }
 
-    /// A copy of the object with the values that a template gives
-    /// which passes the checks of a copy.
+    /// A copy of the object with the values that a template of C_CopyObject gives, which passes
+    /// `check_copy` (PKCS #11 Base 3.0, Object management functions).
     pub fn copy_with(&self, alloc: Global, template: &Template) -> Result<Record, NoMemory>
         requires { copied_error (class_of self.now) (protections_of self.now) template.now.items
             ≡ None }
         ensures { IfOk result (λ made. made ≡ with_given template.now.items self.now) }
     {
-        let mut values = duplicate_items(alloc, template.items.as_slice())?;
-        let mut copy = self.duplicate(alloc)?;
+        let mut values = copied_items(alloc, template.items.as_slice())?;
+        let mut copy = self.clone()?;
         match &mut copy.object {
             Object::Data(data) => data.set(values.as_mut_slice()),
             Object::Key(key) => key.set(values.as_mut_slice()),
         }
         Ok(copy)
-    }
-
-    /// A copy of the attributes.
-    pub fn duplicate(&self, alloc: Global) -> Result<Record, NoMemory>
-        ensures { IfOk result (λ copy. copy ≡ self.now) }
-    {
-        match &self.object {
-            Object::Data(data) => {
-                let data = data.duplicate(alloc)?;
-                Ok(Record::of_data(data))
-            }
-            Object::Key(key) => {
-                let key = key.duplicate(alloc)?;
-                Ok(Record::of_key(key))
-            }
-        }
-    }
-
-    /// A copy of the object with the values that a template of C_SetAttributeValue gives (PKCS #11
-    /// Base 3.0, Object management functions). The template is refused with the error of
-    /// `check_change`.
-    pub fn changed(&self, alloc: Global, template: &Template) -> Result<Record, Refusal>
-        ensures { IsRecordUnless
-            (changed_error (class_of self.now) (protections_of self.now) template.now.items)
-            (with_given template.now.items self.now) result }
-    {
-        self.check_change(template)?;
-        let values = template.duplicate(alloc)?;
-        let mut changed = self.duplicate(alloc)?;
-        changed.change(values);
-        Ok(changed)
     }
 
     /// The checks of a template of C_SetAttributeValue for this object: those of `check_copy` but

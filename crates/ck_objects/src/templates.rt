@@ -15,21 +15,9 @@ use crate::object_flags::{Placement, Protections};
 use ck_types::{NoMemory, RvError, Sequence, error_if};
 use std::alloc::Global;
 
-/// Copies of the items.
-pub(crate) fn duplicate_items(alloc: Global, items: &[Item]) -> Result<Vec<Item>, NoMemory>
-    ensures { IfOk result (λ copies. copies.items ≡ items.now) }
-{
-    let mut copies = Vec::with_capacity(alloc, items.len())?;
-    for item in items {
-        let copy = item.duplicate(alloc)?;
-        copies.push(copy)?;
-    }
-    Ok(copies)
-}
-
 /// The attributes that a caller gives, in the caller's order (PKCS #11 Base 3.0,
 /// Object management functions).
-#[derive(Debug, Drop)]
+#[derive(Clone, Debug, Drop)]
 pub struct Template {
     pub items: Sequence<Item>,
 }
@@ -39,16 +27,6 @@ impl Template {
     ghost use Rattle.ck_objects.specs.Templates.{created_error, generated_error, template_error};
     ghost use Rattle.ck_objects.specs.Records.{created_items, generated_items, placement_of};
     ghost use Rattle.ck_objects.specs.Records.{exposes_key, makes_public};
-
-    /// A copy of the template.
-    pub fn duplicate(&self, alloc: Global) -> Result<Template, NoMemory>
-        ensures { IfOk result (λ copy. copy ≡ self.now) }
-    {
-        let items = duplicate_items(alloc, self.items.as_slice())?;
-        Ok(Template {
-            items: Sequence::from_vec(items),
-        })
-    }
 
     /// The checks of a template of C_CreateObject (PKCS #11 Base 3.0, Object management functions),
     /// of which the first that fails answers: a type that the token doesn't know

@@ -37,6 +37,7 @@ use Rattle.ck_journal.specs.Answers.{call_error, hmac_init_error}
 use Rattle.ck_journal.specs.OperationCalls.{Step, initialize, take_whole, add_piece, finish}
 use Rattle.ck_journal.specs.OperationCalls.{OperationStep, operation_step}
 use Rattle.ck_journal.specs.Operations.{added_bytes, started_computation, hmac_with, init_key}
+use Rattle.ck_sessions.specs.SearchCalls.{SetsSearch}
 use Rattle.ck_parts.specs.Changes.{change_of, start_hmac, wrong_try_change, refused_by, refused_step}
 use Rattle.ck_parts.specs.Changes.{effect, effect_by}
 use Rattle.ck_parts.specs.declared.changes.Change.{Change}
@@ -111,6 +112,15 @@ init-verify : (limits : Ranges) (h : History) (session : ℕ) (mechanism : Mecha
     → IsHmacInit limits h (call.VerifyInit session mechanism key) kind.Verify session mechanism key
 init-verify limits h session mechanism key = record { step = refl; error = refl; computation = refl; key = refl }
 
+-- the call sets the search of this session, as it sets that of the other
+set-alike : (h : History) (c : Call) (other : ℕ) (made : Option (List ℕ)) (session : ℕ) (found : Option (List ℕ))
+    → change.SetSearch session found ≡ change.SetSearch other made
+    → SetsSearch h c other made → SetsSearch h c session found
+set-alike h c other made session found e sets =
+    let there : other ≡ session = cc in
+    let same : made ≡ found = cc in
+    subst (SetsSearch h c session) same (subst (λ s. SetsSearch h c s made) there sets)
+
 module _ (h : History) (b : Body) where
   pub of-InitToken : (c : Call) (pin : Pin) → change.InitToken pin ≡ change_of h c b → c ≡ call.InitToken pin
   of-InitToken (call.InitToken other) pin e = cc
@@ -177,22 +187,38 @@ module _ (h : History) (b : Body) where
   of-SetKeyState (call.SetKeyState session key n) number made e = (session, key, n, refl, cc, cc)
   of-SetKeyState other number made e = cc
 
-  pub of-StartSearch : (c : Call) (session : ℕ) (found : List ℕ) → change.StartSearch session found ≡ change_of h c b
-      → (template : Template) × (c ≡ call.FindObjectsInit session template) ×
-      (found ≡ matching_objects h template.items)
-  of-StartSearch (call.FindObjectsInit other template) session found e = (template, cc, cc)
-  of-StartSearch other session found e = cc
+  pub of-SetSearch : (c : Call) (session : ℕ) (found : Option (List ℕ))
+      → change.SetSearch session found ≡ change_of h c b → SetsSearch h c session found
+  of-SetSearch (call.FindObjectsInit other template) session found e =
+      set-alike h (call.FindObjectsInit other template) other (Some (matching_objects h template.items)) session
+      found e (record {
+        starts = λ s. refl;
+        ends = λ s. refl;
+        finds = λ numbers is. cc;
+        asks = λ s. refl;
+        sessions = refl;
+        objects = refl;
+        operations = refl;
+        step = refl;
+      })
+  of-SetSearch (call.FindObjectsFinal other) session found e =
+      set-alike h (call.FindObjectsFinal other) other None session found e (record {
+        starts = λ s. refl;
+        ends = λ s. refl;
+        finds = λ numbers is. cc;
+        asks = λ s. refl;
+        sessions = refl;
+        objects = refl;
+        operations = refl;
+        step = refl;
+      })
+  of-SetSearch other session found e = cc
 
   pub of-AdvanceSearch : (c : Call) (session number : ℕ) → change.AdvanceSearch session number ≡ change_of h c b
       → (max : ℕ) × (c ≡ call.FindObjects session max) ×
       (number ≡ last_or (last_number h session) (map number_of_handle (handles_in b)))
   of-AdvanceSearch (call.FindObjects other max) session number e = (max, cc, cc)
   of-AdvanceSearch other session number e = cc
-
-  pub of-EndSearch : (c : Call) (session : ℕ) → change.EndSearch session ≡ change_of h c b
-      → c ≡ call.FindObjectsFinal session
-  of-EndSearch (call.FindObjectsFinal other) session e = cc
-  of-EndSearch other session e = cc
 
   pub of-StartDigest : (c : Call) (session : ℕ) (made : Hash) → change.StartDigest session made ≡ change_of h c b
       → (mechanism : Mechanism) × (c ≡ call.DigestInit session mechanism)
@@ -270,9 +296,3 @@ module _ (h : History) (e : Entry) where
   called-CloseAllSessions is =
       let d = done-of_call h e change.CloseAllSessions is refl in
       d.0 ∙ ap Some (of-CloseAllSessions h e.reply.body e.call d.1)
-
-  pub called-EndSearch : (session : ℕ) → change.EndSearch session ≡ effect h e.call e.reply
-      → done e ≡ Some (call.FindObjectsFinal session)
-  called-EndSearch session is =
-      let d = done-of_call h e (change.EndSearch session) is refl in
-      d.0 ∙ ap Some (of-EndSearch h e.reply.body e.call session d.1)

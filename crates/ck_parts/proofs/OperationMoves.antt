@@ -48,29 +48,33 @@ pub record IsStepAlone (h : History) (c : Call) : Type 0 where
   pub uncancelled : (k : OperationKind) (s : ℕ) → cancels (Some c) k s ≡ false
   pub about : about h (Some c) ≡ None
 
-abbrev alone : {h : History} {c : Call} → (effects_of (Some c)).sessions ≡ false
-    → (effects_of (Some c)).objects ≡ false → (effects_of (Some c)).searches ≡ false
-    → ((s : ℕ) → ends_operations (Some c) s ≡ false)
-    → ((k : OperationKind) (s : ℕ) → cancels (Some c) k s ≡ false) → about h (Some c) ≡ None
-    → IsStepAlone h c
-alone a b c d e f =
-    record { sessions = a; objects = b; searches = c; unclosed = d; uncancelled = e; about = f }
-
 pub step-alone : (h : History) (c : Call) (o : OperationStep) → operation_step c ≡ Some o
     → IsStepAlone h c
-step-alone h (call.DigestInit session mechanism) o e = alone refl refl refl (λ s. refl) (λ k s. refl) refl
-step-alone h (call.Digest session bytes room) o e = alone refl refl refl (λ s. refl) (λ k s. refl) refl
-step-alone h (call.DigestUpdate session bytes) o e = alone refl refl refl (λ s. refl) (λ k s. refl) refl
-step-alone h (call.DigestFinal session room) o e = alone refl refl refl (λ s. refl) (λ k s. refl) refl
-step-alone h (call.SignInit session mechanism key) o e = alone refl refl refl (λ s. refl) (λ k s. refl) refl
-step-alone h (call.Sign session bytes room) o e = alone refl refl refl (λ s. refl) (λ k s. refl) refl
-step-alone h (call.SignUpdate session bytes) o e = alone refl refl refl (λ s. refl) (λ k s. refl) refl
-step-alone h (call.SignFinal session room) o e = alone refl refl refl (λ s. refl) (λ k s. refl) refl
-step-alone h (call.VerifyInit session mechanism key) o e = alone refl refl refl (λ s. refl) (λ k s. refl) refl
-step-alone h (call.Verify session bytes signature) o e = alone refl refl refl (λ s. refl) (λ k s. refl) refl
-step-alone h (call.VerifyUpdate session bytes) o e = alone refl refl refl (λ s. refl) (λ k s. refl) refl
-step-alone h (call.VerifyFinal session signature) o e = alone refl refl refl (λ s. refl) (λ k s. refl) refl
-step-alone h other o e = cc
+step-alone h (call.InitToken pin) o e = cc
+step-alone h other o e = record {
+  sessions = cc;
+  objects = cc;
+  searches = cc;
+  unclosed = λ s. cc;
+  uncancelled = λ k s. cc;
+  about = cc;
+}
+
+-- a call that changes nothing makes no step either
+pub reading-alone : (h : History) (c : Call) (b : Body) → change.Nothing ≡ change_of h c b
+    → IsStepAlone h c × (operation_step c ≡ None)
+reading-alone h (call.InitToken pin) b is = cc
+reading-alone h other b is = (
+  record {
+    sessions = cc;
+    objects = cc;
+    searches = cc;
+    unclosed = λ s. cc;
+    uncancelled = λ k s. cc;
+    about = cc;
+  },
+  cc,
+)
 
 -- what an entry is of: its call and the reply's code and body
 abbrev pub entry : ℕ → Call → Rv → Body → Entry
@@ -200,10 +204,8 @@ module _ (e : Entry) (c : Call) (d : done e ≡ Some c) where
 
   creation-quiet : (c : Call) → creates (Some c) ≡ true
       → ((effects_of (Some c)).operations ≡ false) × (operation_step c ≡ None)
-  creation-quiet (call.CreateObject session template) t = (refl, refl)
-  creation-quiet (call.GenerateKey session mechanism template random) t = (refl, refl)
-  creation-quiet (call.CopyObject session object template) t = (refl, refl)
-  creation-quiet other t = cc
+  creation-quiet (call.InitToken pin) t = cc
+  creation-quiet other t = (cc, cc)
 
   pub operations-created : creates (Some c) ≡ true → (h : History) (o : OperationsState)
       → OperationsAgree h o → OperationsAgree (e ◁ h) o
@@ -431,15 +433,9 @@ module _ (h : History) (n : ℕ) (c : Call) (b : Body) (code : RvError) where
 pub nothing-stays : (h : History) (n : ℕ) (c : Call) (v : Rv) (b : Body) → change.Nothing ≡ effect_by h c v b
     → InAll Stay (entry n c v b)
 nothing-stays h n c (rv.Error code) b is = nothing-refused h n c b code (operation_step c) refl is
-nothing-stays h n (call.GetSessionInfo session) rv.Ok b is =
-    no-step-stays n (call.GetSessionInfo session) rv.Ok b refl (λ s. refl) (λ k s. refl)
-nothing-stays h n call.GetTokenInfo rv.Ok b is =
-    no-step-stays n call.GetTokenInfo rv.Ok b refl (λ s. refl) (λ k s. refl)
-nothing-stays h n call.GetMechanismList rv.Ok b is =
-    no-step-stays n call.GetMechanismList rv.Ok b refl (λ s. refl) (λ k s. refl)
-nothing-stays h n (call.GetAttributeValue session object queries) rv.Ok b is =
-    no-step-stays n (call.GetAttributeValue session object queries) rv.Ok b refl (λ s. refl) (λ k s. refl)
-nothing-stays h n other rv.Ok b is = cc
+nothing-stays h n c rv.Ok b is =
+    let reads = reading-alone h c b is in
+    no-step-stays n c rv.Ok b reads.1 reads.0.unclosed reads.0.uncancelled
 
 pub tried-stays : (h : History) (n : ℕ) (c : Call) (v : Rv) (b : Body) (u : UserType)
     → change.WrongTry u ≡ effect_by h c v b → InAll Stay (entry n c v b)
@@ -447,7 +443,7 @@ tried-stays h n c (rv.Error code) b u is = tried-refused h n c b code u (operati
 tried-stays h n c rv.Ok b u is = absurd (no-try_done c is)
   where
     no-try_done : (c : Call) → change.WrongTry u ≡ change_of h c b → ⊥
-    no-try_done (call.GetSessionInfo session) is = cc
+    no-try_done (call.InitToken pin) is = cc
     no-try_done other is = cc
 
 -- ---- an operation that has had no update

@@ -48,7 +48,8 @@ use Rattle.ck_store.specs.Agreement.{StoreState, StoreAgrees}
 use Rattle.ck_journal.specs.OperationCalls.{OperationStep, operation_step}
 use Rattle.ck_journal.specs.Operations.{is_active, hmac_with}
 use Rattle.ck_mac.specs.Computations.{hmac_by}
-use Rattle.ck_parts.proofs.OperationMoves.{nobody-tried, IsStepAlone, step-alone, step-no_try, of-done}
+use Rattle.ck_parts.proofs.OperationMoves.{nobody-tried, IsStepAlone, step-alone, reading-alone, step-no_try}
+use Rattle.ck_parts.proofs.OperationMoves.{of-done}
 use Rattle.ck_parts.specs.Changes.{change_of, wrong_try_change, refused_by, effect, effect_by}
 use Rattle.ck_parts.specs.declared.changes.Change.TheVariants as change
 
@@ -68,10 +69,8 @@ module _ (h : History) (e : Entry) (c : Call) (d : done e ≡ Some c) where
 
   creation-kept : (c : Call) → creates (Some c) ≡ true
       → ((effects_of (Some c)).sessions ≡ false) × ((effects_of (Some c)).searches ≡ false)
-  creation-kept (call.CreateObject session template) t = (refl, refl)
-  creation-kept (call.GenerateKey session mechanism template random) t = (refl, refl)
-  creation-kept (call.CopyObject session object template) t = (refl, refl)
-  creation-kept other t = cc
+  creation-kept (call.InitToken pin) t = cc
+  creation-kept other t = (cc, cc)
 
   -- a creation leaves sessions
   pub sessions-created : creates (Some c) ≡ true → (s : SessionsState) → SessionsAgree h s → SessionsAgree (e ◁ h) s
@@ -81,15 +80,6 @@ module _ (h : History) (e : Entry) (c : Call) (d : done e ≡ Some c) where
 
 -- what was done where the change is nothing
 module _ (h : History) where
-  nothing_done : (c : Call) (b : Body) → change.Nothing ≡ change_of h c b
-      → ((effects_of (Some c)).sessions ≡ false) × ((effects_of (Some c)).searches ≡ false) ×
-      ((effects_of (Some c)).objects ≡ false)
-  nothing_done (call.GetSessionInfo session) b is = (refl, refl, refl)
-  nothing_done call.GetTokenInfo b is = (refl, refl, refl)
-  nothing_done call.GetMechanismList b is = (refl, refl, refl)
-  nothing_done (call.GetAttributeValue session object queries) b is = (refl, refl, refl)
-  nothing_done other b is = cc
-
   -- a refusal that changes nothing is no wrong try of anybody's PIN
   nothing_tried : (code : RvError) (c : Call) (u : UserType) → change.Nothing ≡ wrong_try_change code (about h (Some c))
       → is_about u h (cond (is_wrong_pin (rv.Error code)) (Some c) None) ≡ false
@@ -113,7 +103,9 @@ module _ (h : History) where
       ((effects_of (cond (is_ok v) (Some c) None)).searches ≡ false)
       × ((effects_of (cond (is_ok v) (Some c) None)).objects ≡ false) ×
       ((u : UserType) → is_about u h (cond (is_wrong_pin v) (Some c) None) ≡ false)
-  nothing_step c rv.Ok b is = let n = nothing_done c b is in (n.0, n.1, n.2, λ u. refl)
+  nothing_step c rv.Ok b is =
+      let reads = (reading-alone h c b is).0 in
+      (reads.sessions, reads.searches, reads.objects, λ u. refl)
   nothing_step c (rv.Error code) b is = (refl, refl, refl, λ u. nothing_refused code c u (operation_step c) refl is)
 
 pub sessions-unchanged : (h : History) (e : Entry) (s : SessionsState) → change.Nothing ≡ effect h e.call e.reply
@@ -132,7 +124,7 @@ objects-unchanged h e o is agree =
 
 module _ (h : History) where
   tried_done : (c : Call) (b : Body) (u : UserType) → change.WrongTry u ≡ change_of h c b → ⊥
-  tried_done (call.GetSessionInfo session) b u is = cc
+  tried_done (call.InitToken pin) b u is = cc
   tried_done other b u is = cc
 
   tried_refusal : (code : RvError) (c : Call) (u : UserType)

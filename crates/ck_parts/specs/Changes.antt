@@ -68,11 +68,11 @@ change_of h (call.SetAttributeValue session object template) body =
 change_of h (call.DestroyObject session object) body =
     change.DestroyObject (unwrap_or (object_named h object) 0)
 change_of h (call.FindObjectsInit session template) body =
-    change.StartSearch session (matching_objects h template.items)
+    change.SetSearch session (Some (matching_objects h template.items))
 change_of h (call.FindObjects session max) body =
     change.AdvanceSearch session
     (last_or (last_number h session) (map number_of_handle (handles_in body)))
-change_of h (call.FindObjectsFinal session) body = change.EndSearch session
+change_of h (call.FindObjectsFinal session) body = change.SetSearch session None
 change_of h (call.DigestInit session mechanism) body =
     change.StartDigest session (unwrap_or (digest_hash mechanism.kind) hash.Sha256)
 change_of h (call.Digest session bytes room) b = finish_change kind.Digest session rv.Ok b
@@ -89,10 +89,7 @@ change_of h (call.Verify session bytes signature) b = finish_change kind.Verify 
 change_of h (call.VerifyUpdate session bytes) body = change.AddPiece kind.Verify session
 change_of h (call.VerifyFinal session signature) b = finish_change kind.Verify session rv.Ok b
 change_of h (call.SessionCancel session flags) body = change.CancelOperations session flags
-change_of h (call.GetSessionInfo session) body = change.Nothing
-change_of h call.GetTokenInfo body = change.Nothing
-change_of h call.GetMechanismList body = change.Nothing
-change_of h (call.GetAttributeValue session object queries) body = change.Nothing
+change_of h other body = change.Nothing
 
 -- the change of a refusal by the user that the call is about: a wrong PIN is a wrong try
 abbrev pub wrong_try_change : RvError → Option UserType → Change

@@ -50,18 +50,16 @@ pub enum Change {
     DestroyObject {
         number: u64,
     },
-    StartSearch {
+    /// The session's search starts or ends.
+    SetSearch {
         session: u64,
-        /// The numbers of the objects that it found.
-        found: Sequence<u64>,
+        /// The numbers of the objects that a new search found.
+        found: Option<Sequence<u64>>,
     },
     AdvanceSearch {
         session: u64,
         /// The number of the last object that the search has given.
         number: u64,
-    },
-    EndSearch {
-        session: u64,
     },
     StartDigest {
         session: u64,

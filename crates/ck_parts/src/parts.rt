@@ -118,13 +118,10 @@ impl Parts {
             Change::SetAttributes { number, values } => self.objects.change(number, values),
             Change::SetKeyState { number, state } => self.objects.set_state(number, state),
             Change::DestroyObject { number } => self.objects.destroy(number),
-            Change::StartSearch { session, found } => self
-                .sessions
-                .start_search(session, found.into_vec()),
+            Change::SetSearch { session, found } => self.sessions.set_search(session, found),
             Change::AdvanceSearch { session, number } => {
                 self.sessions.advance_search(session, number)
             }
-            Change::EndSearch { session } => self.sessions.end_search(session),
             Change::StartDigest { session, hash } => {
                 let running = RunningTag::Digest(Running::new(hash));
                 self.operations

@@ -34,7 +34,7 @@ fn add_if_by(
     ensures { OnOk result (own.new.items ≡ own.old.items ++ calls_by number (call.now ∷ [])) }
 {
     if call.0 == number {
-        own.push(call.1.duplicate(alloc)?)?;
+        own.push(call.1.clone()?)?;
     }
     Ok(())
 }

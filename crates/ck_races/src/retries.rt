@@ -113,14 +113,14 @@ impl<'a, K: TokenId, R: Wait + Drop> Retrying<'a, K, R> {
         if self.call(other, step.line, Call::GetTokenInfo)?.is_none() {
             return Err(RaceError::Memory);
         }
-        let call = step.call.duplicate(self.alloc)?;
+        let call = step.call.clone()?;
         self.call(step.caller, step.line, call)?
             .ok_or(RaceError::Memory)
     }
 
     /// Makes a step, again where it finds no memory.
     fn make(&mut self, step: &Step) -> Result<(), RaceError> {
-        let call = step.call.duplicate(self.alloc)?;
+        let call = step.call.clone()?;
         let reply = match self.call(step.caller, step.line, call)? {
             Some(reply) => reply,
             None => self.make_again(step)?,

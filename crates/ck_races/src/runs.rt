@@ -22,7 +22,7 @@ use std::thread::Threads;
 fn calls_by(alloc: Global, caller: u32, steps: &[Step]) -> Result<Vec<Call>, RaceError> {
     let mut calls = Vec::new(alloc);
     for step in steps.iter().filter(|step| step.caller == caller) {
-        calls.push(step.call.duplicate(alloc)?)?;
+        calls.push(step.call.clone()?)?;
     }
     Ok(calls)
 }

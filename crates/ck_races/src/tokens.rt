@@ -14,7 +14,7 @@ pub(crate) fn make_steps(
     steps: &[Step],
 ) -> Result<(), RaceError> {
     for step in steps {
-        let reply = token.call(alloc, step.caller, step.call.duplicate(alloc)?)?;
+        let reply = token.call(alloc, step.caller, step.call.clone()?)?;
         compare(alloc, step, &reply)?;
     }
     Ok(())

@@ -1,7 +1,7 @@
 -- How sessions, the login and PINs keep agreeing with the history
 use Rattle.std.proofs.Common.{◌≡◌, ℕ, suc, ◌+◌, Bool, true, false, not, cond, ◌||◌, ◌&&◌, List, [], ◌∷◌}
 use Rattle.std.proofs.Common.{◌++◌, Option, Some, None, refl, sym, ap, ◌∙◌, add-one, arith}
-use Rattle.std.specs.Prelude.{◌==◌, filter, length, map, is_some, unwrap_or}
+use Rattle.std.specs.Prelude.{◌==◌, filter, length, map, is_some, option_map, unwrap_or}
 use Rattle.std.proofs.Math.Bool.{and-false}
 use Rattle.std.proofs.lemmas.Bool.{eq-eqb, eqb-true, eqb-false, ne_eqb, false≢true}
 use Rattle.std.proofs.lemmas.Option.{same_Some}
@@ -16,8 +16,7 @@ use Rattle.ck_journal.specs.declared.calls.Call.TheVariants as call
 use Rattle.ck_journal.specs.declared.calls.Entry.{Entry}
 use Rattle.ck_journal.specs.Histories.{History, ◌◁◌, done, wrong_try, effects_of, effects}
 use Rattle.ck_journal.specs.Lists.{change_first}
-use Rattle.ck_journal.specs.Searches.{is_searching, matching_objects, handles_in, number_of_handle}
-use Rattle.ck_journal.specs.Searches.{last_or, last_number}
+use Rattle.ck_journal.specs.Searches.{is_searching, handles_in, number_of_handle, last_or, last_number}
 use Rattle.ck_journal.specs.Pins.{so_pin, so_pin_after, user_pin, user_pin_after, named_owner}
 use Rattle.ck_journal.specs.Pins.{pin_owner, is_initialized, initializes, about, is_about, is_user}
 use Rattle.ck_journal.specs.Pins.{resets, tries}
@@ -33,11 +32,11 @@ use Rattle.ck_journal.proofs.SessionMoves.{session_rows, openings-opened, sessio
 use Rattle.ck_journal.proofs.SessionMoves.{openings-later, session_rows-later, session_rows-changed}
 use Rattle.ck_journal.proofs.SessionMoves.{session_rows-same, open_sessions-rows, length-session_rows}
 use Rattle.ck_sessions.specs.Agreement.{SessionsState, SessionsAgree, CredentialAgrees, session_row}
-use Rattle.ck_objects.specs.declared.templates.Template.{Template}
 use Rattle.ck_sessions.proofs.Readings.{list_any-open}
 use Rattle.ck_sessions.proofs.SearchRows.{row-left, row-below, row-opened, row-other, row-logged_out}
-use Rattle.ck_sessions.proofs.SearchRows.{session_rows-started, session_rows-found, session_rows-ended}
-use Rattle.ck_sessions.specs.Rows.{SessionRow, is_session, with_search, with_last_found}
+use Rattle.ck_sessions.proofs.SearchRows.{session_rows-set, session_rows-found}
+use Rattle.ck_sessions.specs.Rows.{SessionRow, is_session, new_search, with_search, with_last_found}
+use Rattle.ck_sessions.specs.SearchCalls.{SetsSearch}
 use Rattle.ck_sessions.specs.declared.credentials.Credential.{Credential}
 
 abbrev so_pin_of : History → Option Pin
@@ -463,16 +462,14 @@ module _ (h : History) (old : SessionsState) (agree : SessionsAgree h old) (e : 
   module _ (new : SessionsState) (count : new.openings ≡ old.openings) (log : new.login ≡ old.login)
       (logs : new.logins ≡ old.logins) (so : new.so ≡ old.so)
       (us : new.user ≡ old.user) where
-    pub SessionsAgree-started : (session : ℕ) (template : Template) (found : List ℕ)
-        → done e ≡ Some (call.FindObjectsInit session template)
-        → found ≡ matching_objects h template.items
-        → new.rows ≡ change_first (is_session session) (with_search
-        (Some (record { found = found; last = 0 }))) old.rows → SessionsAgree (e ◁ h) new
-    SessionsAgree-started session template found d matching rows =
-        SessionsAgree-searched (call.FindObjectsInit session template) d refl new
-        (rows ∙ ap (change_first (is_session session) (with_search
-        (Some (record { found = found; last = 0 })))) agree.rows
-        ∙ session_rows-started e h session template found d matching) count log logs so us
+    pub SessionsAgree-set : (c : Call) (session : ℕ) (found : Option (List ℕ)) → done e ≡ Some c
+        → SetsSearch h c session found
+        → new.rows ≡ change_first (is_session session) (with_search (option_map new_search found)) old.rows
+        → SessionsAgree (e ◁ h) new
+    SessionsAgree-set c session found d sets rows =
+        SessionsAgree-searched c d sets.sessions new
+        (rows ∙ ap (change_first (is_session session) (with_search (option_map new_search found))) agree.rows
+        ∙ session_rows-set e h c session found d sets) count log logs so us
 
     pub SessionsAgree-found : (session max number : ℕ) → done e ≡ Some (call.FindObjects session max)
         → number ≡ last_or (last_number h session) (map number_of_handle (handles_in e.reply.body))
@@ -481,14 +478,6 @@ module _ (h : History) (old : SessionsState) (agree : SessionsAgree h old) (e : 
         SessionsAgree-searched (call.FindObjects session max) d refl new
         (rows ∙ ap (change_first (is_session session) (with_last_found number)) agree.rows
         ∙ session_rows-found e h session max d number last) count log logs so us
-
-    pub SessionsAgree-search_ended : (session : ℕ) → done e ≡ Some (call.FindObjectsFinal session)
-        → new.rows ≡ change_first (is_session session) (with_search None) old.rows
-        → SessionsAgree (e ◁ h) new
-    SessionsAgree-search_ended session d rows =
-        SessionsAgree-searched (call.FindObjectsFinal session) d refl new
-        (rows ∙ ap (change_first (is_session session) (with_search None)) agree.rows ∙ session_rows-ended e h
-        session d) count log logs so us
 
   -- a logout ends the login and all searches
   pub SessionsAgree-logged_out : (session : ℕ) (new : SessionsState) → done e ≡ Some (call.Logout session)

@@ -1,10 +1,9 @@
 -- How the rows of sessions move with their searches
 use Rattle.std.proofs.Common.{◌≡◌, ℕ, suc, ◌≤◌, Bool, true, false, cond, not, ◌&&◌, List, [], ◌++◌}
 use Rattle.std.proofs.Common.{length, take, drop, Option, Some, None, refl, sym, ap, ◌∙◌, subst, arith}
-use Rattle.std.specs.Prelude.{◌==◌, map, option_map}
+use Rattle.std.specs.Prelude.{◌==◌, map, option_map, is_some, is_none}
 use Rattle.std.proofs.lemmas.Bool.{eqb-true, eqb-false, eq-eqb, ne_eqb, and_parts, not-true}
 use Rattle.std.proofs.lemmas.List.{append-nil, length-map, take_all, drop_all}
-use Rattle.ck_objects.specs.declared.templates.Template.{Template}
 use Rattle.ck_journal.specs.declared.calls.Call.{Call}
 use Rattle.ck_journal.specs.declared.calls.Call.TheVariants as call
 use Rattle.ck_journal.specs.declared.calls.Entry.{Entry}
@@ -15,12 +14,15 @@ use Rattle.ck_journal.specs.Searches.{matching_objects, search_template, found_o
 use Rattle.ck_journal.specs.Searches.{number_of_handle, handles_in, last_or, last_number}
 use Rattle.ck_journal.specs.Sessions.{opens, openings, closes, is_open, flags_of}
 use Rattle.ck_journal.proofs.Changes.{selected-replaced}
+use Rattle.ck_journal.proofs.LoginMoves.{opens-left, closes-left}
 use Rattle.ck_journal.proofs.SearchMoves.{is_searching-left, found_objects-left, last_number-left}
 use Rattle.ck_journal.proofs.SearchMoves.{matching_objects-left}
 use Rattle.ck_journal.proofs.SessionMoves.{session_rows, session_rows-changed, flags_of-below}
 use Rattle.ck_journal.proofs.SessionMoves.{flags_of-opened, flags_of-later}
 use Rattle.ck_sessions.specs.Agreement.{search_of, session_row}
-use Rattle.ck_sessions.specs.Rows.{Search, SessionRow, is_session, with_search, with_last, with_last_found}
+use Rattle.ck_sessions.specs.Rows.{Search, SessionRow, is_session, new_search, with_search, with_last}
+use Rattle.ck_sessions.specs.Rows.{with_last_found}
+use Rattle.ck_sessions.specs.SearchCalls.{SetsSearch}
 
 -- ---- one session's search after an entry
 
@@ -99,8 +101,8 @@ module _ (e : Entry) (h : History) where
 
   -- ---- the rows after a call about the search of one session
 
-  module _ (c : Call) (d : done e ≡ Some c) (o : opens (Some c) ≡ false)
-      (cl : (s : ℕ) → closes (Some c) s ≡ false) (session : ℕ) (change : SessionRow → SessionRow)
+  module _ (o : opens (done e) ≡ false) (cl : (s : ℕ) → closes (done e) s ≡ false) (session : ℕ)
+      (change : SessionRow → SessionRow)
       (here : (k : ℕ) → session == k ≡ true → session_row (e ◁ h) k ≡ change (session_row h k))
       (there : (k : ℕ) → session == k ≡ false → session_row (e ◁ h) k ≡ session_row h k) where
     pub session_rows-searched : change_first (is_session session) change (session_rows session_row h) ≡
@@ -109,38 +111,50 @@ module _ (e : Entry) (h : History) where
         selected-replaced (is_session session) change (is_open h) (session_row h) (session_row (e ◁ h)) (openings h)
         (λ j k bj bk nj nk. eqb-true j session nj ∙ sym (eqb-true k session nk))
         (λ k b is n. here k (same_number k session true n)) (λ k b n. there k (same_number k session false n))
-        ∙ sym (session_rows-changed e h (ap opens d ∙ o) session_row (λ s. ap (λ x. closes x s) d ∙ cl s))
+        ∙ sym (session_rows-changed e h o session_row cl)
 
-  -- ---- a search starts
+  -- ---- a search starts, or ends
 
-  module _ (session : ℕ) (template : Template) (found : List ℕ)
-      (d : done e ≡ Some (call.FindObjectsInit session template)) where
-    started-here : found ≡ matching_objects (e ◁ h) template.items → (k : ℕ) → session == k ≡ true
-        → session_row (e ◁ h) k ≡ with_search (Some (record { found = found; last = 0 })) (session_row h k)
-    started-here matching k same =
-        row-moved k (Some (record { found = found; last = 0 })) (ap opens d)
-        (search_of-step k (Some (call.FindObjectsInit session template)) d
-        ∙ ap (λ t. active_search (cond t true (is_searching h k))
-        (cond t (matching_objects (e ◁ h) template.items) (found_objects h k))
-        (cond t 0 (last_number h k))) same
-        ∙ ap (λ f. active_search true f 0) (sym matching))
+  module _ (c : Call) (session : ℕ) (found : Option (List ℕ)) (d : done e ≡ Some c)
+      (sets : SetsSearch h c session found) where
+    o : opens (done e) ≡ false
+    o = opens-left (done e) (ap (λ o. (effects_of o).sessions) d ∙ sets.sessions)
 
-    started-there : (k : ℕ) → session == k ≡ false → session_row (e ◁ h) k ≡ session_row h k
-    started-there k other =
-        row-moved k (search_of h k) (ap opens d)
-        (search_of-step k (Some (call.FindObjectsInit session template)) d
-        ∙ ap (λ t. active_search (cond t true (is_searching h k))
-        (cond t (matching_objects (e ◁ h) template.items) (found_objects h k))
-        (cond t 0 (last_number h k))) other)
+    abbrev matching : List ℕ
+    matching = matching_objects (e ◁ h) (search_template (Some c))
 
-    pub session_rows-started : found ≡ matching_objects h template.items
-        → change_first (is_session session) (with_search (Some (record { found = found; last = 0 })))
+    -- by whether it is this session's search, and the search before
+    set_step : (f : Option (List ℕ)) → ((numbers : List ℕ) → f ≡ Some numbers → numbers ≡ matching)
+        → (t active : Bool) (before : List ℕ) (last : ℕ)
+        → active_search (cond (is_some f && t) true (cond (is_none f && t) false active))
+        (cond (is_some f && t) matching before) (cond (is_some f && t) 0 last) ≡ cond t
+        (option_map new_search f) (active_search active before last)
+    set_step None finds true active before last = refl
+    set_step None finds false active before last = refl
+    set_step (Some numbers) finds true active before last =
+        ap (λ ns. Some (new_search ns)) (sym (finds numbers refl))
+    set_step (Some numbers) finds false active before last = refl
+
+    finds : (numbers : List ℕ) → found ≡ Some numbers → numbers ≡ matching
+    finds numbers is =
+        sets.finds numbers is
+        ∙ sym (matching_objects-left e h (ap (λ o. (effects_of o).objects) d ∙ sets.objects)
+        (ap (λ o. (effects_of o).sessions) d ∙ sets.sessions) (search_template (Some c)))
+
+    search_of-set : (k : ℕ) (t : Bool) → session == k ≡ t
+        → search_of (e ◁ h) k ≡ cond t (option_map new_search found) (search_of h k)
+    search_of-set k t same =
+        search_of-step k (Some c) d
+        ∙ rw (sets.starts k, sets.ends k, sets.asks k, same)
+        (set_step found finds t (is_searching h k) (found_objects h k) (last_number h k))
+
+    pub session_rows-set : change_first (is_session session) (with_search (option_map new_search found))
         (session_rows session_row h) ≡ session_rows session_row (e ◁ h)
-    session_rows-started matching =
-        session_rows-searched (call.FindObjectsInit session template) d refl (λ s. refl) session
-        (with_search (Some (record { found = found; last = 0 })))
-        (started-here (matching ∙ sym (matching_objects-left e h (ap (λ o. (effects_of o).objects) d)
-        (ap (λ o. (effects_of o).sessions) d) template.items))) started-there
+    session_rows-set =
+        session_rows-searched o (λ s. closes-left (done e) s (ap (λ o. (effects_of o).sessions) d ∙ sets.sessions))
+        session (with_search (option_map new_search found))
+        (λ k same. row-moved k (option_map new_search found) o (search_of-set k true same))
+        (λ k other. row-moved k (search_of h k) o (search_of-set k false other))
 
   -- ---- a search returns objects
 
@@ -179,30 +193,8 @@ module _ (e : Entry) (h : History) where
         → change_first (is_session session) (with_last_found n) (session_rows session_row h) ≡ session_rows
         session_row (e ◁ h)
     session_rows-found n last =
-        session_rows-searched (call.FindObjects session max) d refl (λ s. refl) session (with_last_found n)
+        session_rows-searched (ap opens d) (λ s. ap (λ x. closes x s) d) session (with_last_found n)
         (found-here n last) found-there
-
-  -- ---- a search ends
-
-  module _ (session : ℕ) (d : done e ≡ Some (call.FindObjectsFinal session)) where
-    ended_step : (k : ℕ) (t : Bool) → session == k ≡ t → search_of (e ◁ h) k ≡ cond t None (search_of h k)
-    ended_step k t same =
-        search_of-step k (Some (call.FindObjectsFinal session)) d
-        ∙ ap (λ t. active_search (cond t false (is_searching h k)) (found_objects h k) (last_number h k)) same
-        ∙ ended_case t
-      where
-        ended_case : (t : Bool)
-            → active_search (cond t false (is_searching h k)) (found_objects h k) (last_number h k) ≡ cond t
-            None (search_of h k)
-        ended_case true = refl
-        ended_case false = refl
-
-    pub session_rows-ended : change_first (is_session session) (with_search None) (session_rows session_row h)
-        ≡ session_rows session_row (e ◁ h)
-    session_rows-ended =
-        session_rows-searched (call.FindObjectsFinal session) d refl (λ s. refl) session (with_search None)
-        (λ k same. row-moved k None (ap opens d) (ended_step k true same))
-        (λ k other. row-moved k (search_of h k) (ap opens d) (ended_step k false other))
 
 -- all rows written over
 pub written_over : (change : SessionRow → SessionRow) (n : ℕ) (new old items : List SessionRow) → new ≡ map change old

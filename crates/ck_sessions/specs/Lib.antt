@@ -4,3 +4,4 @@ pub use Rattle.ck_journal.specs.Sessions
 pub use Rattle.ck_types.specs.Users
 pub mod Agreement
 pub mod Rows
+pub mod SearchCalls

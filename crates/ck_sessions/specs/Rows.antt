@@ -9,6 +9,10 @@ pub record Search : Type 0 where
   pub found : List ℕ
   pub last : ℕ
 
+-- a search that found the objects of these numbers, and has returned none
+abbrev pub new_search : List ℕ → Search
+new_search found = record { found = found; last = 0 }
+
 -- a session: its handle, the flags that it was opened with, and its search, where one is active
 pub record SessionRow : Type 0 where
   pub handle : ℕ

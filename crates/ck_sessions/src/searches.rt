@@ -1,14 +1,15 @@
 ghost use Rattle.std.specs.Prelude.{◌≡◌, filter, nat_lt};
 ghost use Rattle.std.specs.List.Sorted.{IsNonDecreasingBy};
-ghost use Rattle.ck_sessions.specs.Rows.{with_last};
+ghost use Rattle.ck_sessions.specs.Rows.{new_search, with_last};
 
+use ck_types::Sequence;
 use std::marker::Model;
 
 /// An active search for objects (PKCS #11 Base 3.0, Object management functions).
 #[derive(Debug, Drop)]
 pub(crate) struct Search {
     /// The numbers of the objects that it found when it started, rising.
-    found: Vec<u64>,
+    found: Sequence<u64>,
     /// The number of the object that it returned last, 0 where none.
     last: u64,
 }
@@ -18,13 +19,13 @@ impl Model for Search {
 
     ghost Value = { Search };
 
-    ghost view = { λ s. record { found = s.found.items; last = s.last } };
+    ghost view = { λ s. record { found = s.found; last = s.last } };
 }
 
 impl Search {
     /// A search that found the objects of these numbers.
-    pub(crate) fn new(found: Vec<u64>) -> Search
-        ensures { result ≡ record { found = found.items; last = 0 } }
+    pub(crate) fn new(found: Sequence<u64>) -> Search
+        ensures { result ≡ new_search found }
     {
         Search { found, last: 0 }
     }

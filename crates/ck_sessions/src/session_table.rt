@@ -49,7 +49,6 @@ impl Sessions {
     ghost use Rattle.ck_types.specs.TokenLimits.{Ranges};
     ghost use Rattle.ck_types.specs.Users.{user_of};
     ghost use Rattle.ck_types.specs.declared.pins.Pin.{Pin};
-    ghost use Rattle.ck_objects.specs.declared.templates.Template.{Template};
     ghost use Rattle.ck_types.specs.declared.users.UserType.TheVariants as user;
     ghost use Rattle.ck_journal.specs.Bases.{empty_base, IsSound};
     ghost use Rattle.ck_journal.specs.Boards.{board_of, login_status};
@@ -57,11 +56,13 @@ impl Sessions {
     ghost use Rattle.ck_journal.specs.Histories.{History, start, ◌◁◌, done, wrong_try};
     ghost use Rattle.ck_journal.specs.Objects.{creations};
     ghost use Rattle.ck_journal.specs.Pins.{is_initialized, present_pin, tries, pin_owner, about};
-    ghost use Rattle.ck_journal.specs.Searches.{is_searching, matching_objects, number_of_handle, handles_in, last_or, last_number};
+    ghost use Rattle.ck_journal.specs.Searches.{is_searching, number_of_handle, handles_in, last_or, last_number};
     ghost use Rattle.ck_journal.specs.Sessions.{openings, is_open, open_sessions, is_read_write, rw_sessions, login, user_logins, state_of};
+    ghost use Rattle.ck_journal.specs.declared.calls.Call.{Call};
     ghost use Rattle.ck_journal.specs.declared.calls.Call.TheVariants as call;
     ghost use Rattle.ck_journal.specs.declared.calls.Entry.{Entry};
     ghost use Rattle.ck_sessions.specs.Agreement.{SessionsAgree, credential_of, session_at};
+    ghost use Rattle.ck_sessions.specs.SearchCalls.{SetsSearch};
 
     /// The sessions of a new token: none, and no PINs. It takes no memory.
     pub fn new(alloc: Global) -> Sessions
@@ -322,14 +323,13 @@ impl Sessions {
         end_searches(self.rows.as_mut_slice());
     }
 
-    /// Starts a search that found the objects of these numbers.
-    pub fn start_search(&mut self, session: u64, found: Vec<u64>)
-        ensures agree { (h : History) (e : Entry) (template : Template)
-            → done e ≡ Some (call.FindObjectsInit session template)
-            → found.items ≡ matching_objects h template.items
+    /// Sets the session's search: to a new one, which found the objects of these numbers, or to none.
+    pub fn set_search(&mut self, session: u64, found: Option<Sequence<u64>>)
+        ensures agree { (h : History) (e : Entry) (c : Call) → done e ≡ Some c
+            → SetsSearch h c session found
             → SessionsAgree h self.old → SessionsAgree (e ◁ h) self.new }
     {
-        set_search(&mut self.rows, session, Some(Search::new(found)));
+        set_search(&mut self.rows, session, found.map(Search::new));
     }
 
     /// Notes the number of the object that the session's search returned last.
@@ -341,14 +341,6 @@ impl Sessions {
             → SessionsAgree h self.old → SessionsAgree (e ◁ h) self.new }
     {
         set_last_found(&mut self.rows, session, number);
-    }
-
-    /// Ends the session's search.
-    pub fn end_search(&mut self, session: u64)
-        ensures agree { (h : History) (e : Entry) → done e ≡ Some (call.FindObjectsFinal session)
-            → SessionsAgree h self.old → SessionsAgree (e ◁ h) self.new }
-    {
-        set_search(&mut self.rows, session, None);
     }
 
     /// Counts a wrong try of a user's PIN.

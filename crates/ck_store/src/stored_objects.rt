@@ -156,7 +156,7 @@ impl StoredObject {
     pub(crate) fn kept(&self, alloc: Global) -> Result<KeptObject, NoMemory>
         ensures { IfOk result (λ kept. kept ≡ kept_of self.now) }
     {
-        let attributes = self.attributes.duplicate(alloc)?;
+        let attributes = self.attributes.clone()?;
         Ok(KeptObject {
             number: self.number,
             attributes,

@@ -96,7 +96,7 @@ impl Store {
     {
         let mut store = Store::new(alloc);
         for object in base.objects.as_slice() {
-            let attributes = object.attributes.duplicate(alloc)?;
+            let attributes = object.attributes.clone()?;
             store.reserve()?;
             store.add(object.number, 0, attributes);
         }

@@ -1,4 +1,4 @@
-use ck_objects::{AttributeValue, Item, Record, Refusal, Template};
+use ck_objects::{AttributeValue, Item, Record, Template};
 use ck_types::{Limits, NoMemory, Rv, RvError, Sequence};
 use std::alloc::Global;
 use std::process::Abort;
@@ -35,35 +35,40 @@ fn check_value(
 }
 
 /// An object that is created with these items.
-fn created(alloc: Global, items: &[(u64, &[u8])]) -> Result<Record, Refusal> {
+fn created(alloc: Global, items: &[(u64, &[u8])]) -> Result<Record, Fail> {
     let template = template_of(alloc, items)?;
-    Record::created(alloc, &template)
+    template.check_creation()?;
+    Ok(Record::create_with(alloc, &template)?)
 }
 
 /// A copy of the object with these items.
-fn copied(alloc: Global, object: &Record, items: &[(u64, &[u8])]) -> Result<Record, Refusal> {
+fn copied(alloc: Global, object: &Record, items: &[(u64, &[u8])]) -> Result<Record, Fail> {
     let template = template_of(alloc, items)?;
-    object.copied(alloc, &template)
+    object.check_copy(&template)?;
+    Ok(object.copy_with(alloc, &template)?)
 }
 
-/// A change of the object with these items.
-fn changed(alloc: Global, object: &Record, items: &[(u64, &[u8])]) -> Result<Record, Refusal> {
+/// A copy of the object that is changed by these items.
+fn changed(alloc: Global, object: &Record, items: &[(u64, &[u8])]) -> Result<Record, Fail> {
     let template = template_of(alloc, items)?;
-    object.changed(alloc, &template)
+    object.check_change(&template)?;
+    let mut changed = object.clone()?;
+    changed.change(template);
+    Ok(changed)
 }
 
 /// What was made has this label.
 fn check_label(
     rt: &impl Abort,
     alloc: Global,
-    made: Result<Record, Refusal>,
+    made: Result<Record, Fail>,
     label: &[u8],
-) -> Result<(), Refusal> {
+) -> Result<(), Fail> {
     Ok(check_value(rt, alloc, &made?, LABEL, label)?)
 }
 
 /// A copy and a change of the object have another label, and it keeps its own.
-fn check_labels(rt: &impl Abort, alloc: Global, object: &Record) -> Result<(), Refusal> {
+fn check_labels(rt: &impl Abort, alloc: Global, object: &Record) -> Result<(), Fail> {
     let label: &[(u64, &[u8])] = &[(LABEL, b"b")];
     check_label(rt, alloc, copied(alloc, object, label), b"b")?;
     check_label(rt, alloc, changed(alloc, object, label), b"b")?;
@@ -78,7 +83,7 @@ fn check_bytes(
     bytes: &[u8],
 ) -> Result<(), NoMemory> {
     assert!(rt; value.as_slice() == bytes);
-    assert!(rt; value.duplicate(alloc)?.as_slice() == bytes);
+    assert!(rt; value.clone()?.as_slice() == bytes);
     Ok(())
 }
 
@@ -102,14 +107,15 @@ fn attribute_values(rt: HostRuntime) -> Result<(), Fail> {
 #[test]
 fn data_objects(rt: HostRuntime) -> Result<(), Fail> {
     let object = created(rt.alloc(), &[(0, &[0; 8]), (LABEL, b"a")])?;
-    Ok(check_labels(&rt, rt.alloc(), &object)?)
+    check_labels(&rt, rt.alloc(), &object)
 }
 
 /// A key of these bytes, which are three.
-fn generated(alloc: Global, bytes: &[u8]) -> Result<Record, Refusal> {
+fn generated(alloc: Global, bytes: &[u8]) -> Result<Record, Fail> {
     let length: &[u8] = &[3, 0, 0, 0, 0, 0, 0, 0];
     let template = template_of(alloc, &[(VALUE_LEN, length)])?;
-    Record::generated(alloc, &template, bytes)
+    template.check_generation(bytes)?;
+    Ok(Record::generate_with(alloc, &template, bytes)?)
 }
 
 #[test]
@@ -135,8 +141,8 @@ fn many_items(rt: HostRuntime) -> Result<(), Fail> {
     add_items(rt.alloc(), &mut items, 0x3)?;
     add_items(rt.alloc(), &mut items, 0x12)?;
     let items = Sequence::from_vec(items);
-    let refused = Record::created(rt.alloc(), &Template { items }).err();
-    assert!(rt; refused == Some(Refusal::Code(RvError::TemplateIncomplete)));
+    let refused = Template { items }.check_creation();
+    assert!(rt; refused == Err(RvError::TemplateIncomplete));
     Ok(())
 }
 

@@ -3,6 +3,7 @@ ghost use Rattle.std.specs.Prelude.{◌≡◌};
 use ck_journal::Body;
 use ck_parts::Change;
 use ck_types::{NoMemory, Rv, RvError};
+use std::alloc::AllocError;
 
 /// The reply to a call, and what the call changes. The reply is here in its two parts: a `Reply` is
 /// made once, at the end, since its padding moves with it.
@@ -44,6 +45,17 @@ impl From<NoMemory> for Refused {
 
     #[inline(always)]
     fn from(_error: NoMemory) -> Refused {
+        Refused::Memory
+    }
+}
+
+impl From<AllocError> for Refused {
+    ghost use Rattle.ck_token.specs.declared.decisions.Refused.TheVariants as refused;
+
+    ghost from_gives = { λ _ made. made ≡ refused.Memory };
+
+    #[inline(always)]
+    fn from(_error: AllocError) -> Refused {
         Refused::Memory
     }
 }

@@ -89,7 +89,7 @@ fn prepare(
     ensures succeeds { 0 < journal.old.spare → has_list body.now ≡ false
         → adds change.now ≡ false → IsOk result }
 {
-    let entered = body.duplicate(alloc)?;
+    let entered = body.clone()?;
     parts.reserve(change)?;
     journal.reserve(1)?;
     Ok(entered)

@@ -1,15 +1,13 @@
-ghost use Rattle.std.specs.Prelude.{◌≡◌, IfOk};
+ghost use Rattle.std.specs.Prelude.{◌≡◌};
 ghost use Rattle.ck_types.specs.Mechanisms.{digest_hash, hmac_hash, is_key_generator};
 ghost use Rattle.ck_types.specs.Mechanisms.{given_tag_length, algorithm_of, mechanism_types};
 
 use crate::hashes::Hash;
-use crate::memory::NoMemory;
 use crate::numbers::number_of;
 use crate::sequences::Bytes;
-use std::alloc::Global;
 
 /// A mechanism with its parameter (CK_MECHANISM; PKCS #11 Base 3.0, General data types).
-#[derive(Debug, Drop)]
+#[derive(Clone, Debug, Drop)]
 pub struct Mechanism {
     /// The mechanism's type (CK_MECHANISM_TYPE), known to the token or not.
     pub kind: u64,
@@ -19,17 +17,6 @@ pub struct Mechanism {
 
 impl Mechanism {
     ghost use Rattle.ck_types.specs.Mechanisms.{tag_length};
-
-    /// A copy of the mechanism and its parameter.
-    pub fn duplicate(&self, alloc: Global) -> Result<Mechanism, NoMemory>
-        ensures { IfOk result (λ copy. copy ≡ self.now) }
-    {
-        let parameter = Bytes::from_slice(alloc, self.parameter.as_slice())?;
-        Ok(Mechanism {
-            kind: self.kind,
-            parameter,
-        })
-    }
 
     /// The length in bytes of the tag that the mechanism signs with, or `None` where it doesn't
     /// sign or can't have the parameter. A whole HMAC has no parameter; one of a given length has

@@ -1,5 +1,5 @@
 use crate::memory::NoMemory;
-use std::alloc::Global;
+use std::alloc::{AllocError, Global};
 use std::marker::Model;
 
 /// A list of values in a field. Contracts see it as its items, so two of them are equal where their
@@ -15,6 +15,17 @@ impl<T> Model for Sequence<T> {
     ghost Value = { List T };
 
     ghost view = { λ s. s.items.items };
+}
+
+impl<T: Clone> Clone for Sequence<T> {
+    ghost use Rattle.std.specs.List.{AllZip};
+
+    ghost is_clone = { λ s copy. AllZip T.is_clone s copy };
+
+    fn clone(&self) -> Result<Sequence<T>, AllocError> {
+        let items = self.items.clone()?;
+        Ok(Sequence { items })
+    }
 }
 
 /// Bytes, such as a message or a signature.

@@ -222,7 +222,7 @@ impl Token {
         self.check_writable(row, present.placement())?;
         check_flag(present, Attribute::Modifiable)?;
         present.check_change(template)?;
-        let values = template.duplicate(alloc)?;
+        let values = template.clone()?;
         Ok(Decision::of_change(Change::SetAttributes { number, values }))
     }
 

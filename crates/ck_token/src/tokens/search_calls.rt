@@ -25,10 +25,8 @@ impl Token {
         let row = self.session(session)?;
         error_if(row.is_searching(), RvError::OperationActive)?;
         let found = self.parts.objects.find(alloc, self.view(), template)?;
-        Ok(Decision::of_change(Change::StartSearch {
-            session,
-            found: Sequence::from_vec(found),
-        }))
+        let found = Some(Sequence::from_vec(found));
+        Ok(Decision::of_change(Change::SetSearch { session, found }))
     }
 
     pub(super) fn find_objects(
@@ -88,6 +86,7 @@ impl Token {
     {
         let row = self.session(session)?;
         error_if(!row.is_searching(), RvError::OperationNotInitialized)?;
-        Ok(Decision::of_change(Change::EndSearch { session }))
+        let found = None;
+        Ok(Decision::of_change(Change::SetSearch { session, found }))
     }
 }

@@ -11,7 +11,7 @@ set-requires-clause-class c =
     let items = c.args.template.now.items in
     let source = c.args.self.now in
     let same : source ≡ data_items c.in-Data.data =
-    sym c.in_ok-copy.ensures ∙ sym c.copy.view_is ∙ ap object_items c.in-Data.is in
+    sym c.in_ok-copy.ensures.cases ∙ sym c.copy.view_is ∙ ap object_items c.in-Data.is in
     rw (c.as_mut_slice.ensures.value, c.in_ok-values.ensures, c.as_slice.ensures)
     (data-copy source items c.in-Data.data same
     (copy-passes (class_of source) (protections_of source) items c.requires).1)
@@ -22,7 +22,7 @@ set-requires-in-Key-clause-keeps c =
     let items = c.args.template.now.items in
     let source = c.args.self.now in
     let same : source ≡ key_items c.in-Key.key =
-    sym c.in_ok-copy.ensures ∙ sym c.copy.view_is ∙ ap object_items c.in-Key.is in
+    sym c.in_ok-copy.ensures.cases ∙ sym c.copy.view_is ∙ ap object_items c.in-Key.is in
     let passes = copy-passes (class_of source) (protections_of source) items c.requires in
     rw (c.as_mut_slice-in-Key.ensures.value, c.in_ok-values.ensures, c.as_slice.ensures)
     (copy-keeps items c.in-Key.key passes.0 (rw same at passes.1))

@@ -17,10 +17,10 @@ use Rattle.ck_parts.proofs.OperationMoves.{logged-out, cancelled, does-start, do
 use Rattle.ck_parts.proofs.OperationMoves.{finish-does, nothing-stays, tried-stays, done-ok}
 use Rattle.ck_parts.proofs.Inversions.{done-of_call, of-InitPin, of-SetPin, of-LogIn, of-LogOut}
 use Rattle.ck_parts.proofs.Inversions.{of-CreateObject, of-SetAttributes, of-SetKeyState, of-DestroyObject}
-use Rattle.ck_parts.proofs.Inversions.{of-StartSearch, of-AdvanceSearch, of-StartDigest, of-StartHmac}
+use Rattle.ck_parts.proofs.Inversions.{of-SetSearch, of-AdvanceSearch, of-StartDigest, of-StartHmac}
 use Rattle.ck_parts.proofs.Inversions.{of-AddPiece, of-CancelOperations}
 use Rattle.ck_parts.proofs.Inversions.{called-InitToken, called-OpenSession, called-CloseSession}
-use Rattle.ck_parts.proofs.Inversions.{called-CloseAllSessions, called-EndSearch}
+use Rattle.ck_parts.proofs.Inversions.{called-CloseAllSessions}
 use Rattle.ck_parts.proofs.PartMoves.{sessions-kept, objects-kept, sessions-created, sessions-unchanged}
 use Rattle.ck_parts.proofs.PartMoves.{objects-unchanged, tried, objects-tried, login-passed, change-passed}
 use Rattle.ck_parts.proofs.PartMoves.{destruction-passed, state-passed, digest-passed, hmac-passed}
@@ -213,17 +213,17 @@ returns-in-DestroyObject c = record {
       };
 }
 
-pub returns-in-StartSearch : goal.returns-in-StartSearch
-returns-in-StartSearch c = record {
+pub returns-in-SetSearch : goal.returns-in-SetSearch
+returns-in-SetSearch c = record {
   agree = λ limits h e legal is called agree.
-      let made = done-of_call h e (change.StartSearch c.in-StartSearch.session c.in-StartSearch.found)
-      (sym c.in-StartSearch.is ∙ is) refl in
-      let of = of-StartSearch h e.reply.body e.call c.in-StartSearch.session c.in-StartSearch.found made.1 in
-      let d = made.0 ∙ ap Some of.1 in
+      let session = c.in-SetSearch.session in
+      let found = c.in-SetSearch.found in
+      let made = done-of_call h e (change.SetSearch session found) (sym c.in-SetSearch.is ∙ is) refl in
+      let sets = of-SetSearch h e.reply.body e.call session found made.1 in
       record {
-        sessions = c.start_search.ensures.agree h e of.0 d (c.into_vec.ensures ∙ of.2) agree.sessions;
-        objects = objects-kept h e _ d _ refl agree.objects;
-        operations = operations-kept e _ d h _ refl refl agree.operations;
+        sessions = c.set_search.ensures.agree h e e.call made.0 sets agree.sessions;
+        objects = objects-kept h e e.call made.0 _ sets.objects agree.objects;
+        operations = operations-kept e e.call made.0 h _ sets.operations sets.step agree.operations;
       };
 }
 
@@ -236,17 +236,6 @@ returns-in-AdvanceSearch c = record {
       let d = made.0 ∙ ap Some of.1 in
       record {
         sessions = c.advance_search.ensures.agree h e of.0 d of.2 agree.sessions;
-        objects = objects-kept h e _ d _ refl agree.objects;
-        operations = operations-kept e _ d h _ refl refl agree.operations;
-      };
-}
-
-pub returns-in-EndSearch : goal.returns-in-EndSearch
-returns-in-EndSearch c = record {
-  agree = λ limits h e legal is called agree.
-      let d = called-EndSearch h e c.in-EndSearch.session (sym c.in-EndSearch.is ∙ is) in
-      record {
-        sessions = c.end_search.ensures.agree h e d agree.sessions;
         objects = objects-kept h e _ d _ refl agree.objects;
         operations = operations-kept e _ d h _ refl refl agree.operations;
       };

@@ -12,8 +12,8 @@ returns c = rw (← c.self.view_is) (λ rises.
     let place = c.partition_point-place.result in
     let parted =
     IsPartitionPoint-from_clause (λ n. nat_le n last) found place c.partition_point-place.ensures.partitioned
-    (IsPartitionedBy-leb (λ n. n) found last (rw (← c.as_slice-found.ensures.value) at rises))
+    (IsPartitionedBy-leb (λ n. n) found last (rw (← c.as_slice-found.ensures) at rises))
     (λ a r q k. search rules) in
     let all = length-drop place found in
     take_all _ (drop place found) (omega arith) ∙ drop-filter last found place parted ∙ ap
-    (filter (λ n. nat_lt last n)) c.as_slice-found.ensures.value)
+    (filter (λ n. nat_lt last n)) c.as_slice-found.ensures)

@@ -1,5 +1,4 @@
-use Rattle.std.proofs.Common.{◌≡◌, ◌++◌, List, map, sym, ap, ◌∙◌}
-use Rattle.ck_sessions.specs.Rows.{SessionRow}
+use Rattle.std.proofs.Common.{◌≡◌, ap, ◌∙◌}
 use Rattle.ck_sessions.proofs.Readings.{with_rows, board-agrees}
 use Rattle.ck_sessions.proofs.session_table.Sessions.board.Goals as goal
 

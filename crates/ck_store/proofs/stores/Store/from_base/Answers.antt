@@ -22,7 +22,7 @@ loop-object-preserved c =
           ∙ ap (λ rows. rows ++ object_row object.number 0 c.in_ok-attributes.attributes ∷ [])
           c.in_ok-reserve.ensures.rows
           ∙ ap (λ attributes. c.loop-object.store.rows ++ object_row object.number 0 attributes ∷ [])
-          c.in_ok-attributes.ensures
+          c.in_ok-attributes.ensures.cases
           ∙ ap (λ kept. c.loop-object.store.rows ++ kept_row kept ∷ []) is)
           (c.add.ensures.creations ∙ ap (λ (kept : KeptObject). kept.number) is);
     }
