@@ -6,18 +6,19 @@ use crate::object_flags::Placement;
 use ck_types::NoMemory;
 use std::alloc::Global;
 
-/// A data object (PKCS #11 Base 3.0, Data objects). Its class is no field.
+/// A data object (PKCS #11 Base 3.0, Data objects). Its class is no field. What most calls read
+/// stands first, so that they reach for little memory among many objects.
 #[derive(Clone, Debug, Drop)]
 pub(crate) struct Data {
     token: bool,
     private: bool,
+    modifiable: bool,
+    copyable: bool,
+    destroyable: bool,
     label: AttributeValue,
     application: AttributeValue,
     pub(crate) value: AttributeValue,
     object_id: AttributeValue,
-    modifiable: bool,
-    copyable: bool,
-    destroyable: bool,
 }
 
 impl Data {

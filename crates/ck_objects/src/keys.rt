@@ -19,15 +19,21 @@ pub(crate) struct Origin {
 }
 
 /// A generic secret key (PKCS #11 Current Mechanisms 3.0, Generic secret key objects). Its class,
-/// its key type and the length of its value are no fields.
+/// its key type and the length of its value are no fields. What most calls read stands first, as in
+/// a data object.
 #[derive(Clone, Debug, Drop)]
 pub(crate) struct Key {
     pub(crate) token: bool,
     pub(crate) private: bool,
+    pub(crate) modifiable: bool,
+    pub(crate) copyable: bool,
+    pub(crate) destroyable: bool,
+    pub(crate) sensitive: bool,
+    pub(crate) extractable: bool,
+    pub(crate) state: KeyState,
     pub(crate) label: AttributeValue,
     pub(crate) value: AttributeValue,
     pub(crate) id: AttributeValue,
-    pub(crate) sensitive: bool,
     pub(crate) encrypt: bool,
     pub(crate) decrypt: bool,
     pub(crate) wrap: bool,
@@ -35,12 +41,7 @@ pub(crate) struct Key {
     pub(crate) sign: bool,
     pub(crate) verify: bool,
     pub(crate) derive: bool,
-    pub(crate) extractable: bool,
     pub(crate) origin: Origin,
-    pub(crate) modifiable: bool,
-    pub(crate) copyable: bool,
-    pub(crate) destroyable: bool,
-    pub(crate) state: KeyState,
 }
 
 impl Key {

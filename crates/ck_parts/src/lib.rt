@@ -2,6 +2,7 @@
 //! objects and its operations, which stay what the journal says.
 #![tactic(auto)]
 
+mod additions;
 mod boxed;
 mod changes;
 mod parts;

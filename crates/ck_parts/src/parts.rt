@@ -1,6 +1,6 @@
+use crate::additions::{create_object, start_digest, start_hmac};
 use crate::changes::Change;
-use ck_journal::{Base, Call, OperationKind};
-use ck_mac::{Mac, Running, RunningTag};
+use ck_journal::{Base, Call};
 use ck_operations::Operations;
 use ck_sessions::Sessions;
 use ck_store::Store;
@@ -17,13 +17,11 @@ pub struct Parts {
 }
 
 impl Parts {
-    ghost use Rattle.std.specs.Prelude.{◌≡◌, [], IfOk, IsOk, OnOk, false, unwrap_or};
-    ghost use Rattle.ck_objects.specs.Records.{key_value};
+    ghost use Rattle.std.specs.Prelude.{◌≡◌, IfOk, IsOk, OnOk, false};
     ghost use Rattle.ck_types.specs.TokenLimits.{Ranges};
     ghost use Rattle.ck_journal.specs.Answers.{IsLegal};
     ghost use Rattle.ck_journal.specs.Bases.{empty_base, IsSound};
     ghost use Rattle.ck_journal.specs.Histories.{History, start, ◌◁◌};
-    ghost use Rattle.ck_journal.specs.Objects.{object_at};
     ghost use Rattle.ck_journal.specs.declared.calls.Entry.{Entry};
     ghost use Rattle.ck_parts.specs.Agreement.{PartsAgree, adds, HasRoom, IsCounted};
     ghost use Rattle.ck_parts.specs.Changes.{effect};
@@ -66,17 +64,6 @@ impl Parts {
         }
     }
 
-    /// The bytes of the key of this number; none where there is no such object.
-    fn key_value(&self, number: u64) -> &[u8]
-        ensures { (h : History) → PartsAgree h self.now
-            → result.now ≡ key_value (unwrap_or (object_at h number) []) }
-    {
-        match self.objects.at(number) {
-            None => &[],
-            Some(attributes) => attributes.value_bytes(),
-        }
-    }
-
     /// Carries out the change of an answered call, and takes no memory.
     pub fn apply(&mut self, change: Change, call: &Call)
         requires room { HasRoom self.old change }
@@ -114,7 +101,7 @@ impl Parts {
             Change::CreateObject {
                 session,
                 attributes,
-            } => self.objects.create(session, attributes.into_inner()),
+            } => create_object(&mut self.objects, session, attributes),
             Change::SetAttributes { number, values } => self.objects.change(number, values),
             Change::SetKeyState { number, state } => self.objects.set_state(number, state),
             Change::DestroyObject { number } => self.objects.destroy(number),
@@ -123,9 +110,7 @@ impl Parts {
                 self.sessions.advance_search(session, number)
             }
             Change::StartDigest { session, hash } => {
-                let running = RunningTag::Digest(Running::new(hash));
-                self.operations
-                    .start(OperationKind::Digest, session, running, None);
+                start_digest(&mut self.operations, session, hash)
             }
             Change::StartHmac {
                 kind,
@@ -133,11 +118,15 @@ impl Parts {
                 hash,
                 key,
                 len,
-            } => {
-                let mac = Mac::general(hash, self.key_value(key), len);
-                self.operations
-                    .start(kind, session, RunningTag::Mac(mac), Some(key));
-            }
+            } => start_hmac(
+                &mut self.operations,
+                &self.objects,
+                kind,
+                session,
+                hash,
+                key,
+                len,
+            ),
             Change::AddPiece { kind, session } => {
                 self.operations.add_piece(kind, session, call.added_bytes())
             }

@@ -9,9 +9,9 @@ use std::marker::Model;
 #[derive(Debug, Drop)]
 pub(crate) struct StoredObject {
     number: u64,
+    attributes: Record,
     /// The session that created it; a token object is nobody's.
     session: Option<u64>,
-    attributes: Record,
 }
 
 impl Model for StoredObject {

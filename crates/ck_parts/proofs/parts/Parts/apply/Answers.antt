@@ -1,7 +1,7 @@
 use Rattle.std.proofs.Common.{◌≡◌, [], sym, ap, ◌∙◌, refl, Some, subst}
 use Rattle.std.specs.Prelude.{option_and_then, unwrap_or}
 use Rattle.ck_objects.specs.Records.{key_value}
-use Rattle.ck_mac.specs.Computations.{digest_by, hmac_by}
+use Rattle.ck_mac.specs.Computations.{digest_by}
 use Rattle.ck_journal.specs.Histories.{is_ok}
 use Rattle.ck_journal.specs.Objects.{object_named, object_at, named_attributes}
 use Rattle.ck_journal.specs.OperationCalls.{initialize, add_piece, operation_step}
@@ -157,7 +157,7 @@ returns-in-CreateObject c = record {
       let of = of-CreateObject h e.reply.body e.call c.in-CreateObject.session c.in-CreateObject.attributes made.1 in
       record {
         sessions = sessions-created h e e.call made.0 of.0 _ agree.sessions;
-        objects = c.create.ensures.agree h e e.call made.0 of.0 of.1 (c.into_inner.ensures ∙ of.2) agree.objects;
+        objects = c.create_object.ensures h e e.call made.0 of.0 of.1 of.2 agree.objects;
         operations = operations-created e e.call made.0 of.0 h _ agree.operations;
       };
 }
@@ -253,7 +253,7 @@ returns-in-StartDigest c = record {
       record {
         sessions = sessions-kept h e _ d _ refl refl agree.sessions;
         objects = objects-kept h e _ d _ refl agree.objects;
-        operations = c.start.ensures.agree h e (digest_by hash) c.new.ensures
+        operations = c.start_digest.ensures h e
             (record {
               computation = ap (started_computation h) d ∙ ap digest_by (sym of.2);
               key = ap (λ d. option_and_then (object_named h) (init_key d)) d;
@@ -278,14 +278,13 @@ returns-in-StartHmac c = record {
       hmac-passed k h session of.0 of.1 (sym starts.error ∙ passed-done limits e h legal e.call made.0) in
       let same = started-injected k session hash number len _ _ _ of.2 in
       let named : object_named h of.1 ≡ Some number = passed.3 ∙ ap Some (sym same.1) in
-      let key = c.key_value.result.now in
+      let key = key_value (unwrap_or (object_at h number) []) in
       let value : key ≡ key_value (named_attributes h of.1) =
-      c.key_value.ensures h agree
-      ∙ ap (λ o. key_value (unwrap_or (option_and_then (object_at h) o) [])) (sym named) in
+      ap (λ o. key_value (unwrap_or (option_and_then (object_at h) o) [])) (sym named) in
       record {
         sessions = step-sessions h e _ starts.step _ agree.sessions;
         objects = step-objects h e _ starts.step _ agree.objects;
-        operations = c.start-in-StartHmac.ensures.agree h e (hmac_by hash key len) c.general-mac.ensures
+        operations = c.start_hmac.ensures h e agree.objects
             (record {
               computation =
                   ap (started_computation h) made.0 ∙ starts.computation

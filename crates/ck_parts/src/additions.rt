@@ -1,0 +1,83 @@
+//! What a change adds. A compiled function clears the room of its values where it begins, so each of
+//! these is a function that stays one: other changes take no time for their values, which are large.
+ghost use Rattle.std.specs.Prelude.{◌≡◌, ◌+◌, ◌<◌, ◌≤◌, ◌^◌, [], true, false, Some, None, unwrap_or};
+ghost use Rattle.ck_types.specs.Hashes.{digest_length};
+ghost use Rattle.ck_objects.specs.Records.{key_value};
+ghost use Rattle.ck_mac.specs.Computations.{digest_by, hmac_by};
+ghost use Rattle.ck_journal.specs.Histories.{History, ◌◁◌, done};
+ghost use Rattle.ck_journal.specs.Objects.{attributes_named, object_at};
+ghost use Rattle.ck_journal.specs.Objects.{creates, creation_session, creation_attributes};
+ghost use Rattle.ck_journal.specs.Operations.{is_active};
+ghost use Rattle.ck_journal.specs.declared.calls.Call.{Call};
+ghost use Rattle.ck_journal.specs.declared.calls.Entry.{Entry};
+ghost use Rattle.ck_journal.specs.declared.operations.OperationKind.TheVariants as kind;
+ghost use Rattle.ck_operations.specs.Agreement.{OperationsAgree};
+ghost use Rattle.ck_operations.specs.Moves.{IsStartOf, OnlyIn, Start};
+ghost use Rattle.ck_store.specs.Agreement.{StoreAgrees};
+
+use crate::boxed::Boxed;
+use ck_journal::OperationKind;
+use ck_mac::{Mac, Running, RunningTag};
+use ck_objects::Record;
+use ck_operations::Operations;
+use ck_store::Store;
+use ck_types::Hash;
+
+/// Adds an object that the session creates or copies.
+#[inline(never)]
+pub(crate) fn create_object(objects: &mut Store, session: u64, attributes: Boxed<Record>)
+    requires room { 0 < objects.old.spare }
+    requires numbers { objects.old.creations + 1 < 2 ^ 32 }
+    ensures { (h : History) (e : Entry) (c : Call) → done e ≡ Some c
+        → creates (Some c) ≡ true → session ≡ creation_session (Some c)
+        → attributes ≡ creation_attributes (Some c) (attributes_named h)
+        → StoreAgrees h objects.old → StoreAgrees (e ◁ h) objects.new }
+{
+    objects.create(session, attributes.into_inner());
+}
+
+/// Starts a digest, where the session has none and there is room for it.
+#[inline(never)]
+pub(crate) fn start_digest(operations: &mut Operations, session: u64, hash: Hash)
+    requires { 0 < operations.old.spare }
+    ensures { (h : History) (e : Entry) → IsStartOf h e (digest_by hash) None
+        → OnlyIn kind.Digest session Start e → is_active kind.Digest h session ≡ false
+        → OperationsAgree h operations.old → OperationsAgree (e ◁ h) operations.new }
+{
+    let running = RunningTag::Digest(Running::new(hash));
+    operations.start(OperationKind::Digest, session, running, None);
+}
+
+/// The bytes of the key of this number; none where there is no such object.
+fn key_value(objects: &Store, number: u64) -> &[u8]
+    ensures { (h : History) → StoreAgrees h objects.now
+        → result.now ≡ key_value (unwrap_or (object_at h number) []) }
+{
+    match objects.at(number) {
+        None => &[],
+        Some(attributes) => attributes.value_bytes(),
+    }
+}
+
+/// Starts a signing or a verifying under the key of this number, where the session has none of the
+/// kind and there is room for it. A signature has `len` bytes.
+#[inline(never)]
+pub(crate) fn start_hmac(
+    operations: &mut Operations,
+    objects: &Store,
+    kind: OperationKind,
+    session: u64,
+    hash: Hash,
+    key: u64,
+    len: u64,
+)
+    requires room { 0 < operations.old.spare }
+    requires length { (1 ≤ len) × (len ≤ digest_length hash) }
+    ensures { (h : History) (e : Entry) → StoreAgrees h objects.now
+        → IsStartOf h e (hmac_by hash (key_value (unwrap_or (object_at h key) [])) len) (Some key)
+        → OnlyIn kind session Start e → is_active kind h session ≡ false
+        → OperationsAgree h operations.old → OperationsAgree (e ◁ h) operations.new }
+{
+    let mac = Mac::general(hash, key_value(objects, key), len);
+    operations.start(kind, session, RunningTag::Mac(mac), Some(key));
+}
