@@ -1,6 +1,7 @@
 pub mod BaseLemmas
 pub mod BoardLemmas
 pub mod CallerLemmas
+pub mod CloneLemmas
 pub mod Changes
 pub mod CutBases
 pub mod CutLaws

@@ -12,14 +12,23 @@ use crate::items::{
     Item, check_forms, check_permissions, class_of, flag_or, has_conflict, number_at, value_at,
 };
 use crate::object_flags::{Placement, Protections};
-use ck_types::{NoMemory, RvError, Sequence, error_if};
-use std::alloc::Global;
+use ck_types::{RvError, Sequence, error_if};
+use std::alloc::AllocError;
 
 /// The attributes that a caller gives, in the caller's order (PKCS #11 Base 3.0,
 /// Object management functions).
-#[derive(Clone, Debug, Drop)]
+#[derive(Debug, Drop)]
 pub struct Template {
     pub items: Sequence<Item>,
+}
+
+impl Clone for Template {
+    ghost is_clone = { λ template copy. copy ≡ template };
+
+    fn clone(&self) -> Result<Template, AllocError> {
+        let items = self.items.clone()?;
+        Ok(Template { items })
+    }
 }
 
 impl Template {

@@ -1,5 +1,4 @@
-use Rattle.std.proofs.Common.{◌≡◌, refl, sym, ap, ◌∙◌}
-use Rattle.std.proofs.lemmas.List.Elements.{same_from_all_zip}
+use Rattle.std.proofs.Common.{refl, sym, ap, ◌∙◌}
 use Rattle.std.specs.Prelude.{unwrap_or}
 use Rattle.ck_objects.specs.Records.{protections_of, changed_error}
 use Rattle.ck_objects.specs.Templates.{class_of}
@@ -80,15 +79,11 @@ returns c =
     c.in_ok-number.ensures.attributes
     (three-pass _ _ _ (ap (λ (p : Placement). read_only_session_error h c.args.session p)
     (sym c.placement.ensures) ∙ writable) allowed changed) in
-    let copied : c.in_ok-values.values ≡ c.args.template.now =
-    ap (λ items. record { items = items })
-    (same_from_all_zip _ _ _ c.in_ok-values.ensures.cases
-    (λ x y is. ap (λ kind. record { kind = kind; value = y.value }) is.0
-    ∙ ap (λ value. record { kind = x.kind; value = value }) is.1)) in
     let number = ap (λ found. unwrap_or found 0) (sym c.in_ok-number.ensures.number) in (
       checks,
       ap reply_of c.of_change.ensures,
       ap (λ (d : Decision). d.change) c.of_change.ensures
           ∙ ap (λ n. change.SetAttributes n c.in_ok-values.values) number
-          ∙ ap (change.SetAttributes (unwrap_or (object_named h c.args.object) 0)) copied,
+          ∙ ap (change.SetAttributes (unwrap_or (object_named h c.args.object) 0))
+          c.in_ok-values.ensures.cases,
     )
