@@ -42,9 +42,9 @@ use Rattle.ck_parts.specs.Changes.{refused_by, refused_step, effect, effect_by}
 use Rattle.ck_token.specs.Decisions.{IsDecided, IsDecision, takes_memory, may_run_out, reply_of}
 use Rattle.ck_parts.specs.declared.changes.Change.{Change}
 use Rattle.ck_parts.specs.declared.changes.Change.TheVariants as change
-use Rattle.ck_token.specs.declared.decisions.Decision.{Decision}
-use Rattle.ck_token.specs.declared.decisions.Refused.{Refused}
-use Rattle.ck_token.specs.declared.decisions.Refused.TheVariants as refused
+use Rattle.ck_parts.specs.declared.decisions.Decision.{Decision}
+use Rattle.ck_parts.specs.declared.decisions.Refused.{Refused}
+use Rattle.ck_parts.specs.declared.decisions.Refused.TheVariants as refused
 
 -- a refusal of a call that is about nobody's PIN changes nothing
 wrong_try_change-nobody : (code : RvError) → wrong_try_change code None ≡ change.Nothing

@@ -3,7 +3,6 @@
 #![tactic(auto)]
 
 mod cuts;
-mod decisions;
 mod queries;
 mod runs;
 mod tokens;

@@ -6,8 +6,7 @@ ghost use Rattle.ck_journal.specs.Pins.{is_pin, pin_owner};
 ghost use Rattle.ck_token.specs.Decisions.{IsCheckAbout};
 
 use super::Token;
-use crate::decisions::{Decision, Refused};
-use ck_parts::Change;
+use ck_parts::{Change, Decision, Refused};
 use ck_sessions::Credential;
 use ck_types::{Pin, RvError, SessionState, UserType, error_if};
 

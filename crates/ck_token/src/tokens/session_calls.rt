@@ -3,9 +3,8 @@ ghost use Rattle.ck_types.specs.Mechanisms.{mechanism_types};
 ghost use Rattle.ck_journal.specs.declared.replies.Body.TheVariants as body;
 
 use super::Token;
-use crate::decisions::{Decision, Refused};
 use ck_journal::{Body, RW_SESSION, SERIAL_SESSION, is_read_write};
-use ck_parts::Change;
+use ck_parts::{Change, Decision, Refused};
 use ck_types::{NoMemory, Rv, RvError, Sequence, TokenFlags, UserType, error_if, mechanism_types};
 use std::alloc::Global;
 

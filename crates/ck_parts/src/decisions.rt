@@ -1,22 +1,22 @@
 ghost use Rattle.std.specs.Prelude.{◌≡◌};
 
+use crate::changes::Change;
 use ck_journal::Body;
-use ck_parts::Change;
 use ck_types::{NoMemory, Rv, RvError};
 use std::alloc::AllocError;
 
 /// The reply to a call, and what the call changes. The reply is here in its two parts: a `Reply` is
 /// made once, at the end, since its padding moves with it.
 #[derive(Drop)]
-pub(crate) struct Decision {
-    pub(crate) rv: Rv,
-    pub(crate) body: Body,
-    pub(crate) change: Change,
+pub struct Decision {
+    pub rv: Rv,
+    pub body: Body,
+    pub change: Change,
 }
 
 /// Why a call isn't carried out.
 #[derive(Drop)]
-pub(crate) enum Refused {
+pub enum Refused {
     /// A check fails. What the refusal changes is nothing, but for a wrong PIN and for the
     /// end of an operation.
     Error { error: RvError, change: Change },
@@ -25,7 +25,7 @@ pub(crate) enum Refused {
 
 impl From<RvError> for Refused {
     ghost use Rattle.ck_parts.specs.declared.changes.Change.TheVariants as change;
-    ghost use Rattle.ck_token.specs.declared.decisions.Refused.TheVariants as refused;
+    ghost use Rattle.ck_parts.specs.declared.decisions.Refused.TheVariants as refused;
 
     ghost from_gives = { λ code made. made ≡ refused.Error code change.Nothing };
 
@@ -39,7 +39,7 @@ impl From<RvError> for Refused {
 }
 
 impl From<NoMemory> for Refused {
-    ghost use Rattle.ck_token.specs.declared.decisions.Refused.TheVariants as refused;
+    ghost use Rattle.ck_parts.specs.declared.decisions.Refused.TheVariants as refused;
 
     ghost from_gives = { λ _ made. made ≡ refused.Memory };
 
@@ -50,7 +50,7 @@ impl From<NoMemory> for Refused {
 }
 
 impl From<AllocError> for Refused {
-    ghost use Rattle.ck_token.specs.declared.decisions.Refused.TheVariants as refused;
+    ghost use Rattle.ck_parts.specs.declared.decisions.Refused.TheVariants as refused;
 
     ghost from_gives = { λ _ made. made ≡ refused.Memory };
 
@@ -68,7 +68,7 @@ impl Decision {
 
     /// A call that changes something and gives nothing beside the code.
     #[inline(always)]
-    pub(crate) fn of_change(change: Change) -> Decision
+    pub fn of_change(change: Change) -> Decision
         ensures { result ≡ record { rv = rv.Ok; body = body.Empty; change = change } }
     {
         Decision {
@@ -80,7 +80,7 @@ impl Decision {
 
     /// A call that only reads.
     #[inline(always)]
-    pub(crate) fn of_body(body: Body) -> Decision
+    pub fn of_body(body: Body) -> Decision
         ensures { result ≡ record { rv = rv.Ok; body = body; change = change.Nothing } }
     {
         Decision {
