@@ -1,8 +1,8 @@
 pub mod BaseLemmas
 pub mod BoardLemmas
 pub mod CallerLemmas
-pub mod CloneLemmas
 pub mod Changes
+pub mod CloneLemmas
 pub mod CutBases
 pub mod CutLaws
 pub mod CutMoves

@@ -4,11 +4,11 @@ use crate::fields::Field;
 use crate::items::{Item, copied_items, flag_or, take_value};
 use crate::object_flags::Placement;
 use ck_types::NoMemory;
-use std::alloc::Global;
+use std::alloc::{AllocError, Global};
 
 /// A data object (PKCS #11 Base 3.0, Data objects). Its class is no field. What most calls read
 /// stands first, so that they reach for little memory among many objects.
-#[derive(Clone, Debug, Drop)]
+#[derive(Debug, Drop)]
 pub(crate) struct Data {
     token: bool,
     private: bool,
@@ -19,6 +19,26 @@ pub(crate) struct Data {
     application: AttributeValue,
     pub(crate) value: AttributeValue,
     object_id: AttributeValue,
+}
+
+impl Clone for Data {
+    ghost use Rattle.std.specs.Prelude.{◌≡◌};
+
+    ghost is_clone = { λ object copy. copy ≡ object };
+
+    fn clone(&self) -> Result<Data, AllocError> {
+        Ok(Data {
+            token: self.token,
+            private: self.private,
+            modifiable: self.modifiable,
+            copyable: self.copyable,
+            destroyable: self.destroyable,
+            label: self.label.clone()?,
+            application: self.application.clone()?,
+            value: self.value.clone()?,
+            object_id: self.object_id.clone()?,
+        })
+    }
 }
 
 impl Data {

@@ -5,7 +5,7 @@ use crate::items::{Item, copied_items, copied_value, flag_or, number_at, state_o
 use crate::key_states::KeyState;
 use crate::object_flags::Placement;
 use ck_types::NoMemory;
-use std::alloc::Global;
+use std::alloc::{AllocError, Global};
 
 /// How a key came to be: the attributes that no template gives. A copy has its source's.
 #[derive(Clone, Copy, Debug)]
@@ -21,7 +21,7 @@ pub(crate) struct Origin {
 /// A generic secret key (PKCS #11 Current Mechanisms 3.0, Generic secret key objects). Its class,
 /// its key type and the length of its value are no fields. What most calls read stands first, as in
 /// a data object.
-#[derive(Clone, Debug, Drop)]
+#[derive(Debug, Drop)]
 pub(crate) struct Key {
     pub(crate) token: bool,
     pub(crate) private: bool,
@@ -42,6 +42,36 @@ pub(crate) struct Key {
     pub(crate) verify: bool,
     pub(crate) derive: bool,
     pub(crate) origin: Origin,
+}
+
+impl Clone for Key {
+    ghost use Rattle.std.specs.Prelude.{◌≡◌};
+
+    ghost is_clone = { λ key copy. copy ≡ key };
+
+    fn clone(&self) -> Result<Key, AllocError> {
+        Ok(Key {
+            token: self.token,
+            private: self.private,
+            modifiable: self.modifiable,
+            copyable: self.copyable,
+            destroyable: self.destroyable,
+            sensitive: self.sensitive,
+            extractable: self.extractable,
+            state: self.state,
+            label: self.label.clone()?,
+            value: self.value.clone()?,
+            id: self.id.clone()?,
+            encrypt: self.encrypt,
+            decrypt: self.decrypt,
+            wrap: self.wrap,
+            unwrap: self.unwrap,
+            sign: self.sign,
+            verify: self.verify,
+            derive: self.derive,
+            origin: self.origin,
+        })
+    }
 }
 
 impl Key {
