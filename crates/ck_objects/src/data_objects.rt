@@ -7,15 +7,16 @@ use ck_types::NoMemory;
 use std::alloc::{AllocError, Global};
 
 /// A data object (PKCS #11 Base 3.0, Data objects). Its class is no field. What most calls read
-/// stands first, so that they reach for little memory among many objects.
+/// stands first: the label, and then the flags that are read before it. So a call among many objects
+/// asks for both at once, and for no memory beside them.
 #[derive(Debug, Drop)]
 pub(crate) struct Data {
+    label: AttributeValue,
     token: bool,
     private: bool,
     modifiable: bool,
     copyable: bool,
     destroyable: bool,
-    label: AttributeValue,
     application: AttributeValue,
     pub(crate) value: AttributeValue,
     object_id: AttributeValue,
@@ -28,12 +29,12 @@ impl Clone for Data {
 
     fn clone(&self) -> Result<Data, AllocError> {
         Ok(Data {
+            label: self.label.clone()?,
             token: self.token,
             private: self.private,
             modifiable: self.modifiable,
             copyable: self.copyable,
             destroyable: self.destroyable,
-            label: self.label.clone()?,
             application: self.application.clone()?,
             value: self.value.clone()?,
             object_id: self.object_id.clone()?,

@@ -23,6 +23,7 @@ pub(crate) struct Origin {
 /// a data object.
 #[derive(Debug, Drop)]
 pub(crate) struct Key {
+    pub(crate) label: AttributeValue,
     pub(crate) token: bool,
     pub(crate) private: bool,
     pub(crate) modifiable: bool,
@@ -31,7 +32,6 @@ pub(crate) struct Key {
     pub(crate) sensitive: bool,
     pub(crate) extractable: bool,
     pub(crate) state: KeyState,
-    pub(crate) label: AttributeValue,
     pub(crate) value: AttributeValue,
     pub(crate) id: AttributeValue,
     pub(crate) encrypt: bool,
@@ -51,6 +51,7 @@ impl Clone for Key {
 
     fn clone(&self) -> Result<Key, AllocError> {
         Ok(Key {
+            label: self.label.clone()?,
             token: self.token,
             private: self.private,
             modifiable: self.modifiable,
@@ -59,7 +60,6 @@ impl Clone for Key {
             sensitive: self.sensitive,
             extractable: self.extractable,
             state: self.state,
-            label: self.label.clone()?,
             value: self.value.clone()?,
             id: self.id.clone()?,
             encrypt: self.encrypt,
