@@ -8,8 +8,8 @@ use Rattle.std.specs.Option.{option_map_or}
 use Rattle.std.proofs.lemmas.Bool.{not-false}
 use Rattle.ck_types.specs.Checks.{error_if, or_else, first_of}
 use Rattle.ck_types.specs.Pins.{fits_a_pin}
-use Rattle.ck_mac.specs.Computations.{tag_of}
-use Rattle.ck_mac.specs.Macs.{signature_error}
+use Rattle.ck_types.specs.Computations.{tag_of}
+use Rattle.ck_types.specs.Macs.{signature_error}
 use Rattle.ck_objects.specs.Records.{created_items, generated_items, with_given, is_key}
 use Rattle.ck_objects.specs.Records.{placement_of}
 use Rattle.ck_types.specs.TokenLimits.{Ranges}

@@ -31,8 +31,8 @@ use Rattle.ck_types.specs.declared.users.SessionState.{SessionState}
 use Rattle.ck_types.specs.declared.users.SessionState.TheVariants as state
 use Rattle.ck_types.specs.declared.users.UserType.{UserType}
 use Rattle.ck_types.specs.declared.users.UserType.TheVariants as user
-use Rattle.ck_mac.specs.Computations.{tag_of}
-use Rattle.ck_mac.specs.Macs.{signature_error}
+use Rattle.ck_types.specs.Computations.{tag_of}
+use Rattle.ck_types.specs.Macs.{signature_error}
 use Rattle.ck_journal.specs.declared.calls.Call.{Call}
 use Rattle.ck_journal.specs.declared.calls.Call.TheVariants as call
 use Rattle.ck_journal.specs.declared.operations.OperationKind.{OperationKind}

@@ -47,7 +47,7 @@ use Rattle.ck_store.proofs.Moves.{objects-left}
 use Rattle.ck_store.specs.Agreement.{StoreState, StoreAgrees}
 use Rattle.ck_journal.specs.OperationCalls.{OperationStep, operation_step}
 use Rattle.ck_journal.specs.Operations.{is_active, hmac_with}
-use Rattle.ck_mac.specs.Computations.{hmac_by}
+use Rattle.ck_types.specs.Computations.{hmac_by}
 use Rattle.ck_parts.proofs.OperationMoves.{nobody-tried, IsStepAlone, step-alone, reading-alone, step-no_try}
 use Rattle.ck_parts.proofs.OperationMoves.{of-done}
 use Rattle.ck_parts.specs.Changes.{change_of, wrong_try_change, refused_by, effect, effect_by}

@@ -1,8 +1,6 @@
-use ck_callers::{Ask, Caller, ReadBoard, Slot, Status, TokenId};
+use ck_callers::{Ask, Caller, Status, TokenId};
 use ck_journal::{Call, Reply};
-use ck_shared::SharedToken;
 use ck_types::NoMemory;
-use left_right::Absorb;
 use std::alloc::Global;
 use std::sync::Wait;
 
@@ -38,21 +36,4 @@ pub trait Gate<K: TokenId, T: Drop> {
         ensures front { IsFront caller.old.seen caller.new.seen }
         ensures same { caller.new ≡ record caller.old { seen = caller.new.seen } }
         ensures unchanged { IfNone result (caller.new ≡ caller.old) };
-}
-
-impl<K: TokenId, O: Slot<K>, T: Absorb<O> + ReadBoard<K> + Drop, R: Wait + Drop> Gate<K, T>
-    for SharedToken<K, O, T, R> {
-    fn call<W: Wait>(
-        &self,
-        rt: &W,
-        alloc: Global,
-        caller: &mut Caller<K, T>,
-        call: Call,
-    ) -> Result<Reply, NoMemory> {
-        SharedToken::call(self, rt, alloc, caller, call)
-    }
-
-    fn status(&self, caller: &mut Caller<K, T>, ask: Ask) -> Option<Status> {
-        caller.status(ask)
-    }
 }

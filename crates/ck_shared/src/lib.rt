@@ -3,6 +3,7 @@
 #![tactic(auto)]
 
 mod counts;
+mod gates;
 mod locked;
 mod shared;
 

@@ -1,7 +1,6 @@
-//! The functions of ck_mac by one vector each. Vectors of all lengths stand among the cases of
+//! Digests and HMACs in pieces by one vector each. Vectors of all lengths stand among the cases of
 //! ck_cases.
-use ck_mac::{Mac, Running, RunningTag, digest};
-use ck_types::{Hash, RvError};
+use ck_types::{Hash, Mac, Running, RunningTag, RvError, digest};
 use std::process::Abort;
 use std::test::Fail;
 

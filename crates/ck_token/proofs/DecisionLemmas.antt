@@ -16,7 +16,7 @@ use Rattle.ck_types.specs.declared.users.UserType.{UserType}
 use Rattle.ck_journal.specs.declared.calls.Call.TheVariants as call
 use Rattle.ck_journal.specs.declared.replies.Body.{Body}
 use Rattle.ck_journal.specs.declared.replies.Reply.{Reply}
-use Rattle.ck_mac.specs.Macs.{signature_error}
+use Rattle.ck_types.specs.Macs.{signature_error}
 use Rattle.ck_types.specs.Numbers.{same_bytes}
 use Rattle.ck_objects.specs.Records.{state_in}
 use Rattle.ck_journal.specs.declared.operations.OperationKind.{OperationKind}

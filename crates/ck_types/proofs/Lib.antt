@@ -1,2 +1,5 @@
 pub mod CheckLemmas
+pub mod DifferenceLemmas
+pub mod KeyLemmas
+pub mod LengthLemmas
 pub mod MechanismLemmas

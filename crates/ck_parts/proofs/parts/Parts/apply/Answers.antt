@@ -1,7 +1,7 @@
 use Rattle.std.proofs.Common.{◌≡◌, [], sym, ap, ◌∙◌, refl, Some, subst}
 use Rattle.std.specs.Prelude.{option_and_then, unwrap_or}
 use Rattle.ck_objects.specs.Records.{key_value}
-use Rattle.ck_mac.specs.Computations.{digest_by}
+use Rattle.ck_types.specs.Computations.{digest_by}
 use Rattle.ck_journal.specs.Histories.{is_ok}
 use Rattle.ck_journal.specs.Objects.{object_named, object_at, named_attributes}
 use Rattle.ck_journal.specs.OperationCalls.{initialize, add_piece, operation_step}

@@ -1,3 +1,0 @@
-pub mod DifferenceLemmas
-pub mod KeyLemmas
-pub mod LengthLemmas

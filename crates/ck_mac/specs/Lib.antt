@@ -1,4 +1,0 @@
-pub mod Computations
-pub mod Digests
-pub mod Macs
-pub mod Padding

@@ -1,0 +1,26 @@
+use crate::shared::SharedToken;
+use ck_callers::{Ask, Caller, ReadBoard, Slot, Status, TokenId};
+use ck_journal::{Call, Reply};
+use ck_runs::Gate;
+use ck_types::NoMemory;
+use left_right::Absorb;
+use std::alloc::Global;
+use std::sync::Wait;
+
+/// A run may be one of calls of a shared token.
+impl<K: TokenId, O: Slot<K>, T: Absorb<O> + ReadBoard<K> + Drop, R: Wait + Drop> Gate<K, T>
+    for SharedToken<K, O, T, R> {
+    fn call<W: Wait>(
+        &self,
+        rt: &W,
+        alloc: Global,
+        caller: &mut Caller<K, T>,
+        call: Call,
+    ) -> Result<Reply, NoMemory> {
+        SharedToken::call(self, rt, alloc, caller, call)
+    }
+
+    fn status(&self, caller: &mut Caller<K, T>, ask: Ask) -> Option<Status> {
+        caller.status(ask)
+    }
+}

@@ -1,0 +1,8 @@
+use Rattle.std.proofs.Common.{◌≡◌, ◌++◌, take, drop}
+use Rattle.ck_types.specs.Macs.{xor_each}
+use Rattle.ck_types.proofs.macs.xor_each.Given as goal
+
+abbrev pub invariant-loop-byte : goal.invariant-loop-byte
+invariant-loop-byte l =
+    l.bytes ≡ xor_each l.pad (take l.byte-index l.initial.bytes)
+    ++ drop l.byte-index l.initial.bytes

@@ -1,0 +1,54 @@
+-- The keyed-hash message authentication code (HMAC, FIPS 198-1) of messages that come in pieces
+use Rattle.std.specs.Prelude.{◌≡◌, ℕ, ◌≤◌, List, ◌++◌, Option, Some, None, ◌==◌}
+use Rattle.std.specs.Prelude.{nat_le, if◌then◌else◌, length, map, bit_xor}
+use Rattle.ck_types.specs.Numbers.{same_bytes}
+use Rattle.ck_types.specs.Hashes.{block_length, digest_length}
+use Rattle.ck_types.specs.declared.hashes.Hash.{Hash}
+use Rattle.ck_types.specs.declared.errors.RvError.{RvError}
+use Rattle.ck_types.specs.declared.errors.RvError.TheVariants as rv_error
+use Rattle.ck_types.specs.Digests.{digest_of, Holds}
+use Rattle.ck_types.specs.Padding.{with_zeros}
+use Rattle.ck_types.specs.declared.macs.Mac.{Mac}
+
+-- the key, or its digest where it is longer than a block, followed by zeros up to the block
+-- (K0, section 4, steps 1 to 3)
+unfoldable pub block_key : Hash → List ℕ → List ℕ
+block_key h key =
+    with_zeros (block_length h)
+    (if nat_le (length key) (block_length h) then key else digest_of h key)
+
+-- each byte combined with the pad by exclusive or
+abbrev pub xor_each : ℕ → List ℕ → List ℕ
+xor_each pad bytes = map (λ byte. bit_xor byte pad) bytes
+
+-- what the inner and the outer digest begin with
+abbrev pub inner_key : Hash → List ℕ → List ℕ
+inner_key h key = xor_each 0x36 (block_key h key)
+
+abbrev pub outer_key : Hash → List ℕ → List ℕ
+outer_key h key = xor_each 0x5c (block_key h key)
+
+-- H((K0 xor opad) || H((K0 xor ipad) || message))
+unfoldable pub hmac : Hash → List ℕ → List ℕ → List ℕ
+hmac h key message = digest_of h (outer_key h key ++ digest_of h (inner_key h key ++ message))
+
+-- the inner digest has taken in the inner key and the message, the outer digest the outer key, and
+-- the tag's length fits
+pub record TakesIn (h : Hash) (key : List ℕ) (n : ℕ) (mac : Mac) (message : List ℕ) : Type 0 where
+  pub inner : Holds h mac.inner (inner_key h key ++ message)
+  pub outer : Holds h mac.outer (outer_key h key)
+  pub len : mac.len ≡ n
+  pub fits : n ≤ digest_length h
+
+-- the running HMAC is of this hash function and key, its tag has n bytes, and it has taken in the
+-- message. Proofs of callers see it as one fact.
+unfoldable pub HoldsMac : Hash → List ℕ → ℕ → Mac → List ℕ → Type 0
+HoldsMac h key n mac message = TakesIn h key n mac message
+
+-- what a signature that is checked against a tag is refused with: its length is looked at first,
+-- then its bytes
+abbrev pub signature_error : List ℕ → List ℕ → Option RvError
+signature_error tag signature =
+    if length signature == length tag
+    then (if same_bytes signature tag then None else Some rv_error.SignatureInvalid)
+    else Some rv_error.SignatureLenRange

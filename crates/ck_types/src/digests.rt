@@ -1,0 +1,104 @@
+ghost use Rattle.std.specs.Prelude.{◌≡◌, ⊤, ℕ, List, [], ◌++◌};
+
+use crate::hashes::Hash;
+use crate::tags::Tag;
+use sha2::{Digest, Sha224, Sha256, Sha384, Sha512};
+use std::alloc::AllocError;
+
+#[derive(Debug, Drop)]
+enum Hasher {
+    Sha224(Sha224),
+    Sha256(Sha256),
+    Sha384(Sha384),
+    Sha512(Sha512),
+}
+
+/// The digest of a message that comes in pieces.
+#[derive(Debug, Drop)]
+pub struct Running {
+    hasher: Hasher,
+}
+
+impl Running {
+    ghost use Rattle.ck_types.specs.declared.hashes.Hash.{Hash};
+    ghost use Rattle.ck_types.specs.Digests.{Holds, digest_of};
+
+    /// The digest of the empty message.
+    pub fn new(hash: Hash) -> Running
+        ensures { Holds hash result [] }
+    {
+        let hasher = match hash {
+            Hash::Sha224 => Hasher::Sha224(Sha224::new()),
+            Hash::Sha256 => Hasher::Sha256(Sha256::new()),
+            Hash::Sha384 => Hasher::Sha384(Sha384::new()),
+            Hash::Sha512 => Hasher::Sha512(Sha512::new()),
+        };
+        Running { hasher }
+    }
+
+    /// The hash function.
+    pub fn hash(&self) -> Hash
+        ensures { (hash : Hash) (message : List ℕ) → Holds hash self.now message → result ≡ hash }
+    {
+        match &self.hasher {
+            Hasher::Sha224(_) => Hash::Sha224,
+            Hasher::Sha256(_) => Hash::Sha256,
+            Hasher::Sha384(_) => Hash::Sha384,
+            Hasher::Sha512(_) => Hash::Sha512,
+        }
+    }
+
+    /// Adds the bytes to the end of the message.
+    pub fn update(&mut self, bytes: &[u8])
+        ensures { (hash : Hash) (message : List ℕ)
+            → Holds hash self.old message → Holds hash self.new (message ++ bytes.now) }
+    {
+        match &mut self.hasher {
+            Hasher::Sha224(hasher) => hasher.update(bytes),
+            Hasher::Sha256(hasher) => hasher.update(bytes),
+            Hasher::Sha384(hasher) => hasher.update(bytes),
+            Hasher::Sha512(hasher) => hasher.update(bytes),
+        }
+    }
+
+    /// The digest of the message.
+    pub fn finish(self) -> Tag
+        ensures { (hash : Hash) (message : List ℕ)
+            → Holds hash self message → result ≡ digest_of hash message }
+    {
+        match self.hasher {
+            Hasher::Sha224(hasher) => Tag::of(&hasher.finalize()),
+            Hasher::Sha256(hasher) => Tag::of(&hasher.finalize()),
+            Hasher::Sha384(hasher) => Tag::of(&hasher.finalize()),
+            Hasher::Sha512(hasher) => Tag::of(&hasher.finalize()),
+        }
+    }
+}
+
+/// A clone takes no memory and never fails.
+impl Clone for Running {
+    ghost is_clone = { λ running clone. clone ≡ running };
+
+    ghost is_infallible = { λ _. ⊤ };
+
+    fn clone(&self) -> Result<Running, AllocError> {
+        let hasher = match &self.hasher {
+            Hasher::Sha224(hasher) => Hasher::Sha224(hasher.clone()?),
+            Hasher::Sha256(hasher) => Hasher::Sha256(hasher.clone()?),
+            Hasher::Sha384(hasher) => Hasher::Sha384(hasher.clone()?),
+            Hasher::Sha512(hasher) => Hasher::Sha512(hasher.clone()?),
+        };
+        Ok(Running { hasher })
+    }
+}
+
+ghost use Rattle.ck_types.specs.Digests.{digest_of};
+
+/// The digest of the message.
+pub fn digest(hash: Hash, message: &[u8]) -> Tag
+    ensures { result ≡ digest_of hash message.now }
+{
+    let mut running = Running::new(hash);
+    running.update(message);
+    running.finish()
+}

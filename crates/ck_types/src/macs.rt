@@ -1,0 +1,154 @@
+ghost use Rattle.std.specs.Prelude.{◌≡◌, ⊤, ◌≤◌, ℕ, List, [], ◌++◌, take};
+ghost use Rattle.ck_types.specs.Hashes.{block_length, digest_length};
+ghost use Rattle.ck_types.specs.declared.hashes.Hash.{Hash};
+
+use crate::digests::{Running, digest};
+use crate::errors::RvError;
+use crate::hashes::Hash;
+use crate::tags::{Tag, with_zeros};
+use std::alloc::AllocError;
+
+/// The length in bytes of the longest block.
+const LONGEST_BLOCK: usize = 128;
+
+/// The bytes that the key is combined with (ipad and opad; FIPS 198-1, section 2.3).
+const INNER_PAD: u8 = 0x36;
+
+const OUTER_PAD: u8 = 0x5c;
+
+/// The HMAC of a message that comes in pieces (FIPS 198-1), or its first bytes.
+#[derive(Debug, Drop)]
+pub struct Mac {
+    /// Of the key combined with the inner pad, and then the message.
+    inner: Running,
+    /// Of the key combined with the outer pad.
+    outer: Running,
+    /// How many bytes the tag has.
+    len: u64,
+}
+
+impl Mac {
+    ghost use Rattle.ck_types.specs.Checks.{check_of};
+    ghost use Rattle.ck_types.specs.Macs.{HoldsMac, hmac, signature_error};
+
+    /// The HMAC of the empty message under this key, of any length.
+    pub fn new(hash: Hash, key: &[u8]) -> Mac
+        ensures { HoldsMac hash key.now (digest_length hash) result [] }
+    {
+        Mac::general(hash, key, hash.len())
+    }
+
+    /// The first `n` bytes of the HMAC of the empty message under this key, of any length.
+    #[tactic(auto, unfolding(crate::specs::Macs::HoldsMac))]
+    pub fn general(hash: Hash, key: &[u8], n: u64) -> Mac
+        requires at_least_one { 1 ≤ n }
+        requires at_most_all { n ≤ digest_length hash }
+        ensures { HoldsMac hash key.now n result [] }
+    {
+        let block = block_key(hash, key);
+        Mac {
+            inner: keyed_digest(hash, block, INNER_PAD),
+            outer: keyed_digest(hash, block, OUTER_PAD),
+            len: n,
+        }
+    }
+
+    /// Adds the bytes to the end of the message.
+    #[tactic(auto, unfolding(crate::specs::Macs::HoldsMac))]
+    pub fn update(&mut self, bytes: &[u8])
+        ensures { (hash : Hash) (key : List ℕ) (n : ℕ) (message : List ℕ)
+            → HoldsMac hash key n self.old message
+            → HoldsMac hash key n self.new (message ++ bytes.now) }
+    {
+        self.inner.update(bytes);
+    }
+
+    /// How many bytes the tag has.
+    #[tactic(auto, unfolding(crate::specs::Macs::HoldsMac))]
+    pub fn len(&self) -> u64
+        ensures { (hash : Hash) (key : List ℕ) (n : ℕ) (message : List ℕ)
+            → HoldsMac hash key n self.now message → result ≡ n }
+    {
+        self.len
+    }
+
+    /// The HMAC of the message, or its first bytes.
+    pub fn finish(self) -> Tag
+        ensures first { (hash : Hash) (key : List ℕ) (n : ℕ) (message : List ℕ)
+            → HoldsMac hash key n self message → result ≡ take n (hmac hash key message) }
+        ensures whole { (hash : Hash) (key : List ℕ) (message : List ℕ)
+            → HoldsMac hash key (digest_length hash) self message → result ≡ hmac hash key message }
+    {
+        let Mac {
+            inner,
+            mut outer,
+            len,
+        } = self;
+        outer.update(inner.finish().bytes());
+        let mut tag = outer.finish();
+        tag.truncate(len as usize);
+        tag
+    }
+
+    /// Checks a signature of the message: CKR_SIGNATURE_LEN_RANGE for one of another length than
+    /// the tag's, CKR_SIGNATURE_INVALID for other bytes.
+    pub fn check(self, signature: &[u8]) -> Result<(), RvError>
+        ensures { (hash : Hash) (key : List ℕ) (n : ℕ) (message : List ℕ)
+            → HoldsMac hash key n self message
+            → result ≡ check_of (signature_error (take n (hmac hash key message)) signature.now) }
+    {
+        self.finish().check(signature)
+    }
+}
+
+/// A clone takes no memory and never fails.
+impl Clone for Mac {
+    ghost is_clone = { λ mac clone. clone ≡ mac };
+
+    ghost is_infallible = { λ _. ⊤ };
+
+    fn clone(&self) -> Result<Mac, AllocError> {
+        Ok(Mac {
+            inner: self.inner.clone()?,
+            outer: self.outer.clone()?,
+            len: self.len,
+        })
+    }
+}
+
+ghost use Rattle.ck_types.specs.Digests.{Holds};
+ghost use Rattle.ck_types.specs.Macs.{block_key, xor_each};
+
+/// The key as one block, followed by zeros: where it is longer than a block, its digest
+/// (FIPS 198-1, section 4).
+#[tactic(auto, using(crate::proofs::KeyLemmas::key_blocks))]
+fn block_key(hash: Hash, key: &[u8]) -> [u8; LONGEST_BLOCK]
+    ensures { take (block_length hash) result ≡ block_key hash key.now }
+{
+    if key.len() as u64 <= hash.block() {
+        with_zeros(key)
+    } else {
+        with_zeros(digest(hash, key).bytes())
+    }
+}
+
+/// A digest whose message begins with the block of the key, each byte combined with the pad.
+#[tactic(auto, using(crate::proofs::LengthLemmas::block_length_le_128))]
+fn keyed_digest(hash: Hash, mut block: [u8; LONGEST_BLOCK], pad: u8) -> Running
+    ensures { Holds hash result (xor_each pad (take (block_length hash) block)) }
+{
+    let block = &mut block[..hash.block() as usize];
+    xor_each(block, pad);
+    let mut running = Running::new(hash);
+    running.update(block);
+    running
+}
+
+/// Combines each byte with the pad by exclusive or.
+fn xor_each(bytes: &mut [u8], pad: u8)
+    ensures { bytes.new ≡ xor_each pad bytes.old }
+{
+    for byte in bytes.iter_mut() {
+        *byte ^= pad;
+    }
+}

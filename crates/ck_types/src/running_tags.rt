@@ -1,0 +1,69 @@
+use crate::digests::Running;
+use crate::macs::Mac;
+use crate::tags::Tag;
+
+/// The tag of a message that comes in pieces: a digest or an HMAC.
+#[derive(Debug, Drop)]
+pub enum RunningTag {
+    Digest(Running),
+    Mac(Mac),
+}
+
+impl RunningTag {
+    ghost use Rattle.std.specs.Prelude.{◌≡◌, ℕ, List, ◌++◌};
+    ghost use Rattle.ck_types.specs.Computations.{Computation, HoldsTag, tag_of, tag_size};
+
+    /// Adds the bytes to the end of the message.
+    pub fn update(&mut self, bytes: &[u8])
+        ensures { (computation : Computation) (message : List ℕ)
+            → HoldsTag computation self.old message
+            → HoldsTag computation self.new (message ++ bytes.now) }
+    {
+        match self {
+            RunningTag::Digest(running) => running.update(bytes),
+            RunningTag::Mac(mac) => mac.update(bytes),
+        }
+    }
+
+    /// How many bytes the tag has, whatever the message.
+    pub fn len(&self) -> u64
+        ensures { (computation : Computation) (message : List ℕ)
+            → HoldsTag computation self.now message → result ≡ tag_size computation }
+    {
+        match self {
+            RunningTag::Digest(running) => running.hash().len(),
+            RunningTag::Mac(mac) => mac.len(),
+        }
+    }
+
+    /// The tag of the message so far.
+    pub fn tag(&self) -> Tag
+        ensures { (computation : Computation) (message : List ℕ)
+            → HoldsTag computation self.now message → result ≡ tag_of computation message }
+    {
+        match self {
+            RunningTag::Digest(running) => running.clone().unwrap().finish(),
+            RunningTag::Mac(mac) => mac.clone().unwrap().finish(),
+        }
+    }
+
+    /// The tag of the message so far, followed by these bytes.
+    pub fn tag_with(&self, bytes: &[u8]) -> Tag
+        ensures { (computation : Computation) (message : List ℕ)
+            → HoldsTag computation self.now message
+            → result ≡ tag_of computation (message ++ bytes.now) }
+    {
+        match self {
+            RunningTag::Digest(running) => {
+                let mut running = running.clone().unwrap();
+                running.update(bytes);
+                running.finish()
+            }
+            RunningTag::Mac(mac) => {
+                let mut mac = mac.clone().unwrap();
+                mac.update(bytes);
+                mac.finish()
+            }
+        }
+    }
+}
