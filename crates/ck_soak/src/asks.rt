@@ -75,13 +75,8 @@ fn log_in(user: u64, pin: &[u8]) -> Call {
     Call::Login { session, user, pin }
 }
 
-/// Makes the first calls: the user has a PIN, session 1 is open, and nobody is logged in.
-fn make_first_calls<K: TokenId, R: Wait + Drop>(
-    rt: &R,
-    alloc: Global,
-    token: &Shared<K, R>,
-    caller: &mut SharedCaller<K>,
-) -> Result<(), SoakError> {
+/// After the first calls the user has a PIN, session 1 is open, and nobody is logged in.
+fn first_calls(alloc: Global) -> Result<Vec<Call>, SoakError> {
     let (session, officer_pin, pin) = (1, Pin::of(b"1234"), Pin::of(b"user"));
     let calls = vec![in alloc;
         Call::InitToken { pin: officer_pin },
@@ -90,11 +85,34 @@ fn make_first_calls<K: TokenId, R: Wait + Drop>(
         Call::InitPin { session, pin },
         Call::Logout { session },
     ]?;
+    Ok(calls)
+}
+
+/// Makes calls, each of which is answered OK.
+fn make_calls<K: TokenId, R: Wait + Drop>(
+    rt: &R,
+    alloc: Global,
+    token: &Shared<K, R>,
+    caller: &mut SharedCaller<K>,
+    calls: Vec<Call>,
+) -> Result<(), SoakError> {
     for call in calls {
         let reply = token.call(rt, alloc, caller, call)?;
         expect(reply.rv == Rv::Ok)?;
     }
     Ok(())
+}
+
+/// Makes the first calls. Says what the caller then knows.
+fn make_first_calls<K: TokenId, R: Wait + Drop>(
+    rt: &R,
+    alloc: Global,
+    token: &Shared<K, R>,
+    caller: &mut SharedCaller<K>,
+) -> Result<News<K>, SoakError> {
+    make_calls(rt, alloc, token, caller, first_calls(alloc)?)?;
+    expect(caller.count() == FIRST_CALLS && caller.seen() == FIRST_CALLS)?;
+    Ok(caller.news())
 }
 
 /// A caller learns what another knows, and has made no call.
@@ -115,9 +133,7 @@ fn prepare<K: TokenId, R: Wait + Drop>(
 ) -> Result<News<K>, SoakError> {
     check_new(callers.last_mut().ok_or(SoakError::Asked)?)?;
     let one = callers.first_mut().ok_or(SoakError::Asked)?;
-    make_first_calls(rt, alloc, token, one)?;
-    expect(one.count() == FIRST_CALLS && one.seen() == FIRST_CALLS)?;
-    let first = one.news();
+    let first = make_first_calls(rt, alloc, token, one)?;
     check_learnt(callers.get_mut(1).ok_or(SoakError::Asked)?, &first)?;
     Ok(first)
 }
@@ -191,15 +207,21 @@ fn check_answers(answers: &[Answered], wanted: u32) -> Result<(), SoakError> {
     expect(asks == wanted)
 }
 
-/// The callers of the scripts, where all answers are right.
+/// All steps were taken, and all answers are right.
+fn check_scripts<K: TokenId>(scripts: &[AskingScript<K>]) -> Result<(), SoakError> {
+    for script in scripts {
+        script.outcome()?;
+        check_answers(script.replies(), asks_of(script.caller.number()))?;
+    }
+    Ok(())
+}
+
 fn callers_of<K: TokenId>(
     alloc: Global,
     scripts: Vec<AskingScript<K>>,
 ) -> Result<Vec<SharedCaller<K>>, SoakError> {
     let mut callers = Vec::with_capacity(alloc, scripts.len())?;
     for script in scripts {
-        script.outcome()?;
-        check_answers(script.replies(), asks_of(script.caller.number()))?;
         callers.push(script.into_parts().0)?;
     }
     Ok(callers)
@@ -214,6 +236,7 @@ fn play<K: TokenId + Send + Sync, R: Threads + Wait + Drop + Send + Sync>(
 ) -> Result<Vec<SharedCaller<K>>, SoakError> {
     let mut scripts = scripts_of(alloc, callers)?;
     run_steps(rt, alloc, token, scripts.as_mut_slice());
+    check_scripts(scripts.as_slice())?;
     callers_of(alloc, scripts)
 }
 
