@@ -207,6 +207,9 @@ impl Call {
     }
 }
 
+/// The most callers that share a token. They are numbered from 1.
+pub const MOST_CALLERS: u32 = 8;
+
 /// An answered call: who made it, what was called and what was answered. Callers have numbers of
 /// the application's choice.
 #[derive(Debug, Drop)]

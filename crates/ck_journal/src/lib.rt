@@ -15,7 +15,7 @@ mod views;
 
 pub use bases::{Base, KeptObject};
 pub use boards::{LoginStatus, TokenBoard, session_state};
-pub use calls::{AttributeQuery, Call, Entry};
+pub use calls::{AttributeQuery, Call, Entry, MOST_CALLERS};
 pub use cuts::{base_law, cut_law};
 pub use journals::Journal;
 pub use operations::{OperationKind, is_long_piece};

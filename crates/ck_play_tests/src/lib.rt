@@ -1,6 +1,6 @@
 //! Tests of scripts that are played over devices in memory, of the program's words and of the
-//! program over any options. They stand apart from ck_play and ck_program, which would be proved a
-//! second time with them.
+//! program over any options. They stand apart from ck_play, ck_options and ck_program, which would
+//! be proved a second time with them.
 #![tactic(auto)]
 
 #[cfg(test)]

@@ -1,6 +1,7 @@
 //! The program over devices that move single bytes: what it writes, and its status.
 use crate::devices::Devices;
-use ck_program::{ArgumentFault, Callers, Options, run};
+use ck_options::{ArgumentFault, Callers, Options};
+use ck_program::run;
 use std::alloc::Global;
 use std::process::Abort;
 use std::sync::Wait;

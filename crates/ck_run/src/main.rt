@@ -1,8 +1,9 @@
 //! Hands the program's arguments, standard input and standard output to what plays scripts.
 #![tactic(auto)]
 
+use ck_options::given_options;
 use ck_play::{ReadSource, WriteSink};
-use ck_program::{given_options, run};
+use ck_program::run;
 use std::io;
 use std::process::ExitCode;
 

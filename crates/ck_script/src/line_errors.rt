@@ -3,7 +3,8 @@ ghost use Rattle.ck_script.specs.declared.line_errors.LineError.TheVariants.{Mem
 
 use crate::call_names::{Arity, CallName};
 use crate::lines::LONGEST_LINE;
-use ck_types::{MOST_CALLERS, NoMemory};
+use ck_journal::MOST_CALLERS;
+use ck_types::NoMemory;
 use std::alloc::{AllocError, AllocFailed};
 use thiserror::Error;
 

@@ -6,8 +6,7 @@ use crate::arguments::number_in;
 use crate::calls::call_in;
 use crate::line_errors::{BadLine, LineError};
 use crate::parts::{Parts, position_of};
-use ck_journal::Call;
-use ck_types::MOST_CALLERS;
+use ck_journal::{Call, MOST_CALLERS};
 use std::alloc::Global;
 
 /// The byte that ends a line.

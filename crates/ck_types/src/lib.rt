@@ -34,4 +34,4 @@ pub use sequences::{Bytes, Sequence};
 pub use tags::Tag;
 pub use token_flags::TokenFlags;
 pub use token_limits::Limits;
-pub use users::{MOST_CALLERS, SessionState, UserType};
+pub use users::{SessionState, UserType};

@@ -1,9 +1,6 @@
 ghost use Rattle.std.specs.Prelude.{◌≡◌};
 ghost use Rattle.ck_types.specs.Users.{user_of, state_number};
 
-/// The most callers that share a token. They are numbered from 1.
-pub const MOST_CALLERS: u32 = 8;
-
 /// Who logs in (CK_USER_TYPE; PKCS #11 Base 3.0, Session types).
 #[derive(Clone, Copy, Debug, PartialEq, Eq)]
 pub enum UserType {

@@ -5,10 +5,10 @@ use Rattle.clap.specs.Words.{App, Rule, Text, IsAmong, fault_of, first_of, match
 use Rattle.clap.specs.Words.{new_rule, with_rule}
 use Rattle.clap.specs.declared.error.kind.ErrorKind.{ErrorKind}
 use Rattle.clap.specs.declared.error.kind.ErrorKind.TheVariants as kind
-use Rattle.ck_program.specs.declared.options.ArgumentFault.{ArgumentFault}
-use Rattle.ck_program.specs.declared.options.ArgumentFault.TheVariants as fault
-use Rattle.ck_program.specs.declared.options.Options.{Options}
-use Rattle.ck_program.specs.declared.options.Options.TheVariants as option
+use Rattle.ck_options.specs.declared.options.ArgumentFault.{ArgumentFault}
+use Rattle.ck_options.specs.declared.options.ArgumentFault.TheVariants as fault
+use Rattle.ck_options.specs.declared.options.Options.{Options}
+use Rattle.ck_options.specs.declared.options.Options.TheVariants as option
 
 -- the option `--callers` with one value, and the command that has no other
 abbrev pub callers_option : Rule

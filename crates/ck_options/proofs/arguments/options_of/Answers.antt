@@ -3,8 +3,8 @@ use Rattle.std.specs.Prelude.{Option, map, string_bytes}
 use Rattle.clap.specs.Words.{App, Text, fault_of, first_of, found_of, is_simple}
 use Rattle.clap.specs.Words.{is_simple_and_free, kind_of, matches_of, IsAmong}
 use Rattle.clap.proofs.WalkLemmas.{first_value-rows}
-use Rattle.ck_program.specs.Options.{IsChosenBy}
-use Rattle.ck_program.proofs.arguments.options_of.Goals as goal
+use Rattle.ck_options.specs.Options.{IsChosenBy}
+use Rattle.ck_options.proofs.arguments.options_of.Goals as goal
 
 pub returns-in-Ok : goal.returns-in-Ok
 returns-in-Ok c =

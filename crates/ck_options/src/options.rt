@@ -41,7 +41,7 @@ impl From<io::Error> for ArgumentFault {
 }
 
 impl From<AllocError> for ArgumentFault {
-    ghost use Rattle.ck_program.specs.declared.options.ArgumentFault.TheVariants as fault;
+    ghost use Rattle.ck_options.specs.declared.options.ArgumentFault.TheVariants as fault;
 
     ghost from_gives = { λ _ made. made ≡ fault.Memory };
 

@@ -1,10 +1,10 @@
 //! What the program's arguments ask for.
 ghost use Rattle.std.specs.Prelude.{◌≡◌, IfOk, codes, map, option_map, string_bytes};
 ghost use Rattle.clap.specs.Words.{app_of, first_value, found_of};
-ghost use Rattle.ck_program.specs.Options.{IsAskedBy, IsChosenBy, callers_in, program};
+ghost use Rattle.ck_options.specs.Options.{IsAskedBy, IsChosenBy, callers_in, program};
 
 use crate::options::{ArgumentFault, Callers, Options};
-use ck_types::MOST_CALLERS;
+use ck_journal::MOST_CALLERS;
 use clap::error::ErrorKind;
 use clap::{Arg, ArgMatches, Command};
 use std::alloc::{AllocError, Global};

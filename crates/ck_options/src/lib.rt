@@ -1,0 +1,8 @@
+//! What the program may be asked to do, and what its arguments ask for.
+#![tactic(auto)]
+
+mod arguments;
+mod options;
+
+pub use arguments::{given_options, options_of};
+pub use options::{ArgumentFault, Callers, Options};
