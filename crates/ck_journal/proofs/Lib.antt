@@ -2,7 +2,6 @@ pub mod BaseLemmas
 pub mod BoardLemmas
 pub mod CallerLemmas
 pub mod Changes
-pub mod CloneLemmas
 pub mod CutBases
 pub mod CutLaws
 pub mod CutMoves
