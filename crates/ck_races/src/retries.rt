@@ -192,10 +192,13 @@ fn retry_shared<K: TokenId, R: Wait + Copy + Drop>(
     requires book { identity.history.seen.book ≡ K.book }
     requires ledgers { (n : ℕ) → K.ledger n ≡ name_of identity.ledgers n }
 {
-    let adopted = Shared::<K, R>::adopt(rt, alloc, token, 8, identity);
-    let Ends { token, callers } = adopted.map_err(|_| RaceError::Memory)?;
+    let Ok(Ends { token, callers }) = Shared::<K, R>::adopt(rt, alloc, token, 8, identity) else {
+        return Err(RaceError::Memory);
+    };
     let (callers, answered) = make_steps(&rt, alloc, &token, callers, race)?;
-    let token = token.close(&rt, callers).map_err(|_| RaceError::NotClosed)?;
+    let Ok(token) = token.close(&rt, callers) else {
+        return Err(RaceError::NotClosed);
+    };
     count_others(alloc, &token, race, answered)
 }
 

@@ -33,7 +33,10 @@ fn script_of<K: TokenId>(
     steps: &[Step],
 ) -> Result<Script<K, BoardCopy<K>>, RaceError> {
     let calls = calls_by(alloc, caller.number(), steps)?;
-    Script::new(alloc, caller, calls).map_err(|_| RaceError::Memory)
+    let Ok(script) = Script::new(alloc, caller, calls) else {
+        return Err(RaceError::Memory);
+    };
+    Ok(script)
 }
 
 fn scripts_of<K: TokenId>(
@@ -119,10 +122,13 @@ fn run_shared<K: TokenId + Send + Sync, R: Threads + Wait + Copy + Drop + Send +
     requires book { identity.history.seen.book ≡ K.book }
     requires ledgers { (n : ℕ) → K.ledger n ≡ name_of identity.ledgers n }
 {
-    let adopted = Shared::<K, R>::adopt(rt, alloc, token, 8, identity);
-    let Ends { token, callers } = adopted.map_err(|_| RaceError::Memory)?;
+    let Ok(Ends { token, callers }) = Shared::<K, R>::adopt(rt, alloc, token, 8, identity) else {
+        return Err(RaceError::Memory);
+    };
     let (callers, all) = race(&rt, alloc, &token, callers, steps, order)?;
-    let token = token.close(&rt, callers).map_err(|_| RaceError::NotClosed)?;
+    let Ok(token) = token.close(&rt, callers) else {
+        return Err(RaceError::NotClosed);
+    };
     check_journal(alloc, &token, all.as_slice())?;
     Ok(token)
 }

@@ -7,7 +7,7 @@ use left_right::Absorb;
 use std::alloc::Global;
 use std::sync::Wait;
 
-/// A run may be one of calls of a shared token.
+/// A shared token answers the calls of a run, each under its lock.
 impl<K: TokenId, O: Slot<K>, T: Absorb<O> + ReadBoard<K> + Drop, R: Wait + Drop> Gate<K, T>
     for SharedToken<K, O, T, R> {
     fn call<W: Wait>(

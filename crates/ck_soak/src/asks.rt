@@ -170,7 +170,10 @@ fn script_of<K: TokenId>(
     caller: SharedCaller<K>,
 ) -> Result<AskingScript<K>, SoakError> {
     let steps = steps_of(alloc, caller.number())?;
-    Script::new(alloc, caller, steps).map_err(|_| SoakError::Memory)
+    let Ok(script) = Script::new(alloc, caller, steps) else {
+        return Err(SoakError::Memory);
+    };
+    Ok(script)
 }
 
 fn scripts_of<K: TokenId>(
@@ -256,16 +259,25 @@ fn check_after<K: TokenId>(
     expect(caller.count() == 0 && caller.seen() == seen && seen > first.seen())
 }
 
-/// All that three callers do. They come back.
+/// All that three callers do. They come back, the third apart.
 fn ask<K: TokenId + Send + Sync, R: Threads + Wait + Drop + Send + Sync>(
     rt: &R,
     alloc: Global,
     token: &Shared<K, R>,
     mut callers: Vec<SharedCaller<K>>,
-) -> Result<Vec<SharedCaller<K>>, SoakError> {
+) -> Result<(Vec<SharedCaller<K>>, SharedCaller<K>), SoakError> {
     let first = prepare(rt, alloc, token, callers.as_mut_slice())?;
     let mut callers = play(rt, alloc, token, callers)?;
     check_after(callers.as_mut_slice(), &first)?;
+    let third = callers.pop().ok_or(SoakError::Asked)?;
+    Ok((callers, third))
+}
+
+fn with_third<K: TokenId>(
+    mut callers: Vec<SharedCaller<K>>,
+    third: SharedCaller<K>,
+) -> Result<Vec<SharedCaller<K>>, SoakError> {
+    callers.push(third)?;
     Ok(callers)
 }
 
@@ -289,13 +301,13 @@ fn ask_shared<K: TokenId + Send + Sync, R: Threads + Wait + Copy + Drop + Send +
     requires ledgers { (n : ℕ) → K.ledger n ≡ name_of identity.ledgers n }
 {
     let Ends { token, callers } = Shared::<K, R>::open(rt, alloc, limits, 3, identity)?;
-    let mut callers = ask(&rt, alloc, &token, callers)?;
-    let third = callers.pop().ok_or(SoakError::Asked)?;
-    let Err((token, mut callers)) = token.close(&rt, callers) else {
+    let (callers, third) = ask(&rt, alloc, &token, callers)?;
+    let Err((token, callers)) = token.close(&rt, callers) else {
         return Err(SoakError::Asked);
     };
-    callers.push(third)?;
-    let token = token.close(&rt, callers).map_err(|_| SoakError::NotClosed)?;
+    let Ok(token) = token.close(&rt, with_third(callers, third)?) else {
+        return Err(SoakError::NotClosed);
+    };
     check_length(&token)
 }
 

@@ -140,7 +140,9 @@ fn soak_shared<K: TokenId + Send + Sync, R: Threads + Wait + Copy + Drop + Send 
 {
     let Ends { token, callers } = Shared::<K, R>::open(rt, alloc, limits, 8, identity)?;
     let (callers, all) = soak(&rt, alloc, &token, callers)?;
-    let token = token.close(&rt, callers).map_err(|_| SoakError::NotClosed)?;
+    let Ok(token) = token.close(&rt, callers) else {
+        return Err(SoakError::NotClosed);
+    };
     check_journal(alloc, &token, all.as_slice())
 }
 
