@@ -8,8 +8,6 @@ use ck_journal::MOST_CALLERS;
 use clap::error::ErrorKind;
 use clap::{Arg, ArgMatches, Command};
 use std::alloc::{AllocError, Global};
-use std::env;
-use std::env::Env;
 
 /// The program's command line: its one option is `--callers` with a value.
 fn command<'a>(alloc: Global) -> Result<Command<'a>, AllocError>
@@ -64,12 +62,4 @@ pub fn options_of(alloc: Global, words: &[String]) -> Result<Options, ArgumentFa
             _ => Err(ArgumentFault::Bad),
         },
     }
-}
-
-/// What the program is asked to do by the arguments that it was started with. Of these std has no
-/// clause, and so neither has this.
-pub fn given_options<R: Env + Alloc<A = Global>>(rt: &R) -> Result<Options, ArgumentFault> {
-    let alloc = rt.alloc();
-    let words: Vec<String> = env::args(rt)?.collect(alloc)?;
-    options_of(alloc, words.as_slice())
 }

@@ -4,5 +4,5 @@
 mod arguments;
 mod options;
 
-pub use arguments::{given_options, options_of};
+pub use arguments::options_of;
 pub use options::{ArgumentFault, Callers, Options};

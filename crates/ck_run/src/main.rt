@@ -1,11 +1,21 @@
-//! Hands the program's arguments, standard input and standard output to what plays scripts.
+//! Hands what the arguments ask for, standard input and standard output to what plays scripts.
 #![tactic(auto)]
 
-use ck_options::given_options;
+use ck_options::{ArgumentFault, Options, options_of};
 use ck_play::{ReadSource, WriteSink};
 use ck_program::run;
-use std::io;
+use std::alloc::Global;
+use std::env::Env;
 use std::process::ExitCode;
+use std::{env, io};
+
+/// What the program is asked to do by the words that it was started with. Of these std has no
+/// clause, and so neither has this.
+fn given_options<R: Env + Alloc<A = Global>>(rt: &R) -> Result<Options, ArgumentFault> {
+    let alloc = rt.alloc();
+    let words: Vec<String> = env::args(rt)?.collect(alloc)?;
+    options_of(alloc, words.as_slice())
+}
 
 fn main(rt: HostRuntime) -> ExitCode {
     ExitCode::from(run(
