@@ -1,19 +1,18 @@
 -- A journal may be cut where no session is open
 use Rattle.std.proofs.Common.{◌≡◌, List, [], ◌∷◌, sym, ◌∙◌}
 use Rattle.ck_types.specs.TokenLimits.{Ranges}
-use Rattle.ck_journal.specs.declared.calls.Call.{Call}
 use Rattle.ck_journal.specs.declared.calls.Entry.{Entry}
-use Rattle.ck_journal.specs.Answers.{answer, IsLegal}
+use Rattle.ck_journal.specs.Answers.{IsLegal}
 use Rattle.ck_journal.specs.Bases.{IsSound}
-use Rattle.ck_journal.specs.Cuts.{base_of, IsLeftBy, CutLaw}
+use Rattle.ck_journal.specs.Cuts.{base_of, IsSeenAs, IsLeftBy, CutLaw}
 use Rattle.ck_journal.specs.Histories.{History, start, start_of, followed_by}
 use Rattle.ck_journal.specs.Laws.{IsSoundHistory}
 use Rattle.ck_journal.specs.Sessions.{open_sessions}
 use Rattle.ck_journal.proofs.CutBases.{base-alike, base-alike_active, base-sound}
 use Rattle.ck_journal.proofs.CutMoves.{alike-after, alike_active-after}
-use Rattle.ck_journal.proofs.CutReadings.{Alike, AlikeActive, answer-alike}
+use Rattle.ck_journal.proofs.CutReadings.{Alike, AlikeActive, view-alike, answer-alike}
 
-sound-later : (h : History) → IsSound (start_of h) → (later : List Entry)
+pub sound-later : (h : History) → IsSound (start_of h) → (later : List Entry)
     → IsSound (start_of (followed_by h later))
 sound-later h sound [] = sound
 sound-later h sound (e ∷ later) = sound-later h sound later
@@ -32,24 +31,28 @@ module _ (limits : Ranges) (h : History) (good : IsSoundHistory limits h) (none 
         alike_active-after (followed_by h later) (cut later) before.0 limits e sound l before.1,
       )
 
-  answers-later : (later : List Entry) → IsLegal limits (followed_by h later) → (c : Call)
-      → answer limits (cut later) c ≡ answer limits (followed_by h later) c
-  answers-later later l c =
+  seen-later : (later : List Entry) → IsLegal limits (followed_by h later)
+      → IsSeenAs limits (followed_by h later) (cut later)
+  seen-later later l =
       let alike = alike-later later l in
-      answer-alike (followed_by h later) (cut later) alike.0 alike.1 limits c
+      record {
+        objects = alike.0.objects;
+        view = view-alike (followed_by h later) (cut later) alike.0;
+        answers = answer-alike (followed_by h later) (cut later) alike.0 alike.1 limits;
+      }
 
   legal-after : (later : List Entry) → IsLegal limits (cut later) → IsLegal limits (followed_by h later)
   legal-after [] l = good.legal
   legal-after (e ∷ later) l =
-      let before = legal-after later l.1 in (l.0 ∙ answers-later later before e.call, before)
+      let before = legal-after later l.1 in (l.0 ∙ (seen-later later before).answers e.call, before)
 
   legal-from : (later : List Entry) → IsLegal limits (followed_by h later) → IsLegal limits (cut later)
   legal-from [] l = tt
-  legal-from (e ∷ later) l = (l.0 ∙ sym (answers-later later l.1 e.call), legal-from later l.1)
+  legal-from (e ∷ later) l = (l.0 ∙ sym ((seen-later later l.1).answers e.call), legal-from later l.1)
 
   -- the base that is left takes the place of the history
   pub left-by : IsLeftBy limits h (base_of h)
-  left-by later = ((legal-after later, legal-from later), answers-later later)
+  left-by later = ((legal-after later, legal-from later), seen-later later)
 
 pub cut_law : CutLaw
 cut_law limits h good none = (base-sound limits h good none, left-by limits h good none)

@@ -13,7 +13,7 @@ use Rattle.ck_journal.specs.Histories.{History, start, ◌◁◌, followed_by, e
 pub front_refl : (h : History) → IsFront h h
 front_refl h = ([], refl)
 
-followed_by-append : (h : History) (later before : List Entry)
+pub followed_by-append : (h : History) (later before : List Entry)
     → followed_by (followed_by h before) later ≡ followed_by h (later ++ before)
 followed_by-append h [] before = refl
 followed_by-append h (e ∷ later) before = ap (λ g. e ◁ g) (followed_by-append h later before)

@@ -1,4 +1,4 @@
--- The handles of sessions
+-- The handles of objects and of sessions
 use Rattle.std.proofs.Common.{◌≡◌, ℕ, suc, true, Option, Some, refl}
 use Rattle.std.proofs.Common.{sym, ap, ◌∙◌, arith}
 use Rattle.ck_types.specs.TokenLimits.{Ranges}
@@ -10,19 +10,25 @@ use Rattle.ck_journal.specs.declared.replies.Reply.{Reply}
 use Rattle.ck_journal.specs.Answers.{IsLegal}
 use Rattle.ck_journal.specs.Histories.{History, ◌◁◌, followed_by, done}
 use Rattle.ck_journal.specs.Laws.{HandlesNameOneObject, SessionHandlesAreGivenOnce, GivesSession}
+use Rattle.ck_journal.specs.Laws.{IsSoundHistory, Names}
 use Rattle.ck_journal.specs.Sessions.{opens, openings}
 use Rattle.ck_journal.proofs.LaterLemmas.{just_before, before_all, openings-rise}
 use Rattle.ck_journal.proofs.LegalLemmas.{allowed-done}
 use Rattle.ck_journal.proofs.NameLemmas.{named-number}
 use Rattle.ck_journal.proofs.SessionMoves.{openings-opened}
 
-pub names-one_object : HandlesNameOneObject
-names-one_object limits h later good handle n m first last =
-    let before = before_all limits h later good in
-    named-number limits before.in_range h before.sound before.legal handle n first.attributes
+-- at two sound fronts a handle names one object
+pub names-one : (limits : Ranges) (h g : History) → IsSoundHistory limits h
+    → IsSoundHistory limits g → (handle n m : ℕ) → Names h handle n → Names g handle m → n ≡ m
+names-one limits h g one other handle n m first last =
+    named-number limits one.in_range h one.sound one.legal handle n first.attributes
     first.present first.named
-    ∙ sym (named-number limits good.in_range (followed_by h later) good.sound good.legal handle m
+    ∙ sym (named-number limits other.in_range g other.sound other.legal handle m
     last.attributes last.present last.named)
+
+pub names-one_object : HandlesNameOneObject
+names-one_object limits h later good =
+    names-one limits h (followed_by h later) (before_all limits h later good) good
 
 opening-call : (d : Option Call) → opens d ≡ true
     → (flags : ℕ) × (d ≡ Some (call.OpenSession flags))
@@ -30,7 +36,7 @@ opening-call (Some (call.OpenSession flags)) t = (flags, refl)
 opening-call other t = cc
 
 -- the handle of a new session is the count of the openings with it
-given-session : (limits : Ranges) (e : Entry) (h : History) → IsLegal limits (e ◁ h) → (handle : ℕ)
+pub given-session : (limits : Ranges) (e : Entry) (h : History) → IsLegal limits (e ◁ h) → (handle : ℕ)
     → GivesSession e handle
     → (handle ≡ suc (openings h)) × (openings (e ◁ h) ≡ suc (openings h))
 given-session limits e h legal handle gives =

@@ -12,6 +12,7 @@ pub mod HandleLemmas
 pub mod KeyLoginLemmas
 pub mod KeyUseLemmas
 pub mod LaterLemmas
+pub mod LawsOverCuts
 pub mod LegalLemmas
 pub mod LoginMoves
 pub mod NameLemmas

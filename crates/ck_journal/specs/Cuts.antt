@@ -12,7 +12,7 @@ use Rattle.ck_journal.specs.Answers.{answer, IsLegal}
 use Rattle.ck_journal.specs.Bases.{IsSound}
 use Rattle.ck_journal.specs.Histories.{History, start, followed_by}
 use Rattle.ck_journal.specs.Laws.{IsSoundHistory}
-use Rattle.ck_journal.specs.Objects.{creations, object_at}
+use Rattle.ck_journal.specs.Objects.{creations, object_at, view_of}
 use Rattle.ck_journal.specs.Pins.{is_initialized, so_pin, user_pin, tries}
 use Rattle.ck_journal.specs.Sessions.{numbers, openings, open_sessions, user_logins}
 
@@ -38,13 +38,20 @@ base_of h = record {
   objects = kept_objects h;
 }
 
--- whatever is called later is legal from the base exactly where it is after the history, and every
--- call after it is answered alike
+-- in both histories the same objects are there, under the same handles, and every call is answered
+-- alike
+pub record IsSeenAs (limits : Ranges) (h g : History) : Type 0 where
+  pub objects : object_at g ≡ object_at h
+  pub view : view_of g ≡ view_of h
+  pub answers : (c : Call) → answer limits g c ≡ answer limits h c
+
+-- whatever is called later is legal from the base exactly where it is after the history, and then
+-- nothing is seen of what came before
 abbrev pub IsLeftBy : Ranges → History → Base → Type 0
 IsLeftBy limits h b = (later : List Entry)
     → (IsLegal limits (followed_by (start b) later) ↔ IsLegal limits (followed_by h later))
-    × (IsLegal limits (followed_by h later) → (c : Call)
-    → answer limits (followed_by (start b) later) c ≡ answer limits (followed_by h later) c)
+    × (IsLegal limits (followed_by h later)
+    → IsSeenAs limits (followed_by h later) (followed_by (start b) later))
 
 -- a legal history that starts from a sound base, and in which no session is open, leaves a sound
 -- base, from which all later calls are answered as after the history

@@ -8,6 +8,7 @@ pub mod Histories
 pub mod HistoryCode
 pub mod KeyLaws
 pub mod Laws
+pub mod LawsOverCuts
 pub mod Lists
 pub mod Objects
 pub mod OperationCalls

@@ -21,6 +21,12 @@ ghost use Rattle.ck_journal.specs.Laws.{
   SessionObjectsHaveOpenSessions,
   TriesAreAtMostThree,
 };
+ghost use Rattle.ck_journal.specs.LawsOverCuts.{
+  HandlesNameOneObjectOverCuts,
+  SensitiveStaysOverCuts,
+  SessionHandlesAreGivenOnceOverCuts,
+  UnextractableStaysOverCuts,
+};
 
 /// A handle names at most one object, over all fronts of a history.
 pub fn handles_name_one_object()
@@ -109,4 +115,24 @@ pub fn always_sensitive_is_true()
 /// A key with CKA_NEVER_EXTRACTABLE true has been extractable at no front since its creation.
 pub fn never_extractable_is_true()
     ensures { NeverExtractableIsTrue }
+{}
+
+/// A handle names at most one object, before a cut of the journal and after it.
+pub fn handles_name_one_object_over_cuts()
+    ensures { HandlesNameOneObjectOverCuts }
+{}
+
+/// No handle of a session from before a cut is given again after it.
+pub fn session_handles_are_given_once_over_cuts()
+    ensures { SessionHandlesAreGivenOnceOverCuts }
+{}
+
+/// A key that is sensitive before a cut stays so after it.
+pub fn sensitive_stays_over_cuts()
+    ensures { SensitiveStaysOverCuts }
+{}
+
+/// A key that isn't extractable before a cut stays so after it.
+pub fn unextractable_stays_over_cuts()
+    ensures { UnextractableStaysOverCuts }
 {}

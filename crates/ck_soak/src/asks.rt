@@ -1,8 +1,8 @@
 //! A caller asks for the state of a session, without the lock, while another logs in. Then both
 //! call and ask at once. A third caller makes no call: it asks before the first one and after the
-//! last. In the end the token is taken back.
-ghost use Rattle.std.specs.Prelude.{◌≡◌, ℕ};
-ghost use Rattle.ck_journal.specs.Bases.{empty_base};
+//! last. In the end the token is taken back. Its journal was cut before it was shared.
+ghost use Rattle.std.specs.Prelude.{◌≡◌, ℕ, IfOk};
+ghost use Rattle.ck_journal.specs.Histories.{start, start_of};
 ghost use Rattle.ck_callers.specs.Accounts.{name_of};
 
 use crate::errors::SoakError;
@@ -51,6 +51,18 @@ fn check_status<K: TokenId>(
         Some(Status::Reply(reply)) => expect(are_same_replies(&reply, &Reply { rv, body })),
         _ => Err(SoakError::Asked),
     }
+}
+
+/// Session 1 is a read/write session in this state.
+fn check_session<K: TokenId>(
+    caller: &mut SharedCaller<K>,
+    state: SessionState,
+) -> Result<(), SoakError> {
+    let body = Body::Session {
+        state,
+        flags: READ_WRITE,
+    };
+    check_status(caller, Ask::Session(1), Rv::Ok, body)
 }
 
 /// A new token has no PINs and no sessions, and all mechanisms.
@@ -103,6 +115,20 @@ fn make_calls<K: TokenId, R: Wait + Drop>(
     Ok(())
 }
 
+/// One session is open, and nobody is logged in.
+fn check_open<K: TokenId>(caller: &mut SharedCaller<K>) -> Result<(), SoakError> {
+    let body = Body::Token {
+        flags: TokenFlags::LOGIN_REQUIRED
+            | TokenFlags::TOKEN_INITIALIZED
+            | TokenFlags::USER_PIN_INITIALIZED,
+        limit: 64,
+        sessions: 1,
+        rw_sessions: 1,
+    };
+    check_status(caller, Ask::Token, Rv::Ok, body)?;
+    check_session(caller, SessionState::RwPublic)
+}
+
 /// Makes the first calls. Says what the caller then knows.
 fn make_first_calls<K: TokenId, R: Wait + Drop>(
     rt: &R,
@@ -112,6 +138,7 @@ fn make_first_calls<K: TokenId, R: Wait + Drop>(
 ) -> Result<News<K>, SoakError> {
     make_calls(rt, alloc, token, caller, first_calls(alloc)?)?;
     expect(caller.count() == FIRST_CALLS && caller.seen() == FIRST_CALLS)?;
+    check_open(caller)?;
     Ok(caller.news())
 }
 
@@ -249,11 +276,7 @@ fn check_after<K: TokenId>(
     first: &News<K>,
 ) -> Result<(), SoakError> {
     let caller = callers.last_mut().ok_or(SoakError::Asked)?;
-    let body = Body::Session {
-        state: SessionState::RwUser,
-        flags: READ_WRITE,
-    };
-    check_status(caller, Ask::Session(1), Rv::Ok, body)?;
+    check_session(caller, SessionState::RwUser)?;
     let seen = caller.seen();
     caller.learn(first);
     expect(caller.count() == 0 && caller.seen() == seen && seen > first.seen())
@@ -286,21 +309,34 @@ fn check_length(token: &Token) -> Result<(), SoakError> {
     expect(token.journal().len() == FIRST_CALLS + 1 + 2 * u64::from(CALLS))
 }
 
-/// Three callers share a new token. Without the third the token isn't taken back, and all is handed
-/// back; with all it is.
+/// A new token, whose journal is cut.
+fn cut_token(alloc: Global) -> Result<Token, SoakError>
+    ensures { IfOk result (λ token. token.history ≡ start (start_of token.history)) }
+{
+    let mut token = Token::new(alloc, Limits::largest());
+    match token.cut(alloc) {
+        Ok(_) => Ok(token),
+        Err(_) => Err(SoakError::Memory),
+    }
+}
+
+/// Three callers share the token. Without the third it isn't taken back, and all is handed back;
+/// with all it is.
 fn ask_shared<K: TokenId + Send + Sync, R: Threads + Wait + Copy + Drop + Send + Sync>(
     rt: R,
     alloc: Global,
-    limits: Limits,
+    token: Token,
     identity: NewIdentity,
 ) -> Result<(), SoakError>
-    requires base { K.base ≡ empty_base }
-    requires limits { limits ≡ K.limits }
+    requires history { token.history ≡ start K.base }
+    requires limits { token.limits ≡ K.limits }
     requires callers { K.callers ≡ 3 }
     requires book { identity.history.seen.book ≡ K.book }
     requires ledgers { (n : ℕ) → K.ledger n ≡ name_of identity.ledgers n }
 {
-    let Ends { token, callers } = Shared::<K, R>::open(rt, alloc, limits, 3, identity)?;
+    let Ok(Ends { token, callers }) = Shared::<K, R>::adopt(rt, alloc, token, 3, identity) else {
+        return Err(SoakError::Memory);
+    };
     let (callers, third) = ask(&rt, alloc, &token, callers)?;
     let Err((token, callers)) = token.close(&rt, callers) else {
         return Err(SoakError::Asked);
@@ -315,7 +351,8 @@ fn ask_once<R: Threads + Wait + Copy + Drop + Send + Sync>(
     rt: R,
     alloc: Global,
 ) -> Result<(), SoakError> {
-    ask_shared::<Brand, R>(rt, alloc, Limits::largest(), NewIdentity::new())
+    let token = cut_token(alloc)?;
+    ask_shared::<Brand, R>(rt, alloc, token, NewIdentity::new())
 }
 
 /// Runs it so often, each time on a new token.
