@@ -1,16 +1,16 @@
 #!/usr/bin/env python3
 """Plays scripts of 1,000, 10,000 and 100,000 lines with the built program, and prints what a line takes. Then plays
 searches among 1,000, 10,000 and 50,000 objects, data objects and keys, and prints what an object takes in one search.
-Last it prints what calls and asks of a shared token take, each beside what is wanted of it.
+Last it prints what calls among many objects take, and calls and asks of a shared token, each beside what is wanted.
 
 The program is crates/ck_run/out/ck_run, or the path that is given; it is built by `rt run` in crates/ck_run. Times are
 processor time, the best of several runs, and memory is the peak; those of an empty script are taken off both. Off the
-time of searches is taken that of a script that only makes their objects. The figures of a shared token are among those
-of crates/ck_bench/out/ck_bench, by the clock: they want four processors without other work. With the argument `shared`
-they alone are printed.
+time of searches is taken that of a script that only makes their objects. The last figures are those of
+crates/ck_bench/out/ck_bench, the best of several runs; those of a shared token are by the clock, and want four
+processors without other work. With the argument `figures` the last alone are printed.
 
 A line, or an object in a search, may take at most 3 times as much time among the most as among the fewest. Where one
-takes more, or a figure of a shared token isn't as wanted, the status is 1.
+takes more, or one of the last figures isn't as wanted, the status is 1.
 """
 import os
 import re
@@ -28,6 +28,25 @@ MOST_GROWTH = 3
 CRATES = os.path.join(os.path.dirname(__file__), "..", "crates")
 PROGRAM = os.path.join(CRATES, "ck_run", "out", "ck_run")
 FIGURES_PROGRAM = os.path.join(CRATES, "ck_bench", "out", "ck_bench")
+
+# How often the program of the last figures is run.
+FIGURE_RUNS = 5
+
+# What is wanted of calls among 1,000 objects and among 100,000: the most nanoseconds, and the most times as many among
+# the latter.
+CALLS_AMONG = [
+    ("create", 1_000, 2),
+    ("get label", 1_000, 2),
+    ("change", 1_000, 2),
+    ("destroy", 1_000, 2),
+    ("destroy all, each", 1_000, 2),
+    ("open and close (both together)", 1_000, 1.5),
+    ("login and logout (both together)", 1_000, 1.5),
+]
+
+# The most nanoseconds that a search by a label may take for each of so many objects.
+SEARCH = "a search by label (its three calls together)"
+SEARCH_AMONG = {1_000: 12, 50_000: 30}
 
 # What is wanted of a shared token: a line of its program, the figure that is made of the line's numbers, its unit, and
 # the least or the most that it may be.
@@ -114,28 +133,53 @@ def measure_searches(program, searches, creations, what):
     return is_within(searches, times, OBJECT_COUNTS)
 
 
-def is_figure_met(output, wanted):
-    """Prints the line of a figure of the shared token beside what is wanted of it, and whether that is met."""
-    form, figure_of, unit, least, most = wanted
-    found = re.search(f"^{form}$", output, re.MULTILINE)
-    if not found:
-        sys.exit(f"no line of figures is as this: {form}")
-    line = found.group()
-    figure = figure_of(*map(int, found.groups()))
-    bound = f"at least {least:,}" if most is None else f"at most {most:,}"
-    is_met = (least is None or figure >= least) and (most is None or figure <= most)
-    print(f"{line} ({figure:,} {unit}; wanted: {bound}{'' if is_met else ', which is not met'})")
+def time_among(outputs, what, objects):
+    """The fewest nanoseconds that a call took among so many objects, in any of the runs."""
+    form = f"^{re.escape(what)} among {objects} objects: ([0-9]+) ns$"
+    times = [int(re.search(form, output, re.MULTILINE).group(1)) for output in outputs]
+    return min(times)
+
+
+def is_as_wanted(text, wanted, is_met):
+    """Prints a figure beside what is wanted of it."""
+    print(f"{text} (wanted: {wanted}{'' if is_met else ', which is not met'})")
     return is_met
 
 
-def measure_shared():
-    ended = subprocess.run([FIGURES_PROGRAM, "measure"], stdout=subprocess.PIPE, check=True, text=True)
-    return [is_figure_met(ended.stdout, wanted) for wanted in SHARED_FIGURES]
+def is_call_met(outputs, what, most, most_growth):
+    few, many = (time_among(outputs, what, objects) for objects in (1_000, 100_000))
+    growth = many / few
+    text = f"{what}: {few} ns among 1,000 objects, {many} among 100,000, {growth:.2f} times as many"
+    return is_as_wanted(text, f"at most {most:,} and {most_growth} times", many <= most and growth <= most_growth)
+
+
+def is_search_met(outputs, objects, most):
+    each = time_among(outputs, SEARCH, objects) / objects
+    return is_as_wanted(f"{SEARCH} among {objects:,} objects: {each:.1f} ns each", f"at most {most}", each <= most)
+
+
+def is_figure_met(outputs, form, figure_of, unit, least, most):
+    """Of a shared token, in the best of the runs."""
+    lines = [re.search(f"^{form}$", output, re.MULTILINE) for output in outputs]
+    best = (min if least is None else max)(lines, key=lambda line: figure_of(*map(int, line.groups())))
+    figure = figure_of(*map(int, best.groups()))
+    bound = f"at least {least:,}" if most is None else f"at most {most:,}"
+    is_met = (least is None or figure >= least) and (most is None or figure <= most)
+    return is_as_wanted(f"{best.group()}: {figure:,} {unit}", bound, is_met)
+
+
+def measure_figures():
+    command = [FIGURES_PROGRAM, "measure"]
+    outputs = [subprocess.run(command, stdout=subprocess.PIPE, check=True, text=True).stdout for _ in range(FIGURE_RUNS)]
+    met = [is_call_met(outputs, *wanted) for wanted in CALLS_AMONG]
+    met.extend(is_search_met(outputs, objects, most) for objects, most in SEARCH_AMONG.items())
+    met.extend(is_figure_met(outputs, *wanted) for wanted in SHARED_FIGURES)
+    return met
 
 
 def main():
-    if sys.argv[1:] == ["shared"]:
-        return 0 if all(measure_shared()) else 1
+    if sys.argv[1:] == ["figures"]:
+        return 0 if all(measure_figures()) else 1
     program = sys.argv[1] if len(sys.argv) > 1 else PROGRAM
     start_time = best_time(program, "", 0)
     start_memory = peak_memory(program, "")
@@ -143,7 +187,7 @@ def main():
     met = [measure(program, kind, start_time, start_memory) for kind in ROUNDS]
     met.append(measure_searches(program, "searches", "labels", "data objects"))
     met.append(measure_searches(program, "key-searches", "keys", "keys"))
-    met.extend(measure_shared())
+    met.extend(measure_figures())
     return 0 if all(met) else 1
 
 
