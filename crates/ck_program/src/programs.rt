@@ -99,7 +99,7 @@ pub fn run<R: Source, W: Sink, RT: Eprint + Threads + Wait + Copy + Drop + Send 
             }
         },
         Err(ArgumentFault::Bad) => {
-            let _ = eprintln!(&rt; "ck_run: bad arguments, --help names those there are");
+            let _ = eprintln!(&rt; "ck_run: bad arguments");
             BAD_ARGUMENTS
         }
         Err(ArgumentFault::Memory) => {
