@@ -16,9 +16,11 @@ pub trait ReadBoard<K: TokenId> {
 
     ghost history: { Self → History };
 
+    /// The board itself, which answers C_GetSessionInfo and C_GetTokenInfo.
     fn board(&self) -> &TokenBoard
         ensures { result.now ≡ board_of K.limits (history self.now) };
 
+    /// The history that it is of, as callers know one.
     fn known(&self) -> &KnownHistory<K>
         ensures { result.now.history ≡ history self.now };
 }

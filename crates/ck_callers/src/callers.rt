@@ -70,6 +70,7 @@ impl<K: TokenId, T: Drop> Caller<K, T> {
         }
     }
 
+    /// The caller's number, from 1, under which its calls stand in the journal.
     pub fn number(&self) -> u32
         ensures { result ≡ self.now.number }
     {
@@ -161,8 +162,8 @@ impl<K: TokenId, T: Drop> Caller<K, T> {
     }
 }
 
-/// What a board answers, and a history which that is the answer of: it is no shorter than all that
-/// the caller knows and has all entries of the caller.
+/// What a board answers, and the history after which that is the answer. This history is no shorter
+/// than what the caller knows and has all entries of the caller.
 fn look<K: TokenId, T: ReadBoard<K>>(
     board: &T,
     account: &Account<K>,

@@ -72,6 +72,7 @@ impl<K: TokenId> KnownHistory<K> {
         }
     }
 
+    /// The known history, as a front of the token's.
     pub fn front(&self) -> &Front<K>
         ensures { result.now ≡ self.now.history }
     {

@@ -276,6 +276,7 @@ impl<K: TokenId> CallBooks<K> {
 impl<K: TokenId> Account<K> {
     ghost use Rattle.std.specs.Prelude.{◌≡◌, ◌≤◌};
 
+    /// The caller's number, from 1 to 8.
     pub fn number(&self) -> u32
         ensures value { result ≡ self.now.number }
         ensures range { (1 ≤ result) × (result ≤ 8) }
@@ -284,6 +285,7 @@ impl<K: TokenId> Account<K> {
         self.number
     }
 
+    /// How many calls of the caller are counted.
     pub fn count(&self) -> u64
         ensures { result ≡ self.now.count }
     {

@@ -15,10 +15,12 @@ pub trait Slot<K: TokenId>: Drop {
     /// The two handles of a slot that is not filled.
     fn vacant(alloc: Global) -> Result<(Self, Self), NoMemory>;
 
+    /// Fills the slot with the board after a call and the history that it is of. It takes no memory.
     fn fill(&self, board: TokenBoard, known: &KnownHistory<K>)
         requires { board ≡ board_of K.limits known.now.history };
 }
 
+/// A slot whose two handles share a cell, which is written once.
 #[derive(Drop)]
 pub struct EntrySlot<K: TokenId> {
     pub(crate) cell: Arc<OnceLock<BoardCopy<K>>>,

@@ -93,7 +93,6 @@ pub struct Front<K: HistoryId> {
 
 impl<K: HistoryId> Model for Front<K> {
     ghost use Rattle.std.specs.Prelude.{◌≡◌, length};
-    ghost use Rattle.std.specs.Coded.{codes};
     ghost use Rattle.ck_journal.specs.Answers.{IsLegal};
     ghost use Rattle.ck_journal.specs.Fronts.{history_of};
     ghost use Rattle.ck_journal.specs.Histories.{History};

@@ -18,7 +18,7 @@ ghost use Rattle.ck_objects.specs.declared.forms.Form.TheVariants as form;
 
 use crate::attribute_values::AttributeValue;
 use crate::attributes::{Attribute, Class, Purpose};
-use crate::forms::is_number;
+use crate::forms::{SECRET_KEY, is_number};
 use crate::key_states::KeyState;
 use ck_types::{NoMemory, RvError, error_if, number_of};
 use std::alloc::Global;
@@ -199,7 +199,7 @@ pub(crate) fn class_of(items: &[Item]) -> Class
     match value_at(items, Attribute::Class.number()) {
         None => Class::Data,
         Some(value) => {
-            if is_number(value.as_slice(), 4) {
+            if is_number(value.as_slice(), SECRET_KEY) {
                 Class::SecretKey
             } else {
                 Class::Data

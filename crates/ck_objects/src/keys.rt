@@ -1,10 +1,11 @@
 use crate::attribute_values::AttributeValue;
 use crate::attributes::Attribute;
 use crate::fields::Field;
+use crate::forms::{GENERIC_SECRET, SECRET_KEY};
 use crate::items::{Item, copied_items, copied_value, flag_or, number_at, state_or, take_value};
 use crate::key_states::KeyState;
 use crate::object_flags::Placement;
-use ck_types::NoMemory;
+use ck_types::{GENERIC_SECRET_KEY_GEN, NoMemory};
 use std::alloc::{AllocError, Global};
 
 /// How a key came to be: the attributes that no template gives. A copy has its source's.
@@ -113,7 +114,7 @@ impl Key {
             local: true,
             never_extractable: !flag_or(items, Attribute::Extractable, true),
             always_sensitive: flag_or(items, Attribute::Sensitive, false),
-            generation: 0x350,
+            generation: GENERIC_SECRET_KEY_GEN,
         };
         let value = AttributeValue::from_slice(alloc, random)?;
         Key::new(alloc, origin, items, value)
@@ -209,12 +210,12 @@ impl Key {
         ensures flag { flag_field result ≡ flag_at (key_items self.now) attribute }
     {
         match attribute {
-            Attribute::Class => Some(Field::Number(4)),
+            Attribute::Class => Some(Field::Number(SECRET_KEY)),
             Attribute::Token => Some(Field::Flag(self.token)),
             Attribute::Private => Some(Field::Flag(self.private)),
             Attribute::Label => Some(Field::Bytes(&self.label)),
             Attribute::Value => Some(Field::Bytes(&self.value)),
-            Attribute::KeyType => Some(Field::Number(16)),
+            Attribute::KeyType => Some(Field::Number(GENERIC_SECRET)),
             Attribute::Id => Some(Field::Bytes(&self.id)),
             Attribute::Sensitive => Some(Field::Flag(self.sensitive)),
             Attribute::Encrypt => Some(Field::Flag(self.encrypt)),

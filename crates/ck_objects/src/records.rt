@@ -48,7 +48,7 @@ impl Clone for Record {
 }
 
 impl Record {
-    ghost use Rattle.std.specs.Prelude.{option_map, length};
+    ghost use Rattle.std.specs.Prelude.{option_map};
     ghost use Rattle.ck_objects.specs.Attributes.{type_of};
     ghost use Rattle.ck_types.specs.Checks.{check_of};
     ghost use Rattle.std.specs.Prelude.{Some, true};
@@ -284,17 +284,6 @@ impl Record {
         ensures { result ≡ is_set self.now flag }
     {
         matches!(self.field_of(flag), Some(Field::Flag(true)))
-    }
-
-    /// How many bytes the value of an attribute has, or `None` where the object
-    /// doesn't have the attribute.
-    pub fn length(&self, kind: u64) -> Option<u64>
-        ensures { result ≡ option_map length (value_at self.now kind) }
-    {
-        match self.field(kind) {
-            None => None,
-            Some(field) => Some(field.len()),
-        }
     }
 
     /// A copy of the value of an attribute, or `None` where the object doesn't have the attribute.

@@ -1,4 +1,4 @@
-ghost use Rattle.std.specs.Prelude.{◌≡◌, ◌==◌, ◌∷◌, [], None, IfOk, not, is_none, length};
+ghost use Rattle.std.specs.Prelude.{◌≡◌, ◌==◌, ◌∷◌, [], None, not, is_none, length};
 ghost use Rattle.ck_objects.specs.Attributes.{type_of};
 ghost use Rattle.ck_types.specs.Checks.{check_of, first_error, first_of, error_if};
 ghost use Rattle.ck_objects.specs.Templates.{form_error, gives_other_class, is_key_length};
@@ -7,7 +7,7 @@ ghost use Rattle.ck_objects.specs.declared.attributes.Attribute.TheVariants as a
 ghost use Rattle.ck_types.specs.declared.errors.RvError.TheVariants as rv_error;
 
 use crate::attributes::{Attribute, Class, Purpose};
-use crate::forms::is_number;
+use crate::forms::{SECRET_KEY, is_number};
 use crate::items::{
     Item, check_forms, check_permissions, class_of, flag_or, has_conflict, number_at, value_at,
 };
@@ -169,7 +169,7 @@ fn gives_other_class(items: &[Item]) -> bool
 {
     match value_at(items, Attribute::Class.number()) {
         None => false,
-        Some(value) => !is_number(value.as_slice(), 4),
+        Some(value) => !is_number(value.as_slice(), SECRET_KEY),
     }
 }
 

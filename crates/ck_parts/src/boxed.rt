@@ -19,12 +19,14 @@ impl<T> Model for Boxed<T> {
 }
 
 impl<T> Boxed<T> {
+    /// The value, by reference.
     pub fn get(&self) -> &T
         ensures { result.now ≡ self.now }
     {
         &self.inner
     }
 
+    /// Takes the value off the heap.
     pub fn into_inner(self) -> T
         ensures { result ≡ self }
     {
@@ -34,6 +36,7 @@ impl<T> Boxed<T> {
 }
 
 impl<T: Drop> Boxed<T> {
+    /// Moves a value to the heap.
     pub fn new(alloc: Global, value: T) -> Result<Boxed<T>, NoMemory>
         ensures { IfOk result (λ b. b ≡ value) }
     {

@@ -16,6 +16,7 @@ pub trait Turn<K: TokenId, A: Drop>: Drop {
     // whether it may find no memory
     ghost may_fail: { Self → Type 0 };
 
+    /// Takes the turn at the gate, as this caller.
     fn make<T: Drop, G: Gate<K, T>, W: Wait>(
         self,
         rt: &W,

@@ -24,7 +24,9 @@ pub use digests::{Running, digest};
 pub use errors::RvError;
 pub use hashes::Hash;
 pub use macs::Mac;
-pub use mechanisms::{Mechanism, digest_of, is_key_generator, mac_of, mechanism_types};
+pub use mechanisms::{
+    GENERIC_SECRET_KEY_GEN, Mechanism, digest_of, is_key_generator, mac_of, mechanism_types,
+};
 pub use memory::NoMemory;
 pub use numbers::number_of;
 pub use pins::Pin;

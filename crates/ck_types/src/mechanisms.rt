@@ -75,6 +75,9 @@ enum Algorithm {
     GenericSecretKey,
 }
 
+/// CKM_GENERIC_SECRET_KEY_GEN, by which keys are generated.
+pub const GENERIC_SECRET_KEY_GEN: u64 = 0x350;
+
 /// All mechanisms that the token has, in rising types.
 const MECHANISMS: [(u64, Algorithm); 13] = [
     (0x250, Algorithm::Digest(Hash::Sha256)),
@@ -89,7 +92,7 @@ const MECHANISMS: [(u64, Algorithm); 13] = [
     (0x270, Algorithm::Digest(Hash::Sha512)),
     (0x271, Algorithm::Hmac(Hash::Sha512)),
     (0x272, Algorithm::GeneralHmac(Hash::Sha512)),
-    (0x350, Algorithm::GenericSecretKey),
+    (GENERIC_SECRET_KEY_GEN, Algorithm::GenericSecretKey),
 ];
 
 /// The types of all mechanisms that the token has, rising (C_GetMechanismList, PKCS #11 Base 3.0;

@@ -1,5 +1,8 @@
 use std::marker::Model;
 
+/// The most sessions that any token may have open at once.
+const MOST_SESSIONS: u64 = 64;
+
 /// The limits of one token: sessions open at once (1 to 64), openings of sessions in all and
 /// creations of objects in all (each 1 to 2^32 - 1), and OK logins of the user in all
 /// (1 to 2^31 - 1).
@@ -48,7 +51,7 @@ impl Limits {
         }) }
     {
         let is_in_range = 1 <= sessions
-            && sessions <= 64
+            && sessions <= MOST_SESSIONS
             && 1 <= openings
             && openings <= 0xffff_ffff
             && 1 <= creations
@@ -77,7 +80,7 @@ impl Limits {
         } }
     {
         Limits {
-            sessions: 64,
+            sessions: MOST_SESSIONS,
             openings: 0xffff_ffff,
             creations: 0xffff_ffff,
             logins: 0x7fff_ffff,
