@@ -5,7 +5,7 @@ use Rattle.std.proofs.Common.{inl, inr, arith, get_or, ◌&&◌, unwrap_or}
 use Rattle.std.specs.Prelude.{◌==◌, find, option_map}
 use Rattle.std.specs.Cmp.Lexicographic.{same_text}
 use Rattle.std.specs.List.{list_all}
-use Rattle.std.proofs.lemmas.Bool.{cases_eq, eqb-true}
+use Rattle.std.proofs.lemmas.Bool.{cases_eq, eqb-true, and_parts}
 use Rattle.std.proofs.lemmas.Option.{same_Some}
 use Rattle.slab.specs.Slab.{Slab, get, with_value, Updates}
 use Rattle.slab.proofs.SlabLemmas.{Contains-cons_cases, Updates-with_value}
@@ -30,15 +30,11 @@ use Rattle.ck_store.proofs.PlaceLemmas.{object_at-Some}
 
 -- ---- an object that is refused is no match
 
-both : (s t : Bool) → (s && t) ≡ true → (s ≡ true) × (t ≡ true)
-both true t e = (refl, e)
-both false t e = absurd (cc)
-
 all-has : (items template : List Item) (item : Item) → Contains template item
     → matches items template ≡ true → has_item items item ≡ true
 all-has items [] item there all = absurd (omega (arith, there.1))
 all-has items (first ∷ rest) item there all =
-    let tests = both (has_item items first) (list_all (has_item items) rest) all in
+    let tests = and_parts (has_item items first) (list_all (has_item items) rest) all in
     elim (Contains-cons_cases first item rest there) [
       | inl same ↦ ap (has_item items) (sym same) ∙ tests.0
       | inr later ↦ all-has items rest item later tests.1
@@ -96,7 +92,7 @@ refused-no_match view template row mark wanted marked is_wanted refused =
     by_case : (t : Bool) → is_match view template row ≡ t → is_match view template row ≡ false
     by_case false e = e
     by_case true e =
-        absurd (matching (both (is_visible_with view row.attributes)
+        absurd (matching (and_parts (is_visible_with view row.attributes)
         (matches row.attributes template) e).1)
 
 pub refused-none : (objects : Slab ObjectRow) (marks : List ℕ) (p : Place) (view : View)
