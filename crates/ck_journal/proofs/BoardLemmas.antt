@@ -4,7 +4,7 @@ use Rattle.std.proofs.Common.{sym, ap, ◌∙◌, subst}
 use Rattle.std.proofs.lemmas.Bool.{eqb-true}
 use Rattle.std.proofs.lemmas.List.{length-map}
 use Rattle.std.specs.Prelude.{◌==◌, map, filter, find, length, is_some, option_map}
-use Rattle.std.proofs.lemmas.Option.{same_Some}
+use Rattle.std.proofs.lemmas.Option.{cond_some}
 use Rattle.ck_types.specs.Checks.{error_if}
 use Rattle.ck_types.specs.TokenFlagBits.{token_flags}
 use Rattle.ck_types.specs.TokenLimits.{Ranges}
@@ -29,7 +29,7 @@ use Rattle.ck_journal.specs.Sessions.{has_rw_flag, login, state_of}
 use Rattle.ck_journal.proofs.LoginMoves.{session_rows-left, login-left, user_pin-left}
 use Rattle.ck_journal.proofs.LoginMoves.{is_initialized-left, tries-left, opens-left}
 use Rattle.ck_journal.proofs.Selections.{list_any-selected, list_any-at, filter-map, find-map}
-use Rattle.ck_journal.proofs.Selections.{is_some-find, find-passes}
+use Rattle.ck_journal.proofs.Selections.{is_some-find, find-passes, cond_none}
 use Rattle.ck_journal.proofs.SessionMoves.{is_open-within, flags_of-later}
 
 abbrev row_of : History → ℕ → ℕ × ℕ
@@ -66,14 +66,6 @@ module _ (h : History) where
   pub length-rows : length (map (row_of h) (open_sessions h)) ≡ length (open_sessions h)
   length-rows = length-map (open_sessions h) (row_of h)
 
-  closed_case : {X : Type 0} (t : Bool) (x : X) → cond t (Some x) None ≡ None → t ≡ false
-  closed_case true x e = cc
-  closed_case false x e = refl
-
-  open_case : {X : Type 0} (t : Bool) (x y : X) → cond t (Some x) None ≡ Some y → (t ≡ true) × (y ≡ x)
-  open_case true x y e = (refl, sym (same_Some x y e))
-  open_case false x y e = cc
-
 module _ (limits : Ranges) (h : History) (session : ℕ) where
   abbrev info_by : Bool → SessionState → ℕ → Reply
   info_by t s flags = unless (error_if (not t) rv_error.SessionHandleInvalid) (ok (body.Session s flags))
@@ -81,7 +73,7 @@ module _ (limits : Ranges) (h : History) (session : ℕ) where
   pub info-closed : find (λ (row : ℕ × ℕ). row.0 == session) (board_of limits h).sessions ≡ None
       → refusal rv_error.SessionHandleInvalid ≡ answer limits h (call.GetSessionInfo session)
   info-closed none =
-      let closed : is_open h session ≡ false = closed_case h (is_open h session) (row_of h session)
+      let closed : is_open h session ≡ false = cond_none (is_open h session) (row_of h session)
       (sym (find-row h session) ∙ none) in
       ap (λ t. info_by t (state_of h session) (flags_of h session)) (sym closed)
 
@@ -90,8 +82,8 @@ module _ (limits : Ranges) (h : History) (session : ℕ) where
       → s ≡ session_state (login h) (has_rw_flag row.1)
       → ok (body.Session s row.1) ≡ answer limits h (call.GetSessionInfo session)
   info-open row s found is =
-      let at = open_case h (is_open h session) (row_of h session) row (sym (find-row h session) ∙ found) in
-      let flags : row.1 ≡ flags_of h session = ap (λ (r : ℕ × ℕ). r.1) at.1 in
+      let at = cond_some (is_open h session) (row_of h session) row (sym (find-row h session) ∙ found) in
+      let flags : row.1 ≡ flags_of h session = ap (λ (r : ℕ × ℕ). r.1) (sym at.1) in
       ap (λ x. ok (body.Session x row.1)) is
       ∙ ap (λ x. ok (body.Session (session_state (login h) (has_rw_flag x)) x)) flags
       ∙ ap (λ t. info_by t (state_of h session) (flags_of h session)) (sym at.0)
