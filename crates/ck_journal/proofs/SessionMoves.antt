@@ -1,7 +1,7 @@
 -- How sessions move by one entry
 use Rattle.std.proofs.Common.{◌≡◌, ℕ, suc, ◌≤◌, Bool, true, false, cond, not, ◌&&◌, List, [], ◌∷◌, ◌++◌}
-use Rattle.std.proofs.Common.{Option, Some, refl, ap, ◌∙◌, arith}
-use Rattle.std.specs.Prelude.{◌==◌, ◌||◌, map, length, filter}
+use Rattle.std.proofs.Common.{Option, Some, None, sym, refl, ap, ◌∙◌, arith}
+use Rattle.std.specs.Prelude.{◌==◌, ◌||◌, map, length, filter, find, is_some, option_map}
 use Rattle.std.specs.List.{list_any}
 use Rattle.std.proofs.Math.Dec.{eqb-suc-zero}
 use Rattle.std.proofs.Math.Bool.{and-true}
@@ -14,7 +14,8 @@ use Rattle.ck_journal.specs.Sessions.{opens, openings, closes, is_open, opening_
 use Rattle.ck_journal.specs.Sessions.{numbers}
 use Rattle.ck_journal.proofs.NumberTests.{below_suc, same_number, ended_test}
 use Rattle.ck_journal.proofs.Selections.{selected, selected-suc, selected-same, selected-rows_same}
-use Rattle.ck_journal.proofs.Selections.{length-selected, list_any-at}
+use Rattle.ck_journal.proofs.Selections.{length-selected, list_any-at, list_any-selected}
+use Rattle.ck_journal.proofs.Selections.{is_some-find, find-passes}
 
 -- ---- steps, over what was done
 
@@ -159,3 +160,24 @@ open_sessions-rows h = map-same (open_sessions h)
 pub length-session_rows : {X : Type 0} (row : History → ℕ → X) (h : History)
     → length (session_rows row h) ≡ length (open_sessions h)
 length-session_rows row h = length-selected (is_open h) (row h) (openings h)
+
+-- ---- one session's row among those of the open ones
+
+module _ {X : Type 0} (row : ℕ → X) (h : History) (session : ℕ) where
+  found-row : (found : Option ℕ) → find (λ k. k == session) (open_sessions h) ≡ found
+      → is_some found ≡ is_open h session
+      → option_map row found ≡ cond (is_open h session) (Some (row session)) None
+  found-row None f e = ap (λ t. cond t (Some (row session)) None) e
+  found-row (Some k) f e =
+      let same : k ≡ session = eqb-true k session (find-passes (λ j. j == session) (open_sessions h) k f) in
+      ap (λ j. Some (row j)) same ∙ ap (λ t. cond t (Some (row session)) None) e
+
+  -- it is there where the session is open
+  pub find-open : option_map row (find (λ k. k == session) (open_sessions h))
+      ≡ cond (is_open h session) (Some (row session)) None
+  find-open =
+      found-row (find (λ k. k == session) (open_sessions h)) refl
+      (is_some-find (λ k. k == session) (open_sessions h)
+      ∙ ap (list_any (λ k. k == session)) (sym (open_sessions-rows h))
+      ∙ list_any-selected (λ k. k == session) (is_open h) (λ s. s) (openings h)
+      ∙ list_any-at (is_open h) session (openings h) (is_open-within h session))
