@@ -1,10 +1,9 @@
 -- What the board of a token answers, and which calls leave it
-use Rattle.std.proofs.Common.{◌≡◌, ℕ, Bool, true, false, not, cond, Option, Some, None, IsTrue, refl}
+use Rattle.std.proofs.Common.{◌≡◌, ℕ, Bool, true, false, not, cond, Some, None, IsTrue, refl}
 use Rattle.std.proofs.Common.{sym, ap, ◌∙◌, subst}
-use Rattle.std.proofs.lemmas.Bool.{eqb-true}
 use Rattle.std.proofs.lemmas.List.{length-map}
-use Rattle.std.specs.Prelude.{◌==◌, map, filter, find, length, is_some, option_map}
-use Rattle.std.proofs.lemmas.Option.{same_Some}
+use Rattle.std.specs.Prelude.{◌==◌, map, filter, find, length}
+use Rattle.std.proofs.lemmas.Option.{cond_some}
 use Rattle.ck_types.specs.Checks.{error_if}
 use Rattle.ck_types.specs.TokenFlagBits.{token_flags}
 use Rattle.ck_types.specs.TokenLimits.{Ranges}
@@ -24,13 +23,13 @@ use Rattle.ck_journal.specs.Answers.{answer, flags_of_token, ok, refusal, unless
 use Rattle.ck_journal.specs.Boards.{BoardState, board_of, login_status, LeavesBoard}
 use Rattle.ck_journal.specs.Histories.{History, ◌◁◌, done, is_ok, is_wrong_pin, effects_of, effects}
 use Rattle.ck_journal.specs.Pins.{about, is_about, is_user, tries}
-use Rattle.ck_journal.specs.Sessions.{openings, is_open, flags_of, open_sessions, rw_sessions}
+use Rattle.ck_journal.specs.Sessions.{is_open, flags_of, open_sessions, rw_sessions}
 use Rattle.ck_journal.specs.Sessions.{has_rw_flag, login, state_of}
 use Rattle.ck_journal.proofs.LoginMoves.{session_rows-left, login-left, user_pin-left}
 use Rattle.ck_journal.proofs.LoginMoves.{is_initialized-left, tries-left, opens-left}
-use Rattle.ck_journal.proofs.Selections.{list_any-selected, list_any-at, filter-map, find-map}
-use Rattle.ck_journal.proofs.Selections.{is_some-find, find-passes}
-use Rattle.ck_journal.proofs.SessionMoves.{is_open-within, flags_of-later}
+use Rattle.ck_journal.proofs.Selections.{filter-map, find-map}
+use Rattle.ck_journal.proofs.Selections.{cond_none}
+use Rattle.ck_journal.proofs.SessionMoves.{find-open, flags_of-later}
 
 abbrev row_of : History → ℕ → ℕ × ℕ
 row_of h s = (s, flags_of h s)
@@ -38,24 +37,11 @@ row_of h s = (s, flags_of h s)
 -- ---- readings
 
 module _ (h : History) where
-  at_handle : (session : ℕ) (found : Option ℕ) → find (λ k. k == session) (open_sessions h) ≡ found
-      → is_some (option_map (row_of h) found) ≡ is_open h session
-      → option_map (row_of h) found ≡ cond (is_open h session) (Some (row_of h session)) None
-  at_handle session None f e = ap (λ t. cond t (Some (row_of h session)) None) e
-  at_handle session (Some k) f e =
-      let same : k ≡ session = eqb-true k session (find-passes (λ j. j == session) (open_sessions h) k f) in
-      ap (λ j. Some (row_of h j)) same ∙ ap (λ t. cond t (Some (row_of h session)) None) e
-
   -- the row of a session, where it is open
   pub find-row : (session : ℕ) → find (λ (row : ℕ × ℕ). row.0 == session) (map (row_of h) (open_sessions h))
       ≡ cond (is_open h session) (Some (session, flags_of h session)) None
   find-row session =
-      let found = find-map (λ (row : ℕ × ℕ). row.0 == session) (row_of h) (open_sessions h) in
-      found
-      ∙ at_handle session (find (λ k. k == session) (open_sessions h)) refl
-      (ap is_some (sym found) ∙ is_some-find (λ (row : ℕ × ℕ). row.0 == session) (map (row_of h) (open_sessions h))
-      ∙ list_any-selected (λ (row : ℕ × ℕ). row.0 == session) (is_open h) (row_of h) (openings h)
-      ∙ list_any-at (is_open h) session (openings h) (is_open-within h session))
+      find-map (λ (row : ℕ × ℕ). row.0 == session) (row_of h) (open_sessions h) ∙ find-open (row_of h) h session
 
   pub rw-rows : length (filter (λ (row : ℕ × ℕ). has_rw_flag row.1) (map (row_of h) (open_sessions h))) ≡
       length (rw_sessions h)
@@ -66,14 +52,6 @@ module _ (h : History) where
   pub length-rows : length (map (row_of h) (open_sessions h)) ≡ length (open_sessions h)
   length-rows = length-map (open_sessions h) (row_of h)
 
-  closed_case : {X : Type 0} (t : Bool) (x : X) → cond t (Some x) None ≡ None → t ≡ false
-  closed_case true x e = cc
-  closed_case false x e = refl
-
-  open_case : {X : Type 0} (t : Bool) (x y : X) → cond t (Some x) None ≡ Some y → (t ≡ true) × (y ≡ x)
-  open_case true x y e = (refl, sym (same_Some x y e))
-  open_case false x y e = cc
-
 module _ (limits : Ranges) (h : History) (session : ℕ) where
   abbrev info_by : Bool → SessionState → ℕ → Reply
   info_by t s flags = unless (error_if (not t) rv_error.SessionHandleInvalid) (ok (body.Session s flags))
@@ -81,7 +59,7 @@ module _ (limits : Ranges) (h : History) (session : ℕ) where
   pub info-closed : find (λ (row : ℕ × ℕ). row.0 == session) (board_of limits h).sessions ≡ None
       → refusal rv_error.SessionHandleInvalid ≡ answer limits h (call.GetSessionInfo session)
   info-closed none =
-      let closed : is_open h session ≡ false = closed_case h (is_open h session) (row_of h session)
+      let closed : is_open h session ≡ false = cond_none (is_open h session) (row_of h session)
       (sym (find-row h session) ∙ none) in
       ap (λ t. info_by t (state_of h session) (flags_of h session)) (sym closed)
 
@@ -90,8 +68,8 @@ module _ (limits : Ranges) (h : History) (session : ℕ) where
       → s ≡ session_state (login h) (has_rw_flag row.1)
       → ok (body.Session s row.1) ≡ answer limits h (call.GetSessionInfo session)
   info-open row s found is =
-      let at = open_case h (is_open h session) (row_of h session) row (sym (find-row h session) ∙ found) in
-      let flags : row.1 ≡ flags_of h session = ap (λ (r : ℕ × ℕ). r.1) at.1 in
+      let at = cond_some (is_open h session) (row_of h session) row (sym (find-row h session) ∙ found) in
+      let flags : row.1 ≡ flags_of h session = ap (λ (r : ℕ × ℕ). r.1) (sym at.1) in
       ap (λ x. ok (body.Session x row.1)) is
       ∙ ap (λ x. ok (body.Session (session_state (login h) (has_rw_flag x)) x)) flags
       ∙ ap (λ t. info_by t (state_of h session) (flags_of h session)) (sym at.0)

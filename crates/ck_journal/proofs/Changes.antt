@@ -5,8 +5,9 @@ use Rattle.std.proofs.Common.{subst, arith}
 use Rattle.std.specs.List.{list_any, position, position_or_len}
 use Rattle.std.proofs.Math.ListN.{set}
 use Rattle.std.proofs.lemmas.Bool.{false≢true, ltb-true, ltb-false}
-use Rattle.std.proofs.lemmas.Option.{same_Some}
-use Rattle.ck_journal.proofs.Selections.{selected, last_row, selected-suc, list_any-append}
+use Rattle.std.proofs.lemmas.Option.{cond_some}
+use Rattle.std.proofs.lemmas.List.Folds.{list_any-append}
+use Rattle.ck_journal.proofs.Selections.{selected, last_row, selected-suc, cond_none}
 use Rattle.ck_journal.specs.Lists.{change_first}
 
 module _ {X : Type 0} (test : X → Bool) (change : X → X) where
@@ -123,19 +124,11 @@ module _ {X : Type 0} (test : X → Bool) (change : X → X) where
   change_first-past (x ∷ xs) past =
       past_step (test x) x xs (change_first-past xs) (subst (λ n. suc (length xs) ≤ n) (place-cons x xs) past)
 
-  place_cases : (t : Bool) (place found : ℕ) → cond t (Some found) None ≡ Some place → (t ≡ true) × (found ≡ place)
-  place_cases true place found e = (refl, same_Some found place e)
-  place_cases false place found e = cc
-
-  none_cases : (t : Bool) (found : ℕ) → cond t (Some found) None ≡ None → t ≡ false
-  none_cases true found e = cc
-  none_cases false found e = refl
-
   -- the item at the place of the first that passes
   pub change_first-place : (xs : List X) (place : ℕ) (x : X) → Some place ≡ position test xs → x ≡ get_or xs place x
       → set xs place (change x) ≡ change_first test change xs
   change_first-place xs place x found item =
-      let p = place_cases (ltb (position_or_len test xs) (length xs)) place (position_or_len test xs) (sym found) in
+      let p = cond_some (ltb (position_or_len test xs) (length xs)) (position_or_len test xs) place (sym found) in
       let within : position_or_len test xs < length xs = ltb-true _ _ p.0 in
       ap (λ y. set xs place (change y)) item ∙ ap (λ n. set xs n (change (get_or xs n x))) (sym p.1)
       ∙ change_first-at xs x within
@@ -143,5 +136,5 @@ module _ {X : Type 0} (test : X → Bool) (change : X → X) where
   -- none passes
   pub change_first-no_place : (xs : List X) → None ≡ position test xs → xs ≡ change_first test change xs
   change_first-no_place xs none =
-      change_first-past xs (ltb-false _ _ (none_cases (ltb (position_or_len test xs) (length xs))
+      change_first-past xs (ltb-false _ _ (cond_none (ltb (position_or_len test xs) (length xs))
       (position_or_len test xs) (sym none)))

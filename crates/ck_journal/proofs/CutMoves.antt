@@ -3,6 +3,7 @@ use Rattle.std.proofs.Common.{◌≡◌, ℕ, suc, Bool, true, false, cond, not,
 use Rattle.std.proofs.Common.{Option, Some, None, length, refl, sym, ap, ◌∙◌, subst}
 use Rattle.std.specs.Prelude.{◌==◌, filter, map, option_and_then}
 use Rattle.std.proofs.Math.Path.{fun_ext}
+use Rattle.std.proofs.lemmas.Option.{option_and_then_some}
 use Rattle.ck_types.specs.Checks.{error_if, or_else}
 use Rattle.ck_objects.specs.Records.{key_value}
 use Rattle.ck_types.specs.TokenLimits.{Ranges}
@@ -60,11 +61,6 @@ unsessioned : (d : Option Call) (view : View) (n creator other : ℕ) (attribute
     → object_after d view n other attributes ≡ object_after d view n creator attributes
 unsessioned (Some (call.CloseSession session)) view n creator other attributes t = rw t refl
 unsessioned d view n creator other attributes t = refl
-
-and_then-some : (after : List Item → Option (List Item)) (o : Option (List Item)) (b : List Item)
-    → option_and_then after o ≡ Some b → (x : List Item) × (o ≡ Some x)
-and_then-some after None b e = cc
-and_then-some after (Some x) b e = (x, refl)
 
 module _ (h g : History) (a : Alike h g) where
   -- ---- whose PIN a call is about
@@ -183,10 +179,11 @@ module _ (h g : History) (a : Alike h g) where
             ≡ cond fresh (creation_session (done e)) (session_of h n)
         cases true f = refl
         cases false f =
-            let was = and_then-some (object_after (done e) (view_of h) n (session_of h n)) (object_at h n) b
+            let was : (x : List Item) × (object_at h n ≡ Some x) =
+            option_and_then_some (object_after (done e) (view_of h) n (session_of h n)) (object_at h n) b
             (subst (λ t. cond t (Some (creation_attributes (done e) (attributes_named h)))
             (option_and_then (object_after (done e) (view_of h) n (session_of h n)) (object_at h n)) ≡ Some b)
-            f now) in
+            f now) (λ x there after. (x, there)) in
             a.creator n was.0 was.1
             (sym (ap not (token_stays limits e h sound legal n was.0 b was.1 now)) ∙ t)
 

@@ -1,5 +1,5 @@
 -- Fronts of histories, and logs that go on
-use Rattle.std.proofs.Common.{◌≡◌, ◌+◌, ◌≤◌, List, [], ◌∷◌, ◌++◌, length, refl, sym, ap, ◌∙◌, subst, arith}
+use Rattle.std.proofs.Common.{◌≡◌, ◌+◌, List, [], ◌∷◌, ◌++◌, length, refl, sym, ap, ◌∙◌, subst, arith}
 use Rattle.std.specs.Prelude.{reverse}
 use Rattle.std.proofs.lemmas.Grind.{reverse_onto}
 use mathlib.Core.List.{IsPrefix}
@@ -20,15 +20,6 @@ followed_by-append h (e ∷ later) before = ap (λ g. e ◁ g) (followed_by-appe
 
 pub front_trans : (f g h : History) → IsFront f g → IsFront g h → IsFront f h
 front_trans f g h p q = (q.0 ++ p.0, q.1 ∙ ap (λ x. followed_by x q.0) p.1 ∙ followed_by-append f q.0 p.0)
-
-entry_count-later : (g : History) (later : List Entry)
-    → entry_count (followed_by g later) ≡ length later + entry_count g
-entry_count-later g [] = omega arith
-entry_count-later g (e ∷ later) = let below = entry_count-later g later in omega arith
-
-nothing_later : (g h : History) (later : List Entry) → h ≡ followed_by g later → entry_count h ≤ entry_count g → g ≡ h
-nothing_later g h [] e short = sym e
-nothing_later g h (x ∷ later) e short = absurd (omega (arith, ap entry_count e, entry_count-later g later))
 
 -- ---- logs
 

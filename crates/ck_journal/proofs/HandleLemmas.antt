@@ -1,8 +1,7 @@
 -- The handles of objects and of sessions
-use Rattle.std.proofs.Common.{◌≡◌, ℕ, suc, true, Option, Some, refl}
+use Rattle.std.proofs.Common.{◌≡◌, ℕ, suc}
 use Rattle.std.proofs.Common.{sym, ap, ◌∙◌, arith}
 use Rattle.ck_types.specs.TokenLimits.{Ranges}
-use Rattle.ck_journal.specs.declared.calls.Call.{Call}
 use Rattle.ck_journal.specs.declared.calls.Call.TheVariants as call
 use Rattle.ck_journal.specs.declared.calls.Entry.{Entry}
 use Rattle.ck_journal.specs.declared.replies.Body.TheVariants as body
@@ -11,10 +10,11 @@ use Rattle.ck_journal.specs.Answers.{IsLegal}
 use Rattle.ck_journal.specs.Histories.{History, ◌◁◌, followed_by, done}
 use Rattle.ck_journal.specs.Laws.{HandlesNameOneObject, SessionHandlesAreGivenOnce, GivesSession}
 use Rattle.ck_journal.specs.Laws.{IsSoundHistory, Names}
-use Rattle.ck_journal.specs.Sessions.{opens, openings}
+use Rattle.ck_journal.specs.Sessions.{openings}
 use Rattle.ck_journal.proofs.LaterLemmas.{just_before, before_all, openings-rise}
 use Rattle.ck_journal.proofs.LegalLemmas.{allowed-done}
 use Rattle.ck_journal.proofs.NameLemmas.{named-number}
+use Rattle.ck_journal.proofs.OpenLemmas.{opening-call}
 use Rattle.ck_journal.proofs.SessionMoves.{openings-opened}
 
 -- at two sound fronts a handle names one object
@@ -29,11 +29,6 @@ names-one limits h g one other handle n m first last =
 pub names-one_object : HandlesNameOneObject
 names-one_object limits h later good =
     names-one limits h (followed_by h later) (before_all limits h later good) good
-
-opening-call : (d : Option Call) → opens d ≡ true
-    → (flags : ℕ) × (d ≡ Some (call.OpenSession flags))
-opening-call (Some (call.OpenSession flags)) t = (flags, refl)
-opening-call other t = cc
 
 -- the handle of a new session is the count of the openings with it
 pub given-session : (limits : Ranges) (e : Entry) (h : History) → IsLegal limits (e ◁ h) → (handle : ℕ)

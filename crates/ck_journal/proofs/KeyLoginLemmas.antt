@@ -1,10 +1,8 @@
 -- The login while an operation with a private key is active
-use Rattle.std.proofs.Common.{◌≡◌, ℕ, ◌<◌, ◌≤◌, Bool, true, false, cond, ◌&&◌, ◌||◌}
+use Rattle.std.proofs.Common.{◌≡◌, ℕ, ◌<◌, ◌≤◌, Bool, true, false, cond, ◌||◌}
 use Rattle.std.proofs.Common.{List, [], ◌∷◌, Option, Some, None, refl, sym, ap, ◌∙◌, arith}
-use Rattle.std.proofs.Common.{length, ◌⊎◌, inl, inr}
-use Rattle.std.specs.Prelude.{◌==◌, filter, nat_le, option_and_then}
-use Rattle.std.specs.List.{list_any}
-use Rattle.std.proofs.Math.Dec.{eqb-suc-zero}
+use Rattle.std.proofs.Common.{◌⊎◌, inl, inr}
+use Rattle.std.specs.Prelude.{◌==◌, nat_le, option_and_then}
 use Rattle.std.proofs.lemmas.Bool.{false≢true, leb-true, leb-false, cases_Bool, and_parts}
 use Rattle.std.proofs.lemmas.Option.{same_Some}
 use Rattle.ck_objects.specs.Records.{is_set}
@@ -28,7 +26,7 @@ use Rattle.ck_journal.specs.Objects.{creations, object_at, object_named}
 use Rattle.ck_journal.specs.Objects.{is_visible_with, view_of, handle_with}
 use Rattle.ck_journal.specs.Operations.{starts, ends, is_active, key_in, init_key}
 use Rattle.ck_journal.specs.Operations.{cancels, finishes}
-use Rattle.ck_journal.specs.Sessions.{numbers, openings, is_open, open_sessions, login, login_after}
+use Rattle.ck_journal.specs.Sessions.{is_open, login, login_after}
 use Rattle.ck_journal.specs.Sessions.{logs_out, closes}
 use Rattle.ck_journal.proofs.LaterLemmas.{just_before, was_there, creations-rise}
 use Rattle.ck_journal.proofs.KeyUseLemmas.{is_active-open}
@@ -36,29 +34,10 @@ use Rattle.ck_journal.proofs.LegalLemmas.{by-done, last-passes, later-passes, pr
 use Rattle.ck_journal.proofs.LoginMoves.{login-open}
 use Rattle.ck_journal.proofs.NameLemmas.{named-passes}
 use Rattle.ck_journal.proofs.ObjectMoves.{object_at-within}
-use Rattle.ck_journal.proofs.Selections.{list_any-at}
-use Rattle.ck_journal.proofs.SessionMoves.{is_open-within}
+use Rattle.ck_journal.proofs.SessionMoves.{some-open}
 use Rattle.ck_journal.proofs.VisibilityLemmas.{visible-login}
 
 -- ---- the login stays
-
-some-passes : (test other : ℕ → Bool) (ks : List ℕ)
-    → list_any (λ k. test k && other k) ks ≡ true → length (filter test ks) == 0 ≡ false
-some-passes test other [] t = cc
-some-passes test other (k ∷ ks) t = cases (test k) (other k) t (some-passes test other ks)
-  where
-    cases : (passes here : Bool)
-        → ((passes && here) || list_any (λ k. test k && other k) ks) ≡ true
-        → (list_any (λ k. test k && other k) ks ≡ true → length (filter test ks) == 0 ≡ false)
-        → length (cond passes (k ∷ filter test ks) (filter test ks)) == 0 ≡ false
-    cases true here t later = eqb-suc-zero (length (filter test ks))
-    cases false here t later = later t
-
--- where a session is open, not none is
-some-open : (h : History) (s : ℕ) → is_open h s ≡ true → length (open_sessions h) == 0 ≡ false
-some-open h s t =
-    some-passes (is_open h) (λ k. k == s) (numbers (openings h))
-    (list_any-at (is_open h) s (openings h) (is_open-within h s) ∙ t)
 
 -- nobody logs in beside somebody
 no-login : (limits : Ranges) (h : History) (found : Option UserType) (pin : Pin) (who : UserType)

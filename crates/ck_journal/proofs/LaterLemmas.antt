@@ -1,8 +1,9 @@
 -- Fronts of a history: what a later front keeps
 use Rattle.std.proofs.Common.{◌≡◌, ℕ, suc, ◌≤◌, Bool, true, false, cond, List, [], ◌∷◌}
-use Rattle.std.proofs.Common.{Option, Some, None, refl, arith}
-use Rattle.std.specs.Prelude.{◌==◌, option_and_then}
+use Rattle.std.proofs.Common.{Some, arith}
+use Rattle.std.specs.Prelude.{◌==◌}
 use Rattle.std.proofs.lemmas.Bool.{ne_eqb}
+use Rattle.std.proofs.lemmas.Option.{option_and_then_some}
 use Rattle.ck_types.specs.TokenLimits.{Ranges}
 use Rattle.ck_objects.specs.declared.items.Item.{Item}
 use Rattle.ck_journal.specs.declared.calls.Entry.{Entry}
@@ -46,14 +47,9 @@ creations-rise h (e ∷ later) =
 
 -- ---- an object that is there was there at each front since its creation
 
-there_before : (after : List Item → Option (List Item)) (was : Option (List Item)) (a : List Item)
-    → option_and_then after was ≡ Some a → (b : List Item) × (was ≡ Some b)
-there_before after None a e = cc
-there_before after (Some b) a e = (b, refl)
-
 pub was_there : (e : Entry) (h : History) (n : ℕ) (a : List Item) → n ≤ creations h
     → object_at (e ◁ h) n ≡ Some a → (b : List Item) × (object_at h n ≡ Some b)
 was_there e h n a within now =
     let older = ne_eqb n (suc (creations h)) (λ same. omega arith) in
-    there_before (object_after (done e) (view_of h) n (session_of h n)) (object_at h n) a
-    (not-created (creates (done e)) (n == suc (creations h)) _ _ a older now)
+    option_and_then_some (object_after (done e) (view_of h) n (session_of h n)) (object_at h n) a
+    (not-created (creates (done e)) (n == suc (creations h)) _ _ a older now) (λ b there after. (b, there))

@@ -6,7 +6,7 @@ use Rattle.std.specs.List.{list_any}
 use Rattle.std.specs.Option.{option_map_or}
 use Rattle.std.proofs.lemmas.Bool.{eqb-true, eqb-false, ne_eqb, leb-false, not-false}
 use Rattle.std.proofs.lemmas.Bool.{false_from_ne_true, false≢true}
-use Rattle.std.proofs.lemmas.Option.{same_Some}
+use Rattle.std.proofs.lemmas.Option.{same_Some, cond_some}
 use Rattle.ck_types.specs.Checks.{error_if, or_else, first_of}
 use Rattle.ck_types.specs.Pins.{fits_a_pin}
 use Rattle.ck_objects.specs.KeyStates.{state_of_number}
@@ -69,14 +69,10 @@ passed limits e h legal ok =
     checks-passed (call_error limits h e.call) (allowed_reply limits h e.call)
     (subst (λ (reply : Reply). is_ok reply.rv ≡ true) legal.0 ok)
 
-done-call : (ok : Bool) (c d : Call) → cond ok (Some c) None ≡ Some d → (ok ≡ true) × (c ≡ d)
-done-call true c d e = (refl, same_Some c d e)
-done-call false c d e = cc
-
 pub passed-done : (limits : Ranges) (e : Entry) (h : History) → IsLegal limits (e ◁ h) → (c : Call)
     → done e ≡ Some c → call_error limits h c ≡ None
 passed-done limits e h legal c d =
-    let did = done-call (is_ok e.reply.rv) e.call c d in
+    let did = cond_some (is_ok e.reply.rv) e.call c d in
     subst (λ c. call_error limits h c ≡ None) did.1 (passed limits e h legal did.0)
 
 allowed-answer : (error : Option RvError) (reply : Reply) → error ≡ None
@@ -88,7 +84,7 @@ allowed-answer (Some code) reply none = cc
 pub allowed-done : (limits : Ranges) (e : Entry) (h : History) → IsLegal limits (e ◁ h) → (c : Call)
     → done e ≡ Some c → e.reply ≡ allowed_reply limits h c
 allowed-done limits e h legal c d =
-    let did = done-call (is_ok e.reply.rv) e.call c d in
+    let did = cond_some (is_ok e.reply.rv) e.call c d in
     legal.0 ∙ ap (answer limits h) did.1
     ∙ allowed-answer (call_error limits h c) (allowed_reply limits h c)
     (passed-done limits e h legal c d)

@@ -2,6 +2,7 @@
 use Rattle.std.proofs.Common.{◌≡◌, ℕ, suc, Bool, true, false, cond, ◌||◌, Option, Some, None, length}
 use Rattle.std.proofs.Common.{refl, sym, ap, ◌∙◌}
 use Rattle.std.specs.Prelude.{◌==◌}
+use Rattle.std.proofs.lemmas.Option.{cond_some}
 use Rattle.ck_types.specs.declared.pins.Pin.{Pin}
 use Rattle.ck_types.specs.declared.return_codes.Rv.{Rv}
 use Rattle.ck_types.specs.declared.return_codes.Rv.TheVariants as rv
@@ -23,14 +24,10 @@ ok_wrong : (code : Rv) → is_ok code ≡ true → is_wrong_pin code ≡ false
 ok_wrong rv.Ok ok = refl
 ok_wrong (rv.Error code) ok = cc
 
-is_ok-some : (ok : Bool) (c d : Call) → cond ok (Some c) None ≡ Some d → ok ≡ true
-is_ok-some true c d e = refl
-is_ok-some false c d e = cc
-
 -- what was answered OK is no wrong try
 pub wrong_try-done : (e : Entry) (c : Call) → done e ≡ Some c → wrong_try e ≡ None
 wrong_try-done e c d =
-    ap (λ t. cond t (Some e.call) None) (ok_wrong e.reply.rv (is_ok-some (is_ok e.reply.rv) e.call c d))
+    ap (λ t. cond t (Some e.call) None) (ok_wrong e.reply.rv (cond_some (is_ok e.reply.rv) e.call c d).0)
 
 -- ---- the login
 

@@ -1,7 +1,8 @@
 -- No more sessions are open than the limit allows
-use Rattle.std.proofs.Common.{◌≡◌, ℕ, suc, ◌+◌, ◌<◌, ◌≤◌, Bool, true, false, not, cond, List, [], ◌∷◌}
+use Rattle.std.proofs.Common.{◌≡◌, ℕ, suc, ◌+◌, ◌<◌, ◌≤◌, Bool, true, false, not, List, [], ◌∷◌}
 use Rattle.std.proofs.Common.{Option, Some, None, length, length-append, refl, sym, ap, ◌∙◌, arith}
 use Rattle.std.specs.Prelude.{◌==◌, ◌&&◌, bit_and, nat_le, filter}
+use Rattle.std.proofs.lemmas.List.Sums.{length-filter, count_by-le-length}
 use Rattle.ck_types.specs.Checks.{error_if}
 use Rattle.ck_types.specs.TokenLimits.{Ranges}
 use Rattle.ck_types.specs.declared.errors.RvError.TheVariants as rv_error
@@ -18,16 +19,10 @@ use Rattle.ck_journal.proofs.Selections.{selected-none, filter-selected}
 use Rattle.ck_journal.proofs.SessionMoves.{session_rows, session_rows-opened, session_rows-later}
 use Rattle.ck_journal.proofs.SessionMoves.{open_sessions-rows}
 
-filter_step : (t : Bool) (k : ℕ) (ks rest : List ℕ) → length ks ≤ length rest
-    → length (cond t (k ∷ ks) ks) ≤ suc (length rest)
-filter_step true k ks rest below = omega arith
-filter_step false k ks rest below = omega arith
-
 filter-shorter : (test : ℕ → Bool) (ks : List ℕ) → length (filter test ks) ≤ length ks
-filter-shorter test [] = omega arith
-filter-shorter test (k ∷ ks) = filter_step (test k) k (filter test ks) ks (filter-shorter test ks)
+filter-shorter test ks = omega (arith, length-filter test ks, count_by-le-length test ks)
 
-opening-call : (c : Option Call) → opens c ≡ true → (flags : ℕ) × (c ≡ Some (call.OpenSession flags))
+pub opening-call : (c : Option Call) → opens c ≡ true → (flags : ℕ) × (c ≡ Some (call.OpenSession flags))
 opening-call (Some (call.OpenSession flags)) o = (flags, refl)
 opening-call other o = cc
 

@@ -1,6 +1,7 @@
 -- How operations move by one entry
 use Rattle.std.proofs.Common.{◌≡◌, ℕ, Bool, true, false, [], Option, Some, None, refl, ap, cond}
-use Rattle.std.specs.Prelude.{◌||◌, is_some}
+use Rattle.std.specs.Prelude.{is_some}
+use Rattle.std.proofs.lemmas.Bool.{or_parts}
 use Rattle.ck_journal.specs.declared.calls.Call.{Call}
 use Rattle.ck_journal.specs.declared.calls.Call.TheVariants as call
 use Rattle.ck_journal.specs.declared.calls.Entry.{Entry}
@@ -24,10 +25,6 @@ cancels-left : (c : Option Call) (k : OperationKind) (s : ℕ) → (effects_of c
 cancels-left (Some (call.SessionCancel session flags)) k s l = cc
 cancels-left other k s l = refl
 
-neither : (a b : Bool) → (a || b) ≡ false → (a ≡ false) × (b ≡ false)
-neither true b e = cc
-neither false b e = (refl, e)
-
 no-step : (o : Option OperationStep) → is_some o ≡ false → o ≡ None
 no-step None e = refl
 no-step (Some o) e = cc
@@ -49,7 +46,7 @@ module _ (c : Call) (idle : operation_step c ≡ None) (k : OperationKind) (s : 
 module _ (e : Entry) (l : (effects e).operations ≡ false) (k : OperationKind) (s : ℕ) where
   both : ((effects_of (done e)).operations ≡ false) × (operation_step e.call ≡ None)
   both =
-      let two = neither (effects_of (done e)).operations (is_some (operation_step e.call)) l in
+      let two = or_parts (effects_of (done e)).operations (is_some (operation_step e.call)) l in
       (two.0, no-step (operation_step e.call) two.1)
 
   pub starts_none : starts (done e) k s ≡ false

@@ -1,8 +1,8 @@
 -- What protects the keys of a legal history
-use Rattle.std.proofs.Common.{◌≡◌, ℕ, suc, Bool, true, false, cond, not, ◌&&◌, List, [], ◌∷◌}
+use Rattle.std.proofs.Common.{◌≡◌, ℕ, suc, Bool, true, false, cond, ◌&&◌, List, [], ◌∷◌}
 use Rattle.std.proofs.Common.{Option, Some, None, All, refl, sym, ◌∙◌, subst}
 use Rattle.std.specs.Prelude.{◌==◌, find, option_and_then, option_map, unwrap_or}
-use Rattle.std.proofs.lemmas.Bool.{false≢true}
+use Rattle.std.proofs.lemmas.Bool.{false≢true, not-true}
 use Rattle.std.proofs.lemmas.List.Elements.{All-head, All-tail}
 use Rattle.std.proofs.lemmas.Option.{same_Some}
 use Rattle.ck_objects.specs.Records.{created_items, generated_items, with_given}
@@ -82,10 +82,6 @@ created-protected template fine =
       sensitive = λ t. absurd (false≢true (sym unsaid.0 ∙ t));
       unextractable = λ t. absurd (false≢true (sym unsaid.1 ∙ t));
     }
-
-not-true : (b : Bool) → not b ≡ true → b ≡ false
-not-true true e = cc
-not-true false e = refl
 
 generated-protected : (template : List Item) (random : List ℕ)
     → IsProtected (generated_items template random)

@@ -3,7 +3,7 @@ use Rattle.std.proofs.Common.{◌≡◌, ◌≢◌, ℕ, zero, suc, ◌<◌, ◌
 use Rattle.std.proofs.Common.{◌||◌, List, [], ◌∷◌, ◌++◌, Option, Some, None, All, AllPairs, length}
 use Rattle.std.proofs.Common.{subst, refl, sym, ap, ◌∙◌, arith, inl, inr}
 use Rattle.std.specs.Prelude.{◌==◌, map, filter, filter_map, find, option_map, option_and_then, is_some}
-use Rattle.std.proofs.Math.Bool.{and-true, and-false, or-false}
+use Rattle.std.proofs.Math.Bool.{and-true, and-false, or-false, or-true}
 use Rattle.std.proofs.lemmas.Option.{same_Some}
 use Rattle.std.specs.List.{list_any, cons_option}
 use Rattle.std.specs.Option.{option_map_or}
@@ -11,6 +11,7 @@ use Rattle.std.proofs.lemmas.Bool.{eqb-true, eqb-false, ne_eqb, cases_Bool}
 use Rattle.std.proofs.lemmas.List.{append-nil, map-append, length-map}
 use Rattle.std.proofs.lemmas.List.Elements.{filter-append, filter_map-append, All-append, All-cons}
 use Rattle.std.proofs.lemmas.List.Elements.{All-nil, All-weaker}
+use Rattle.std.proofs.lemmas.List.Folds.{list_any-append}
 use Rattle.std.proofs.lemmas.List.Quantifiers.{all_pairs_push}
 use Rattle.ck_journal.specs.Sessions.{numbers}
 
@@ -110,16 +111,6 @@ module _ {X : Type 0} where
       → list_any wanted (selected test row n) ≡ list_any (λ k. test k && wanted (row k)) (numbers n)
   list_any-selected wanted test row n = list_any-filter wanted test row (numbers n)
 
-pub list_any-append : {X : Type 0} (test : X → Bool) (ks js : List X)
-    → list_any test (ks ++ js) ≡ list_any test ks || list_any test js
-list_any-append test [] js = refl
-list_any-append test (k ∷ ks) js = ap (λ b. test k || b) (list_any-append test ks js)
-    ∙ or-or (test k) (list_any test ks) (list_any test js)
-  where
-    or-or : (a b c : Bool) → (a || (b || c)) ≡ ((a || b) || c)
-    or-or true b c = refl
-    or-or false b c = refl
-
 list_any_last : (test : ℕ → Bool) (n : ℕ) → list_any test (numbers (suc n)) ≡ list_any test (numbers n) || test (suc n)
 list_any_last test n = list_any-append test (numbers n) (suc n ∷ [])
     ∙ ap (λ b. list_any test (numbers n) || b) (or-false (test (suc n)))
@@ -164,16 +155,16 @@ list_any-at test s zero within = elim (cases_Bool (test s))
     zero_between s a b = omega arith
 list_any-at test s (suc n) within = list_any-at_step test s n (suc n == s) refl within (list_any-at test s n)
 
-module _ {X : Type 0} where
-  find-map_step : (wanted : X → Bool) (row : ℕ → X) (k : ℕ) (ks : List ℕ) (found : Bool)
+module _ {K X : Type 0} where
+  find-map_step : (wanted : X → Bool) (row : K → X) (k : K) (ks : List K) (found : Bool)
       → find wanted (map row ks) ≡ option_map row (find (λ j. wanted (row j)) ks)
       → cond found (Some (row k)) (find wanted (map row ks)) ≡ option_map row
       (cond found (Some k) (find (λ j. wanted (row j)) ks))
   find-map_step wanted row k ks true later = refl
   find-map_step wanted row k ks false later = later
 
-  -- the first row that is wanted is that of the first number whose row is
-  pub find-map : (wanted : X → Bool) (row : ℕ → X) (ks : List ℕ)
+  -- the first row that is wanted is that of the first item whose row is
+  pub find-map : (wanted : X → Bool) (row : K → X) (ks : List K)
       → find wanted (map row ks) ≡ option_map row (find (λ k. wanted (row k)) ks)
   find-map wanted row [] = refl
   find-map wanted row (k ∷ ks) = find-map_step wanted row k ks (wanted (row k)) (find-map wanted row ks)
@@ -197,6 +188,11 @@ module _ {X : Type 0} where
 
 -- ---- what is found
 
+-- where nothing is, the test fails
+pub cond_none : {X : Type 0} (t : Bool) (x : X) → cond t (Some x) None ≡ None → t ≡ false
+cond_none true x e = cc
+cond_none false x e = refl
+
 pub is_some-cond : {X : Type 0} (t : Bool) (x : X) (found : Option X) (any : Bool) → is_some found ≡ any
     → is_some (cond t (Some x) found) ≡ t || any
 is_some-cond true x found any e = refl
@@ -216,10 +212,6 @@ passes-cond test false k j found t later e = later e
 pub find-passes : (test : ℕ → Bool) (ks : List ℕ) (j : ℕ) → find test ks ≡ Some j → test j ≡ true
 find-passes test [] j e = cc
 find-passes test (k ∷ ks) j e = passes-cond test (test k) k j (find test ks) refl (find-passes test ks j) e
-
-or-true : (b : Bool) → (b || true) ≡ true
-or-true true = refl
-or-true false = refl
 
 member_step : (test : ℕ → Bool) (k n : ℕ) (same : Bool) → k == suc n ≡ same → k ≤ suc n → test k ≡ true
     → (k ≤ n → list_any test (numbers n) ≡ true)

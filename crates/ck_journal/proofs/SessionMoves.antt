@@ -1,7 +1,9 @@
 -- How sessions move by one entry
 use Rattle.std.proofs.Common.{◌≡◌, ℕ, suc, ◌≤◌, Bool, true, false, cond, not, ◌&&◌, List, [], ◌∷◌, ◌++◌}
-use Rattle.std.proofs.Common.{Option, Some, refl, ap, ◌∙◌, arith}
-use Rattle.std.specs.Prelude.{◌==◌, map, length}
+use Rattle.std.proofs.Common.{Option, Some, None, sym, refl, ap, ◌∙◌, arith}
+use Rattle.std.specs.Prelude.{◌==◌, ◌||◌, map, length, filter, find, is_some, option_map}
+use Rattle.std.specs.List.{list_any}
+use Rattle.std.proofs.Math.Dec.{eqb-suc-zero}
 use Rattle.std.proofs.Math.Bool.{and-true}
 use Rattle.std.proofs.lemmas.Bool.{eqb-true}
 use Rattle.ck_journal.specs.declared.calls.Call.{Call}
@@ -9,9 +11,11 @@ use Rattle.ck_journal.specs.declared.calls.Call.TheVariants as call
 use Rattle.ck_journal.specs.declared.calls.Entry.{Entry}
 use Rattle.ck_journal.specs.Histories.{History, start, ◌◁◌, done}
 use Rattle.ck_journal.specs.Sessions.{opens, openings, closes, is_open, opening_flags, flags_of, open_sessions}
+use Rattle.ck_journal.specs.Sessions.{numbers}
 use Rattle.ck_journal.proofs.NumberTests.{below_suc, same_number, ended_test}
 use Rattle.ck_journal.proofs.Selections.{selected, selected-suc, selected-same, selected-rows_same}
-use Rattle.ck_journal.proofs.Selections.{length-selected}
+use Rattle.ck_journal.proofs.Selections.{length-selected, list_any-at, list_any-selected}
+use Rattle.ck_journal.proofs.Selections.{is_some-find, find-passes}
 
 -- ---- steps, over what was done
 
@@ -124,6 +128,24 @@ is_open-within (start b) s is_so = cc
 is_open-within (e ◁ h) s is_so =
     within_step e h s (is_open-within h s) (opens (done e)) (closes (done e) s) (s == suc (openings h)) refl refl is_so
 
+some-passes : (test other : ℕ → Bool) (ks : List ℕ)
+    → list_any (λ k. test k && other k) ks ≡ true → length (filter test ks) == 0 ≡ false
+some-passes test other [] t = cc
+some-passes test other (k ∷ ks) t = cases (test k) (other k) t (some-passes test other ks)
+  where
+    cases : (passes here : Bool)
+        → ((passes && here) || list_any (λ k. test k && other k) ks) ≡ true
+        → (list_any (λ k. test k && other k) ks ≡ true → length (filter test ks) == 0 ≡ false)
+        → length (cond passes (k ∷ filter test ks) (filter test ks)) == 0 ≡ false
+    cases true here t later = eqb-suc-zero (length (filter test ks))
+    cases false here t later = later t
+
+-- where a session is open, not none is
+pub some-open : (h : History) (s : ℕ) → is_open h s ≡ true → length (open_sessions h) == 0 ≡ false
+some-open h s t =
+    some-passes (is_open h) (λ k. k == s) (numbers (openings h))
+    (list_any-at (is_open h) s (openings h) (is_open-within h s) ∙ t)
+
 -- ---- handles alone
 
 map-same : (ks : List ℕ) → map (λ k. k) ks ≡ ks
@@ -138,3 +160,24 @@ open_sessions-rows h = map-same (open_sessions h)
 pub length-session_rows : {X : Type 0} (row : History → ℕ → X) (h : History)
     → length (session_rows row h) ≡ length (open_sessions h)
 length-session_rows row h = length-selected (is_open h) (row h) (openings h)
+
+-- ---- one session's row among those of the open ones
+
+module _ {X : Type 0} (row : ℕ → X) (h : History) (session : ℕ) where
+  found-row : (found : Option ℕ) → find (λ k. k == session) (open_sessions h) ≡ found
+      → is_some found ≡ is_open h session
+      → option_map row found ≡ cond (is_open h session) (Some (row session)) None
+  found-row None f e = ap (λ t. cond t (Some (row session)) None) e
+  found-row (Some k) f e =
+      let same : k ≡ session = eqb-true k session (find-passes (λ j. j == session) (open_sessions h) k f) in
+      ap (λ j. Some (row j)) same ∙ ap (λ t. cond t (Some (row session)) None) e
+
+  -- it is there where the session is open
+  pub find-open : option_map row (find (λ k. k == session) (open_sessions h))
+      ≡ cond (is_open h session) (Some (row session)) None
+  find-open =
+      found-row (find (λ k. k == session) (open_sessions h)) refl
+      (is_some-find (λ k. k == session) (open_sessions h)
+      ∙ ap (list_any (λ k. k == session)) (sym (open_sessions-rows h))
+      ∙ list_any-selected (λ k. k == session) (is_open h) (λ s. s) (openings h)
+      ∙ list_any-at (is_open h) session (openings h) (is_open-within h session))

@@ -27,7 +27,7 @@ pub record OperationStep : Type 0 where
   pub session : ℕ
   pub step : Step
 
-abbrev on_operation : OperationKind → ℕ → Step → Option OperationStep
+abbrev pub on_operation : OperationKind → ℕ → Step → Option OperationStep
 on_operation k session step = Some (record { kind = k; session = session; step = step })
 
 abbrev pub operation_step : Call → Option OperationStep

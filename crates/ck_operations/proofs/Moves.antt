@@ -5,7 +5,7 @@ use Rattle.std.proofs.Common.{arith}
 use Rattle.std.specs.Prelude.{◌==◌, ◌&&◌, filter, find, option_map, option_and_then}
 use Rattle.std.specs.List.{concat}
 use Rattle.std.specs.Option.{option_or}
-use Rattle.std.proofs.lemmas.Bool.{ne_eqb, eqb-true, eqb-false, eq-eqb}
+use Rattle.std.proofs.lemmas.Bool.{ne_eqb, eqb-true, and_parts}
 use Rattle.std.proofs.lemmas.List.Folds.{find-append}
 use Rattle.ck_journal.specs.declared.calls.Entry.{Entry}
 use Rattle.ck_journal.specs.declared.operations.OperationKind.{OperationKind}
@@ -14,6 +14,7 @@ use Rattle.ck_journal.specs.Objects.{object_named}
 use Rattle.ck_journal.specs.OperationCalls.{same_kind}
 use Rattle.ck_journal.specs.Operations.{is_active, computation_in, key_in, pieces_in}
 use Rattle.ck_journal.specs.Operations.{started_computation, init_key, names_kind}
+use Rattle.ck_journal.proofs.NumberTests.{eqb-swap}
 use Rattle.ck_types.specs.Computations.{Computation, HoldsTag}
 use Rattle.ck_types.specs.declared.running_tags.RunningTag.{RunningTag}
 use Rattle.ck_operations.specs.Agreement.{OperationsState, ActiveOperation, operation_at, OptionAgrees}
@@ -24,7 +25,7 @@ use Rattle.ck_operations.specs.Rows.{is_operation, is_of_session, is_named, new_
 use Rattle.ck_operations.specs.Rows.{IsUpdateOfRows, IsUpdateOfOption}
 use Rattle.ck_operations.specs.declared.active_operations.Operation.{Operation}
 use Rattle.ck_operations.proofs.RowLemmas.{find-kept, find-removed, operation-is, same_kind-eq}
-use Rattle.ck_operations.proofs.RowLemmas.{same_kind-swap, and-both}
+use Rattle.ck_operations.proofs.RowLemmas.{same_kind-swap}
 
 concat-append : (xs : List (List ℕ)) (y : List ℕ) → concat (xs ++ y ∷ []) ≡ concat xs ++ y
 concat-append [] y = append-nil y
@@ -34,13 +35,6 @@ concat-append (x ∷ xs) y =
 not-empty : (pieces : List (List ℕ)) (bytes : List ℕ) → length (pieces ++ bytes ∷ []) == 0 ≡ false
 not-empty [] bytes = ne_eqb 1 0 (λ z. omega arith)
 not-empty (p ∷ pieces) bytes = ne_eqb (suc (length (pieces ++ bytes ∷ []))) 0 (λ z. omega arith)
-
-eqb-swap : (a b : ℕ) → a == b ≡ b == a
-eqb-swap a b = swap (a == b) refl
-  where
-    swap : (t : Bool) → a == b ≡ t → t ≡ b == a
-    swap true e = sym (eq-eqb b a (sym (eqb-true a b e)))
-    swap false e = sym (ne_eqb b a (λ same. eqb-false a b e (sym same)))
 
 -- ---- the history's operation after one more entry
 
@@ -195,7 +189,7 @@ module _ (h : History) (old : OperationsState) (agree : OperationsAgree h old) (
       added : (k : OperationKind) (s : ℕ) (t : Bool) → (same_kind kind k && session == s) ≡ t
           → OptionAgrees (find (is_operation k s) new.rows) (after (cond t (Add bytes) Stay) k s)
       added k s true here =
-          let both = and-both (same_kind kind k) (session == s) here in
+          let both = and_parts (same_kind kind k) (session == s) here in
           rw (← same_kind-eq kind k both.0, ← eqb-true session s both.1)
           (added-same (started_by h e) bytes (find (is_operation kind session) old.rows)
           (find (is_operation kind session) new.rows)
@@ -223,7 +217,7 @@ module _ (h : History) (old : OperationsState) (agree : OperationsAgree h old) (
       started : (k : OperationKind) (s : ℕ) (t : Bool) → (same_kind kind k && session == s) ≡ t
           → OptionAgrees (find (is_operation k s) new.rows) (after (cond t Start Stay) k s)
       started k s true here =
-          let both = and-both (same_kind kind k) (session == s) here in
+          let both = and_parts (same_kind kind k) (session == s) here in
           let p = is_operation k s in
           let inactive : operation_at k h s ≡ None =
           rw (← same_kind-eq kind k both.0, ← eqb-true session s both.1) (idle-none kind h session idle) in

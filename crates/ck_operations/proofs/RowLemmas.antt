@@ -4,15 +4,16 @@ use Rattle.std.proofs.Common.{sym, ap, ◌∙◌, get_or}
 use Rattle.std.specs.Prelude.{◌==◌, ◌&&◌, filter, find}
 use Rattle.std.specs.List.{position, position_or_len, slice_get}
 use Rattle.std.proofs.Math.ListN.{set}
-use Rattle.std.proofs.lemmas.Bool.{eqb-true, false≢true, ltb-false}
+use Rattle.std.proofs.lemmas.Bool.{eqb-true, false≢true, ltb-false, and_parts}
 use Rattle.std.proofs.lemmas.List.Folds.{find_at, find-set}
 use Rattle.std.proofs.lemmas.List.Quantifiers.{position-Some}
-use Rattle.std.proofs.lemmas.Option.{same_Some, slice_get-get_or, slice_get_past}
+use Rattle.std.proofs.lemmas.Option.{cond_some, slice_get-get_or, slice_get_past}
 use Rattle.ck_journal.specs.declared.operations.OperationKind.{OperationKind}
 use Rattle.ck_journal.specs.declared.operations.OperationKind.TheVariants as kind
 use Rattle.ck_journal.specs.Lists.{change_first}
 use Rattle.ck_operations.specs.declared.active_operations.Operation.{Operation}
 use Rattle.ck_journal.proofs.Changes.{change_first-place}
+use Rattle.ck_journal.proofs.Selections.{cond_none}
 use Rattle.ck_journal.specs.OperationCalls.{same_kind}
 use Rattle.ck_operations.specs.Rows.{is_operation, IsUpdateOfRows, IsUpdateOf, IsUpdateOfOption}
 
@@ -68,11 +69,6 @@ module _ {X : Type 0} (test : X → Bool) (y : X) where
 
 -- ---- tests of operations
 
-pub and-both : (a b : Bool) → (a && b) ≡ true → (a ≡ true) × (b ≡ true)
-and-both true true e = (refl, refl)
-and-both true false e = cc
-and-both false b e = cc
-
 pub same_kind-eq : (k l : OperationKind) → same_kind k l ≡ true → k ≡ l
 same_kind-eq kind.Digest kind.Digest e = refl
 same_kind-eq kind.Sign kind.Sign e = refl
@@ -99,7 +95,7 @@ same_kind-swap kind.Verify kind.Verify = refl
 pub operation-is : (k : OperationKind) (s : ℕ) (o : Operation) → is_operation k s o ≡ true
     → (o.kind ≡ k) × (o.session ≡ s)
 operation-is k s o e =
-    let both = and-both (same_kind o.kind k) (o.session == s) e in
+    let both = and_parts (same_kind o.kind k) (o.session == s) e in
     (same_kind-eq o.kind k both.0, eqb-true o.session s both.1)
 
 -- of this kind in this session, and so of no other
@@ -110,18 +106,10 @@ apart k l session s other o e =
 
 -- ---- an operation that takes in a piece
 
-place-cases : (t : Bool) (place found : ℕ) → cond t (Some found) None ≡ Some place → (t ≡ true) × (found ≡ place)
-place-cases true place found e = (refl, same_Some found place e)
-place-cases false place found e = cc
-
-none-case : (t : Bool) (found : ℕ) → cond t (Some found) None ≡ None → t ≡ false
-none-case true found e = cc
-none-case false found e = refl
-
 find-nowhere : (test : Operation → Bool) (rows : List Operation) → position test rows ≡ None → find test rows ≡ None
 find-nowhere test rows none =
     find_at test rows
-    ∙ slice_get_past rows (position_or_len test rows) (ltb-false _ _ (none-case _ (position_or_len test rows) none))
+    ∙ slice_get_past rows (position_or_len test rows) (ltb-false _ _ (cond_none _ (position_or_len test rows) none))
 
 has-added : (bytes : List ℕ) (old new : Operation) (a b : Option Operation) → a ≡ Some old → b ≡ Some new
     → IsUpdateOf bytes old new → IsUpdateOfOption bytes a b
@@ -133,7 +121,7 @@ module _ (k : OperationKind) (session : ℕ) (bytes : List ℕ) (rows : List Ope
       → IsUpdateOfRows k session bytes rows (set rows place new)
   added-at place old new found item is =
       let at = position-Some (is_operation k session) rows place old (sym found) in
-      let p = place-cases _ place (position_or_len (is_operation k session) rows) (sym found) in
+      let p = cond_some _ (position_or_len (is_operation k session) rows) place (sym found) in
       let passes : is_operation k session old ≡ true = ap (is_operation k session) item ∙ at.1 in
       let passes-new : is_operation k session new ≡ true = rw (is.session, is.kind) passes in
       record {

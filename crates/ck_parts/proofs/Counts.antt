@@ -1,16 +1,15 @@
 -- That the counts which a change raises stay in range
-use Rattle.std.proofs.Common.{◌≡◌, ℕ, Bool, true, false, not, Option, Some, None, refl, ap, sym, ◌∙◌}
+use Rattle.std.proofs.Common.{◌≡◌, ℕ, true, false, not, Option, Some, None, refl, ap, sym, ◌∙◌}
 use Rattle.std.proofs.Common.{subst, arith}
 use Rattle.std.specs.Prelude.{is_none, is_some}
-use Rattle.ck_types.specs.Checks.{error_if, or_else}
+use Rattle.ck_types.specs.Checks.{error_if}
 use Rattle.ck_types.specs.TokenLimits.{Ranges, AreInRange}
-use Rattle.ck_types.specs.declared.errors.RvError.{RvError}
 use Rattle.ck_types.specs.declared.errors.RvError.TheVariants as rv_error
 use Rattle.ck_types.specs.declared.hashes.Hash.{Hash}
 use Rattle.ck_types.specs.declared.pins.Pin.{Pin}
 use Rattle.ck_types.specs.declared.users.UserType.{UserType}
 use Rattle.ck_types.specs.declared.users.UserType.TheVariants as user
-use Rattle.ck_types.proofs.CheckLemmas.{or_else-none}
+use Rattle.ck_types.proofs.CheckLemmas.{or_else-none, error_if-none}
 use Rattle.ck_types.proofs.MechanismLemmas.{tag_length-bounds}
 use Rattle.ck_journal.specs.declared.calls.Call.{Call}
 use Rattle.ck_journal.specs.declared.calls.Call.TheVariants as call
@@ -38,11 +37,6 @@ credential-agrees user.So h s agree = agree.so
 credential-agrees user.User h s agree = agree.user
 
 -- a PIN that is changed is there
-some_pin : (none : Bool) (later : Option RvError)
-    → or_else (error_if none rv_error.UserPinNotInitialized) later ≡ None → none ≡ false
-some_pin true later e = cc
-some_pin false later e = refl
-
 is_some-pin : (pin : Option Pin) → is_none pin ≡ false → is_some pin ≡ true
 is_some-pin None e = cc
 is_some-pin (Some pin) e = refl
@@ -53,9 +47,10 @@ set_pin-passed : (limits : Ranges) (h : History) (session : ℕ) (old new : Pin)
 set_pin-passed limits h session old new e =
     let owner = pin_owner (state_of h session) in
     is_some-pin (present_pin owner h)
-    (some_pin (is_none (present_pin owner h)) _
+    (error_if-none (is_none (present_pin owner h)) rv_error.UserPinNotInitialized
+    (or_else-none (error_if (is_none (present_pin owner h)) rv_error.UserPinNotInitialized) _
     (or_else-none (error_if (not (is_read_write h session)) rv_error.SessionReadOnly) _
-    (or_else-none (session_error h session) _ e).1).1)
+    (or_else-none (session_error h session) _ e).1).1).0)
 
 -- the hash function, the key and the length that a signing or verifying starts with
 pub started-injected : (k : OperationKind) (session : ℕ) (made : Hash) (number len : ℕ) (other : Hash) (n m : ℕ)

@@ -16,13 +16,15 @@ use Rattle.ck_journal.specs.declared.replies.Body.{Body}
 use Rattle.ck_journal.specs.declared.replies.Body.TheVariants as body
 use Rattle.ck_journal.specs.declared.replies.Reply.{Reply}
 use Rattle.ck_journal.specs.Histories.{History, ◌◁◌, done, is_ok, effects_of, effects}
-use Rattle.ck_journal.specs.OperationCalls.{Step, initialize, take_whole, add_piece, finish}
+use Rattle.ck_journal.specs.OperationCalls.{on_operation, Step, initialize, take_whole, add_piece, finish}
 use Rattle.ck_journal.specs.OperationCalls.{OperationStep, operation_step, step_in, same_kind, piece_in}
 use Rattle.ck_journal.specs.Operations.{starts, ends, finishes, cancels, piece_of, ends_by}
 use Rattle.ck_journal.specs.Operations.{is_initialization, leaves_active, is_data_len_range, names_kind}
 use Rattle.ck_journal.specs.Operations.{is_updated, pieces_in, message_in}
 use Rattle.std.specs.List.{concat}
 use Rattle.std.proofs.lemmas.Bool.{true≢false}
+use Rattle.std.proofs.lemmas.Option.{cond_some}
+use Rattle.std.proofs.Math.Bool.{or-false}
 use Rattle.std.proofs.Math.Dec.{eqb-suc-zero}
 use Rattle.ck_journal.specs.Objects.{creates}
 use Rattle.ck_journal.specs.Pins.{about, is_about, is_user}
@@ -84,24 +86,16 @@ entry n c v b = record { caller = n; call = c; reply = record { rv = v; body = b
 abbrev done_of : Call → Rv → Option Call
 done_of c v = cond (is_ok v) (Some c) None
 
-abbrev step_on : OperationKind → ℕ → Step → Option OperationStep
-step_on k session x = Some (record { kind = k; session = session; step = x })
-
 -- a fact of a call and of none is one of the call that was answered OK
 pub of-done : {A : Type 0} (f : Option Call → A) (a : A) (c : Call) (v : Rv)
     → f (Some c) ≡ a → f None ≡ a → f (done_of c v) ≡ a
 of-done f a c rv.Ok one none = one
 of-done f a c (rv.Error code) one none = none
 
--- a call that was done was answered OK
-pub done-ok : (ok : Bool) (made c : Call) → cond ok (Some made) None ≡ Some c → ok ≡ true
-done-ok true made c e = refl
-done-ok false made c e = cc
-
 -- ---- a step does what it says to one operation, and nothing to any other
 
 module _ (h : History) (n : ℕ) (c : Call) (v : Rv) (b : Body) (kind : OperationKind) (session : ℕ) (x : Step)
-    (is : operation_step c ≡ step_on kind session x) where
+    (is : operation_step c ≡ on_operation kind session x) where
   abbrev reply : Reply
   reply = record { rv = v; body = b }
 
@@ -184,13 +178,9 @@ no-step-stays n c v b idle unclosed uncancelled k s = (
   adds_no_step c idle k s (is_ok v),
 )
 
-call-done : (ok : Bool) (made c : Call) → cond ok (Some made) None ≡ Some c → made ≡ c
-call-done true made c e = cc
-call-done false made c e = cc
-
 module _ (e : Entry) (c : Call) (d : done e ≡ Some c) where
   called : e.call ≡ c
-  called = call-done (is_ok e.reply.rv) e.call c d
+  called = (cond_some (is_ok e.reply.rv) e.call c d).1
 
   -- one that leaves operations as they are
   pub operations-kept : (h : History) (o : OperationsState) → (effects_of (Some c)).operations ≡ false
@@ -224,12 +214,7 @@ module _ (e : Entry) (c : Call) (d : done e ≡ Some c) where
           ap (λ x. ends_operations x s || cancels x k s || finishes e.call k e.reply s) d
           ∙ ap (λ t. ends_operations (Some c) s || cancels (Some c) k s || t)
           (finishes_no_step e.call quiet k s e.reply)
-          ∙ or-false (ends_operations (Some c) s) (cancels (Some c) k s)
-        where
-          or-false : (a b : Bool) → (a || b || false) ≡ (a || b)
-          or-false true b = refl
-          or-false false true = refl
-          or-false false false = refl
+          ∙ or-false (ends_operations (Some c) s || cancels (Some c) k s)
 
       cases : (t : Bool) → (ends_operations (Some c) s || cancels (Some c) k s) ≡ t
           → Does (cond t End Stay) e k s
@@ -240,15 +225,11 @@ module _ (e : Entry) (c : Call) (d : done e ≡ Some c) where
         adds_no_step e.call quiet k s (is_ok e.reply.rv),
       )
 
-or-no : (t : Bool) → (t || false) ≡ t
-or-no true = refl
-or-no false = refl
-
 pub closed-one : (e : Entry) (session : ℕ) → done e ≡ Some (call.CloseSession session)
     → OnlyInSession session End e
 closed-one e session d k s =
     ends-done e (call.CloseSession session) d refl k s (session == s)
-    (or-no (session == s))
+    (or-false (session == s))
 
 pub closed-all : (e : Entry) → done e ≡ Some call.CloseAllSessions → InAll End e
 closed-all e d k s = ends-done e call.CloseAllSessions d refl k s true refl
@@ -285,7 +266,7 @@ nobody-tried h false c e u = refl
 pub record IsFinish (h : History) (k : OperationKind) (session : ℕ) (last : Bool) (c : Call) (v : Rv) (b : Body)
     : Type 0 where
   pub step : Step
-  pub is : operation_step c ≡ step_on k session step
+  pub is : operation_step c ≡ on_operation k session step
   pub ending : ends_by (Some step) (record { rv = v; body = b }) ≡ last
   pub none : (k : OperationKind) (s : ℕ) → starts (done_of c v) k s ≡ false
   pub nowhere : (k : OperationKind) (s : ℕ) → piece_of (done_of c v) k s ≡ []
@@ -296,13 +277,13 @@ finish-injected : (k l : OperationKind) (session x : ℕ) (last t : Bool)
 finish-injected k l session x last t is = (cc, cc, cc)
 
 module _ (h : History) (c : Call) (b : Body) (k : OperationKind) (session : ℕ) (last : Bool) where
-  step-same : (l : OperationKind) (y : ℕ) (x : Step) → operation_step c ≡ step_on l y x → k ≡ l → session ≡ y
-      → operation_step c ≡ step_on k session x
+  step-same : (l : OperationKind) (y : ℕ) (x : Step) → operation_step c ≡ on_operation l y x → k ≡ l → session ≡ y
+      → operation_step c ≡ on_operation k session x
   step-same l y x e same there =
-      e ∙ ap (λ l. step_on l y x) (sym same) ∙ ap (λ y. step_on k y x) (sym there)
+      e ∙ ap (λ l. on_operation l y x) (sym same) ∙ ap (λ y. on_operation k y x) (sym there)
 
   -- a call that was answered OK
-  from-ok : (l : OperationKind) (y : ℕ) (x : Step) → operation_step c ≡ step_on l y x
+  from-ok : (l : OperationKind) (y : ℕ) (x : Step) → operation_step c ≡ on_operation l y x
       → is_initialization (Some x) ≡ false → piece_in (Some x) ≡ []
       → change.FinishOperation k session last
       ≡ change.FinishOperation l y (ends_by (Some x) (record { rv = rv.Ok; body = b }))
@@ -326,7 +307,7 @@ module _ (h : History) (c : Call) (b : Body) (k : OperationKind) (session : ℕ)
       no_bytes false = refl
 
   -- a call that was refused
-  from-refused : (code : RvError) (l : OperationKind) (y : ℕ) (x : Step) → operation_step c ≡ step_on l y x
+  from-refused : (code : RvError) (l : OperationKind) (y : ℕ) (x : Step) → operation_step c ≡ on_operation l y x
       → change.FinishOperation k session last ≡ refused_step l y x code
       → IsFinish h k session last c (rv.Error code) b
   from-refused code l y initialize e is = cc
@@ -402,13 +383,13 @@ step-no_try u k session (take_whole bytes) code is = cc
 step-no_try u k session finish code is = cc
 
 module _ (h : History) (n : ℕ) (c : Call) (b : Body) (code : RvError) where
-  quiet-step : (l : OperationKind) (y : ℕ) (x : Step) → operation_step c ≡ step_on l y x
+  quiet-step : (l : OperationKind) (y : ℕ) (x : Step) → operation_step c ≡ on_operation l y x
       → ends_by (Some x) (record { rv = rv.Error code; body = b }) ≡ false
       → InAll Stay (entry n c (rv.Error code) b)
   quiet-step l y x e by k s =
       does-end h n c (rv.Error code) b l y x e false by (λ k s. refl) (λ k s. refl) k s
 
-  quiet-refused : (l : OperationKind) (y : ℕ) (x : Step) → operation_step c ≡ step_on l y x
+  quiet-refused : (l : OperationKind) (y : ℕ) (x : Step) → operation_step c ≡ on_operation l y x
       → change.Nothing ≡ refused_step l y x code → InAll Stay (entry n c (rv.Error code) b)
   quiet-refused l y initialize e is = quiet-step l y initialize e refl
   quiet-refused l y (add_piece bytes) e is = quiet-step l y (add_piece bytes) e (other code is)

@@ -1,5 +1,5 @@
 -- How sessions and objects keep agreeing with the history where a change is carried out
-use Rattle.std.proofs.Common.{◌≡◌, ℕ, Bool, true, false, cond, not, List, [], ◌∷◌, Option, Some, None}
+use Rattle.std.proofs.Common.{◌≡◌, ℕ, Bool, true, false, cond, List, [], ◌∷◌, Option, Some, None}
 use Rattle.std.proofs.Common.{refl, ap, ◌∙◌}
 use Rattle.std.specs.Prelude.{option_and_then, unwrap_or, is_none, if◌then◌else◌}
 use Rattle.std.specs.Option.{option_map_or}
@@ -40,6 +40,7 @@ use Rattle.ck_journal.specs.Histories.{History, ◌◁◌, done, wrong_try, is_o
 use Rattle.ck_journal.specs.Objects.{creates, named_attributes, object_named, object_at}
 use Rattle.ck_journal.specs.Pins.{about, is_about, is_user}
 use Rattle.ck_journal.specs.Sessions.{is_open}
+use Rattle.ck_journal.proofs.LegalLemmas.{later-passes, session-open}
 use Rattle.ck_journal.proofs.LoginMoves.{wrong_try-done}
 use Rattle.ck_sessions.proofs.Moves.{sessions-left}
 use Rattle.ck_sessions.specs.Agreement.{SessionsState, SessionsAgree}
@@ -158,20 +159,12 @@ objects-tried h e o none agree = objects-left h o agree e (ap (λ d. (effects_of
 
 -- ---- what the checks of a call say
 
-later-passes : (first later : Option RvError) → or_else first later ≡ None → later ≡ None
-later-passes first later e = (or_else-none first later e).1
-
-passes-open : (session_open : Bool) (later : Option RvError)
-    → or_else (error_if (not session_open) rv_error.SessionHandleInvalid) later ≡ None → session_open ≡ true
-passes-open true later e = refl
-passes-open false later e = cc
-
 -- a login that passes its checks names an open session and a user
 pub login-passed : (limits : Ranges) (h : History) (session number : ℕ) (pin : Pin)
     → call_error limits h (call.Login session number pin) ≡ None
     → (is_open h session ≡ true) × (user_of number ≡ Some (unwrap_or (user_of number) user.User))
 login-passed limits h session number pin e = (
-  passes-open (is_open h session) _ e,
+  session-open h session (or_else-none (session_error h session) _ e).0,
   known (user_of number) (later-passes (session_error h session) _ e),
 )
   where
@@ -179,11 +172,6 @@ login-passed limits h session number pin e = (
         → who ≡ Some (unwrap_or who user.User)
     known None e = cc
     known (Some u) e = refl
-
-found : (o : Option ℕ) (object : ℕ → Option (List Item)) (attributes : List Item)
-    → option_and_then object o ≡ Some attributes → o ≡ Some (unwrap_or o 0)
-found None object attributes e = cc
-found (Some n) object attributes e = refl
 
 object_case : (o : Option ℕ) (object : ℕ → Option (List Item)) (checks : List Item → Option RvError)
     → option_map_or checks (option_and_then object o) (Some rv_error.ObjectHandleInvalid) ≡ None

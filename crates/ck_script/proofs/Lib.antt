@@ -2,5 +2,3 @@ pub mod PartLemmas
 pub mod DigitLemmas
 pub mod NumberLemmas
 pub mod JoinLemmas
-pub mod LineLemmas
-pub mod NameLemmas

@@ -1,37 +1,28 @@
 -- The first of the parts of a text
-use Rattle.std.proofs.Common.{◌≡◌, ℕ, ◌+◌, ◌-◌, ◌≤◌, ◌<◌, Bool, true, false, cond, List, [], ◌∷◌}
-use Rattle.std.proofs.Common.{Some, None, length, take, drop, refl, sym, ap, ◌∙◌, arith}
+use Rattle.std.proofs.Common.{◌≡◌, ℕ, ◌+◌, ◌-◌, ◌≤◌, Bool, true, false, List, [], ◌∷◌}
+use Rattle.std.proofs.Common.{Some, None, length, take, drop, sym, ap, ◌∙◌, arith}
 use Rattle.std.specs.Prelude.{◌==◌, nat_lt, position}
 use Rattle.std.specs.List.{slice_split, position_or_len}
 use Rattle.std.proofs.lemmas.List.Splits.{slice_split_first, slice_split_none}
 use Rattle.std.proofs.lemmas.List.Sums.{fails_before_first}
 use Rattle.std.proofs.lemmas.List.{take_rest}
+use Rattle.std.proofs.lemmas.Bool.{ltb-true, ltb-false}
+use Rattle.std.proofs.lemmas.Option.{cond_some}
+use Rattle.ck_journal.proofs.Selections.{cond_none}
 use Rattle.ck_script.specs.Parts.{parts_left}
-use borrow.Author.Tests.{ltb-true, ltb-false}
 
 module _ (p : ℕ → Bool) (text : List ℕ) where
-  within : (test : Bool) (end : ℕ) → nat_lt (position_or_len p text) (length text) ≡ test
-      → cond test (Some (position_or_len p text)) None ≡ Some end
-      → (position_or_len p text < length text) × (position_or_len p text ≡ end)
-  within true end t e = (ltb-true _ _ t, cc)
-  within false end t e = cc
-
-  past : (test : Bool) → nat_lt (position_or_len p text) (length text) ≡ test
-      → cond test (Some (position_or_len p text)) None ≡ None
-      → length text ≤ position_or_len p text
-  past true t e = cc
-  past false t e = ltb-false _ _ t
-
   pub slice_split-some : (end : ℕ) → position p text ≡ Some end
       → slice_split p text ≡ take end text ∷ slice_split p (drop (end + 1) text)
   slice_split-some end e =
-      let found = within (nat_lt (position_or_len p text) (length text)) end refl e in
-      slice_split_first p text 0 found.0
+      let found = cond_some (nat_lt (position_or_len p text) (length text)) (position_or_len p text) end e in
+      slice_split_first p text 0 (ltb-true (position_or_len p text) (length text) found.0)
       ∙ ap (λ n. take n text ∷ slice_split p (drop (n + 1) text)) found.1
 
   pub slice_split-none : position p text ≡ None → slice_split p text ≡ text ∷ []
   slice_split-none e =
-      let end = past (nat_lt (position_or_len p text) (length text)) refl e in
+      let fails = cond_none (nat_lt (position_or_len p text) (length text)) (position_or_len p text) e in
+      let past : length text ≤ position_or_len p text = ltb-false (position_or_len p text) (length text) fails in
       slice_split_none p text (λ k d l. fails_before_first p text k d (omega arith))
 
 -- the parts that are left before and after the next one is taken off

@@ -3,10 +3,9 @@ use Rattle.std.proofs.Common.{◌≡◌, ℕ, suc, ◌+◌, Bool, true, false, n
 use Rattle.std.proofs.Common.{◌++◌, Option, Some, None, refl, sym, ap, ◌∙◌, add-one, arith}
 use Rattle.std.specs.Prelude.{◌==◌, filter, length, map, is_some, option_map, unwrap_or}
 use Rattle.std.proofs.Math.Bool.{and-false}
-use Rattle.std.proofs.lemmas.Bool.{eq-eqb, eqb-true, eqb-false, ne_eqb, false≢true}
+use Rattle.std.proofs.lemmas.Bool.{eqb-true, ne_eqb, false≢true}
 use Rattle.std.proofs.lemmas.Option.{same_Some}
 use Rattle.std.proofs.lemmas.Simd.{map-map}
-use Rattle.std.specs.List.{list_any}
 use Rattle.ck_types.specs.Users.{user_of, same_user}
 use Rattle.ck_types.specs.declared.pins.Pin.{Pin}
 use Rattle.ck_types.specs.declared.users.UserType.{UserType}
@@ -27,12 +26,13 @@ use Rattle.ck_journal.proofs.LoginMoves.{login-logged_out, user_logins-step, so_
 use Rattle.ck_journal.proofs.LoginMoves.{tries-step, tries-done, openings-left, opens-left}
 use Rattle.ck_journal.proofs.LoginMoves.{session_rows-left, login-left, user_logins-left, so_pin-left}
 use Rattle.ck_journal.proofs.LoginMoves.{user_pin-left, is_initialized-left, tries-left}
+use Rattle.ck_journal.proofs.NumberTests.{eqb-swap}
 use Rattle.ck_journal.proofs.Selections.{selected-same, filter-selected, selected-none}
 use Rattle.ck_journal.proofs.SessionMoves.{session_rows, openings-opened, session_rows-opened}
 use Rattle.ck_journal.proofs.SessionMoves.{openings-later, session_rows-later, session_rows-changed}
 use Rattle.ck_journal.proofs.SessionMoves.{session_rows-same, open_sessions-rows, length-session_rows}
+use Rattle.ck_journal.proofs.SessionMoves.{some-open}
 use Rattle.ck_sessions.specs.Agreement.{SessionsState, SessionsAgree, CredentialAgrees, session_row}
-use Rattle.ck_sessions.proofs.Readings.{list_any-open}
 use Rattle.ck_sessions.proofs.SearchRows.{row-left, row-below, row-opened, row-other, row-logged_out}
 use Rattle.ck_sessions.proofs.SearchRows.{session_rows-set, session_rows-found}
 use Rattle.ck_sessions.specs.Rows.{SessionRow, is_session, new_search, with_search, with_last_found}
@@ -58,23 +58,6 @@ some_after pin (Some before) = refl
 more : (rows : List SessionRow) (row : SessionRow) → length (rows ++ row ∷ []) ≡ 0 → ⊥
 more [] row e = omega arith
 more (r ∷ rows) row e = omega arith
-
-eqb-sym : (k s : ℕ) → k == s ≡ s == k
-eqb-sym k s = by_case (k == s) refl
-  where
-    by_case : (t : Bool) → k == s ≡ t → k == s ≡ s == k
-    by_case true e = e ∙ sym (eq-eqb s k (sym (eqb-true k s e)))
-    by_case false e = e ∙ sym (ne_eqb s k (λ same. eqb-false k s e (sym same)))
-
--- where a session is open there are open sessions
-not_empty : (test : SessionRow → Bool) (rows : List SessionRow) → list_any test rows ≡ true → length rows == 0 ≡ false
-not_empty test [] e = cc
-not_empty test (row ∷ rows) e = ne_eqb (suc (length rows)) 0 (λ z. omega arith)
-
-some_open : (h : History) (session : ℕ) → is_open h session ≡ true → length (open_sessions h) == 0 ≡ false
-some_open h session opened =
-    ap (λ n. n == 0) (sym (length-session_rows session_row h))
-    ∙ not_empty (is_session session) (session_rows session_row h) (list_any-open h session ∙ opened)
 
 -- the normal user's number is 1
 user_case : (u : UserType) (number : ℕ) (so us : Bool) → number == 0 ≡ so → number == 1 ≡ us
@@ -279,7 +262,7 @@ module _ (h : History) (old : SessionsState) (agree : SessionsAgree h old) (e : 
       ∙ filter-selected (λ (row : SessionRow). not (is_session session row)) (is_open h) (session_row h) (openings h)
       ∙ selected-same (λ k. is_open h k && not (k == session)) (λ k. is_open h k && not (closes (done e) k))
       (session_row h) (session_row h) (openings h)
-      (λ k below. ap (λ t. is_open h k && not t) (eqb-sym k session ∙ ap (λ x. closes x k) (sym d))) (λ k below. refl)
+      (λ k below. ap (λ t. is_open h k && not t) (eqb-swap k session ∙ ap (λ x. closes x k) (sym d))) (λ k below. refl)
       ∙ sym (session_rows-later e h (ap opens d) session_row (λ k below passes. row-other e h session d k passes)) in
       record {
         rows = all;
@@ -329,7 +312,7 @@ module _ (h : History) (old : SessionsState) (agree : SessionsAgree h old) (e : 
       let c = call.Login session number pin in
       let same = sessions-stay c d refl (λ s. refl) refl in
       let some : length (open_sessions (e ◁ h)) == 0 ≡ false = ap (λ ss. length ss == 0) same
-      ∙ some_open h session opened in
+      ∙ some-open h session opened in
       record {
         rows = rows ∙ rows-stay c d refl (λ s. refl) refl;
         openings = count ∙ openings-stay c d refl;

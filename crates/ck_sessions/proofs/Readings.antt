@@ -1,21 +1,19 @@
 -- Readings of sessions that agree with a history
-use Rattle.std.proofs.Common.{◌≡◌, ℕ, Bool, true, false, not, cond, List, [], ◌∷◌, ◌++◌, Option, Some}
+use Rattle.std.proofs.Common.{◌≡◌, ℕ, Bool, true, false, not, cond, List, [], ◌∷◌, ◌++◌, Some}
 use Rattle.std.proofs.Common.{None, refl, sym, ap, ◌∙◌, subst}
-use Rattle.std.proofs.lemmas.Bool.{eqb-true}
 use Rattle.std.proofs.lemmas.List.{length-map}
 use Rattle.std.proofs.lemmas.Option.{same_Some}
 use Rattle.std.proofs.lemmas.Simd.{map-map}
-use Rattle.std.specs.Prelude.{◌==◌, map, filter, find, length, is_some, nat_lt, option_map}
+use Rattle.std.specs.Prelude.{map, filter, find, length, nat_lt}
 use Rattle.std.specs.List.{list_any}
 use Rattle.std.specs.List.Sorted.{IsNonDecreasingBy}
 use Rattle.ck_types.specs.TokenLimits.{Ranges}
 use Rattle.ck_journal.specs.declared.boards.LoginStatus.{LoginStatus}
 use Rattle.ck_journal.specs.Boards.{BoardState, board_of, login_status}
 use Rattle.ck_journal.specs.Histories.{History}
-use Rattle.ck_journal.specs.Sessions.{openings, is_open, open_sessions, is_read_write, rw_sessions}
-use Rattle.ck_journal.proofs.Selections.{list_any-selected, list_any-at, filter-map, find-map}
-use Rattle.ck_journal.proofs.Selections.{is_some-find, find-passes}
-use Rattle.ck_journal.proofs.SessionMoves.{session_rows, is_open-within}
+use Rattle.ck_journal.specs.Sessions.{open_sessions, is_read_write, rw_sessions}
+use Rattle.ck_journal.proofs.Selections.{filter-map, find-map}
+use Rattle.ck_journal.proofs.SessionMoves.{find-open}
 use Rattle.ck_journal.specs.Searches.{is_searching, found_objects, last_number}
 use Rattle.ck_journal.proofs.RisingLemmas.{found_objects-rise}
 use Rattle.ck_sessions.specs.Agreement.{SessionsState, SessionsAgree, session_row, session_at}
@@ -26,13 +24,6 @@ list_any-map : (test : SessionRow → Bool) (row : ℕ → SessionRow) (ks : Lis
     list_any (λ k. test (row k)) ks
 list_any-map test row [] = refl
 list_any-map test row (k ∷ ks) = rw (list_any-map test row ks)
-
--- whether the row of a session is among those of the open sessions
-pub list_any-open : (h : History) (session : ℕ) → list_any (is_session session) (session_rows session_row h) ≡
-    is_open h session
-list_any-open h session =
-    list_any-selected (is_session session) (is_open h) (session_row h) (openings h)
-    ∙ list_any-at (is_open h) session (openings h) (is_open-within h session)
 
 module _ (h : History) (s : SessionsState) (agree : SessionsAgree h s) where
   abbrev row_of : ℕ → SessionRow
@@ -49,23 +40,11 @@ module _ (h : History) (s : SessionsState) (agree : SessionsAgree h s) where
 
   -- ---- a session's row
 
-  at_handle : (session : ℕ) (found : Option ℕ) → find (λ k. k == session) (open_sessions h) ≡ found
-      → is_some (option_map row_of found) ≡ is_open h session → option_map row_of found ≡ session_at h session
-  at_handle session None f e = ap (λ t. cond t (Some (row_of session)) None) e
-  at_handle session (Some k) f e =
-      let same : k ≡ session = eqb-true k session (find-passes (λ j. j == session) (open_sessions h) k f) in
-      ap (λ j. Some (row_of j)) same ∙ ap (λ t. cond t (Some (row_of session)) None) e
-
   -- the first row with the handle is that of the open session, if it is open
   pub find-session : (session : ℕ) → find (is_session session) s.rows ≡ session_at h session
   find-session session =
-      let found : find (is_session session) (session_rows session_row h) ≡ option_map row_of
-      (find (λ k. k == session) (open_sessions h)) =
-      find-map (is_session session) row_of (open_sessions h) in
-      ap (find (is_session session)) agree.rows ∙ found
-      ∙ at_handle session (find (λ k. k == session) (open_sessions h)) refl
-      (ap is_some (sym found) ∙ is_some-find (is_session session) (session_rows session_row h) ∙ list_any-open
-      h session)
+      ap (find (is_session session)) agree.rows ∙ find-map (is_session session) row_of (open_sessions h)
+      ∙ find-open row_of h session
 
 -- ---- the board
 

@@ -2,7 +2,7 @@
 use Rattle.std.proofs.Common.{◌≡◌, ℕ, suc, ◌≤◌, Bool, true, false, cond, not, ◌&&◌, List, [], ◌++◌}
 use Rattle.std.proofs.Common.{length, take, drop, Option, Some, None, refl, sym, ap, ◌∙◌, subst, arith}
 use Rattle.std.specs.Prelude.{◌==◌, map, option_map, is_some, is_none}
-use Rattle.std.proofs.lemmas.Bool.{eqb-true, eqb-false, eq-eqb, ne_eqb, and_parts, not-true}
+use Rattle.std.proofs.lemmas.Bool.{eqb-true, and_parts, not-true}
 use Rattle.std.proofs.lemmas.List.{append-nil, length-map, take_all, drop_all}
 use Rattle.ck_journal.specs.declared.calls.Call.{Call}
 use Rattle.ck_journal.specs.declared.calls.Call.TheVariants as call
@@ -15,6 +15,7 @@ use Rattle.ck_journal.specs.Searches.{number_of_handle, handles_in, last_or, las
 use Rattle.ck_journal.specs.Sessions.{opens, openings, closes, is_open, flags_of}
 use Rattle.ck_journal.proofs.Changes.{selected-replaced}
 use Rattle.ck_journal.proofs.LoginMoves.{opens-left, closes-left}
+use Rattle.ck_journal.proofs.NumberTests.{eqb-swap}
 use Rattle.ck_journal.proofs.SearchMoves.{is_searching-left, found_objects-left, last_number-left}
 use Rattle.ck_journal.proofs.SearchMoves.{matching_objects-left}
 use Rattle.ck_journal.proofs.SessionMoves.{session_rows, session_rows-changed, flags_of-below}
@@ -38,10 +39,6 @@ search_step o matching handles k active found last =
 
 abbrev row : ℕ → ℕ → Option Search → SessionRow
 row k flags search = record { handle = k; flags = flags; search = search }
-
-same_number : (k s : ℕ) (t : Bool) → k == s ≡ t → s == k ≡ t
-same_number k s true e = eq-eqb s k (sym (eqb-true k s e))
-same_number k s false e = ne_eqb s k (λ same. eqb-false k s e (sym same))
 
 module _ (e : Entry) (h : History) where
   search_of-step : (k : ℕ) (o : Option Call) → done e ≡ o
@@ -110,7 +107,7 @@ module _ (e : Entry) (h : History) where
     session_rows-searched =
         selected-replaced (is_session session) change (is_open h) (session_row h) (session_row (e ◁ h)) (openings h)
         (λ j k bj bk nj nk. eqb-true j session nj ∙ sym (eqb-true k session nk))
-        (λ k b is n. here k (same_number k session true n)) (λ k b n. there k (same_number k session false n))
+        (λ k b is n. here k (eqb-swap session k ∙ n)) (λ k b n. there k (eqb-swap session k ∙ n))
         ∙ sym (session_rows-changed e h o session_row cl)
 
   -- ---- a search starts, or ends

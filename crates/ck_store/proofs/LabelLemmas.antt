@@ -5,7 +5,7 @@ use Rattle.std.proofs.Common.{inl, inr, arith, get_or, ◌&&◌, unwrap_or}
 use Rattle.std.specs.Prelude.{◌==◌, find, option_map}
 use Rattle.std.specs.Cmp.Lexicographic.{same_text}
 use Rattle.std.specs.List.{list_all}
-use Rattle.std.proofs.lemmas.Bool.{cases_eq, eqb-true}
+use Rattle.std.proofs.lemmas.Bool.{cases_eq, eqb-true, and_parts, false_from_ne_true}
 use Rattle.std.proofs.lemmas.Option.{same_Some}
 use Rattle.slab.specs.Slab.{Slab, get, with_value, Updates}
 use Rattle.slab.proofs.SlabLemmas.{Contains-cons_cases, Updates-with_value}
@@ -30,15 +30,11 @@ use Rattle.ck_store.proofs.PlaceLemmas.{object_at-Some}
 
 -- ---- an object that is refused is no match
 
-both : (s t : Bool) → (s && t) ≡ true → (s ≡ true) × (t ≡ true)
-both true t e = (refl, e)
-both false t e = absurd (cc)
-
 all-has : (items template : List Item) (item : Item) → Contains template item
     → matches items template ≡ true → has_item items item ≡ true
 all-has items [] item there all = absurd (omega (arith, there.1))
 all-has items (first ∷ rest) item there all =
-    let tests = both (has_item items first) (list_all (has_item items) rest) all in
+    let tests = and_parts (has_item items first) (list_all (has_item items) rest) all in
     elim (Contains-cons_cases first item rest there) [
       | inl same ↦ ap (has_item items) (sym same) ∙ tests.0
       | inr later ↦ all-has items rest item later tests.1
@@ -69,7 +65,8 @@ pub refused-no_match : (view : View) (template : List Item) (row : ObjectRow) (m
     → IsMarkOf row.attributes mark → IsWanted template wanted → is_refused mark wanted ≡ true
     → is_match view template row ≡ false
 refused-no_match view template row mark wanted marked is_wanted refused =
-    by_case (is_match view template row) refl
+    false_from_ne_true (is_match view template row) (λ e.
+    matching (and_parts (is_visible_with view row.attributes) (matches row.attributes template) e).1)
   where
     matching : matches row.attributes template ≡ true → ⊥
     matching all = elim is_wanted [
@@ -92,12 +89,6 @@ refused-no_match view template row mark wanted marked is_wanted refused =
                 absurd (cc)
           ]
     ]
-
-    by_case : (t : Bool) → is_match view template row ≡ t → is_match view template row ≡ false
-    by_case false e = e
-    by_case true e =
-        absurd (matching (both (is_visible_with view row.attributes)
-        (matches row.attributes template) e).1)
 
 pub refused-none : (objects : Slab ObjectRow) (marks : List ℕ) (p : Place) (view : View)
     (template : List Item) (wanted : ℕ) → IsMarked objects marks → IsWanted template wanted
@@ -160,16 +151,15 @@ pub IsChanged-none : (objects : Slab ObjectRow) (number : ℕ) (change : ObjectR
     → IsKeyOf objects number None → IsChanged change objects objects
 IsChanged-none objects number change same is_key key = by_case (get objects key) refl
   where
-    other : (row : ObjectRow) → get objects key ≡ Some row → (t : Bool)
-        → has_number number row ≡ t → has_number number row ≡ false
-    other row is false e = e
-    other row is true e = let wrong = is_key.only key row is e in absurd (cc)
+    other : (row : ObjectRow) → get objects key ≡ Some row → has_number number row ≡ false
+    other row is =
+        false_from_ne_true (has_number number row) (λ e. let wrong = is_key.only key row is e in cc)
 
     by_case : (o : Option ObjectRow) → get objects key ≡ o
         → get objects key ≡ option_map change (get objects key)
     by_case None is = is ∙ sym (ap (option_map change) is)
     by_case (Some row) is =
-        is ∙ ap Some (sym (same row (other row is (has_number number row) refl)))
+        is ∙ ap Some (sym (same row (other row is)))
         ∙ sym (ap (option_map change) is)
 
 pub with_attributes-other : (number : ℕ) (attributes : List Item) (row : ObjectRow)
@@ -250,13 +240,8 @@ module _ (number : ℕ) (attributes : List Item) (old new : Slab ObjectRow)
           let from = changed-from (with_attributes number attributes) old new changed other row is in
           from.1
           ∙ ap Some (sym (with_attributes-other number attributes from.0
-          (by_case from.0 from.1 (has_number number from.0) refl)) ∙ from.2)
-        where
-          by_case : (before : ObjectRow) → get old other ≡ Some before → (t : Bool)
-              → has_number number before ≡ t → has_number number before ≡ false
-          by_case before e false f = f
-          by_case before e true t =
-              absurd (differs (sym (same_Some key other (is_key.only other before e t))))
+          (false_from_ne_true (has_number number from.0) (λ t.
+          differs (sym (same_Some key other (is_key.only other from.0 from.1 t)))))) ∙ from.2)
 
 -- ---- the object under a key is given values
 
@@ -296,12 +281,9 @@ module _ (number : ℕ) (values : List Item) (objects : Slab ObjectRow) (key : �
       unchanged None e other = e ∙ sym (ap (option_map (with_attributes number new.attributes)) e)
       unchanged (Some row) e other =
           e ∙ ap Some (sym (with_attributes-other number new.attributes row
-          (by_case (has_number number row) refl)))
+          (false_from_ne_true (has_number number row) (λ t.
+          other (sym (same_Some key k (is_key.only k row e t)))))))
           ∙ sym (ap (option_map (with_attributes number new.attributes)) e)
-        where
-          by_case : (t : Bool) → has_number number row ≡ t → has_number number row ≡ false
-          by_case false f = f
-          by_case true t = absurd (other (sym (same_Some key k (is_key.only k row e t))))
 
   pub IsGiven-under : (template_error (class_of old.attributes) purpose.Set values ≡ None
       → new.attributes ≡ with_given values old.attributes)

@@ -1,9 +1,9 @@
 -- The lists of sessions
 use Rattle.std.proofs.Common.{◌≡◌, ◌⊎◌, ℕ, ◌<◌, ◌++◌, List, [], ◌∷◌, Some, Contains, sym, ap, ◌∙◌, subst}
 use Rattle.std.proofs.Common.{set, get_or, length, inl, inr, arith, position, Bool, true, false}
-use Rattle.std.proofs.Common.{◌&&◌, refl}
+use Rattle.std.proofs.Common.{refl}
 use Rattle.std.specs.Prelude.{◌==◌}
-use Rattle.std.proofs.lemmas.Bool.{cases_eq, eqb-true}
+use Rattle.std.proofs.lemmas.Bool.{cases_eq, eqb-true, and_parts}
 use Rattle.std.proofs.lemmas.List.Quantifiers.{position-Some}
 use Rattle.std.proofs.lemmas.List.{get_or-set_same, get_or-set_other, length-set, get_or_default}
 use Rattle.std.proofs.lemmas.List.Elements.{Contains-append_left, Contains-get_or, Contains-push}
@@ -146,10 +146,6 @@ module _ (lists : List SessionList) (session : ℕ) (private : Bool) (place : Pl
               )
         ]
 
-both : (s t : Bool) → (s && t) ≡ true → (s ≡ true) × (t ≡ true)
-both true t e = (refl, e)
-both false t e = absurd (cc)
-
 same_mark : (a b : Bool) → beq a b ≡ true → a ≡ b
 same_mark true true e = refl
 same_mark false false e = refl
@@ -164,7 +160,7 @@ pub found_list : (lists slice : List SessionList) (session : ℕ) (private : Boo
 found_list lists slice session private i item same within found is =
     let l = get_or lists i item in
     let tests =
-    both (l.session == session) (beq l.private private)
+    and_parts (l.session == session) (beq l.private private)
     (position-Some (is_list_of session private) lists i item (sym (rw same at found))).1 in (
       subst (λ (ls : List SessionList). i < length ls) same within,
       ap (λ (x : SessionList). x.session) is ∙ eqb-true l.session session tests.0,

@@ -11,8 +11,8 @@ use Rattle.std.proofs.lemmas.List.Elements.{filter-append}
 use Rattle.std.proofs.lemmas.List.Quantifiers.{position-Some}
 use Rattle.std.specs.List.{cons_option}
 use Rattle.std.specs.Prelude.{◌==◌, find, map, filter, filter_map, is_some, option_map, option_and_then}
-use Rattle.std.proofs.lemmas.Bool.{eqb-true, cases_eq}
-use Rattle.std.proofs.lemmas.Option.{same_Some}
+use Rattle.std.proofs.lemmas.Bool.{eqb-true, cases_eq, false_from_ne_true}
+use Rattle.std.proofs.lemmas.Option.{same_Some, cond_some}
 use Rattle.slab.proofs.SlabLemmas.{Contains-cons, Contains-cons_cases}
 use Rattle.slab.specs.Slab.{Slab, get, Updates}
 use Rattle.ck_journal.proofs.NumberTests.{same_number}
@@ -27,16 +27,11 @@ use Rattle.ck_store.proofs.Searched.{position-None_Contains, rises-once}
 
 -- ---- one place
 
-test_step : (t : Bool) (row found : ObjectRow) → cond t (Some row) None ≡ Some found
-    → (t ≡ true) × (row ≡ found)
-test_step true row found is = (refl, same_Some row found is)
-test_step false row found is = absurd (cc)
-
 numbered_step : (number : ℕ) (o : Option ObjectRow) (row : ObjectRow)
     → option_and_then (numbered number) o ≡ Some row → (o ≡ Some row) × (row.number ≡ number)
 numbered_step number None row is = absurd (cc)
 numbered_step number (Some found) row is =
-    let parts = test_step (has_number number found) found row is in (
+    let parts = cond_some (has_number number found) found row is in (
       ap Some parts.1,
       ap (λ (r : ObjectRow). r.number) (sym parts.1) ∙ eqb-true found.number number parts.0,
     )
@@ -258,12 +253,9 @@ module _ (objects : Slab ObjectRow) (index : List Place) (is_index : IsIndex obj
     where
       fails : (p : Place) (row : ObjectRow) → object_at objects p ≡ Some row
           → has_number number row ≡ false
-      fails p row is = tested (has_number number row) refl
-        where
-          tested : (t : Bool) → has_number number row ≡ t → t ≡ false
-          tested true e =
-              let wrong = key.only p.key row (object_at-Some objects p row is).0 e in absurd (cc)
-          tested false e = refl
+      fails p row is =
+          false_from_ne_true (has_number number row) (λ e.
+          let wrong = key.only p.key row (object_at-Some objects p row is).0 e in cc)
   find-key (Some k) key =
       let has = key.has k refl in
       has.1 ∙ sym (find-one (object_at objects) (has_number number) has.0 index
@@ -272,22 +264,6 @@ module _ (objects : Slab ObjectRow) (index : List Place) (is_index : IsIndex obj
       (λ p row is t. same_Some row has.0 (sym (object_at-Some objects p row is).0
       ∙ ap (get objects) (sym (same_Some k p.key (key.only p.key row
       (object_at-Some objects p row is).0 t))) ∙ has.1)))
-
-  -- and the one that has the number is found
-  pub find-numbered : (key : ℕ) (row : ObjectRow) → get objects key ≡ Some row
-      → has_number number row ≡ true
-      → find (has_number number) (objects_at objects index) ≡ Some row
-  find-numbered key row is t =
-      find-one (object_at objects) (has_number number) row index (place row.number key)
-      (is_index.named key row is) (object_at-here objects key row is) t
-      (λ p other here passes.
-      let at = object_at-Some objects p other here in
-      let same : place other.number p.key ≡ place row.number key =
-      rises-once (λ (q : Place). q.number) index is_index.rises (place other.number p.key)
-      (place row.number key) (is_index.named p.key other at.0) (is_index.named key row is)
-      (eqb-true other.number number passes ∙ sym (eqb-true row.number number t)) in
-      same_Some other row
-      (sym at.0 ∙ ap (λ (q : Place). get objects q.key) same ∙ is))
 
 -- ---- searches
 

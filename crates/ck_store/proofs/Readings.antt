@@ -1,14 +1,11 @@
 -- What objects that agree with a history are read as
-use Rattle.std.proofs.Common.{◌≡◌, ℕ, ◌+◌, ◌*◌, ◌%◌, ◌^◌, ◌<◌, ◌≤◌, Bool, true, false, cond, ◌&&◌}
+use Rattle.std.proofs.Common.{◌≡◌, ℕ, ◌^◌, ◌<◌, ◌≤◌, Bool, true, false, cond, ◌&&◌}
 use Rattle.std.proofs.Common.{List, [], Option, Some, None, refl, sym, ap, ◌∙◌, subst, eqb, arith}
 use Rattle.std.specs.Prelude.{◌==◌, find, option_map, option_and_then, unwrap_or}
 use Rattle.std.specs.Option.{option_map_or, option_eq}
-use Rattle.std.proofs.lemmas.Bool.{eqb-true, and_parts}
+use Rattle.std.proofs.lemmas.Bool.{eqb-true}
 use Rattle.std.proofs.lemmas.List.Elements.{filter_agree}
-use Rattle.std.proofs.lemmas.Nat.{mod-mul-add}
 use Rattle.std.proofs.lemmas.Option.{same_Some}
-use Rattle.ck_objects.specs.Records.{is_set}
-use Rattle.ck_objects.specs.declared.attributes.Attribute.TheVariants as attribute
 use Rattle.ck_objects.specs.declared.items.Item.{Item}
 use Rattle.ck_journal.specs.declared.views.View.{View}
 use Rattle.ck_journal.specs.Histories.{History}
@@ -17,6 +14,7 @@ use Rattle.ck_journal.specs.Objects.{handle_with, names_with, is_some_with, obje
 use Rattle.ck_journal.specs.Objects.{attributes_named, named_attributes}
 use Rattle.ck_journal.specs.Searches.{matching_objects, number_of_handle, is_match_with}
 use Rattle.ck_journal.specs.Sessions.{numbers}
+use Rattle.ck_journal.proofs.NameLemmas.{names_with-number}
 use Rattle.ck_journal.proofs.NumberTests.{same_number}
 use Rattle.ck_journal.proofs.ObjectMoves.{object_at-within}
 use Rattle.ck_journal.proofs.Selections.{find-only, find-passes, find-filter_map, map-filter_map}
@@ -115,23 +113,6 @@ module _ (h : History) (old : StoreState) (agree : StoreAgrees h old) where
           ∙ ap (option_map (object_row number (session_of h number))) is
 
 -- ---- by a handle
-
--- the object of a handle has the handle's number
-number_case : (private : Bool) (logins n handle : ℕ) → n < 2 ^ 32
-    → cond private (n + 2 ^ 32 * logins) n ≡ handle → n ≡ number_of_handle handle
-number_case true logins n handle small e =
-    let form : handle ≡ logins * 2 ^ 32 + n = omega arith in
-    sym (ap (λ x. x % 2 ^ 32) form ∙ mod-mul-add logins (2 ^ 32) n small)
-number_case false logins n handle small e =
-    let form : handle ≡ 0 * 2 ^ 32 + n = omega arith in
-    sym (ap (λ x. x % 2 ^ 32) form ∙ mod-mul-add 0 (2 ^ 32) n small)
-
-names_with-number : (view : View) (attributes : List Item) (handle n : ℕ) → n < 2 ^ 32
-    → names_with view attributes handle n ≡ true → n ≡ number_of_handle handle
-names_with-number view attributes handle n small named =
-    number_case (is_set attributes attribute.Private) view.logins n handle small
-    (eqb-true (handle_with view attributes n) handle
-    (and_parts (is_visible_with view attributes) (handle_with view attributes n == handle) named).1)
 
 names_step : (visible : Bool) (own handle : ℕ)
     → option_eq eqb (cond visible (Some own) None) (Some handle) ≡ visible && own == handle

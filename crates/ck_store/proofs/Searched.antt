@@ -1,5 +1,5 @@
 -- The place of a number among items whose numbers rise
-use Rattle.std.proofs.Common.{◌≡◌, ◌≢◌, ℕ, ◌<◌, ◌≤◌, Bool, true, false, cond, List}
+use Rattle.std.proofs.Common.{◌≡◌, ◌≢◌, ℕ, ◌<◌, ◌≤◌, Bool, true, false, List}
 use Rattle.std.proofs.Common.{[], ◌∷◌, AllPairs, length, get_or, Some, None, Result, Ok, Err, refl}
 use Rattle.std.proofs.Common.{sym, ap, ◌∙◌, subst, arith, inl, inr}
 use Rattle.std.specs.Prelude.{◌==◌, Contains, nat_lt}
@@ -7,11 +7,12 @@ use Rattle.std.specs.List.{position, position_or_len}
 use Rattle.std.specs.List.Sorted.{IsBinarySearchResult, IsNonDecreasingBy, IsSearchInRange}
 use Rattle.std.specs.Ordering.{nat_cmp, ordering_index}
 use Rattle.std.specs.Result.{result_ok}
-use Rattle.std.proofs.lemmas.Bool.{eq-eqb, ne_eqb, cases_lt, lt-ltb, le-ltb}
+use Rattle.std.proofs.lemmas.Bool.{eq-eqb, ne_eqb, cases_lt, lt-ltb, le-ltb, ltb-false}
 use Rattle.std.proofs.lemmas.Bool.Decides.{nat_tests}
 use Rattle.std.proofs.lemmas.Cmp.{ranked}
 use Rattle.std.proofs.lemmas.List.Sums.{position_or_len_is, fails_before_first}
 use Rattle.std.proofs.lemmas.List.{get_or_default}
+use Rattle.ck_journal.proofs.Selections.{cond_none}
 
 -- ---- what stands at the place of the first item that passes
 
@@ -40,13 +41,8 @@ module _ {X : Type 0} (test : X → Bool) where
       (λ w. absurd (omega arith)))
 
   position-None_len : (xs : List X) → None ≡ position test xs → length xs ≤ position_or_len test xs
-  position-None_len xs e = len_case (nat_lt (position_or_len test xs) (length xs)) refl e
-    where
-      len_case : (t : Bool) → nat_lt (position_or_len test xs) (length xs) ≡ t
-          → None ≡ cond t (Some (position_or_len test xs)) None
-          → length xs ≤ position_or_len test xs
-      len_case true t none = cc
-      len_case false t none = grind (arith, nat_tests)
+  position-None_len xs e =
+      ltb-false _ _ (cond_none (nat_lt (position_or_len test xs) (length xs)) (position_or_len test xs) (sym e))
 
   -- and then none of these is among them
   pub position-None_Contains : (xs : List X) (x : X) → None ≡ position test xs → Contains xs x

@@ -1,5 +1,6 @@
 use Rattle.std.proofs.Common.{◌≡◌, [], sym, ap, ◌∙◌, refl, Some, subst}
 use Rattle.std.specs.Prelude.{option_and_then, unwrap_or}
+use Rattle.std.proofs.lemmas.Option.{cond_some}
 use Rattle.ck_objects.specs.Records.{key_value}
 use Rattle.ck_types.specs.Computations.{digest_by}
 use Rattle.ck_journal.specs.Histories.{is_ok}
@@ -14,7 +15,7 @@ use Rattle.ck_parts.specs.declared.changes.Change.TheVariants as change
 use Rattle.ck_parts.proofs.Counts.{started-injected}
 use Rattle.ck_parts.proofs.OperationMoves.{operations-kept, operations-created, closed-one, closed-all}
 use Rattle.ck_parts.proofs.OperationMoves.{logged-out, cancelled, does-start, does-add, finished-is}
-use Rattle.ck_parts.proofs.OperationMoves.{finish-does, nothing-stays, tried-stays, done-ok}
+use Rattle.ck_parts.proofs.OperationMoves.{finish-does, nothing-stays, tried-stays}
 use Rattle.ck_parts.proofs.Inversions.{done-of_call, of-InitPin, of-SetPin, of-LogIn, of-LogOut}
 use Rattle.ck_parts.proofs.Inversions.{of-CreateObject, of-SetAttributes, of-SetKeyState, of-DestroyObject}
 use Rattle.ck_parts.proofs.Inversions.{of-SetSearch, of-AdvanceSearch, of-StartDigest, of-StartHmac}
@@ -259,7 +260,7 @@ returns-in-StartDigest c = record {
               key = ap (λ d. option_and_then (object_named h) (init_key d)) d;
             })
             (does-start h e.caller e.call e.reply.rv e.reply.body kind.Digest session initialize
-            (ap operation_step of.1) (done-ok (is_ok e.reply.rv) e.call _ d) refl) idle agree.operations;
+            (ap operation_step of.1) (cond_some (is_ok e.reply.rv) e.call _ d).0 refl) idle agree.operations;
       };
 }
 
@@ -293,7 +294,7 @@ returns-in-StartHmac c = record {
                   ∙ ap (option_and_then (object_named h)) starts.key ∙ named;
             })
             (does-start h e.caller e.call e.reply.rv e.reply.body k session initialize starts.step
-            (done-ok (is_ok e.reply.rv) e.call _ made.0) refl) passed.0 agree.operations;
+            (cond_some (is_ok e.reply.rv) e.call _ made.0).0 refl) passed.0 agree.operations;
       };
 }
 
@@ -311,7 +312,7 @@ returns-in-AddPiece c = record {
         operations = c.add_piece.ensures.agree h e
             (subst (λ bytes. OnlyIn k session (Add bytes) e) (sym bytes)
             (does-add h e.caller e.call e.reply.rv e.reply.body k session (add_piece (added_bytes e.call)) step
-            (added_bytes e.call) (done-ok (is_ok e.reply.rv) e.call _ made.0) refl))
+            (added_bytes e.call) (cond_some (is_ok e.reply.rv) e.call _ made.0).0 refl))
             agree.operations;
       };
 }
