@@ -1,11 +1,12 @@
 -- How sessions move by one entry
 use Rattle.std.proofs.Common.{◌≡◌, ℕ, suc, ◌≤◌, Bool, true, false, cond, not, ◌&&◌, List, [], ◌∷◌, ◌++◌}
 use Rattle.std.proofs.Common.{Option, Some, None, sym, refl, ap, ◌∙◌, arith}
-use Rattle.std.specs.Prelude.{◌==◌, ◌||◌, map, length, filter, find, is_some, option_map}
+use Rattle.std.specs.Prelude.{◌==◌, ◌||◌, length, filter, find, is_some, option_map}
 use Rattle.std.specs.List.{list_any}
 use Rattle.std.proofs.Math.Dec.{eqb-suc-zero}
 use Rattle.std.proofs.Math.Bool.{and-true}
 use Rattle.std.proofs.lemmas.Bool.{eqb-true}
+use Rattle.std.proofs.lemmas.List.{map-id}
 use Rattle.ck_journal.specs.declared.calls.Call.{Call}
 use Rattle.ck_journal.specs.declared.calls.Call.TheVariants as call
 use Rattle.ck_journal.specs.declared.calls.Entry.{Entry}
@@ -148,13 +149,9 @@ some-open h s t =
 
 -- ---- handles alone
 
-map-same : (ks : List ℕ) → map (λ k. k) ks ≡ ks
-map-same [] = refl
-map-same (k ∷ ks) = ap (λ js. k ∷ js) (map-same ks)
-
 -- the handles in the rows are the open sessions
 pub open_sessions-rows : (h : History) → session_rows (λ h s. s) h ≡ open_sessions h
-open_sessions-rows h = map-same (open_sessions h)
+open_sessions-rows h = map-id (open_sessions h)
 
 -- as many rows as open sessions
 pub length-session_rows : {X : Type 0} (row : History → ℕ → X) (h : History)

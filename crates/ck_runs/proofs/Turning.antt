@@ -1,15 +1,11 @@
 -- Turns of which some were made
-use Rattle.std.proofs.Common.{◌≡◌, List, [], ◌∷◌, ◌++◌, length, refl, sym, ap, ◌∙◌, subst, arith}
-use Rattle.std.proofs.lemmas.List.{append-nil}
+use Rattle.std.proofs.Common.{◌≡◌, List, [], ◌∷◌, ◌++◌, length, refl, sym, ap, ◌∙◌, subst}
+use Rattle.std.proofs.lemmas.List.{append-nil, nil_from_length}
 use mathlib.Core.List.{append_assoc}
 use Rattle.std.specs.Prelude.{Result, Ok, Err, IsErr}
 use Rattle.ck_types.specs.declared.memory.NoMemory.{NoMemory}
 use Rattle.ck_callers.specs.Callers.{CallerState}
 use Rattle.ck_runs.specs.Turns.{EndsAt, HasMade}
-
-none_left : {S : Type 0} → (left : List S) → length left ≡ 0 → left ≡ []
-none_left [] none = refl
-none_left (s ∷ left) none = absurd (omega arith)
 
 -- these replies were given, and these are left: whatever comes of them comes of all
 pub record IsMaking {S A : Type 0} (Does : CallerState → S → A → CallerState → Type 0) (MayFail : S → Type 0)
@@ -40,7 +36,7 @@ module _ {S A : Type 0} (Does : CallerState → S → A → CallerState → Type
       (at.all [] outcome new (same, end))
 
   pub made_all : length left ≡ 0 → HasMade Does MayFail old steps replies (Ok tt) now
-  made_all none = made_now (Ok tt) (none_left left none) now refl
+  made_all none = made_now (Ok tt) (nil_from_length left none) now refl
 
   -- the next found no memory
   pub made_before : (s : S) (rest : List S) → left ≡ s ∷ rest → MayFail s

@@ -1,6 +1,6 @@
 -- Where no session is open, a token's parts are what the base says that its history leaves
-use Rattle.std.proofs.Common.{◌≡◌, ℕ, cond, List, [], ◌∷◌, Option, Some, None}
-use Rattle.std.proofs.Common.{length, refl, sym, ap, ◌∙◌, subst, arith}
+use Rattle.std.proofs.Common.{◌≡◌, ℕ, cond, List, [], Option, Some, None}
+use Rattle.std.proofs.Common.{length, refl, sym, ap, ◌∙◌, subst}
 use Rattle.std.specs.Prelude.{◌==◌, find, map, option_map}
 use Rattle.ck_types.specs.TokenLimits.{Ranges}
 use Rattle.ck_objects.specs.declared.items.Item.{Item}
@@ -21,10 +21,6 @@ use Rattle.ck_store.specs.Agreement.{StoreState, StoreAgrees, row_at}
 use Rattle.ck_store.specs.Rows.{object_row}
 use Rattle.ck_token.specs.Agreement.{TokenAgrees}
 use Rattle.ck_parts.specs.declared.parts.Parts.{Parts}
-
-pub no-items : {X : Type 0} (xs : List X) → length xs ≡ 0 → xs ≡ []
-no-items [] e = refl
-no-items (x ∷ xs) e = absurd (omega arith)
 
 pub good-history : (limits : Ranges) (h : History) (p : Parts) → TokenAgrees limits h p
     → IsSoundHistory limits h

@@ -3,6 +3,7 @@ use Rattle.std.proofs.Common.{◌≡◌, ℕ, suc, ◌+◌, ◌<◌, ◌≤◌, 
 use Rattle.std.proofs.Common.{refl, sym, ap, ◌∙◌, subst, arith, append_assoc, length-append}
 use Rattle.std.specs.List.{All}
 use Rattle.std.specs.Prelude.{reverse}
+use Rattle.std.proofs.Math.Seq.{get_or-append_seam}
 use Rattle.std.proofs.lemmas.List.{reverse-append, reverse-reverse}
 use Rattle.ck_types.specs.TokenLimits.{Ranges}
 use Rattle.ck_journal.specs.Answers.{IsLegal}
@@ -10,11 +11,6 @@ use Rattle.ck_journal.specs.Histories.{History, ◌◁◌}
 use Rattle.ck_journal.specs.declared.calls.Call.{Call}
 use Rattle.ck_token.specs.Decisions.{takes_memory}
 use Rattle.ck_token.specs.TokenStates.{TokenState, entry_of, after, HasAnswered, IsAnswered}
-
-get_or-here : (before : List (ℕ × Call)) (c : ℕ × Call) (later : List (ℕ × Call))
-    → get_or (before ++ c ∷ later) (length before) c ≡ c
-get_or-here [] c later = refl
-get_or-here (d ∷ before) c later = get_or-here before c later
 
 -- so many calls of the list are answered, and the others are left, the last first
 pub record Answers (old : TokenState) (calls : List (ℕ × Call)) (count : ℕ) (left : List (ℕ × Call))
@@ -75,6 +71,6 @@ module _ (old : TokenState) (calls : List (ℕ × Call)) where
       let room = a.room in (
         omega arith,
         subst (λ (d : ℕ × Call). takes_memory d.1 ≡ false)
-            (ap (λ cs. get_or cs (length a.answered) c) parts ∙ get_or-here a.answered c (reverse rest))
+            (ap (λ cs. get_or cs (length a.answered) c) parts ∙ get_or-append_seam a.answered c (reverse rest) c)
             (free (length a.answered) c (omega arith)),
       )

@@ -1,7 +1,7 @@
 -- What a search gives next
-use Rattle.std.proofs.Common.{◌≡◌, ℕ, zero, suc, ◌+◌, ◌-◌, ◌<◌, Bool, true, false, cond, List, [], ◌∷◌}
+use Rattle.std.proofs.Common.{◌≡◌, ℕ, zero, suc, ◌+◌, ◌-◌, ◌<◌, Bool, true, false, List, [], ◌∷◌}
 use Rattle.std.proofs.Common.{◌++◌, length, drop, get_or, Some, None, refl, sym, ap, ◌∙◌, add-one}
-use Rattle.std.proofs.Common.{arith}
+use Rattle.std.proofs.Common.{arith, append_assoc}
 use Rattle.std.proofs.Math.Seq.{drop-cons}
 use Rattle.std.specs.Prelude.{filter, map, take}
 use Rattle.std.specs.List.{slice_get}
@@ -10,10 +10,6 @@ use Rattle.ck_journal.specs.Searches.{last_or, number_of_handle}
 use Rattle.ck_journal.specs.Histories.{History}
 use Rattle.ck_journal.specs.Objects.{handle_of, is_visible}
 use Rattle.ck_store.specs.Agreement.{handle_at}
-
-append-one : (xs : List ℕ) (x : ℕ) (ys : List ℕ) → xs ++ x ∷ ys ≡ (xs ++ x ∷ []) ++ ys
-append-one [] x ys = refl
-append-one (y ∷ xs) x ys = ap (λ rest. y ∷ rest) (append-one xs x ys)
 
 -- the handles of the visible objects of these numbers, at most as many as there is room for
 abbrev pub next : History → ℕ → List ℕ → List ℕ
@@ -63,7 +59,7 @@ module _ (h : History) where
         one_more
         ∙ ap (λ hs. handles ++ hs) (next-visible room (get_or numbers i 0) handle (drop (i + 1) numbers)
         (omega arith) found)
-        ∙ append-one handles handle (next h (room - 1) (drop (i + 1) numbers))
+        ∙ sym (append_assoc handles (handle ∷ []) (next h (room - 1) (drop (i + 1) numbers)))
         ∙ ap (λ r. (handles ++ handle ∷ []) ++ next h r (drop (i + 1) numbers)) (sym less)
         ∙ ap (λ hs. hs ++ next h room' (drop (i + 1) numbers)) (sym more)
 
@@ -76,12 +72,6 @@ module _ (h : History) where
         ∙ rw (same, same_room) refl
 
 -- ---- where a search stands
-
--- a session's search that has something left is active
-pub left-found : (searching : Bool) (numbers rest : List ℕ) → Some numbers ≡ cond searching (Some rest) None
-    → (searching ≡ true) × (numbers ≡ rest)
-left-found true numbers rest e = (refl, same_Some numbers rest e)
-left-found false numbers rest e = cc
 
 -- the number of the last object that is given
 pub last_or-some : (handles : List ℕ) (handle before : ℕ) → Some handle ≡ slice_get handles (length handles - 1)

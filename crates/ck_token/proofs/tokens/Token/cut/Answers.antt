@@ -5,7 +5,8 @@ use Rattle.ck_journal.specs.Sessions.{open_sessions}
 use Rattle.ck_journal.proofs.CutBases.{base-sound}
 use Rattle.ck_journal.proofs.CutLaws.{left-by}
 use Rattle.ck_token.specs.Agreement.{TokenAgrees}
-use Rattle.ck_token.proofs.CutLemmas.{no-items, good-history, token-cut}
+use Rattle.std.proofs.lemmas.List.{nil_from_length}
+use Rattle.ck_token.proofs.CutLemmas.{good-history, token-cut}
 use Rattle.ck_token.proofs.tokens.Token.cut.Goals as goal
 
 pub from_base-journal-requires : goal.from_base-journal-requires
@@ -13,7 +14,7 @@ from_base-journal-requires c =
     let t = c.self.inside in
     let h = t.journal.history in
     let agree = c.self.invariant in
-    let none = no-items (open_sessions h)
+    let none = nil_from_length (open_sessions h)
     (sym (c.count.ensures h agree.parts.sessions) ∙ c.if-count-ne0.false) in
     let is = c.base-base.ensures h agree.parts.sessions
     (c.creations.ensures.creations h agree.parts.objects) (c.in_ok-objects.ensures h agree.parts.objects) in
@@ -24,7 +25,7 @@ invariant_of-self c =
     let t = c.self.inside in
     let h = t.journal.history in
     let agree = c.self.invariant in
-    let none = no-items (open_sessions h)
+    let none = nil_from_length (open_sessions h)
     (sym (c.count.ensures h agree.parts.sessions) ∙ c.if-count-ne0.false) in
     let is = c.base-base.ensures h agree.parts.sessions
     (c.creations.ensures.creations h agree.parts.objects) (c.in_ok-objects.ensures h agree.parts.objects) in
@@ -38,7 +39,7 @@ returns-clause-sound c =
     let t = c.self.inside in
     let h = t.journal.history in
     let agree = c.self.invariant in
-    let none = no-items (open_sessions h)
+    let none = nil_from_length (open_sessions h)
     (sym (c.count.ensures h agree.parts.sessions) ∙ c.if-count-ne0.false) in
     rw (← c.self.view_is) (base-sound t.limits h (good-history t.limits h t.parts agree) none)
 
@@ -47,6 +48,6 @@ returns-clause-left c =
     let t = c.self.inside in
     let h = t.journal.history in
     let agree = c.self.invariant in
-    let none = no-items (open_sessions h)
+    let none = nil_from_length (open_sessions h)
     (sym (c.count.ensures h agree.parts.sessions) ∙ c.if-count-ne0.false) in
     rw (← c.self.view_is) (left-by t.limits h (good-history t.limits h t.parts agree) none)

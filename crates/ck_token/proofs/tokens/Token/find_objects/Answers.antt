@@ -1,5 +1,6 @@
 use Rattle.std.proofs.Common.{◌≡◌, List, ℕ, not, sym, ap, ◌∙◌}
 use Rattle.std.specs.Prelude.{map, take, filter}
+use Rattle.std.proofs.lemmas.Option.{cond_some}
 use Rattle.ck_types.specs.Checks.{error_if}
 use Rattle.ck_types.specs.declared.errors.RvError.TheVariants as rv_error
 use Rattle.ck_journal.specs.Answers.{ok}
@@ -8,7 +9,7 @@ use Rattle.ck_journal.specs.Searches.{is_searching, remaining_objects, last_numb
 use Rattle.ck_journal.specs.declared.replies.Body.TheVariants as body
 use Rattle.ck_parts.specs.declared.changes.Change.TheVariants as change
 use Rattle.ck_token.proofs.DecisionLemmas.{two-pass, session-passes}
-use Rattle.ck_token.proofs.SearchLemmas.{left-found, last_or-some, last_or-none}
+use Rattle.ck_token.proofs.SearchLemmas.{last_or-some, last_or-none}
 use Rattle.ck_token.proofs.tokens.Token.find_objects.Goals.{in-Some-last, in-None}
 use Rattle.ck_token.proofs.tokens.Token.find_objects.Goals as goal
 
@@ -16,11 +17,11 @@ pub returns : goal.returns
 returns c =
     let h = c.args.self.now.history in
     let s = c.args.session in
-    let rest = left-found (is_searching h s) c.in-Some.numbers.now (remaining_objects h s)
-    (c.in-Some.ensures h s c.in_ok-row.ensures.row) in
+    let rest = cond_some (is_searching h s) (remaining_objects h s) c.in-Some.numbers.now
+    (sym (c.in-Some.ensures h s c.in_ok-row.ensures.row)) in
     let items = c.in_ok-handles.handles.items in
     let given = c.in_ok-handles.ensures
-    ∙ ap (λ (numbers : List ℕ). map (handle_of h) (take c.args.max (filter (is_visible h) numbers))) rest.1 in
+    ∙ ap (λ (numbers : List ℕ). map (handle_of h) (take c.args.max (filter (is_visible h) numbers))) (sym rest.1) in
     let number : c.match-last.number ≡ last_or (last_number h s) (map number_of_handle items) =
     elim c.match-last.branch [
       | in-Some-last w ↦
