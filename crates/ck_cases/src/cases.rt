@@ -67,11 +67,12 @@ impl<'a> Case<'a> {
 
 /// The limits of four numbers.
 fn limits_of(text: &str) -> Option<Limits> {
-    let mut numbers = text.split(' ');
-    let sessions = numbers.next()?.parse().ok()?;
-    let openings = numbers.next()?.parse().ok()?;
-    let creations = numbers.next()?.parse().ok()?;
-    let logins = numbers.next()?.parse().ok()?;
+    let mut words = text.split(' ');
+    let mut numbers = [0; 4];
+    for number in numbers.iter_mut() {
+        *number = words.next()?.parse().ok()?;
+    }
+    let [sessions, openings, creations, logins] = numbers;
     Limits::of(sessions, openings, creations, logins)
 }
 
