@@ -4,7 +4,7 @@ use crate::cases::{Action, Case, Step, cases_in};
 use crate::changed_journals::check_changes;
 use crate::retries::RetryingToken;
 use ck_audit::Verdict;
-use ck_journal::Journal;
+use ck_journal::{Call, Journal};
 use ck_script::reply_line;
 use ck_token::Uncut;
 use ck_types::Limits;
@@ -77,18 +77,42 @@ fn play_by_steps(alloc: Global, token: &mut RetryingToken, case: &Case) -> Resul
     Ok(())
 }
 
+/// Makes the call of a step, behind a cut where no session is open.
+fn play_behind_cut(
+    alloc: Global,
+    token: &mut RetryingToken,
+    step: &Step,
+    caller: u32,
+    call: &Call,
+) -> Result<(), CaseError> {
+    token.try_cut(alloc)?;
+    let reply = token.call(alloc, caller, call)?;
+    compare(step, reply_line(alloc, &reply)?)
+}
+
 /// Makes the calls of a case alone, each behind a cut where no session is open: they are answered
 /// alike.
 fn play_with_cuts(alloc: Global, token: &mut RetryingToken, case: &Case) -> Result<(), CaseError> {
     token.start(alloc, case.limits);
     for step in case.steps.iter() {
         if let Some((caller, call)) = step.call() {
-            token.try_cut(alloc)?;
-            let reply = token.call(alloc, caller, call)?;
-            compare(step, reply_line(alloc, &reply)?)?;
+            play_behind_cut(alloc, token, step, caller, call)?;
         }
     }
     Ok(())
+}
+
+/// Compares the reply of the entry of this number with that of the step.
+fn compare_entry(
+    alloc: Global,
+    journal: &Journal,
+    number: u64,
+    step: &Step,
+) -> Result<(), CaseError> {
+    let Some(entry) = journal.entry(number) else {
+        return Err(CaseError::NoEntry(step.number));
+    };
+    compare(step, reply_line(alloc, &entry.reply)?)
 }
 
 /// Compares the replies of the entries after so many with those of the steps.
@@ -101,10 +125,7 @@ fn compare_entries(
     let mut number = before;
     for step in steps.iter().filter(|step| step.call().is_some()) {
         number = number.saturating_add(1);
-        let entry = journal
-            .entry(number)
-            .ok_or(CaseError::NoEntry(step.number))?;
-        compare(step, reply_line(alloc, &entry.reply)?)?;
+        compare_entry(alloc, journal, number, step)?;
     }
     Ok(())
 }
