@@ -1,4 +1,5 @@
 //! Audits of a journal of mixed calls.
+use crate::clocks::{time_since, time_so_far};
 use crate::rounds::{Failed, KINDS, prepare, round};
 use ck_audit::audit_token;
 use ck_token::Token;
@@ -27,11 +28,9 @@ fn time_of_audit<R: CpuClock + AllocGlobal>(
 ) -> Result<u128, Failed> {
     let alloc = rt.alloc();
     fill(token, alloc, entries)?;
-    let before = rt.process_cpu_time()?;
+    let before = time_so_far(rt)?;
     audit_token(alloc, token)?;
-    let after = rt.process_cpu_time()?;
-    let time = after.checked_sub(before).ok_or(Failed)?;
-    Ok(time.as_nanos())
+    Ok(time_since(rt, before)?.as_nanos())
 }
 
 pub(crate) fn audit_time<R: CpuClock + AllocGlobal>(rt: &R, entries: u64) -> Result<u128, Failed> {

@@ -1,8 +1,10 @@
 //! Calls of one session among many objects of another.
 ghost use Rattle.std.specs.Prelude.{◌<◌, ◌^◌};
 
+use crate::clocks::{time_since, time_so_far};
 use crate::rounds::{
-    Failed, RW, Target, call, destroy, get_label, label_alone, labelled_of, open_and_close, prepare,
+    Failed, READ_WRITE, Target, call, data_of, destroy, get_label, label_of, open_and_close,
+    prepare,
 };
 use ck_journal::{Body, Call};
 use ck_token::Token;
@@ -85,7 +87,7 @@ fn crowd(token: &mut Token, alloc: Global, objects: u32) -> Result<(), Failed> {
     let pin = Pin::of(b"1234");
     call(token, alloc, Call::InitPin { session, pin })?;
     call(token, alloc, Call::Logout { session })?;
-    call(token, alloc, Call::OpenSession { flags: RW })?;
+    call(token, alloc, Call::OpenSession { flags: READ_WRITE })?;
     for number in 0..u64::from(objects) {
         create(token, alloc, 2, number)?;
     }
@@ -93,13 +95,13 @@ fn crowd(token: &mut Token, alloc: Global, objects: u32) -> Result<(), Failed> {
 }
 
 fn create(token: &mut Token, alloc: Global, session: u64, number: u64) -> Result<(), Failed> {
-    let template = labelled_of(alloc, &number.to_le_bytes())?;
+    let template = data_of(alloc, &number.to_le_bytes())?;
     call(token, alloc, Call::CreateObject { session, template })?;
     Ok(())
 }
 
 fn change(token: &mut Token, alloc: Global, object: u64, round: u64) -> Result<(), Failed> {
-    let template = label_alone(alloc, &round.to_le_bytes())?;
+    let template = label_of(alloc, &round.to_le_bytes())?;
     let call_of = Call::SetAttributeValue {
         session: 1,
         object,
@@ -110,7 +112,7 @@ fn change(token: &mut Token, alloc: Global, object: u64, round: u64) -> Result<(
 }
 
 fn ten_objects(token: &mut Token, alloc: Global) -> Result<(), Failed> {
-    let session = call(token, alloc, Call::OpenSession { flags: RW })?;
+    let session = call(token, alloc, Call::OpenSession { flags: READ_WRITE })?;
     for number in 0..10 {
         create(token, alloc, session, number)?;
     }
@@ -129,7 +131,7 @@ fn log_in_and_out(token: &mut Token, alloc: Global) -> Result<(), Failed> {
 /// Searches by a label, which exactly one object must have.
 fn search(token: &mut Token, alloc: Global, label: u64) -> Result<(), Failed> {
     let session = 1;
-    let template = label_alone(alloc, &label.to_le_bytes())?;
+    let template = label_of(alloc, &label.to_le_bytes())?;
     call(token, alloc, Call::FindObjectsInit { session, template })?;
     let found = Target::call(token, alloc, Call::FindObjects { session, max: 9 })?;
     call(token, alloc, Call::FindObjectsFinal { session })?;
@@ -181,10 +183,9 @@ fn phase_time<R: CpuClock + AllocGlobal>(
     phase: Phase,
     objects: u32,
 ) -> Result<u128, Failed> {
-    let before = rt.process_cpu_time()?;
+    let before = time_so_far(rt)?;
     make_phase(token, rt.alloc(), phase, objects)?;
-    let after = rt.process_cpu_time()?;
-    let time = after.checked_sub(before).ok_or(Failed)?;
+    let time = time_since(rt, before)?;
     Ok(time.as_nanos() / u128::from(phase.rounds(objects).max(1)))
 }
 

@@ -1,6 +1,7 @@
 //! A long digest by a call, beside the library's own.
+use crate::clocks::{time_since, time_so_far};
 use crate::rounds::{Failed, Target, call, digest, prepare, start_digest};
-use ck_journal::{Body, Reply};
+use ck_journal::{Body, Call, Reply};
 use ck_token::Token;
 use ck_types::{Bytes, Limits, NoMemory};
 use sha2::{Digest, Sha256};
@@ -16,6 +17,17 @@ fn message(alloc: Global, length: usize) -> Result<Bytes, NoMemory> {
     Ok(Bytes::from_vec(bytes))
 }
 
+/// What a token answers to a call, and the processor time of the call.
+fn timed_call<R: CpuClock + AllocGlobal>(
+    rt: &R,
+    token: &mut Token,
+    call: Call,
+) -> Result<(Reply, Duration), Failed> {
+    let before = time_so_far(rt)?;
+    let reply = Target::call(token, rt.alloc(), call)?;
+    Ok((reply, time_since(rt, before)?))
+}
+
 /// The digest that a new token answers to the message, and the processor time of the call.
 fn digest_by_call<R: CpuClock + AllocGlobal>(
     rt: &R,
@@ -24,11 +36,7 @@ fn digest_by_call<R: CpuClock + AllocGlobal>(
     let alloc = rt.alloc();
     prepare(token, alloc)?;
     call(token, alloc, start_digest(alloc))?;
-    let whole = digest(message(alloc, LONG)?);
-    let before = rt.process_cpu_time()?;
-    let reply = Target::call(token, alloc, whole)?;
-    let after = rt.process_cpu_time()?;
-    let time = after.checked_sub(before).ok_or(Failed)?;
+    let (reply, time) = timed_call(rt, token, digest(message(alloc, LONG)?))?;
     Ok((digest_of(reply)?, time))
 }
 
@@ -49,12 +57,11 @@ fn by_call<R: CpuClock + AllocGlobal>(rt: &R) -> Result<(Bytes, Duration), Faile
 fn by_library<R: CpuClock + AllocGlobal>(rt: &R) -> Result<(Bytes, Duration), Failed> {
     let alloc = rt.alloc();
     let message = message(alloc, LONG)?;
-    let before = rt.process_cpu_time()?;
+    let before = time_so_far(rt)?;
     let mut hasher = Sha256::new();
     hasher.update(message.as_slice());
     let digest = hasher.finalize();
-    let after = rt.process_cpu_time()?;
-    let time = after.checked_sub(before).ok_or(Failed)?;
+    let time = time_since(rt, before)?;
     Ok((Bytes::from_slice(alloc, &digest)?, time))
 }
 

@@ -5,6 +5,7 @@
 #![tactic(auto)]
 
 mod audits;
+mod clocks;
 mod crowds;
 mod long_digests;
 mod rounds;
@@ -14,16 +15,17 @@ mod threads;
 use audits::audit_time;
 use ck_token::Token;
 use ck_types::Limits;
+use clocks::{time_since, time_so_far};
 use crowds::{PHASES, times_among};
 use long_digests::best_times;
 use rounds::{Failed, KINDS, Kind, calls_in, make_rounds, prepare};
 use shared::measure_shared;
-use std::env;
 use std::env::Env;
 use std::process::ExitCode;
 use std::sync::Wait;
 use std::thread::Threads;
 use std::time::{Clock, CpuClock, Duration};
+use std::{env, io};
 
 /// How often a round is made in one run, and how many runs the best is taken of.
 const ROUNDS: u64 = 1_000;
@@ -48,10 +50,9 @@ fn time_of_run<R: CpuClock + AllocGlobal>(
 ) -> Result<Duration, Failed> {
     let alloc = rt.alloc();
     prepare(token, alloc)?;
-    let before = rt.process_cpu_time()?;
+    let before = time_so_far(rt)?;
     make_rounds(token, alloc, kind, count)?;
-    let after = rt.process_cpu_time()?;
-    after.checked_sub(before).ok_or(Failed)
+    time_since(rt, before)
 }
 
 fn run_time<R: CpuClock + AllocGlobal>(rt: &R, kind: Kind, count: u64) -> Result<Duration, Failed> {
@@ -81,6 +82,13 @@ fn measure_long<R: CpuClock + Print + AllocGlobal>(rt: &R, measures: bool) -> Re
     Ok(())
 }
 
+/// Keeps the lesser of each two times.
+fn keep_least(best: &mut [u128; 9], times: [u128; 9]) {
+    for (best, time) in best.iter_mut().zip(times) {
+        *best = (*best).min(time);
+    }
+}
+
 /// The least nanoseconds of each phase among so many objects.
 fn best_among<R: CpuClock + AllocGlobal>(
     rt: &R,
@@ -89,11 +97,17 @@ fn best_among<R: CpuClock + AllocGlobal>(
 ) -> Result<[u128; 9], Failed> {
     let mut best = [u128::MAX; 9];
     for _ in 0..tries {
-        for (best, time) in best.iter_mut().zip(times_among(rt, objects)?) {
-            *best = (*best).min(time);
-        }
+        keep_least(&mut best, times_among(rt, objects)?);
     }
     Ok(best)
+}
+
+/// Writes what each phase takes among so many objects.
+fn write_among<R: Print>(rt: &R, objects: u32, times: [u128; 9]) -> io::Result<()> {
+    for (time, phase) in times.iter().zip(PHASES) {
+        println!(rt; "{} among {objects} objects: {time} ns", phase.name())?;
+    }
+    Ok(())
 }
 
 /// Makes calls among so many objects, and writes what each takes at best where that is asked for.
@@ -105,9 +119,7 @@ fn measure_among<R: CpuClock + Print + AllocGlobal>(
     let tries = if measures { CROWDS } else { 1 };
     let best = best_among(rt, objects, tries)?;
     if measures {
-        for (time, phase) in best.iter().zip(PHASES) {
-            println!(rt; "{} among {objects} objects: {time} ns", phase.name())?;
-        }
+        write_among(rt, objects, best)?;
     }
     Ok(())
 }

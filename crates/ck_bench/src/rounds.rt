@@ -27,7 +27,7 @@ const SECRET_KEY: &[u8] = &[4, 0, 0, 0, 0, 0, 0, 0];
 const GENERIC_SECRET: &[u8] = &[16, 0, 0, 0, 0, 0, 0, 0];
 
 /// The flags of a read/write session.
-pub(crate) const RW: u64 = SERIAL_SESSION | RW_SESSION;
+pub(crate) const READ_WRITE: u64 = SERIAL_SESSION | RW_SESSION;
 
 #[derive(Clone, Copy)]
 pub(crate) enum Kind {
@@ -136,30 +136,38 @@ fn item(alloc: Global, kind: u64, value: &[u8]) -> Result<Item, NoMemory> {
     Ok(Item { kind, value })
 }
 
-/// The template of a data object with this label.
-pub(crate) fn labelled_of(alloc: Global, label: &[u8]) -> Result<Template, NoMemory> {
-    let mut items = Vec::with_capacity(alloc, 2)?;
-    items.push(item(alloc, CLASS, DATA)?)?;
-    items.push(item(alloc, LABEL, label)?)?;
-    let items = Sequence::from_vec(items);
+/// A template of these attributes.
+fn template_of(alloc: Global, items: &[(u64, &[u8])]) -> Result<Template, NoMemory> {
+    let mut all = Vec::with_capacity(alloc, items.len())?;
+    for (kind, value) in items {
+        all.push(item(alloc, *kind, value)?)?;
+    }
+    let items = Sequence::from_vec(all);
     Ok(Template { items })
+}
+
+/// The template of a data object with this label.
+pub(crate) fn data_of(alloc: Global, label: &[u8]) -> Result<Template, NoMemory> {
+    template_of(alloc, &[(CLASS, DATA), (LABEL, label)])
 }
 
 /// A template that has a label alone.
-pub(crate) fn label_alone(alloc: Global, label: &[u8]) -> Result<Template, NoMemory> {
-    let mut items = Vec::with_capacity(alloc, 1)?;
-    items.push(item(alloc, LABEL, label)?)?;
-    let items = Sequence::from_vec(items);
-    Ok(Template { items })
+pub(crate) fn label_of(alloc: Global, label: &[u8]) -> Result<Template, NoMemory> {
+    template_of(alloc, &[(LABEL, label)])
 }
 
-/// A data object with a label of 8 bytes.
-fn labelled(alloc: Global) -> Result<Call, NoMemory> {
-    let template = labelled_of(alloc, b"a label ")?;
+/// A call that creates an object with these attributes.
+fn create(alloc: Global, items: &[(u64, &[u8])]) -> Result<Call, NoMemory> {
+    let template = template_of(alloc, items)?;
     Ok(Call::CreateObject {
         session: 1,
         template,
     })
+}
+
+/// A data object with a label of 8 bytes.
+fn labelled(alloc: Global) -> Result<Call, NoMemory> {
+    create(alloc, &[(CLASS, DATA), (LABEL, b"a label ")])
 }
 
 fn read_label(alloc: Global, object: u64) -> Result<Call, NoMemory> {
@@ -170,20 +178,6 @@ fn read_label(alloc: Global, object: u64) -> Result<Call, NoMemory> {
         session: 1,
         object,
         queries: Sequence::from_vec(queries),
-    })
-}
-
-/// A call that creates an object with these attributes.
-fn create(alloc: Global, items: &[(u64, &[u8])]) -> Result<Call, NoMemory> {
-    let mut all = Vec::with_capacity(alloc, items.len())?;
-    for (kind, value) in items {
-        all.push(item(alloc, *kind, value)?)?;
-    }
-    let items = Sequence::from_vec(all);
-    let template = Template { items };
-    Ok(Call::CreateObject {
-        session: 1,
-        template,
     })
 }
 
@@ -208,7 +202,7 @@ fn secret_key(alloc: Global) -> Result<Call, NoMemory> {
 pub(crate) fn prepare<T: Target>(target: &mut T, alloc: Global) -> Result<(), Failed> {
     let pin = Pin::of(b"1234");
     call(target, alloc, Call::InitToken { pin })?;
-    call(target, alloc, Call::OpenSession { flags: RW })?;
+    call(target, alloc, Call::OpenSession { flags: READ_WRITE })?;
     call(target, alloc, labelled(alloc)?)?;
     call(target, alloc, secret_key(alloc)?)?;
     Ok(())
@@ -228,7 +222,7 @@ fn token_info<T: Target>(target: &mut T, alloc: Global) -> Result<(), Failed> {
 
 #[inline(never)]
 pub(crate) fn open_and_close<T: Target>(target: &mut T, alloc: Global) -> Result<(), Failed> {
-    let session = call(target, alloc, Call::OpenSession { flags: RW })?;
+    let session = call(target, alloc, Call::OpenSession { flags: READ_WRITE })?;
     call(target, alloc, Call::CloseSession { session })?;
     Ok(())
 }

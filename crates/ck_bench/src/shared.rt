@@ -11,6 +11,7 @@ use ck_shared::{Ends, Shared, SharedCaller};
 use ck_token::Token;
 use ck_types::{Limits, NoMemory};
 use std::alloc::Global;
+use std::io;
 use std::marker::Brand;
 use std::sync::Wait;
 use std::thread::Threads;
@@ -196,14 +197,13 @@ fn each(time: u128, count: u64) -> u128 {
 
 /// Writes the nanoseconds of a call of the token itself and of one by the lock. A round that
 /// changes the board has two calls.
-fn write_calls<R: Print>(rt: &R, alone: CallTimes, locked: CallTimes) -> Result<(), Failed> {
+fn write_calls<R: Print>(rt: &R, alone: CallTimes, locked: CallTimes) -> io::Result<()> {
     let rounds = MEASURED.rounds;
     let (direct, shared) = (each(alone.leaves, rounds), each(locked.leaves, rounds));
     println!(rt; "session info: {direct} ns, by the lock {shared} ns")?;
     let calls = rounds.saturating_mul(2);
     let (direct, shared) = (each(alone.changes, calls), each(locked.changes, calls));
-    println!(rt; "open and close, each: {direct} ns, by the lock {shared} ns")?;
-    Ok(())
+    println!(rt; "open and close, each: {direct} ns, by the lock {shared} ns")
 }
 
 /// How many percent of a time another is, 0 where there is none.
@@ -212,7 +212,7 @@ fn percent(part: u128, whole: u128) -> u128 {
 }
 
 /// Writes what asks take, and how many calls four callers make in a second.
-fn write_threads<R: Print>(rt: &R, times: ThreadTimes) -> Result<(), Failed> {
+fn write_threads<R: Print>(rt: &R, times: ThreadTimes) -> io::Result<()> {
     let ThreadTimes {
         ask_alone,
         ask_beside,
@@ -230,8 +230,7 @@ fn write_threads<R: Print>(rt: &R, times: ThreadTimes) -> Result<(), Failed> {
         .saturating_mul(1_000_000_000)
         .checked_div(four_change)
         .unwrap_or(0);
-    println!(rt; "create, get label and destroy by four callers: {a_second} calls a second")?;
-    Ok(())
+    println!(rt; "create, get label and destroy by four callers: {a_second} calls a second")
 }
 
 /// The same calls of a token that isn't shared.

@@ -1,5 +1,5 @@
 //! Callers of a shared token, in threads of their own.
-use crate::rounds::{Failed, Kind, RW, Target, make_rounds, round};
+use crate::rounds::{Failed, Kind, READ_WRITE, Target, make_rounds, round};
 use ck_callers::{Ask, Status, TokenId};
 use ck_journal::{Body, Call, Reply};
 use ck_shared::{Shared, SharedCaller};
@@ -56,20 +56,27 @@ impl<K: TokenId> Worker<K> {
     }
 }
 
-/// Asks so often, and says whether each time the session was open.
-fn ask<K: TokenId>(caller: &mut SharedCaller<K>, count: u64) -> Result<(), Failed> {
-    for _ in 0..count {
-        let Some(
+/// Whether what was asked says that a read/write session is open.
+fn is_open(status: Option<Status>) -> bool {
+    match status {
+        Some(
             Status::Reply(
                 Reply {
                     rv: Rv::Ok,
-                    body: Body::Session { flags: RW, .. },
+                    body: Body::Session { flags, .. },
                 },
             ),
-        ) = caller.status(Ask::Session(1))
-        else {
+        ) => { flags == READ_WRITE }
+        _ => false,
+    }
+}
+
+/// Asks so often. Each time the session must be open.
+fn ask<K: TokenId>(caller: &mut SharedCaller<K>, count: u64) -> Result<(), Failed> {
+    for _ in 0..count {
+        if !is_open(caller.status(Ask::Session(1))) {
             return Err(Failed);
-        };
+        }
     }
     Ok(())
 }
@@ -89,6 +96,28 @@ fn change_until<K: TokenId, R: Wait + Drop>(
     Err(Failed)
 }
 
+/// Does the task of a caller.
+fn do_task<K: TokenId, R: Wait + Drop>(
+    rt: &R,
+    alloc: Global,
+    token: &Shared<K, R>,
+    worker: &mut Worker<K>,
+    is_done: &AtomicBool,
+) -> Result<(), Failed> {
+    let caller = &mut *worker.caller;
+    match worker.task {
+        Task::Ask(count) => ask(caller, count),
+        Task::Change(count) => {
+            let mut target = SharedTarget { rt, token, caller };
+            make_rounds(&mut target, alloc, Kind::CreateReadDestroy, count)
+        }
+        Task::ChangeBeside => {
+            let mut target = SharedTarget { rt, token, caller };
+            change_until(&mut target, alloc, is_done)
+        }
+    }
+}
+
 /// Does the task of a caller, and says what it took.
 fn work<K: TokenId, R: Clock + Wait + Drop>(
     rt: &R,
@@ -97,19 +126,8 @@ fn work<K: TokenId, R: Clock + Wait + Drop>(
     worker: &mut Worker<K>,
     is_done: &AtomicBool,
 ) -> Result<u128, Failed> {
-    let caller = &mut *worker.caller;
     let before = Instant::now(rt)?;
-    match worker.task {
-        Task::Ask(count) => ask(caller, count)?,
-        Task::Change(count) => {
-            let mut target = SharedTarget { rt, token, caller };
-            make_rounds(&mut target, alloc, Kind::CreateReadDestroy, count)?;
-        }
-        Task::ChangeBeside => {
-            let mut target = SharedTarget { rt, token, caller };
-            change_until(&mut target, alloc, is_done)?;
-        }
-    }
+    do_task(rt, alloc, token, worker, is_done)?;
     Ok(before.elapsed(rt)?.as_nanos())
 }
 

@@ -12,7 +12,7 @@
 use crate::case_errors::CaseError;
 use ck_journal::Call;
 use ck_script::{BadLine, Line, LineError};
-use ck_types::Limits;
+use ck_types::{Limits, NoMemory};
 use std::alloc::Global;
 
 /// What is done to the token.
@@ -67,11 +67,12 @@ impl<'a> Case<'a> {
 
 /// The limits of four numbers.
 fn limits_of(text: &str) -> Option<Limits> {
-    let mut numbers = text.split(' ');
-    let sessions = numbers.next()?.parse().ok()?;
-    let openings = numbers.next()?.parse().ok()?;
-    let creations = numbers.next()?.parse().ok()?;
-    let logins = numbers.next()?.parse().ok()?;
+    let mut words = text.split(' ');
+    let mut numbers = [0; 4];
+    for number in numbers.iter_mut() {
+        *number = words.next()?.parse().ok()?;
+    }
+    let [sessions, openings, creations, logins] = numbers;
     Limits::of(sessions, openings, creations, logins)
 }
 
@@ -110,15 +111,19 @@ fn step_in<'a>(alloc: Global, number: u64, line: &'a str) -> Result<Step<'a>, Ca
     })
 }
 
-/// Adds a step to the newest case, or to a first one of the largest limits.
-fn add_step<'a>(alloc: Global, cases: &mut Vec<Case<'a>>, step: Step<'a>) -> Result<(), CaseError> {
+/// Where there is no case yet, begins one of the largest limits.
+fn begin_first(alloc: Global, cases: &mut Vec<Case>) -> Result<(), NoMemory> {
+    if cases.is_empty() {
+        cases.push(Case::new(alloc, Limits::largest()))?;
+    }
+    Ok(())
+}
+
+/// Adds a step to the newest case.
+fn add_step<'a>(cases: &mut [Case<'a>], step: Step<'a>) -> Result<(), NoMemory> {
     if let Some(case) = cases.last_mut() {
         case.steps.push(step)?;
-        return Ok(());
     }
-    let mut case = Case::new(alloc, Limits::largest());
-    case.steps.push(step)?;
-    cases.push(case)?;
     Ok(())
 }
 
@@ -138,7 +143,11 @@ fn add_line<'a>(
             cases.push(Case::new(alloc, limits))?;
             Ok(())
         }
-        None => add_step(alloc, cases, step_in(alloc, number, line)?),
+        None => {
+            let step = step_in(alloc, number, line)?;
+            begin_first(alloc, cases)?;
+            Ok(add_step(cases.as_mut_slice(), step)?)
+        }
     }
 }
 

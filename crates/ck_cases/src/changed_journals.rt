@@ -69,6 +69,18 @@ fn copied_entry(alloc: Global, entry: &Entry, changed: Option<Part>) -> Result<E
     })
 }
 
+/// Adds a copy of an entry, in whose reply this part is changed, if any.
+fn add_entry(
+    alloc: Global,
+    copy: &mut Journal,
+    entry: &Entry,
+    changed: Option<Part>,
+) -> Result<(), NoMemory> {
+    copy.reserve(1)?;
+    copy.push_reserved(copied_entry(alloc, entry, changed)?);
+    Ok(())
+}
+
 /// A copy of a journal's first entries, in which the reply of the entry of this number is changed.
 fn changed_journal(
     alloc: Global,
@@ -81,8 +93,7 @@ fn changed_journal(
     for entry in journal.entries().iter().take(MOST_ENTRIES as usize) {
         let is_changed = copy.len().saturating_add(1) == number;
         let changed = if is_changed { Some(part) } else { None };
-        copy.reserve(1)?;
-        copy.push_reserved(copied_entry(alloc, entry, changed)?);
+        add_entry(alloc, &mut copy, entry, changed)?;
     }
     Ok(copy)
 }

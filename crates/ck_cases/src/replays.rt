@@ -4,8 +4,8 @@ use crate::cases::{Action, Case, Step, cases_in};
 use crate::changed_journals::check_changes;
 use crate::retries::RetryingToken;
 use ck_audit::Verdict;
-use ck_journal::{Journal, Reply};
-use ck_script::push_reply;
+use ck_journal::{Call, Journal};
+use ck_script::reply_line;
 use ck_token::Uncut;
 use ck_types::Limits;
 use std::alloc::Global;
@@ -26,15 +26,6 @@ impl fmt::Display for Passed {
         }
         Ok(())
     }
-}
-
-/// The text of a reply, without a line end.
-fn reply_text(alloc: Global, reply: &Reply) -> Result<String, CaseError> {
-    let mut line = Vec::new(alloc);
-    push_reply(&mut line, reply)?;
-    let text = line.as_slice();
-    let text = text.strip_suffix(b"\n").unwrap_or(text);
-    Ok(String::from_utf8_lossy(alloc, text)?)
 }
 
 /// How many entries a cut takes out, or why the journal isn't cut.
@@ -59,7 +50,10 @@ fn outcome_of(
     action: &Action,
 ) -> Result<String, CaseError> {
     match action {
-        Action::Call { caller, call } => reply_text(alloc, &token.call(alloc, *caller, call)?),
+        Action::Call { caller, call } => {
+            let reply = token.call(alloc, *caller, call)?;
+            Ok(reply_line(alloc, &reply)?)
+        }
         Action::BadLine(reason) => Ok(format!(in alloc; "bad script: {reason}")?),
         Action::Cut => cut_text(alloc, token.cut(alloc)?),
         Action::Audit(limits) => verdict_text(alloc, token.audit(alloc, *limits)?),
@@ -83,18 +77,42 @@ fn play_by_steps(alloc: Global, token: &mut RetryingToken, case: &Case) -> Resul
     Ok(())
 }
 
+/// Makes the call of a step, behind a cut where no session is open.
+fn play_behind_cut(
+    alloc: Global,
+    token: &mut RetryingToken,
+    step: &Step,
+    caller: u32,
+    call: &Call,
+) -> Result<(), CaseError> {
+    token.try_cut(alloc)?;
+    let reply = token.call(alloc, caller, call)?;
+    compare(step, reply_line(alloc, &reply)?)
+}
+
 /// Makes the calls of a case alone, each behind a cut where no session is open: they are answered
 /// alike.
 fn play_with_cuts(alloc: Global, token: &mut RetryingToken, case: &Case) -> Result<(), CaseError> {
     token.start(alloc, case.limits);
     for step in case.steps.iter() {
         if let Some((caller, call)) = step.call() {
-            token.try_cut(alloc)?;
-            let reply = token.call(alloc, caller, call)?;
-            compare(step, reply_text(alloc, &reply)?)?;
+            play_behind_cut(alloc, token, step, caller, call)?;
         }
     }
     Ok(())
+}
+
+/// Compares the reply of the entry of this number with that of the step.
+fn compare_entry(
+    alloc: Global,
+    journal: &Journal,
+    number: u64,
+    step: &Step,
+) -> Result<(), CaseError> {
+    let Some(entry) = journal.entry(number) else {
+        return Err(CaseError::NoEntry(step.number));
+    };
+    compare(step, reply_line(alloc, &entry.reply)?)
 }
 
 /// Compares the replies of the entries after so many with those of the steps.
@@ -107,10 +125,7 @@ fn compare_entries(
     let mut number = before;
     for step in steps.iter().filter(|step| step.call().is_some()) {
         number = number.saturating_add(1);
-        let entry = journal
-            .entry(number)
-            .ok_or(CaseError::NoEntry(step.number))?;
-        compare(step, reply_text(alloc, &entry.reply)?)?;
+        compare_entry(alloc, journal, number, step)?;
     }
     Ok(())
 }

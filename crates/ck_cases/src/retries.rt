@@ -4,7 +4,7 @@ use crate::cases::Step;
 use ck_audit::{Verdict, audit};
 use ck_journal::{Call, Journal, Reply};
 use ck_token::{Stopped, Token, Uncut, run};
-use ck_types::Limits;
+use ck_types::{Limits, NoMemory};
 use std::alloc::Global;
 
 /// A token, and how often it found no memory: what found none must have left the journal as long as
@@ -15,11 +15,17 @@ pub(crate) struct RetryingToken {
     retries: u64,
 }
 
+/// Adds a copy of a call.
+fn add_call(calls: &mut Vec<(u32, Call)>, caller: u32, call: &Call) -> Result<(), NoMemory> {
+    calls.push((caller, call.clone()?))?;
+    Ok(())
+}
+
 /// The calls of the steps, but for so many at their front.
-fn calls_after(alloc: Global, steps: &[Step], count: u64) -> Result<Vec<(u32, Call)>, CaseError> {
+fn calls_after(alloc: Global, steps: &[Step], count: u64) -> Result<Vec<(u32, Call)>, NoMemory> {
     let mut calls = Vec::new(alloc);
     for (caller, call) in steps.iter().filter_map(Step::call).skip(count as usize) {
-        calls.push((caller, call.clone()?))?;
+        add_call(&mut calls, caller, call)?;
     }
     Ok(calls)
 }

@@ -23,6 +23,15 @@ fn play_race<R: Threads + Wait + Copy + Drop + Send + Sync>(
     Ok(0)
 }
 
+/// Writes that all races passed, and how many calls were made again.
+fn write_passed<R: Print>(rt: &R, name: &str, passed: usize, retries: u64) -> io::Result<()> {
+    if retries == 0 {
+        println!(rt; "{name}: {passed} passed")
+    } else {
+        println!(rt; "{name}: {passed} passed, {retries} made again")
+    }
+}
+
 /// Plays races, and says whether they pass.
 fn play_races<R: Print + AllocGlobal + Threads + Wait + Copy + Drop + Send + Sync>(
     rt: R,
@@ -40,13 +49,24 @@ fn play_races<R: Print + AllocGlobal + Threads + Wait + Copy + Drop + Send + Syn
             }
         }
     }
-    let passed = races.len();
-    if retries == 0 {
-        println!(rt; "{name}: {passed} passed")?;
-    } else {
-        println!(rt; "{name}: {passed} passed, {retries} made again")?;
-    }
+    write_passed(&rt, name, races.len(), retries)?;
     Ok(true)
+}
+
+/// Plays the races of a text, and says whether they pass.
+fn play_text<R: Print + AllocGlobal + Threads + Wait + Copy + Drop + Send + Sync>(
+    rt: R,
+    name: &str,
+    text: &str,
+    is_alone: bool,
+) -> io::Result<bool> {
+    match races_in(rt.alloc(), text) {
+        Ok(races) => play_races(rt, name, races.as_slice(), is_alone),
+        Err(error) => {
+            println!(rt; "{name}: {error}")?;
+            Ok(false)
+        }
+    }
 }
 
 /// Plays the races of the file of this name, and says whether they pass: in threads, or the steps
@@ -54,15 +74,8 @@ fn play_races<R: Print + AllocGlobal + Threads + Wait + Copy + Drop + Send + Syn
 pub(crate) fn play_file<
     R: Files + Print + AllocGlobal + Threads + Wait + Copy + Drop + Send + Sync,
 >(rt: R, name: &str, is_alone: bool) -> io::Result<bool> {
-    let text = match fs::read_to_string(&rt, name) {
-        Ok(text) => text,
-        Err(error) => {
-            println!(rt; "{name}: {error}")?;
-            return Ok(false);
-        }
-    };
-    match races_in(rt.alloc(), text.as_str()) {
-        Ok(races) => play_races(rt, name, races.as_slice(), is_alone),
+    match fs::read_to_string(&rt, name) {
+        Ok(text) => play_text(rt, name, text.as_str(), is_alone),
         Err(error) => {
             println!(rt; "{name}: {error}")?;
             Ok(false)

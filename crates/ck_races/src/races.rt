@@ -13,7 +13,7 @@
 //! Empty lines and lines that begin with `#` are skipped.
 use crate::errors::RaceError;
 use ck_journal::{Call, Reply};
-use ck_script::{Line, LineError, push_reply};
+use ck_script::{Line, LineError, reply_line};
 use ck_types::Limits;
 use std::alloc::Global;
 use std::mem;
@@ -79,18 +79,9 @@ impl<'a> Race<'a> {
     }
 }
 
-/// The text of a reply, without a line end.
-pub(crate) fn reply_text(alloc: Global, reply: &Reply) -> Result<String, RaceError> {
-    let mut line = Vec::new(alloc);
-    push_reply(&mut line, reply)?;
-    let text = line.as_slice();
-    let text = text.strip_suffix(b"\n").unwrap_or(text);
-    Ok(String::from_utf8_lossy(alloc, text)?)
-}
-
 /// The reply is that of the step.
 pub(crate) fn compare(alloc: Global, step: &Step, reply: &Reply) -> Result<(), RaceError> {
-    let came = reply_text(alloc, reply)?;
+    let came = reply_line(alloc, reply)?;
     if came.as_str() == step.reply {
         return Ok(());
     }
@@ -102,11 +93,12 @@ fn limits_in(text: &str) -> Option<Limits> {
     if text.is_empty() {
         return Some(Limits::largest());
     }
-    let mut numbers = text.strip_prefix(" limits ")?.split(' ');
-    let sessions = numbers.next()?.parse::<u64>().ok()?;
-    let openings = numbers.next()?.parse::<u64>().ok()?;
-    let creations = numbers.next()?.parse::<u64>().ok()?;
-    let logins = numbers.next()?.parse::<u64>().ok()?;
+    let mut words = text.strip_prefix(" limits ")?.split(' ');
+    let mut numbers = [0u64; 4];
+    for number in numbers.iter_mut() {
+        *number = words.next()?.parse().ok()?;
+    }
+    let [sessions, openings, creations, logins] = numbers;
     Limits::of(sessions, openings, creations, logins)
 }
 
@@ -124,6 +116,40 @@ fn step_in<'a>(alloc: Global, line: u64, text: &'a str) -> Result<Step<'a>, Race
     }
 }
 
+/// Begins a race with the limits that stand behind the word `race`.
+fn add_race<'a>(
+    alloc: Global,
+    races: &mut Vec<Race<'a>>,
+    line: u64,
+    text: &str,
+) -> Result<(), RaceError> {
+    let Some(limits) = limits_in(text) else {
+        return Err(RaceError::NoRace(line));
+    };
+    races.push(Race::new(alloc, line, limits))?;
+    Ok(())
+}
+
+/// Adds what a line says to the newest race.
+fn add_to_race<'a>(
+    alloc: Global,
+    races: &mut Vec<Race<'a>>,
+    line: u64,
+    text: &'a str,
+) -> Result<(), RaceError> {
+    let Some(race) = races.last_mut() else {
+        return Err(RaceError::NoRace(line));
+    };
+    match text {
+        "cut" => race.cut(alloc),
+        "together" => race.gather(false),
+        "together in any order" => race.gather(true),
+        "afterwards" => race.is_afterwards = true,
+        _ => race.add(step_in(alloc, line, text)?)?,
+    }
+    Ok(())
+}
+
 /// Adds what a line says to the races.
 fn add_line<'a>(
     alloc: Global,
@@ -134,20 +160,10 @@ fn add_line<'a>(
     if text.is_empty() || text.starts_with('#') {
         return Ok(());
     }
-    if let Some(limits) = text.strip_prefix("race") {
-        let limits = limits_in(limits).ok_or(RaceError::NoRace(line))?;
-        races.push(Race::new(alloc, line, limits))?;
-        return Ok(());
+    match text.strip_prefix("race") {
+        Some(limits) => add_race(alloc, races, line, limits),
+        None => add_to_race(alloc, races, line, text),
     }
-    let race = races.last_mut().ok_or(RaceError::NoRace(line))?;
-    match text {
-        "cut" => race.cut(alloc),
-        "together" => race.gather(false),
-        "together in any order" => race.gather(true),
-        "afterwards" => race.is_afterwards = true,
-        _ => race.add(step_in(alloc, line, text)?)?,
-    }
-    Ok(())
 }
 
 /// The races of a file.

@@ -16,10 +16,6 @@ use std::alloc::Global;
 use std::marker::Brand;
 use std::sync::Wait;
 
-/// A call that found no memory changed something.
-#[derive(Clone, Copy, Drop)]
-struct Changed;
-
 /// What a caller knows, and what it is answered without a call.
 #[derive(Drop)]
 struct View {
@@ -55,20 +51,37 @@ fn sees<K: TokenId>(caller: &mut SharedCaller<K>, before: &View) -> bool {
         && are_same(&after.token, &before.token)
 }
 
-/// Makes a call. Where it finds no memory, its caller sees what it saw, and there is no reply.
+/// Whether an answered call added an entry to so many, or a caller that wasn't answered sees what it
+/// saw.
+fn is_as_wanted<K: TokenId>(
+    caller: &mut SharedCaller<K>,
+    before: &View,
+    is_answered: bool,
+    entries: u64,
+) -> bool {
+    if is_answered {
+        caller.seen() == entries.saturating_add(1)
+    } else {
+        sees(caller, before)
+    }
+}
+
+/// Makes a call of a step on the line, which adds an entry to so many or finds no memory.
 fn make_call<K: TokenId, R: Wait + Drop>(
     rt: &R,
     alloc: Global,
     token: &Shared<K, R>,
     caller: &mut SharedCaller<K>,
     call: Call,
-) -> Result<Option<Reply>, Changed> {
+    entries: u64,
+    line: u64,
+) -> Result<Reply, RaceError> {
     let before = view_of(caller);
-    let reply = token.call(rt, alloc, caller, call).ok();
-    if reply.is_some() || sees(caller, &before) {
-        return Ok(reply);
+    let reply = token.call(rt, alloc, caller, call);
+    if is_as_wanted(caller, &before, reply.is_ok(), entries) {
+        return Ok(reply?);
     }
-    Err(Changed)
+    Err(RaceError::Changed(line))
 }
 
 /// The eight callers of a shared token, and how many of their calls were answered.
@@ -77,53 +90,43 @@ struct Retrying<'a, K: TokenId, R: Wait + Drop> {
     rt: &'a R,
     alloc: Global,
     token: &'a Shared<K, R>,
-    callers: Vec<SharedCaller<K>>,
+    callers: &'a mut [SharedCaller<K>],
     answered: u64,
 }
 
 fn caller_of<K: TokenId>(
     callers: &mut [SharedCaller<K>],
     number: u32,
-    line: u64,
-) -> Result<&mut SharedCaller<K>, RaceError> {
-    let mut all = callers.iter_mut();
-    let found = all.find(|caller| caller.number() == number);
-    found.ok_or(RaceError::NoRace(line))
+) -> Option<&mut SharedCaller<K>> {
+    callers.iter_mut().find(|caller| caller.number() == number)
 }
 
 impl<'a, K: TokenId, R: Wait + Drop> Retrying<'a, K, R> {
     /// Makes a call, which adds one entry to those that were there, or finds no memory.
-    fn call(&mut self, number: u32, line: u64, call: Call) -> Result<Option<Reply>, RaceError> {
-        let caller = caller_of(self.callers.as_mut_slice(), number, line)?;
-        let reply = make_call(self.rt, self.alloc, self.token, caller, call).map_err(
-            |_| RaceError::Changed(line),
-        )?;
-        if reply.is_some() {
-            self.answered = self.answered.saturating_add(1);
-            if caller.seen() != self.answered {
-                return Err(RaceError::Changed(line));
-            }
-        }
+    fn call(&mut self, number: u32, line: u64, call: Call) -> Result<Reply, RaceError> {
+        let Some(caller) = caller_of(self.callers, number) else {
+            return Err(RaceError::NoRace(line));
+        };
+        let entries = self.answered;
+        let reply = make_call(self.rt, self.alloc, self.token, caller, call, entries, line)?;
+        self.answered = entries.saturating_add(1);
         Ok(reply)
     }
 
     /// Makes a step behind a call of another caller.
     fn make_again(&mut self, step: &Step) -> Result<Reply, RaceError> {
         let other = if step.caller == 8 { 7 } else { 8 };
-        if self.call(other, step.line, Call::GetTokenInfo)?.is_none() {
-            return Err(RaceError::Memory);
-        }
+        self.call(other, step.line, Call::GetTokenInfo)?;
         let call = step.call.clone()?;
-        self.call(step.caller, step.line, call)?
-            .ok_or(RaceError::Memory)
+        self.call(step.caller, step.line, call)
     }
 
     /// Makes a step, again where it finds no memory.
     fn make(&mut self, step: &Step) -> Result<(), RaceError> {
         let call = step.call.clone()?;
-        let reply = match self.call(step.caller, step.line, call)? {
-            Some(reply) => reply,
-            None => self.make_again(step)?,
+        let reply = match self.call(step.caller, step.line, call) {
+            Err(RaceError::Memory) => self.make_again(step)?,
+            reply => reply?,
         };
         compare(self.alloc, step, &reply)
     }
@@ -141,15 +144,14 @@ impl<'a, K: TokenId, R: Wait + Drop> Retrying<'a, K, R> {
     }
 }
 
-/// Makes the steps of the race in their order. The callers come back, with the count of answered
-/// calls.
+/// Makes the steps of the race in their order. Says how many calls were answered.
 fn make_steps<K: TokenId, R: Wait + Drop>(
     rt: &R,
     alloc: Global,
     token: &Shared<K, R>,
-    callers: Vec<SharedCaller<K>>,
+    callers: &mut [SharedCaller<K>],
     race: &Race,
-) -> Result<(Vec<SharedCaller<K>>, u64), RaceError> {
+) -> Result<u64, RaceError> {
     let mut retrying = Retrying {
         rt,
         alloc,
@@ -158,7 +160,7 @@ fn make_steps<K: TokenId, R: Wait + Drop>(
         answered: 0,
     };
     retrying.make_race(race)?;
-    Ok((retrying.callers, retrying.answered))
+    Ok(retrying.answered)
 }
 
 /// The journal is legal and has the entries of the answered calls. Says how many they are beside
@@ -177,7 +179,7 @@ fn count_others(
     Ok(answered.saturating_sub(steps as u64))
 }
 
-/// Shares the token and makes the steps of the race in their order. Says how many calls were
+/// Shares the token, and makes the steps of the race in their order. Says how many calls were
 /// answered beside them.
 fn retry_shared<K: TokenId, R: Wait + Copy + Drop>(
     rt: R,
@@ -192,10 +194,11 @@ fn retry_shared<K: TokenId, R: Wait + Copy + Drop>(
     requires book { identity.history.seen.book ≡ K.book }
     requires ledgers { (n : ℕ) → K.ledger n ≡ name_of identity.ledgers n }
 {
-    let Ok(Ends { token, callers }) = Shared::<K, R>::adopt(rt, alloc, token, 8, identity) else {
+    let ends = Shared::<K, R>::adopt(rt, alloc, token, 8, identity);
+    let Ok(Ends { token, mut callers }) = ends else {
         return Err(RaceError::Memory);
     };
-    let (callers, answered) = make_steps(&rt, alloc, &token, callers, race)?;
+    let answered = make_steps(&rt, alloc, &token, callers.as_mut_slice(), race)?;
     let Ok(token) = token.close(&rt, callers) else {
         return Err(RaceError::NotClosed);
     };

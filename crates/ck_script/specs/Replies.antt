@@ -52,5 +52,9 @@ body_text (body.Handles handles) = codes " " ++ numbers_text 10 handles
 body_text (body.Length length) = codes " :" ++ decimal length
 body_text (body.Bytes bytes) = codes " " ++ bytes_text bytes
 
+-- the text without the line's end
+abbrev pub reply_line : Reply → List ℕ
+reply_line reply = hexadecimal (number_of reply.rv) ++ body_text reply.body
+
 abbrev pub reply_text : Reply → List ℕ
 reply_text reply = hexadecimal (number_of reply.rv) ++ body_text reply.body ++ LINE_END ∷ []

@@ -13,4 +13,4 @@ mod similar_names;
 pub use call_names::{Arity, CallName};
 pub use line_errors::{BadLine, LineError, NumberError};
 pub use lines::{LINE_END, LONGEST_LINE, Line, cut_line};
-pub use replies::push_reply;
+pub use replies::{push_reply, reply_line};

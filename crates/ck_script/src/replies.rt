@@ -1,13 +1,15 @@
-ghost use Rattle.std.specs.Prelude.{◌≡◌, ◌++◌, ◌≤◌, ◌<◌, false, codes, OnOk};
+ghost use Rattle.std.specs.Prelude.{◌≡◌, ◌++◌, ◌≤◌, ◌<◌, false, codes, IfOk, OnOk, string_bytes};
 ghost use Rattle.std.specs.Fmt.{digit_glyph, digits};
+ghost use Rattle.std.specs.Str.Lossy.{utf8_lossy};
 ghost use Rattle.hex.specs.Hex.{encode_lower};
 ghost use Rattle.ck_script.specs.Replies.{bytes_text, answer_text, answers_text, numbers_text};
-ghost use Rattle.ck_script.specs.Replies.{body_text, reply_text};
+ghost use Rattle.ck_script.specs.Replies.{body_text, reply_line, reply_text};
 
 use crate::arguments::{COLON, COMMA, DASH, EQUALS_SIGN};
 use crate::lines::{LINE_END, SPACE};
 use ck_journal::{Answer, Body, Reply};
 use ck_types::NoMemory;
+use std::alloc::Global;
 
 /// The digit of this value, in lower case.
 fn digit(value: u8) -> u8
@@ -175,4 +177,14 @@ pub fn push_reply(out: &mut Vec<u8>, reply: &Reply) -> Result<(), NoMemory>
     push_body(out, &reply.body)?;
     out.push(LINE_END)?;
     Ok(())
+}
+
+/// The text of a reply, without a line end.
+pub fn reply_line(alloc: Global, reply: &Reply) -> Result<String, NoMemory>
+    ensures { IfOk result (λ line. string_bytes line ≡ utf8_lossy (reply_line reply.now)) }
+{
+    let mut line = Vec::new(alloc);
+    push_number(&mut line, reply.rv.number(), 16)?;
+    push_body(&mut line, &reply.body)?;
+    Ok(String::from_utf8_lossy(alloc, line.as_slice())?)
 }

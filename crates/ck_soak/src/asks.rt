@@ -13,7 +13,7 @@ use ck_journal::{Body, Call, Reply};
 use ck_runs::{Answered, Script, Step, run_steps};
 use ck_shared::{Ends, Shared, SharedCaller};
 use ck_token::Token;
-use ck_types::{Limits, Pin, Rv, RvError, SessionState, TokenFlags, mechanism_types};
+use ck_types::{Limits, NoMemory, Pin, Rv, RvError, SessionState, TokenFlags, mechanism_types};
 use std::alloc::Global;
 use std::marker::Brand;
 use std::sync::Wait;
@@ -175,38 +175,47 @@ fn calls_of(caller: u32) -> u32 {
     if caller == 3 { 0 } else { CALLS }
 }
 
+/// Asks for the session, so often.
+fn add_asks(steps: &mut Vec<Step>, count: u32) -> Result<(), NoMemory> {
+    for _ in 0..count {
+        steps.push(Step::Ask(Ask::Session(1)))?;
+    }
+    Ok(())
+}
+
+/// Calls, each with an ask behind it, so often.
+fn add_calls(steps: &mut Vec<Step>, count: u32) -> Result<(), NoMemory> {
+    for _ in 0..count {
+        steps.push(Step::Call(Call::GetTokenInfo))?;
+        steps.push(Step::Ask(Ask::Token))?;
+    }
+    Ok(())
+}
+
 /// The first caller logs in. It and the second ask again and again, and then call, and ask after
 /// each call. The third does nothing.
-fn steps_of(alloc: Global, caller: u32) -> Result<Vec<Step>, SoakError> {
+fn steps_of(alloc: Global, caller: u32) -> Result<Vec<Step>, NoMemory> {
     let mut steps = Vec::new(alloc);
     if caller == 1 {
         steps.push(Step::Call(log_in(1, b"user")))?;
     }
-    for _ in 0..asks_of(caller) {
-        steps.push(Step::Ask(Ask::Session(1)))?;
-    }
-    for _ in 0..calls_of(caller) {
-        steps.push(Step::Call(Call::GetTokenInfo))?;
-        steps.push(Step::Ask(Ask::Token))?;
-    }
+    add_asks(&mut steps, asks_of(caller))?;
+    add_calls(&mut steps, calls_of(caller))?;
     Ok(steps)
 }
 
 fn script_of<K: TokenId>(
     alloc: Global,
     caller: SharedCaller<K>,
-) -> Result<AskingScript<K>, SoakError> {
+) -> Result<AskingScript<K>, NoMemory> {
     let steps = steps_of(alloc, caller.number())?;
-    let Ok(script) = Script::new(alloc, caller, steps) else {
-        return Err(SoakError::Memory);
-    };
-    Ok(script)
+    Script::new(alloc, caller, steps).ok().ok_or(NoMemory)
 }
 
 fn scripts_of<K: TokenId>(
     alloc: Global,
     callers: Vec<SharedCaller<K>>,
-) -> Result<Vec<AskingScript<K>>, SoakError> {
+) -> Result<Vec<AskingScript<K>>, NoMemory> {
     let mut scripts = Vec::with_capacity(alloc, callers.len())?;
     for caller in callers {
         scripts.push(script_of(alloc, caller)?)?;
@@ -249,7 +258,7 @@ fn check_scripts<K: TokenId>(scripts: &[AskingScript<K>]) -> Result<(), SoakErro
 fn callers_of<K: TokenId>(
     alloc: Global,
     scripts: Vec<AskingScript<K>>,
-) -> Result<Vec<SharedCaller<K>>, SoakError> {
+) -> Result<Vec<SharedCaller<K>>, NoMemory> {
     let mut callers = Vec::with_capacity(alloc, scripts.len())?;
     for script in scripts {
         callers.push(script.into_parts().0)?;
@@ -267,7 +276,7 @@ fn play<K: TokenId + Send + Sync, R: Threads + Wait + Drop + Send + Sync>(
     let mut scripts = scripts_of(alloc, callers)?;
     run_steps(rt, alloc, token, scripts.as_mut_slice());
     check_scripts(scripts.as_slice())?;
-    callers_of(alloc, scripts)
+    Ok(callers_of(alloc, scripts)?)
 }
 
 /// The third caller sees that the user has logged in, and loses nothing by what is older.
@@ -299,7 +308,7 @@ fn ask<K: TokenId + Send + Sync, R: Threads + Wait + Drop + Send + Sync>(
 fn with_third<K: TokenId>(
     mut callers: Vec<SharedCaller<K>>,
     third: SharedCaller<K>,
-) -> Result<Vec<SharedCaller<K>>, SoakError> {
+) -> Result<Vec<SharedCaller<K>>, NoMemory> {
     callers.push(third)?;
     Ok(callers)
 }

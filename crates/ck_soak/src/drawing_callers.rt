@@ -28,8 +28,9 @@ pub(crate) struct Target<'a, K: TokenId, R: Wait + Drop> {
 
 /// A caller with its draws and all replies that it got.
 #[derive(Drop)]
-pub(crate) struct DrawingCaller<K: TokenId> {
-    pub(crate) caller: SharedCaller<K>,
+pub(crate) struct DrawingCaller<'a, K: TokenId> {
+    caller: &'a mut SharedCaller<K>,
+    pub(crate) number: u32,
     pub(crate) replies: Vec<Reply>,
     pub(crate) outcome: Result<(), SoakError>,
     draws: Xoshiro256PlusPlus,
@@ -46,15 +47,25 @@ fn row_of(number: u64) -> &'static str {
     row.copied().unwrap_or("GetTokenInfo")
 }
 
-impl<K: TokenId> DrawingCaller<K> {
+/// Keeps the handle of a reply, where there is one, for the word behind its call.
+fn keep_handle(place: &Place, word: &str, reply: &Reply) {
+    if let (Rv::Ok, Body::Handle(number)) = (&reply.rv, &reply.body)
+        && let Some(handle) = place.handle(word)
+    {
+        handle.store(*number, Ordering::SeqCst);
+    }
+}
+
+impl<'a, K: TokenId> DrawingCaller<'a, K> {
     /// The draws follow from the caller's number.
-    pub(crate) fn new(alloc: Global, caller: SharedCaller<K>) -> DrawingCaller<K> {
-        let seed = u64::from(caller.number());
+    pub(crate) fn new(alloc: Global, caller: &'a mut SharedCaller<K>) -> DrawingCaller<'a, K> {
+        let number = caller.number();
         DrawingCaller {
             caller,
+            number,
             replies: Vec::new(alloc),
             outcome: Ok(()),
-            draws: Xoshiro256PlusPlus::seed_from_u64(seed),
+            draws: Xoshiro256PlusPlus::seed_from_u64(u64::from(number)),
         }
     }
 
@@ -67,13 +78,10 @@ impl<K: TokenId> DrawingCaller<K> {
     ) -> Result<(), SoakError> {
         let (text, word) = step.split_once(" > ").unwrap_or((step, ""));
         let call = call_of(target.alloc, place, text)?;
-        let caller = &mut self.caller;
-        let reply = target.token.call(target.rt, target.alloc, caller, call)?;
-        if let (Rv::Ok, Body::Handle(number)) = (&reply.rv, &reply.body)
-            && let Some(handle) = place.handle(word)
-        {
-            handle.store(*number, Ordering::SeqCst);
-        }
+        let reply = target
+            .token
+            .call(target.rt, target.alloc, self.caller, call)?;
+        keep_handle(place, word, &reply);
         self.replies.push(reply)?;
         Ok(())
     }
@@ -93,22 +101,27 @@ impl<K: TokenId> DrawingCaller<K> {
         Ok(())
     }
 
-    /// Draws rows until the caller has made its calls. Behind each row it asks for the state of a
-    /// session without the lock: which one it sees depends on the others.
+    /// Makes a drawn row. Then the caller asks for the state of a session without the lock: which
+    /// one it sees depends on the others.
+    fn make_drawn_row<R: Wait + Drop>(&mut self, target: &Target<K, R>) -> Result<(), SoakError> {
+        let row = row_of(self.draws.next_u64());
+        let number = self.draws.next_u64();
+        if let Some(place) = target.places.get(number as usize % PLACES) {
+            self.make_row(target, place, row)?;
+            let session = place.session.load(Ordering::SeqCst);
+            let _status = self.caller.status(Ask::Session(session));
+        }
+        Ok(())
+    }
+
+    /// Draws rows until the caller has made its calls.
     pub(crate) fn make_calls<R: Wait + Drop>(
         &mut self,
         target: &Target<K, R>,
     ) -> Result<(), SoakError> {
         for _ in 0..CALLS {
-            if self.replies.len() >= CALLS {
-                break;
-            }
-            let row = row_of(self.draws.next_u64());
-            let number = self.draws.next_u64();
-            if let Some(place) = target.places.get(number as usize % PLACES) {
-                self.make_row(target, place, row)?;
-                let session = place.session.load(Ordering::SeqCst);
-                let _status = self.caller.status(Ask::Session(session));
+            if self.replies.len() < CALLS {
+                self.make_drawn_row(target)?;
             }
         }
         Ok(())

@@ -13,17 +13,14 @@ mod two_callers;
 use asks::{RUNS, run_asks};
 use errors::SoakError;
 use soaks::soak_once;
+use std::io;
 use std::process::ExitCode;
 use std::sync::Wait;
 use std::thread::Threads;
 use two_callers::{Counts, counts_of_two};
 
-/// Writes what two callers do, what is asked while another logs in, and how many calls are drawn.
-fn play_callers<R: Print + AllocGlobal + Threads + Wait + Copy + Drop + Send + Sync>(
-    rt: R,
-) -> Result<(), SoakError> {
-    let alloc = rt.alloc();
-    let counts = counts_of_two(rt, alloc).ok_or(SoakError::NotCounted)?;
+/// Writes what is there when two callers are done.
+fn write_counts<R: Print>(rt: &R, counts: Counts) -> io::Result<()> {
     let Counts {
         sessions,
         calls: (one, two),
@@ -31,7 +28,16 @@ fn play_callers<R: Print + AllocGlobal + Threads + Wait + Copy + Drop + Send + S
     } = counts;
     println!(rt; "{sessions} sessions are open")?;
     println!(rt; "calls: {one} and {two}")?;
-    println!(rt; "the journal has {entries} entries")?;
+    println!(rt; "the journal has {entries} entries")
+}
+
+/// Writes what two callers do, what is asked while another logs in, and how many calls are drawn.
+fn play_callers<R: Print + AllocGlobal + Threads + Wait + Copy + Drop + Send + Sync>(
+    rt: R,
+) -> Result<(), SoakError> {
+    let alloc = rt.alloc();
+    let counts = counts_of_two(rt, alloc).ok_or(SoakError::NotCounted)?;
+    write_counts(&rt, counts)?;
     run_asks(rt, alloc)?;
     println!(rt; "asks: {RUNS} passed")?;
     let calls = soak_once(rt, alloc)?;

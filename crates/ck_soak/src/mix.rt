@@ -2,7 +2,7 @@
 use crate::errors::SoakError;
 use ck_journal::Call;
 use ck_script::{Line, LineError};
-use std::alloc::Global;
+use std::alloc::{AllocError, Global};
 use std::sync::atomic::{AtomicU64, Ordering};
 
 /// How many places of handles the callers have between them.
@@ -105,19 +105,37 @@ impl Place {
     }
 }
 
-/// The call that a line stands for, with the handles of a place.
-pub(crate) fn call_of(alloc: Global, place: &Place, text: &str) -> Result<Call, SoakError> {
-    let mut line = format!(in alloc; "1")?;
-    for word in text.split(' ') {
-        line.push(' ')?;
-        match place.handle(word) {
-            Some(handle) => {
-                let number = handle.load(Ordering::SeqCst);
-                line.push_str(format!(in alloc; "{number}")?.as_str())?;
-            }
-            None => line.push_str(word)?,
+/// Adds a space and a word, or the number of the handle that the word stands for.
+fn push_word(
+    alloc: Global,
+    line: &mut String,
+    place: &Place,
+    word: &str,
+) -> Result<(), AllocError> {
+    match place.handle(word) {
+        Some(handle) => {
+            let number = handle.load(Ordering::SeqCst);
+            line.push_str(format!(in alloc; " {number}")?.as_str())
+        }
+        None => {
+            line.push(' ')?;
+            line.push_str(word)
         }
     }
+}
+
+/// A line of a script with the handles of a place.
+fn line_of(alloc: Global, place: &Place, text: &str) -> Result<String, AllocError> {
+    let mut line = format!(in alloc; "1")?;
+    for word in text.split(' ') {
+        push_word(alloc, &mut line, place, word)?;
+    }
+    Ok(line)
+}
+
+/// The call that a line stands for, with the handles of a place.
+pub(crate) fn call_of(alloc: Global, place: &Place, text: &str) -> Result<Call, SoakError> {
+    let line = line_of(alloc, place, text)?;
     match Line::parse(alloc, line.as_bytes()) {
         Ok(Line::Called { call, .. }) => Ok(call),
         Err(LineError::Memory) => Err(SoakError::Memory),

@@ -13,20 +13,20 @@ use ck_callers::{NewIdentity, TokenId};
 use ck_journal::{Entry, Reply};
 use ck_shared::{Ends, Shared, SharedCaller};
 use ck_token::Token;
-use ck_types::Limits;
+use ck_types::{Limits, NoMemory};
 use std::alloc::Global;
 use std::marker::Brand;
 use std::sync::Wait;
-use std::thread;
 use std::thread::Threads;
+use std::{mem, thread};
 
 /// A caller's number, and the replies that it got, in the order of its calls.
 type CallerReplies = (u32, Vec<Reply>);
 
 fn drawing_callers_of<K: TokenId>(
     alloc: Global,
-    callers: Vec<SharedCaller<K>>,
-) -> Result<Vec<DrawingCaller<K>>, SoakError> {
+    callers: &mut [SharedCaller<K>],
+) -> Result<Vec<DrawingCaller<'_, K>>, NoMemory> {
     let mut drawing_callers = Vec::with_capacity(alloc, callers.len())?;
     for caller in callers {
         drawing_callers.push(DrawingCaller::new(alloc, caller))?;
@@ -72,37 +72,30 @@ fn soak_together<K: TokenId + Send + Sync, R: Threads + Wait + Drop + Send + Syn
     Ok(())
 }
 
-/// Takes the callers and their replies apart, where each has made its calls.
-fn finish<K: TokenId>(
+/// The replies of each caller, where each has made its calls.
+fn replies_of<K: TokenId>(
     alloc: Global,
-    drawing_callers: Vec<DrawingCaller<K>>,
-) -> Result<(Vec<SharedCaller<K>>, Vec<CallerReplies>), SoakError> {
-    let mut callers = Vec::with_capacity(alloc, drawing_callers.len())?;
+    drawing_callers: &mut [DrawingCaller<K>],
+) -> Result<Vec<CallerReplies>, SoakError> {
     let mut all = Vec::with_capacity(alloc, drawing_callers.len())?;
     for drawing_caller in drawing_callers {
-        let DrawingCaller {
-            caller,
-            replies,
-            outcome,
-            ..
-        } = drawing_caller;
-        outcome?;
-        all.push((caller.number(), replies))?;
-        callers.push(caller)?;
+        mem::replace(&mut drawing_caller.outcome, Ok(()))?;
+        let replies = mem::replace(&mut drawing_caller.replies, Vec::new(alloc));
+        all.push((drawing_caller.number, replies))?;
     }
-    Ok((callers, all))
+    Ok(all)
 }
 
-/// All that eight callers do. They come back, with the replies of each.
+/// All that eight callers do. Gives the replies of each.
 fn soak<K: TokenId + Send + Sync, R: Threads + Wait + Drop + Send + Sync>(
     rt: &R,
     alloc: Global,
     token: &Shared<K, R>,
-    callers: Vec<SharedCaller<K>>,
-) -> Result<(Vec<SharedCaller<K>>, Vec<CallerReplies>), SoakError> {
+    callers: &mut [SharedCaller<K>],
+) -> Result<Vec<CallerReplies>, SoakError> {
     let mut drawing_callers = drawing_callers_of(alloc, callers)?;
     soak_together(rt, alloc, token, drawing_callers.as_mut_slice())?;
-    finish(alloc, drawing_callers)
+    replies_of(alloc, drawing_callers.as_mut_slice())
 }
 
 /// Each caller got the replies of its entries.
@@ -138,8 +131,8 @@ fn soak_shared<K: TokenId + Send + Sync, R: Threads + Wait + Copy + Drop + Send 
     requires book { identity.history.seen.book ≡ K.book }
     requires ledgers { (n : ℕ) → K.ledger n ≡ name_of identity.ledgers n }
 {
-    let Ends { token, callers } = Shared::<K, R>::open(rt, alloc, limits, 8, identity)?;
-    let (callers, all) = soak(&rt, alloc, &token, callers)?;
+    let Ends { token, mut callers } = Shared::<K, R>::open(rt, alloc, limits, 8, identity)?;
+    let all = soak(&rt, alloc, &token, callers.as_mut_slice())?;
     let Ok(token) = token.close(&rt, callers) else {
         return Err(SoakError::NotClosed);
     };
