@@ -57,4 +57,4 @@ abbrev pub reply_line : Reply → List ℕ
 reply_line reply = hexadecimal (number_of reply.rv) ++ body_text reply.body
 
 abbrev pub reply_text : Reply → List ℕ
-reply_text reply = hexadecimal (number_of reply.rv) ++ body_text reply.body ++ LINE_END ∷ []
+reply_text reply = reply_line reply ++ LINE_END ∷ []

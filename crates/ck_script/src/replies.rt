@@ -169,12 +169,18 @@ fn push_body(out: &mut Vec<u8>, body: &Body) -> Result<(), NoMemory>
     }
 }
 
+fn push_line(out: &mut Vec<u8>, reply: &Reply) -> Result<(), NoMemory>
+    ensures { OnOk result (out.new.items ≡ out.old.items ++ reply_line reply.now) }
+{
+    push_number(out, reply.rv.number(), 16)?;
+    push_body(out, &reply.body)
+}
+
 /// Appends the text of a reply, its line end included.
 pub fn push_reply(out: &mut Vec<u8>, reply: &Reply) -> Result<(), NoMemory>
     ensures { OnOk result (out.new.items ≡ out.old.items ++ reply_text reply.now) }
 {
-    push_number(out, reply.rv.number(), 16)?;
-    push_body(out, &reply.body)?;
+    push_line(out, reply)?;
     out.push(LINE_END)?;
     Ok(())
 }
@@ -184,7 +190,6 @@ pub fn reply_line(alloc: Global, reply: &Reply) -> Result<String, NoMemory>
     ensures { IfOk result (λ line. string_bytes line ≡ utf8_lossy (reply_line reply.now)) }
 {
     let mut line = Vec::new(alloc);
-    push_number(&mut line, reply.rv.number(), 16)?;
-    push_body(&mut line, &reply.body)?;
+    push_line(&mut line, reply)?;
     Ok(String::from_utf8_lossy(alloc, line.as_slice())?)
 }
