@@ -1,11 +1,11 @@
 -- All callers have made their calls
-use Rattle.std.proofs.Common.{◌≡◌, ℕ, zero, suc, ◌+◌, ◌==◌, ◌≤◌, ◌<◌, ◌≢◌, ◌&&◌, ◌||◌, Bool, true, false, List}
+use Rattle.std.proofs.Common.{◌≡◌, ℕ, zero, suc, ◌+◌, ◌==◌, ◌≤◌, ◌<◌, ◌≢◌, ◌||◌, Bool, true, false, List}
 use Rattle.std.proofs.Common.{[], ◌∷◌, ◌++◌, Ok, length, map, take, get_or, if◌then◌else◌, refl, sym, ap}
 use Rattle.std.proofs.Common.{◌∙◌, subst, arith}
 use Rattle.std.specs.Prelude.{All, Result, Err, MatchResult, vec_items}
 use Rattle.std.specs.List.{list_any}
 use Rattle.std.proofs.Math.Seq.{take-suc}
-use Rattle.std.proofs.lemmas.Bool.{eqb-true, eq-eqb}
+use Rattle.std.proofs.lemmas.Bool.{eqb-true, eq-eqb, and_parts}
 use Rattle.std.proofs.lemmas.List.Elements.{All-nil, All-cons, All-tail}
 use Rattle.ck_types.specs.declared.memory.NoMemory.{NoMemory}
 use Rattle.ck_journal.specs.Bases.{empty_base}
@@ -107,10 +107,6 @@ module _ (calls : List (ℕ × Call)) (h : History) where
       (λ others. of_one number callers others (All-tail (IsSettled h) c callers settled)
       (All-tail (HasMadeAll calls) c callers made))
 
-  both : (a b : Bool) → (a && b) ≡ true → (a ≡ true) × (b ≡ true)
-  both true b e = (refl, e)
-  both false b e = cc e
-
   last_or : (number most : ℕ) (is_last : Bool) → (number == suc most) ≡ is_last → number ≤ suc most
       → (number ≡ suc most → HasEntriesOf calls number h) → (number ≤ most → HasEntriesOf calls number h)
       → HasEntriesOf calls number h
@@ -126,7 +122,7 @@ module _ (calls : List (ℕ × Call)) (h : History) where
       → (number : ℕ) → 1 ≤ number → number ≤ most → HasEntriesOf calls number h
   of_each zero callers all settled made number low high = absurd (omega arith)
   of_each (suc most) callers all settled made number low high =
-      let parts = both (list_any (λ c. c.number == suc most) callers) (are_all most callers) all in
+      let parts = and_parts (list_any (λ c. c.number == suc most) callers) (are_all most callers) all in
       last_or number most (number == suc most) refl high
       (λ e. subst (λ n. HasEntriesOf calls n h) (sym e) (of_one (suc most) callers parts.0 settled made))
       (λ below. of_each most callers parts.1 settled made number low below)
