@@ -1,7 +1,6 @@
 -- What was read, after one more read, and scripts that are read whole
-use Rattle.std.proofs.Common.{◌≡◌, ◌≢◌, ◌<◌, ◌+◌, ℕ, suc, Bool, true, false, List, [], ◌++◌, Ok, Err}
+use Rattle.std.proofs.Common.{◌≡◌, ◌<◌, ◌+◌, ℕ, suc, Bool, true, false, List, [], ◌++◌, Ok, Err}
 use Rattle.std.proofs.Common.{append_assoc, refl, sym, ap, ◌∙◌, subst, arith}
-use Rattle.std.proofs.lemmas.Bool.Decides.{nat_tests}
 use Rattle.std.proofs.lemmas.List.{append-nil}
 use Rattle.std.specs.Prelude.{◌==◌, if◌then◌else◌, Result}
 use Rattle.std.specs.Result.{is_err, is_ok}
@@ -78,9 +77,6 @@ further read script earlier reads count bytes A B some h more =
     (append_assoc read.bytes script bytes) (one_more read.reads reads)
     (let r : Reading = after_reads read script earlier reads read.ends read.failures in
     subst (λ (b : Bool). B (if b then end_read r else read_on r bytes)) some (more r h))
-
-pub not_zero : (n : ℕ) → n ≢ 0 → (n == 0) ≡ false
-not_zero n some = grind (arith, nat_tests)
 
 -- ---- reading a script whole
 

@@ -1,14 +1,10 @@
 -- Writing bytes piece by piece
-use Rattle.std.proofs.Common.{◌≡◌, ℕ, ◌+◌, ◌-◌, List, ◌++◌, length, take, drop, ap, ap₂, sym, ◌∙◌}
-use Rattle.std.proofs.Common.{subst, arith, append_assoc}
-use Rattle.std.proofs.lemmas.List.{take-append-drop, take-take, drop-take, take_rest}
+use Rattle.std.proofs.Common.{◌≡◌, ℕ, ◌+◌, ◌-◌, List, ◌++◌, length, take, drop, ap, sym, ◌∙◌}
+use Rattle.std.proofs.Common.{subst, append_assoc}
+use Rattle.std.proofs.Math.Seq.{take-add}
+use Rattle.std.proofs.lemmas.List.{take-append-drop, take_rest}
 use Rattle.ck_play.specs.Devices.{Writing, wrote, failed_write}
 use Rattle.ck_play.specs.Players.{WriteFailed}
-
-taken : (xs : List ℕ) (at count : ℕ) → take at xs ++ take count (drop at xs) ≡ take (at + count) xs
-taken xs at count =
-    ap₂ ◌++◌ (sym (take-take at (at + count) xs (omega arith))) (sym (drop-take at count xs))
-    ∙ take-append-drop at (take (at + count) xs)
 
 -- bytes and further bytes
 pub wrote-wrote : (w : Writing) (xs ys : List ℕ) → wrote (wrote w xs) ys ≡ wrote w (xs ++ ys)
@@ -23,7 +19,7 @@ pub wrote-more : (P : Writing → Type 0) (w : Writing) (xs : List ℕ) (at coun
 wrote-more P w xs at count h =
     subst P (wrote-wrote w (take at xs) _
     ∙ ap (wrote w) (ap (λ (ys : List ℕ). take at xs ++ take count ys) (take_rest xs at)
-    ∙ taken xs at count)) h
+    ∙ sym (take-add at count xs))) h
 
 -- a failed write
 pub broken : (P : Writing → Type 0) (w : Writing) (xs : List ℕ) (at : ℕ)

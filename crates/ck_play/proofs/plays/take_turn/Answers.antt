@@ -2,7 +2,7 @@ use Rattle.std.proofs.Common.{refl, ◌∙◌, true, [], take}
 use Rattle.std.proofs.lemmas.Result.{err_from_is_err_and}
 use Rattle.ck_play.proofs.PlayLemmas.{played-read_failed, played-ended, played-ended_stopped}
 use Rattle.ck_play.proofs.PlayLemmas.{played-fed_stopped, reading-so_far}
-use Rattle.ck_play.proofs.ReadingLemmas.{not_zero}
+use Rattle.std.proofs.lemmas.Bool.{ne_eqb}
 use Rattle.ck_play.proofs.plays.take_turn.Goals as goal
 
 pub returns-in_err-count-clause-err : goal.returns-in_err-count-clause-err
@@ -39,12 +39,12 @@ returns-in_err-answer_chunk-clause-err g c =
     (λ limits read written reads turns lt h.
     played-fed_stopped limits turns read written reads c.args.player.now c.in_ok-count.count
     (take c.in_ok-count.count c.read_some.new.buffer) _ _ _ _ _ _ p.2 lt
-    (not_zero _ c.if-count-eq0.false) h c.in_ok-count.ensures.ok
+    (ne_eqb _ 0 c.if-count-eq0.false) h c.in_ok-count.ensures.ok
     (c.in_err-answer_chunk.ensures.err limits written h.so_far.before h.so_far.answered))
 
 pub returns-clause-ok : goal.returns-clause-ok
 returns-clause-ok g c limits read written reads turns lt h =
     reading-so_far limits read written reads c.args.player.now c.answer_chunk.new.player
     c.in_ok-count.count (take c.in_ok-count.count c.read_some.new.buffer) _ _ _ _
-    (not_zero _ c.if-count-eq0.false) h c.in_ok-count.ensures.ok
+    (ne_eqb _ 0 c.if-count-eq0.false) h c.in_ok-count.ensures.ok
     (c.in_ok-answer_chunk.ensures.ok limits written h.so_far.before h.so_far.answered)

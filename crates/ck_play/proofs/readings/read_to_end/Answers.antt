@@ -1,6 +1,6 @@
 use Rattle.std.proofs.Common.{◌≡◌, take, sym, ◌∙◌, arith}
 use Rattle.std.proofs.lemmas.Result.{err_from_is_err_and}
-use Rattle.ck_play.proofs.ReadingLemmas.{not_zero}
+use Rattle.std.proofs.lemmas.Bool.{ne_eqb}
 use Rattle.ck_play.proofs.ReadingLemmas.{read-nothing, read-more, read-failed, read-unkept}
 use Rattle.ck_play.proofs.ReadingLemmas.{read-ended, read-out, kept}
 use Rattle.ck_play.proofs.readings.read_to_end.Goals as goal
@@ -26,7 +26,7 @@ pub returns-then-is_err : goal.returns-then-is_err
 returns-then-is_err g c read h =
     read-unkept c.args.turns read _ _ c.reading.script.items _ c.reading._turn
     c.in_ok-count.count (take c.in_ok-count.count c.read_some.new.buffer)
-    (not_zero _ c.if-count-eq0.false) c.reading-test.true (c.reading.invariant.1 read h)
+    (ne_eqb _ 0 c.if-count-eq0.false) c.reading-test.true (c.reading.invariant.1 read h)
     c.in_ok-count.ensures.ok
 
 pub reading-preserved : goal.reading-preserved
@@ -34,7 +34,7 @@ reading-preserved g c = (
   omega arith,
   λ read h. read-more read _ _ c.reading.script.items _ c.reading._turn _
       c.in_ok-count.count (take c.in_ok-count.count c.read_some.new.buffer)
-      (not_zero _ c.if-count-eq0.false) (c.reading.invariant.1 read h)
+      (ne_eqb _ 0 c.if-count-eq0.false) (c.reading.invariant.1 read h)
       c.in_ok-count.ensures.ok
       (kept c.extend_from_slice.result _ _ _ (sym c.is_err.ensures.value ∙ c.if-is_err.false)
       c.extend_from_slice.ensures.items) (omega arith),
