@@ -121,9 +121,21 @@ fn begin_first(alloc: Global, cases: &mut Vec<Case>) -> Result<(), NoMemory> {
 
 /// Adds a step to the newest case.
 fn add_step<'a>(cases: &mut [Case<'a>], step: Step<'a>) -> Result<(), NoMemory> {
-    if let Some(case) = cases.last_mut() {
-        case.steps.push(step)?;
+    match cases.last_mut() {
+        Some(case) => case.steps.push(step).ok().ok_or(NoMemory),
+        None => Ok(()),
     }
+}
+
+/// Begins a case with the limits that the line of this number gives.
+fn begin_case(
+    alloc: Global,
+    cases: &mut Vec<Case>,
+    number: u64,
+    text: &str,
+) -> Result<(), CaseError> {
+    let limits = limits_in(number, text)?;
+    cases.push(Case::new(alloc, limits))?;
     Ok(())
 }
 
@@ -138,11 +150,7 @@ fn add_line<'a>(
         return Ok(());
     }
     match line.strip_prefix("limits ") {
-        Some(limits) => {
-            let limits = limits_in(number, limits)?;
-            cases.push(Case::new(alloc, limits))?;
-            Ok(())
-        }
+        Some(limits) => begin_case(alloc, cases, number, limits),
         None => {
             let step = step_in(alloc, number, line)?;
             begin_first(alloc, cases)?;

@@ -77,11 +77,11 @@ fn make_call<K: TokenId, R: Wait + Drop>(
     line: u64,
 ) -> Result<Reply, RaceError> {
     let before = view_of(caller);
-    let reply = token.call(rt, alloc, caller, call);
-    if is_as_wanted(caller, &before, reply.is_ok(), entries) {
-        return Ok(reply?);
+    let reply = token.call(rt, alloc, caller, call).ok();
+    if !is_as_wanted(caller, &before, reply.is_some(), entries) {
+        return Err(RaceError::Changed(line));
     }
-    Err(RaceError::Changed(line))
+    reply.ok_or(RaceError::Memory)
 }
 
 /// The eight callers of a shared token, and how many of their calls were answered.
