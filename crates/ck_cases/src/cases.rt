@@ -121,10 +121,10 @@ fn begin_first(alloc: Global, cases: &mut Vec<Case>) -> Result<(), NoMemory> {
 
 /// Adds a step to the newest case.
 fn add_step<'a>(cases: &mut [Case<'a>], step: Step<'a>) -> Result<(), NoMemory> {
-    match cases.last_mut() {
-        Some(case) => case.steps.push(step).ok().ok_or(NoMemory),
-        None => Ok(()),
+    if let Some(case) = cases.last_mut() {
+        case.steps.push(step)?;
     }
+    Ok(())
 }
 
 /// Begins a case with the limits that the line of this number gives.
