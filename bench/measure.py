@@ -133,11 +133,18 @@ def measure_searches(program, searches, creations, what):
     return is_within(searches, times, OBJECT_COUNTS)
 
 
+def lines_of(outputs, form):
+    """Of each run the line of this form."""
+    lines = [re.search(f"^{form}$", output, re.MULTILINE) for output in outputs]
+    if not all(lines):
+        sys.exit(f"no line of figures is as this: {form}")
+    return lines
+
+
 def time_among(outputs, what, objects):
     """The fewest nanoseconds that a call took among so many objects, in any of the runs."""
-    form = f"^{re.escape(what)} among {objects} objects: ([0-9]+) ns$"
-    times = [int(re.search(form, output, re.MULTILINE).group(1)) for output in outputs]
-    return min(times)
+    lines = lines_of(outputs, rf"{re.escape(what)} among {objects} objects: (\d+) ns")
+    return min(int(line.group(1)) for line in lines)
 
 
 def is_as_wanted(text, wanted, is_met):
@@ -160,7 +167,7 @@ def is_search_met(outputs, objects, most):
 
 def is_figure_met(outputs, form, figure_of, unit, least, most):
     """Of a shared token, in the best of the runs."""
-    lines = [re.search(f"^{form}$", output, re.MULTILINE) for output in outputs]
+    lines = lines_of(outputs, form)
     best = (min if least is None else max)(lines, key=lambda line: figure_of(*map(int, line.groups())))
     figure = figure_of(*map(int, best.groups()))
     bound = f"at least {least:,}" if most is None else f"at most {most:,}"
