@@ -7,7 +7,8 @@ The program is crates/ck_run/out/ck_run, or the path that is given; it is built 
 processor time, the best of several runs, and memory is the peak; those of an empty script are taken off both. Off the
 time of searches is taken that of a script that only makes their objects. The last figures are those of
 crates/ck_bench/out/ck_bench, the best of several runs; those of a shared token are by the clock, and want four
-processors without other work. With the argument `figures` the last alone are printed.
+processors without other work. Calls among many objects have a process of their own for each number of objects. With
+the argument `figures` the last figures alone are printed.
 
 A line, or an object in a search, may take at most 3 times as much time among the most as among the fewest. Where one
 takes more, or one of the last figures isn't as wanted, the status is 1.
@@ -31,6 +32,9 @@ FIGURES_PROGRAM = os.path.join(CRATES, "ck_bench", "out", "ck_bench")
 
 # How often the program of the last figures is run.
 FIGURE_RUNS = 5
+
+# Among how many objects it makes calls.
+CROWDS = [1_000, 50_000, 100_000]
 
 # What is wanted of calls among 1,000 objects and among 100,000: the most nanoseconds, and the most times as many among
 # the latter.
@@ -143,7 +147,7 @@ def lines_of(outputs, form):
 
 def time_among(outputs, what, objects):
     """The fewest nanoseconds that a call took among so many objects, in any of the runs."""
-    lines = lines_of(outputs, rf"{re.escape(what)} among {objects} objects: (\d+) ns")
+    lines = lines_of(outputs[objects], rf"{re.escape(what)} among {objects} objects: (\d+) ns")
     return min(int(line.group(1)) for line in lines)
 
 
@@ -175,12 +179,19 @@ def is_figure_met(outputs, form, figure_of, unit, least, most):
     return is_as_wanted(f"{best.group()}: {figure:,} {unit}", bound, is_met)
 
 
+def outputs_of(*words):
+    """What the program of the last figures prints in each of its runs."""
+    command = [FIGURES_PROGRAM, *words]
+    runs = (subprocess.run(command, stdout=subprocess.PIPE, check=True, text=True) for _ in range(FIGURE_RUNS))
+    return [run.stdout for run in runs]
+
+
 def measure_figures():
-    command = [FIGURES_PROGRAM, "measure"]
-    outputs = [subprocess.run(command, stdout=subprocess.PIPE, check=True, text=True).stdout for _ in range(FIGURE_RUNS)]
-    met = [is_call_met(outputs, *wanted) for wanted in CALLS_AMONG]
-    met.extend(is_search_met(outputs, objects, most) for objects, most in SEARCH_AMONG.items())
-    met.extend(is_figure_met(outputs, *wanted) for wanted in SHARED_FIGURES)
+    among = {objects: outputs_of("among", str(objects)) for objects in CROWDS}
+    met = [is_call_met(among, *wanted) for wanted in CALLS_AMONG]
+    met.extend(is_search_met(among, objects, most) for objects, most in SEARCH_AMONG.items())
+    shared = outputs_of("measure")
+    met.extend(is_figure_met(shared, *wanted) for wanted in SHARED_FIGURES)
     return met
 
 

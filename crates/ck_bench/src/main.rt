@@ -1,7 +1,10 @@
 //! Measures what calls of a token take, without a script. With no argument it makes each kind of
 //! call a few times and writes nothing. With the argument `measure` it writes, by the clock, what
 //! calls and asks of a token take that callers share, and then, in processor time, what single
-//! calls of a token alone take: each the best of some tries.
+//! calls of a token alone take: each the best of some tries. With the arguments `among` and a
+//! number it writes, in processor time, what calls take among so many objects. That has a process
+//! of its own: an allocator gives memory again that other measures have freed, it lies in no cache,
+//! and so the calls would take time for it.
 #![tactic(auto)]
 
 mod audits;
@@ -151,29 +154,49 @@ fn measure_alone<R: CpuClock + Print + AllocGlobal>(rt: &R, measures: bool) -> R
         }
     }
     measure_long(rt, measures)?;
-    measure_audit(rt, 10_000, measures)?;
-    measure_among(rt, 1_000, measures)
+    measure_audit(rt, 10_000, measures)
 }
 
-/// Audits a long journal, and makes calls among many objects.
-fn measure_many<R: CpuClock + Print + AllocGlobal>(rt: &R) -> Result<(), Failed> {
-    measure_audit(rt, 100_000, true)?;
-    measure_among(rt, 50_000, true)?;
-    measure_among(rt, 100_000, true)
+/// What the program is asked to do.
+enum Request {
+    Try,
+    Measure,
+    MeasureAmong(u32),
+}
+
+/// What the arguments ask for.
+fn request_of<R: Env + AllocGlobal>(rt: &R) -> Result<Request, Failed> {
+    let mut words = env::args(rt)?.skip(1);
+    let Some(word) = words.next() else {
+        return Ok(Request::Try);
+    };
+    match word.as_str() {
+        "measure" => Ok(Request::Measure),
+        "among" => {
+            let number = words.next().ok_or(Failed)?;
+            let objects = number.as_str().parse().ok().ok_or(Failed)?;
+            Ok(Request::MeasureAmong(objects))
+        }
+        _ => Err(Failed),
+    }
 }
 
 fn run<
     R: Env + Clock + CpuClock + Print + AllocGlobal + Threads + Wait + Copy + Drop + Send + Sync,
 >(rt: R) -> Result<(), Failed> {
-    let measures = env::args(&rt)?
-        .nth(1)
-        .is_some_and(|word| word.as_str() == "measure");
-    measure_shared(rt, measures)?;
-    measure_alone(&rt, measures)?;
-    if measures {
-        measure_many(&rt)?;
+    match request_of(&rt)? {
+        Request::Try => {
+            measure_shared(rt, false)?;
+            measure_alone(&rt, false)?;
+            measure_among(&rt, 1_000, false)
+        }
+        Request::Measure => {
+            measure_shared(rt, true)?;
+            measure_alone(&rt, true)?;
+            measure_audit(&rt, 100_000, true)
+        }
+        Request::MeasureAmong(objects) => measure_among(&rt, objects, true),
     }
-    Ok(())
 }
 
 fn main(rt: HostRuntime) -> ExitCode {

@@ -1,4 +1,4 @@
-ghost use Rattle.std.specs.Prelude.{◌≡◌, ◌+◌, OnOk};
+ghost use Rattle.std.specs.Prelude.{◌≡◌, ◌+◌, ◌<◌, ◌≤◌, vec_len, vec_capacity};
 ghost use Rattle.ck_callers.specs.Accounts.{with_account};
 ghost use Rattle.ck_callers.specs.Shares.{caller_of, amount_of, parts_of};
 
@@ -120,27 +120,31 @@ fn open_ledger<L: Ledger>(blank: Blank) -> (Book<L>, Share<L>)
     blank.open::<L>()
 }
 
-/// Adds the account of the caller that has this part of its ledger, where it is one of so many.
+/// Adds the account of the caller that has this part of its ledger, where it is one of so many. There
+/// must be room for it.
 fn add_account<K: TokenId>(
     accounts: &mut Vec<Account<K>>,
     most: u32,
     number: u32,
     share: CallerShare<K>,
-) -> Result<(), NoMemory>
+)
     requires most { most ≡ K.callers }
     requires number { caller_of share ≡ number }
     requires count { amount_of share ≡ 0 }
     requires parts { parts_of share ≡ 1 }
-    ensures { OnOk result (accounts.new.items ≡ with_account most number accounts.old.items) }
+    requires room { vec_len accounts.old < vec_capacity accounts.old }
+    ensures accounts { accounts.new.items ≡ with_account most number accounts.old.items }
+    ensures length { vec_len accounts.new ≤ vec_len accounts.old + 1 }
+    ensures capacity { vec_capacity accounts.old ≤ vec_capacity accounts.new }
 {
     if number <= most {
-        accounts.push(Account {
+        let account = Account {
             number,
             count: 0,
             share,
-        })?;
+        };
+        accounts.push(account).unwrap();
     }
-    Ok(())
 }
 
 impl NewLedgers {
@@ -174,23 +178,23 @@ impl NewLedgers {
         ensures books { IfOk result (λ named. named.0 ≡ no_calls) }
         ensures accounts { IfOk result (λ named. named.1.items ≡ new_accounts callers) }
     {
-        let mut accounts = Vec::with_capacity(alloc, callers as usize)?;
+        let mut accounts = Vec::with_capacity(alloc, 8)?;
         let (one, share) = open_ledger::<CallerLedger<K, 1>>(self.one);
-        add_account(&mut accounts, callers, 1, CallerShare::One(share))?;
+        add_account(&mut accounts, callers, 1, CallerShare::One(share));
         let (two, share) = open_ledger::<CallerLedger<K, 2>>(self.two);
-        add_account(&mut accounts, callers, 2, CallerShare::Two(share))?;
+        add_account(&mut accounts, callers, 2, CallerShare::Two(share));
         let (three, share) = open_ledger::<CallerLedger<K, 3>>(self.three);
-        add_account(&mut accounts, callers, 3, CallerShare::Three(share))?;
+        add_account(&mut accounts, callers, 3, CallerShare::Three(share));
         let (four, share) = open_ledger::<CallerLedger<K, 4>>(self.four);
-        add_account(&mut accounts, callers, 4, CallerShare::Four(share))?;
+        add_account(&mut accounts, callers, 4, CallerShare::Four(share));
         let (five, share) = open_ledger::<CallerLedger<K, 5>>(self.five);
-        add_account(&mut accounts, callers, 5, CallerShare::Five(share))?;
+        add_account(&mut accounts, callers, 5, CallerShare::Five(share));
         let (six, share) = open_ledger::<CallerLedger<K, 6>>(self.six);
-        add_account(&mut accounts, callers, 6, CallerShare::Six(share))?;
+        add_account(&mut accounts, callers, 6, CallerShare::Six(share));
         let (seven, share) = open_ledger::<CallerLedger<K, 7>>(self.seven);
-        add_account(&mut accounts, callers, 7, CallerShare::Seven(share))?;
+        add_account(&mut accounts, callers, 7, CallerShare::Seven(share));
         let (eight, share) = open_ledger::<CallerLedger<K, 8>>(self.eight);
-        add_account(&mut accounts, callers, 8, CallerShare::Eight(share))?;
+        add_account(&mut accounts, callers, 8, CallerShare::Eight(share));
         let books = CallBooks {
             one,
             two,

@@ -45,8 +45,8 @@ pub record IsSeenAs (limits : Ranges) (h g : History) : Type 0 where
   pub view : view_of g ≡ view_of h
   pub answers : (c : Call) → answer limits g c ≡ answer limits h c
 
--- whatever is called later is legal from the base exactly where it is after the history, and then
--- nothing is seen of what came before
+-- whatever is called later is legal from the base exactly where it is after the history, and where
+-- it is, both histories are seen alike
 abbrev pub IsLeftBy : Ranges → History → Base → Type 0
 IsLeftBy limits h b = (later : List Entry)
     → (IsLegal limits (followed_by (start b) later) ↔ IsLegal limits (followed_by h later))

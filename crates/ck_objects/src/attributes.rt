@@ -171,7 +171,7 @@ impl Attribute {
     }
 
     /// The form of the attribute's value.
-    pub fn form(self) -> Form
+    pub(crate) fn form(self) -> Form
         ensures { result ≡ form_of self }
     {
         match self {
@@ -206,7 +206,7 @@ impl Attribute {
 
     /// Whether the attribute may be given in a template of this purpose for an object of this
     /// class, or `None` where objects of the class don't have it.
-    pub fn permission(self, class: Class, purpose: Purpose) -> Option<bool>
+    pub(crate) fn permission(self, class: Class, purpose: Purpose) -> Option<bool>
         ensures { result ≡ permission class purpose self }
     {
         match class {

@@ -28,7 +28,7 @@ impl Form {
     ghost use Rattle.ck_objects.specs.Attributes.{is_of_form};
 
     /// Whether a template may give these bytes as a value of this form.
-    pub fn admits(self, value: &[u8]) -> bool
+    pub(crate) fn admits(self, value: &[u8]) -> bool
         ensures { result ≡ is_of_form self value.now }
     {
         match self {

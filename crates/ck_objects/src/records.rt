@@ -209,7 +209,7 @@ impl Record {
     }
 
     /// The attributes of the object that a template may not weaken.
-    pub fn protections(&self) -> Protections
+    pub(crate) fn protections(&self) -> Protections
         ensures { result ≡ protections_of self.now }
     {
         Protections {
@@ -240,7 +240,7 @@ impl Record {
     }
 
     /// Whether the value may be revealed (CKA_VALUE; PKCS #11 Base 3.0, Secret key objects).
-    pub fn is_revealable(&self) -> bool
+    pub(crate) fn is_revealable(&self) -> bool
         ensures { result ≡ is_revealable self.now }
     {
         match &self.object {
@@ -260,7 +260,7 @@ impl Record {
     }
 
     /// Whether the attribute is a value that may not be revealed.
-    pub fn is_hidden(&self, kind: u64) -> bool
+    pub(crate) fn is_hidden(&self, kind: u64) -> bool
         ensures { result ≡ is_hidden self.now kind }
     {
         kind == Attribute::Value.number() && !self.is_revealable()
