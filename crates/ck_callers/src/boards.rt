@@ -105,7 +105,9 @@ impl<K: TokenId> Absorb<EntrySlot<K>> for BoardCopy<K> {
         slot: &EntrySlot<K>,
         _other: &BoardCopy<K>,
     ) -> Result<(), AllocError> {
-        if let Some(new) = slot.cell.get() {
+        if let Some(place) = slot.place.try_lock()
+            && let Some(new) = &*place
+        {
             *self = new.duplicate();
         }
         Ok(())

@@ -7,7 +7,7 @@ use crate::known_histories::KnownHistory;
 use ck_journal::TokenBoard;
 use ck_types::NoMemory;
 use std::alloc::Global;
-use std::sync::{Arc, OnceLock};
+use std::sync::{Arc, Mutex};
 
 /// A place for the board after a call, which is made before the call is answered and filled once it
 /// is. It has two handles: one is appended to the board's operations.
@@ -20,20 +20,23 @@ pub trait Slot<K: TokenId>: Drop {
         requires { board ≡ board_of K.limits known.now.history };
 }
 
-/// A slot whose two handles share a cell, which is written once.
+/// A slot whose two handles share a place for the board. Who has a handle has the token's lock, so
+/// the lock of the place is free whenever it is taken.
 #[derive(Drop)]
 pub struct EntrySlot<K: TokenId> {
-    pub(crate) cell: Arc<OnceLock<BoardCopy<K>>>,
+    pub(crate) place: Arc<Mutex<Option<BoardCopy<K>>>>,
 }
 
 impl<K: TokenId> Slot<K> for EntrySlot<K> {
     fn vacant(alloc: Global) -> Result<(EntrySlot<K>, EntrySlot<K>), NoMemory> {
-        let cell = Arc::new(alloc, OnceLock::new())?;
-        let other = Arc::try_clone(&cell)?;
-        Ok((EntrySlot { cell }, EntrySlot { cell: other }))
+        let place = Arc::new(alloc, Mutex::new(None))?;
+        let other = Arc::try_clone(&place)?;
+        Ok((EntrySlot { place }, EntrySlot { place: other }))
     }
 
     fn fill(&self, board: TokenBoard, known: &KnownHistory<K>) {
-        let _ = self.cell.try_set(BoardCopy::new(board, known));
+        if let Some(mut place) = self.place.try_lock() {
+            *place = Some(BoardCopy::new(board, known));
+        }
     }
 }
