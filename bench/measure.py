@@ -52,16 +52,15 @@ CALLS_AMONG = [
 SEARCH = "a search by label (its three calls together)"
 SEARCH_AMONG = {1_000: 12, 50_000: 30}
 
-# What is wanted of a shared token: a line of its program, the figure that is made of the line's numbers, its unit, and
-# the least or the most that it may be.
+# What is wanted of a shared token: a line of its program, and the least or the most that its number may be. Where a line
+# has two numbers, it is how much more the second is.
 SHARED_FIGURES = [
-    (r"session info: (\d+) ns, by the lock (\d+) ns", lambda direct, locked: locked - direct, "ns more", None, 150),
-    (r"open and close, each: (\d+) ns, by the lock (\d+) ns", lambda direct, locked: locked - direct, "ns more", None,
-     400),
-    (r"status: (\d+) ns", lambda time: time, "ns", None, 25),
-    (r"status by four callers: (\d+) percent .*", lambda percent: percent, "percent", 300, None),
-    (r"status beside changes: (\d+) percent .*", lambda percent: percent, "percent", 90, None),
-    (r"create, get label and destroy by four callers: (\d+) .*", lambda calls: calls, "calls a second", 700_000, None),
+    (r"session info: (\d+) ns, by the lock (\d+) ns", None, 150),
+    (r"open and close, each: (\d+) ns, by the lock (\d+) ns", None, 400),
+    (r"status: (\d+) ns", None, 25),
+    (r"status by four callers: (\d+) percent of the asks of one", 300, None),
+    (r"status beside changes: (\d+) percent of the asks alone", 90, None),
+    (r"create, get label and destroy by four callers: (\d+) calls a second", 700_000, None),
 ]
 
 
@@ -169,14 +168,15 @@ def is_search_met(outputs, objects, most):
     return is_as_wanted(f"{SEARCH} among {objects:,} objects: {each:.1f} ns each", f"at most {most}", each <= most)
 
 
-def is_figure_met(outputs, form, figure_of, unit, least, most):
-    """Of a shared token, in the best of the runs."""
-    lines = lines_of(outputs, form)
-    best = (min if least is None else max)(lines, key=lambda line: figure_of(*map(int, line.groups())))
-    figure = figure_of(*map(int, best.groups()))
+def is_figure_met(outputs, form, least, most):
+    """Of a shared token, by the best of each number in any of the runs."""
+    numbers = zip(*(map(int, line.groups()) for line in lines_of(outputs, form)))
+    best = [(min if least is None else max)(each) for each in numbers]
+    figure = best[0] if len(best) == 1 else best[1] - best[0]
+    text = form.replace(r"(\d+)", "{:,}").format(*best) + ("" if len(best) == 1 else f", {figure:,} more")
     bound = f"at least {least:,}" if most is None else f"at most {most:,}"
     is_met = (least is None or figure >= least) and (most is None or figure <= most)
-    return is_as_wanted(f"{best.group()}: {figure:,} {unit}", bound, is_met)
+    return is_as_wanted(text, bound, is_met)
 
 
 def outputs_of(*words):
