@@ -3,8 +3,8 @@
 //! calls and asks of a token take that callers share, and then, in processor time, what single
 //! calls of a token alone take: each the best of some tries. With the arguments `among` and a
 //! number it writes, in processor time, what calls take among so many objects. That has a process
-//! of its own: an allocator gives memory again that other measures have freed, it lies in no cache,
-//! and so the calls would take time for it.
+//! of its own: the allocator gives memory again that other measures have freed, which spares calls
+//! new pages of the system, among few objects more than among many.
 #![tactic(auto)]
 
 mod audits;
