@@ -1,4 +1,11 @@
+pub mod Adding
 pub mod Asked
 pub mod KnownLemmas
+pub mod Lengths
+pub mod Places
+pub mod Playing
+pub mod Prefixes
 pub mod Settling
 pub mod Steps
+pub mod Taking
+pub mod Turning

@@ -21,7 +21,7 @@ pub enum Ask {
 
 /// What is answered to an ask: the reply of the call of the same name, or the types of all
 /// mechanisms, rising.
-#[derive(Debug, Drop)]
+#[derive(Drop)]
 pub enum Status {
     Reply(Reply),
     Mechanisms([u64; 13]),

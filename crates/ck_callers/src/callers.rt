@@ -6,10 +6,10 @@ ghost use Rattle.ck_callers.specs.Asks.{call_of, reply_of};
 
 use crate::asks::{Ask, Status, status_on};
 use crate::boards::ReadBoard;
+use crate::histories::Front;
 use crate::identity::TokenId;
 use crate::known_histories::KnownHistory;
 use crate::ledgers::{Account, CallBooks};
-use ck_history::Front;
 use left_right::ReadHandle;
 use std::marker::Model;
 

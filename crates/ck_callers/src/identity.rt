@@ -1,5 +1,5 @@
+use crate::histories::{HistoryId, NewHistory};
 use crate::ledgers::NewLedgers;
-use ck_history::{HistoryId, NewHistory};
 use std::marker::Brand;
 
 /// Which token it is: its one history, how many callers it has, and the ledger of each caller's
@@ -26,7 +26,7 @@ pub struct NewIdentity {
 
 impl NewIdentity {
     ghost use Rattle.std.specs.Prelude.{◌≡◌, []};
-    ghost use Rattle.ck_history.specs.Rules.{head_of};
+    ghost use Rattle.ck_callers.specs.Rules.{head_of};
 
     /// An identity that no other has: which names its book and its ledgers get is left open, so that
     /// a type may take them over.

@@ -5,8 +5,8 @@ ghost use Rattle.ck_journal.specs.Fronts.{IsFront};
 ghost use Rattle.ck_journal.specs.Histories.{start};
 ghost use Rattle.ck_callers.specs.KnownHistories.{Covers, HasNext};
 
+use crate::histories::Front;
 use crate::identity::TokenId;
-use ck_history::Front;
 use std::marker::Model;
 
 /// A history with how many calls of each caller it has, and a front of it since which no entry has

@@ -1,19 +1,32 @@
-//! The callers of a token that threads share: what each knows of the history, how many of its calls
-//! were answered, and the board that it reads without the lock.
+//! The callers of a token that threads share: one history for all of them, of which each knows a
+//! front, how many calls of each were answered, the board that callers read without the lock, and
+//! runs of callers through a gate, each in a thread of its own.
 #![tactic(auto)]
 
 mod asks;
 mod boards;
 mod callers;
+mod gates;
+mod histories;
 mod identity;
 mod known_histories;
 mod ledgers;
+mod rules;
+mod runs;
+mod scripts;
 mod slots;
+mod steps;
+mod turns;
 
 pub use asks::{Ask, Status};
 pub use boards::{BoardCopy, ReadBoard, WriteBoard};
 pub use callers::{Caller, News};
+pub use gates::Gate;
+pub use histories::{Front, Head, HistoryId, NewHistory};
 pub use identity::{NewIdentity, TokenId};
 pub use known_histories::KnownHistory;
 pub use ledgers::{Account, CallBooks, CallerLedger, NewLedgers};
+pub use runs::{run_scripts, run_steps};
+pub use scripts::Script;
 pub use slots::{EntrySlot, Slot};
+pub use steps::{Answered, Step};

@@ -3,7 +3,7 @@ use ck_types::{Pin, Sequence};
 use std::alloc::Global;
 
 /// A token object as a journal starts with it.
-#[derive(Clone, Debug, Drop)]
+#[derive(Clone, Drop)]
 pub struct KeptObject {
     pub number: u64,
     pub attributes: Record,
@@ -11,7 +11,7 @@ pub struct KeptObject {
 
 /// What a journal starts from: what is left of the calls before its first entry where no session is
 /// open.
-#[derive(Clone, Debug, Drop)]
+#[derive(Clone, Drop)]
 pub struct Base {
     pub initialized: bool,
     /// The security officer's PIN.

@@ -14,7 +14,7 @@ pub struct AttributeQuery {
 
 /// A call of the application with its arguments, named after the standard's function (PKCS #11 Base
 /// 3.0, Functions). SetKeyState alone is no function of the standard.
-#[derive(Debug, Drop)]
+#[derive(Drop)]
 pub enum Call {
     InitToken {
         pin: Pin,
@@ -274,7 +274,7 @@ pub const MOST_CALLERS: u32 = 8;
 
 /// An answered call: who made it, what was called and what was answered. Callers have numbers of
 /// the application's choice.
-#[derive(Debug, Drop)]
+#[derive(Drop)]
 pub struct Entry {
     pub caller: u32,
     pub call: Call,

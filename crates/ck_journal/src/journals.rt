@@ -8,7 +8,7 @@ use std::alloc::Global;
 use std::marker::Model;
 
 /// The answered calls since a base, numbered from 1 in the order of their answers.
-#[derive(Debug, Drop)]
+#[derive(Drop)]
 pub struct Journal {
     base: Base,
     /// The oldest first.

@@ -2,7 +2,7 @@ use ck_objects::AttributeValue;
 use ck_types::{Bytes, Rv, Sequence, SessionState, TokenFlags};
 
 /// What one query of an attribute is answered.
-#[derive(Clone, Debug, Drop)]
+#[derive(Clone, Drop)]
 pub enum Answer {
     Value(AttributeValue),
     /// The value's length in bytes.
@@ -13,7 +13,7 @@ pub enum Answer {
 }
 
 /// What a reply has beside its return code.
-#[derive(Clone, Debug, Drop)]
+#[derive(Clone, Drop)]
 pub enum Body {
     Empty,
     /// The handle of a new session or a new object.
@@ -45,7 +45,7 @@ pub enum Body {
 }
 
 /// What a call is answered.
-#[derive(Debug, Drop)]
+#[derive(Drop)]
 pub struct Reply {
     pub rv: Rv,
     pub body: Body,

@@ -9,7 +9,7 @@ use std::alloc::{AllocError, Global};
 /// A data object (PKCS #11 Base 3.0, Data objects). Its class is no field. What most calls read
 /// stands first: the label, and then the flags that are read before it. So a call among many objects
 /// asks for both at once, and for no memory beside them.
-#[derive(Debug, Drop)]
+#[derive(Drop)]
 pub(crate) struct Data {
     label: AttributeValue,
     token: bool,

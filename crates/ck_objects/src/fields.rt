@@ -3,7 +3,7 @@ use ck_types::NoMemory;
 use std::alloc::Global;
 
 /// A value of an attribute as an object has it (PKCS #11 Base 3.0, Common attributes).
-#[derive(Debug, Drop)]
+#[derive(Drop)]
 pub enum Field<'a> {
     Flag(bool),
     Number(u64),

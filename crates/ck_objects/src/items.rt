@@ -26,7 +26,7 @@ use std::mem;
 
 /// One attribute of a template or of an object (CK_ATTRIBUTE; PKCS #11 Base 3.0, Objects): its type
 /// and the bytes of its value.
-#[derive(Clone, Debug, Drop)]
+#[derive(Clone, Drop)]
 pub struct Item {
     /// The attribute's type (CK_ATTRIBUTE_TYPE), known to the token or not.
     pub kind: u64,

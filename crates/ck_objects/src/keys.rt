@@ -22,7 +22,7 @@ pub(crate) struct Origin {
 /// A generic secret key (PKCS #11 Current Mechanisms 3.0, Generic secret key objects). Its class,
 /// its key type and the length of its value are no fields. What most calls read stands first, as in
 /// a data object.
-#[derive(Debug, Drop)]
+#[derive(Drop)]
 pub(crate) struct Key {
     pub(crate) label: AttributeValue,
     pub(crate) token: bool,

@@ -13,14 +13,14 @@ use ck_types::{NoMemory, RvError, error_if};
 use std::alloc::{AllocError, Global};
 use std::marker::Model;
 
-#[derive(Clone, Debug, Drop)]
+#[derive(Clone, Drop)]
 enum Object {
     Data(Data),
     Key(Key),
 }
 
 /// The attributes of one object. Contracts see them as items in the order of the table.
-#[derive(Debug, Drop)]
+#[derive(Drop)]
 pub struct Record {
     object: Object,
 }

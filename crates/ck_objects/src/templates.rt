@@ -17,7 +17,7 @@ use std::alloc::AllocError;
 
 /// The attributes that a caller gives, in the caller's order (PKCS #11 Base 3.0,
 /// Object management functions).
-#[derive(Debug, Drop)]
+#[derive(Drop)]
 pub struct Template {
     pub items: Sequence<Item>,
 }

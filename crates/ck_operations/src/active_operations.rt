@@ -8,7 +8,7 @@ use ck_types::{RunningTag, Tag};
 
 /// An active operation of a session: a message that comes in pieces (PKCS #11 Base 3.0, Message
 /// digesting functions, Signing and MACing functions, Functions for verifying signatures and MACs).
-#[derive(Debug, Drop)]
+#[derive(Drop)]
 pub struct Operation {
     kind: OperationKind,
     session: u64,

@@ -8,7 +8,7 @@ use std::marker::Model;
 /// The active operations of all sessions that take a message in pieces, at most one of a kind in a
 /// session (PKCS #11 Base 3.0, Message digesting functions, Signing and MACing functions, Functions
 /// for verifying signatures and MACs).
-#[derive(Debug, Drop)]
+#[derive(Drop)]
 pub struct Operations {
     rows: Vec<Operation>,
 }

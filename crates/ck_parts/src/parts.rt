@@ -9,7 +9,7 @@ use std::alloc::Global;
 
 /// The sessions, the objects and the operations of a token. While a call is carried out they are
 /// ahead of the journal, so what ties them to a history stands in the contracts.
-#[derive(Debug, Drop)]
+#[derive(Drop)]
 pub struct Parts {
     pub sessions: Sessions,
     pub objects: Store,

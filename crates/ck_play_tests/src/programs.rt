@@ -1,7 +1,6 @@
 //! The program over devices that move single bytes: what it writes, and its status.
 use crate::devices::Devices;
-use ck_options::{ArgumentFault, Callers, Options};
-use ck_program::run;
+use ck_program::{ArgumentFault, Callers, Options, run};
 use std::alloc::Global;
 use std::process::Abort;
 use std::sync::Wait;

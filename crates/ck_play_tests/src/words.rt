@@ -1,5 +1,5 @@
 //! What the program's words ask for.
-use ck_options::{ArgumentFault, Options, options_of};
+use ck_program::{ArgumentFault, Options, options_of};
 use std::alloc::Global;
 use std::process::Abort;
 use std::test::Fail;

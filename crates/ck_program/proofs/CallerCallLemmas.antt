@@ -17,9 +17,9 @@ use Rattle.ck_journal.specs.Histories.{History, start}
 use Rattle.ck_journal.proofs.FrontLemmas.{front_trans}
 use Rattle.ck_callers.specs.Accounts.{AccountState}
 use Rattle.ck_callers.specs.Callers.{CallerState, IsSettled, are_all, new_caller}
-use Rattle.ck_runs.specs.Runs.{IsPlayed}
-use Rattle.ck_runs.specs.Scripts.{answered}
-use Rattle.ck_runs.specs.declared.scripts.Script.{Script}
+use Rattle.ck_callers.specs.Runs.{IsPlayed}
+use Rattle.ck_callers.specs.Scripts.{answered}
+use Rattle.ck_callers.specs.declared.scripts.Script.{Script}
 use Rattle.ck_program.specs.CallerCalls.{calls_by, IsNewCaller, HasMadeAll, HasEntriesOf, IsUnplayed, IsPlayedAll}
 
 -- ---- the calls of a caller

@@ -11,7 +11,7 @@ use Rattle.ck_journal.specs.declared.calls.Call.{Call}
 use Rattle.ck_journal.specs.declared.replies.Reply.{Reply}
 use Rattle.ck_callers.specs.Accounts.{AccountState, new_account, new_accounts}
 use Rattle.ck_callers.specs.Callers.{CallerState, are_all, new_caller, new_callers}
-use Rattle.ck_runs.specs.declared.scripts.Script.{Script}
+use Rattle.ck_callers.specs.declared.scripts.Script.{Script}
 use Rattle.ck_program.specs.CallerCalls.{numbers, script_numbers}
 
 -- a value of the one list is moved to the other, and keeps its number

@@ -7,8 +7,8 @@ use Rattle.ck_journal.specs.Histories.{History, start}
 use Rattle.ck_journal.specs.declared.calls.Call.{Call}
 use Rattle.ck_journal.specs.declared.replies.Reply.{Reply}
 use Rattle.ck_callers.specs.Callers.{CallerState}
-use Rattle.ck_runs.specs.Scripts.{answered}
-use Rattle.ck_runs.specs.declared.scripts.Script.{Script}
+use Rattle.ck_callers.specs.Scripts.{answered}
+use Rattle.ck_callers.specs.declared.scripts.Script.{Script}
 
 -- the calls of a caller, in their order
 abbrev pub calls_by : ℕ → List (ℕ × Call) → List Call

@@ -7,8 +7,8 @@ use Rattle.ck_play.specs.Players.{WriteFailed}
 use Rattle.ck_play.specs.Plays.{IsPlayed}
 use Rattle.ck_play.specs.declared.faults.PlayFault.{PlayFault}
 use Rattle.ck_play.specs.declared.faults.PlayFault.TheVariants as fault
-use Rattle.ck_options.specs.declared.options.Options.{Options}
-use Rattle.ck_options.specs.declared.options.Options.TheVariants as option
+use Rattle.ck_program.specs.declared.options.Options.{Options}
+use Rattle.ck_program.specs.declared.options.Options.TheVariants as option
 use Rattle.ck_play.specs.declared.plays.TheConstants.{TURNS}
 
 abbrev pub largest_limits : Ranges

@@ -1,9 +1,14 @@
-//! The program over any options, reader and writer: a script line by line, or the lines of each
-//! caller in a thread of its own, or its help; and the status with which it ends.
+//! What the program's arguments ask for, and the program over any options, reader and writer: a
+//! script line by line, or the lines of each caller in a thread of its own, or its help; and the
+//! status with which it ends.
 #![tactic(auto)]
 
+mod arguments;
 mod caller_scripts;
+mod options;
 mod programs;
 mod thread_plays;
 
+pub use arguments::options_of;
+pub use options::{ArgumentFault, Callers, Options};
 pub use programs::{play_threads, run};

@@ -7,8 +7,8 @@ ghost use Rattle.ck_program.specs.Programs.{IsDone};
 ghost use Rattle.ck_play.specs.declared.faults.PlayFault.{PlayFault};
 
 use crate::caller_scripts::read_calls;
+use crate::options::{ArgumentFault, Callers, Options};
 use crate::thread_plays::play_calls;
-use ck_options::{ArgumentFault, Callers, Options};
 use ck_play::{PlayFault, Sink, Source, TURNS, play, write_all};
 use ck_types::Limits;
 use std::alloc::Global;

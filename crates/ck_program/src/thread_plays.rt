@@ -11,11 +11,10 @@ ghost use Rattle.ck_program.specs.CallerCalls.{calls_by, IsNewCaller, HasMadeAll
 ghost use Rattle.ck_program.specs.CallerCalls.{IsUnplayed, IsPlayedAll, numbers, script_numbers};
 ghost use Rattle.ck_program.specs.CallerScripts.{IsSummary, summary_text};
 
+use crate::options::Callers;
 use ck_audit::{Verdict, audit_token};
-use ck_callers::{Caller, NewIdentity, TokenId};
+use ck_callers::{Caller, NewIdentity, Script, TokenId, run_scripts};
 use ck_journal::Call;
-use ck_options::Callers;
-use ck_runs::{Script, run_scripts};
 use ck_shared::{Ends, Shared, SharedCaller};
 use ck_token::Token;
 use ck_types::{Limits, NoMemory};

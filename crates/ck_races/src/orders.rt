@@ -1,7 +1,6 @@
 //! Orders of callers, and a gate that keeps one.
-use ck_callers::{Ask, Caller, Status, TokenId};
+use ck_callers::{Ask, Caller, Gate, Status, TokenId};
 use ck_journal::{Call, Reply};
-use ck_runs::Gate;
 use ck_types::NoMemory;
 use rand_core::Rng;
 use rand_xoshiro::Xoshiro256PlusPlus;

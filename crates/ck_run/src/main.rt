@@ -1,9 +1,8 @@
 //! Hands what the arguments ask for, standard input and standard output to what plays scripts.
 #![tactic(auto)]
 
-use ck_options::{ArgumentFault, Options, options_of};
 use ck_play::{ReadSource, WriteSink};
-use ck_program::run;
+use ck_program::{ArgumentFault, Options, options_of, run};
 use std::alloc::Global;
 use std::env::Env;
 use std::process::ExitCode;

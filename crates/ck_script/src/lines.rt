@@ -22,7 +22,7 @@ pub(crate) const COMMENT: u8 = b'#';
 pub const LONGEST_LINE: usize = 4_194_304;
 
 /// What one line of a script means.
-#[derive(Debug, Drop)]
+#[derive(Drop)]
 pub enum Line {
     /// An empty line or a comment.
     Skipped,

@@ -10,7 +10,7 @@ use crate::searches::Search;
 use std::marker::Model;
 
 /// An open session (PKCS #11 Base 3.0, Session management functions).
-#[derive(Debug, Drop)]
+#[derive(Drop)]
 pub struct Session {
     handle: u64,
     flags: u64,

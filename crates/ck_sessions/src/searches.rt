@@ -6,7 +6,7 @@ use ck_types::Sequence;
 use std::marker::Model;
 
 /// An active search for objects (PKCS #11 Base 3.0, Object management functions).
-#[derive(Debug, Drop)]
+#[derive(Drop)]
 pub(crate) struct Search {
     /// The numbers of the objects that it found when it started, rising.
     found: Sequence<u64>,

@@ -12,7 +12,7 @@ use std::marker::Model;
 
 /// The token's open sessions, the login that they share, and the PINs (PKCS #11 Base 3.0, Session
 /// management functions).
-#[derive(Debug, Drop)]
+#[derive(Drop)]
 pub struct Sessions {
     /// In the order of their openings.
     rows: Vec<Session>,

@@ -1,7 +1,6 @@
 use crate::shared::SharedToken;
-use ck_callers::{Ask, Caller, ReadBoard, Slot, Status, TokenId};
+use ck_callers::{Ask, Caller, Gate, ReadBoard, Slot, Status, TokenId};
 use ck_journal::{Call, Reply};
-use ck_runs::Gate;
 use ck_types::NoMemory;
 use left_right::Absorb;
 use std::alloc::Global;

@@ -5,8 +5,7 @@ ghost use Rattle.ck_journal.specs.Histories.{◌◁◌, entry_count};
 ghost use Rattle.ck_callers.specs.KnownHistories.{Covers};
 ghost use Rattle.ck_journal.specs.declared.calls.Entry.{Entry};
 
-use ck_callers::{CallBooks, Caller, KnownHistory, ReadBoard, Slot, TokenId};
-use ck_history::{Front, Head};
+use ck_callers::{CallBooks, Caller, Front, Head, KnownHistory, ReadBoard, Slot, TokenId};
 use ck_journal::{Call, Reply};
 use ck_token::Token;
 use ck_types::NoMemory;

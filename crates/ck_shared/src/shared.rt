@@ -9,10 +9,9 @@ ghost use Rattle.ck_callers.specs.Callers.{are_all, new_caller, new_callers};
 use crate::counts::CallerCount;
 use crate::locked::Locked;
 use ck_callers::{
-    Account, BoardCopy, CallBooks, Caller, EntrySlot, KnownHistory, NewIdentity, ReadBoard, Slot,
-    TokenId, WriteBoard,
+    Account, BoardCopy, CallBooks, Caller, EntrySlot, Head, KnownHistory, NewIdentity, ReadBoard,
+    Slot, TokenId, WriteBoard,
 };
-use ck_history::Head;
 use ck_journal::{Call, Reply, TokenBoard};
 use ck_token::Token;
 use ck_types::{Limits, NoMemory};

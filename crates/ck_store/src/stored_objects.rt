@@ -6,7 +6,7 @@ use std::alloc::Global;
 use std::marker::Model;
 
 /// An object that hasn't ended.
-#[derive(Debug, Drop)]
+#[derive(Drop)]
 pub(crate) struct StoredObject {
     number: u64,
     attributes: Record,

@@ -14,7 +14,7 @@ use std::alloc::Global;
 use std::marker::Model;
 
 /// The token's objects.
-#[derive(Debug, Drop)]
+#[derive(Drop)]
 pub struct Store {
     objects: Slab<StoredObject>,
     /// The places of all objects, in rising numbers. A place stays in it for a while after its

@@ -6,8 +6,6 @@
 #[cfg(test)]
 mod history;
 #[cfg(test)]
-mod line_tables;
-#[cfg(test)]
 mod lines;
 #[cfg(test)]
 mod mac;

@@ -21,7 +21,7 @@ mod session_calls;
 /// A token with its sessions, objects and operations, wholly in memory. Contracts see its limits,
 /// the history of its journal and for how many more entries the journal has room; that its parts
 /// are what the history says, and that the history is legal, is true of every token.
-#[derive(Debug, Drop)]
+#[derive(Drop)]
 pub struct Token {
     limits: Limits,
     parts: Parts,

@@ -5,7 +5,7 @@ use crate::tags::Tag;
 use sha2::{Digest, Sha224, Sha256, Sha384, Sha512};
 use std::alloc::AllocError;
 
-#[derive(Debug, Drop)]
+#[derive(Drop)]
 enum Hasher {
     Sha224(Sha224),
     Sha256(Sha256),
@@ -14,7 +14,7 @@ enum Hasher {
 }
 
 /// The digest of a message that comes in pieces.
-#[derive(Debug, Drop)]
+#[derive(Drop)]
 pub struct Running {
     hasher: Hasher,
 }

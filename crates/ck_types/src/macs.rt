@@ -17,7 +17,7 @@ const INNER_PAD: u8 = 0x36;
 const OUTER_PAD: u8 = 0x5c;
 
 /// The HMAC of a message that comes in pieces (FIPS 198-1), or its first bytes.
-#[derive(Debug, Drop)]
+#[derive(Drop)]
 pub struct Mac {
     /// Of the key combined with the inner pad, and then the message.
     inner: Running,

@@ -8,7 +8,7 @@ use crate::sequences::Bytes;
 use std::alloc::AllocError;
 
 /// A mechanism with its parameter (CK_MECHANISM; PKCS #11 Base 3.0, General data types).
-#[derive(Debug, Drop)]
+#[derive(Drop)]
 pub struct Mechanism {
     /// The mechanism's type (CK_MECHANISM_TYPE), known to the token or not.
     pub kind: u64,

@@ -10,7 +10,7 @@ pub const LONGEST_PIN: u64 = 64;
 
 /// What the token knows of a PIN: its length in bytes and its SHA-256 digest (FIPS 180-4). Two PINs
 /// are the same where both agree.
-#[derive(Clone, Copy, Debug, PartialEq, Eq)]
+#[derive(Clone, Copy, PartialEq, Eq)]
 pub struct Pin {
     pub len: u64,
     pub tag: [u8; 32],

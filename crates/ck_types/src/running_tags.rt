@@ -3,7 +3,7 @@ use crate::macs::Mac;
 use crate::tags::Tag;
 
 /// The tag of a message that comes in pieces: a digest or an HMAC.
-#[derive(Debug, Drop)]
+#[derive(Drop)]
 pub enum RunningTag {
     Digest(Running),
     Mac(Mac),

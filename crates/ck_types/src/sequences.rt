@@ -4,7 +4,7 @@ use std::marker::Model;
 
 /// A list of values in a field. Contracts see it as its items, so two of them are equal where their
 /// items are, whatever room they have.
-#[derive(Debug, Drop)]
+#[derive(Drop)]
 pub struct Sequence<T> {
     items: Vec<T>,
 }

@@ -11,7 +11,7 @@ use std::marker::Model;
 const LONGEST_TAG: usize = 64;
 
 /// A digest, an HMAC or the first bytes of one. Contracts see it as its bytes.
-#[derive(Debug, Drop)]
+#[derive(Drop)]
 pub struct Tag {
     bytes: [u8; LONGEST_TAG],
     len: usize,

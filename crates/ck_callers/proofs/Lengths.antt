@@ -1,0 +1,50 @@
+-- Fronts of one history, by the logs that were seen and their lengths
+use Rattle.std.proofs.Common.{◌≡◌, ℕ, ◌≤◌, List, [], ◌∷◌, ◌++◌, length, sym, ap, ◌∙◌, subst, arith}
+use mathlib.Core.List.{IsPrefix}
+use Rattle.ck_types.specs.TokenLimits.{Ranges}
+use Rattle.ck_journal.specs.declared.bases.Base.{Base}
+use Rattle.ck_journal.specs.declared.calls.Entry.{Entry}
+use Rattle.ck_journal.specs.Answers.{IsLegal, answer}
+use Rattle.ck_journal.specs.Fronts.{history_of, IsFront}
+use Rattle.ck_journal.specs.Histories.{History, ◌◁◌, entry_count}
+use Rattle.ck_journal.proofs.FrontLemmas.{entry_count-log, front_of_prefix, history_of-next}
+use Rattle.ck_callers.proofs.Prefixes.{prefix_shorter, prefix_whole, prefix_length}
+
+module _ (b : Base) where
+  pub count_is : (log : List Entry) (h : History) (n : ℕ) → n ≡ length log → history_of b log ≡ h → n ≡ entry_count h
+  count_is log h n len is = len ∙ sym (entry_count-log b log) ∙ ap entry_count is
+
+  module _ (one two all : List Entry) (g h : History) (p : IsPrefix one all) (q : IsPrefix two all)
+      (is : history_of b one ≡ g) (also : history_of b two ≡ h) where
+    -- of two fronts the shorter begins the longer
+    pub shorter_begins : length one ≤ length two → IsFront g h
+    shorter_begins len =
+        subst (λ x. IsFront x h) is (subst (IsFront (history_of b one)) also
+        (front_of_prefix b one two (prefix_shorter one two all p q len)))
+
+    pub as_long_same : length one ≡ length two → g ≡ h
+    as_long_same len =
+        let whole : one ≡ two = prefix_whole one two (prefix_shorter one two all p q (omega arith)) (omega arith) in
+        sym is ∙ ap (history_of b) whole ∙ also
+
+  -- an entry was added to all that was seen, which was as long as the one front
+  module _ (one two seen log : List Entry) (e : Entry) (g h : History) (p : IsPrefix one seen)
+      (q : IsPrefix two seen) (is : history_of b one ≡ g) (also : history_of b two ≡ h)
+      (len : length seen ≡ length one) (added : log ≡ seen ++ e ∷ []) where
+    same_seen : one ≡ seen
+    same_seen = prefix_whole one seen p (omega arith)
+
+    pub added_next : history_of b log ≡ e ◁ g
+    added_next =
+        ap (history_of b) added ∙ history_of-next b seen e ∙ ap (λ xs. e ◁ history_of b xs) (sym same_seen)
+        ∙ ap (λ x. e ◁ x) is
+
+    pub added_other : IsFront h g
+    added_other =
+        let short : length two ≤ length one = omega (arith, prefix_length two seen q) in
+        shorter_begins two one seen h g q p also is short
+
+    pub added_legal : (limits : Ranges) → IsLegal limits (history_of b one) → e.reply ≡ answer limits g e.call
+        → IsLegal limits (history_of b log)
+    added_legal limits legal answered =
+        subst (IsLegal limits) (sym added_next) (answered, subst (IsLegal limits) is legal)

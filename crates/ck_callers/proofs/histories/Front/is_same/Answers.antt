@@ -1,0 +1,25 @@
+use Rattle.std.proofs.Common.{◌≡◌, List, length, ap, subst, arith}
+use Rattle.std.proofs.lemmas.Bool.Decides.{nat_tests}
+use mathlib.Core.List.{IsPrefix}
+use Rattle.ck_journal.specs.Histories.{entry_count}
+use Rattle.ck_journal.specs.declared.calls.Entry.{Entry}
+use Rattle.ck_callers.proofs.Lengths.{count_is, as_long_same}
+use Rattle.ck_callers.proofs.histories.Front.is_same.Goals as goal
+
+pub returns-clause-length : goal.returns-clause-length
+returns-clause-length g c =
+    let one : c.self.inside.count ≡ entry_count c.args.self.now = count_is _ _ _ _ c.self.invariant.0 c.self.view_is in
+    let two : c.other.inside.count ≡ entry_count c.args.other.now = count_is _ _ _ _ c.other.invariant.0
+    c.other.view_is in
+    ((λ t. grind (arith, nat_tests)), (λ le. grind (arith, nat_tests)))
+
+pub returns-clause-same : goal.returns-clause-same
+returns-clause-same g c t =
+    let le : c.self.inside.count ≡ c.other.inside.count = grind (arith, nat_tests) in
+    let len : length c.self.inside.seen.log ≡ length c.other.inside.seen.log = omega
+    (arith, c.self.invariant.0, c.other.invariant.0) in
+    let p : IsPrefix c.self.inside.seen.log c.learn.new.self.log =
+    subst (λ (l : List Entry). IsPrefix l c.learn.new.self.log) (ap (λ s. s.log) c.again-both.ensures)
+    c.learn.ensures.2 in
+    as_long_same _ c.self.inside.seen.log c.other.inside.seen.log c.learn.new.self.log _ _ p c.learn.ensures.3
+    c.self.view_is c.other.view_is len

@@ -1,0 +1,32 @@
+-- Scripts that were played
+use Rattle.std.specs.Prelude.{◌≡◌, [], vec_items}
+use Rattle.ck_types.specs.TokenLimits.{Ranges}
+use Rattle.ck_journal.specs.declared.calls.Call.{Call}
+use Rattle.ck_journal.specs.declared.replies.Reply.{Reply}
+use Rattle.ck_callers.specs.Callers.{CallerState}
+use Rattle.ck_callers.specs.Scripts.{HasPlayed}
+use Rattle.ck_callers.specs.Steps.{HasTaken}
+use Rattle.ck_callers.specs.Turns.{HasMade}
+use Rattle.ck_callers.specs.declared.scripts.Script.{Script}
+use Rattle.ck_callers.specs.declared.steps.Answered.{Answered}
+use Rattle.ck_callers.specs.declared.steps.Step.{Step}
+
+-- the caller of the script has made its calls, and none are left
+abbrev pub IsPlayed : {K T : Type 0} → Script K T Call Reply → Script K T Call Reply → Type 0
+IsPlayed old new =
+    HasPlayed old.caller (vec_items old.steps) (vec_items new.replies) new.outcome new.caller
+    × (vec_items new.steps ≡ [])
+
+-- the caller of the script has taken its steps, and none are left
+abbrev pub AreTaken : {K T : Type 0} → Ranges → Script K T Step Answered
+    → Script K T Step Answered → Type 0
+AreTaken limits old new =
+    HasTaken limits old.caller (vec_items old.steps) (vec_items new.replies) new.outcome new.caller
+    × (vec_items new.steps ≡ [])
+
+-- the same of any script
+abbrev pub HasRun : {K T S A : Type 0} → (CallerState → S → A → CallerState → Type 0)
+    → (S → Type 0) → Script K T S A → Script K T S A → Type 0
+HasRun Does MayFail old new =
+    HasMade Does MayFail old.caller (vec_items old.steps) (vec_items new.replies) new.outcome new.caller
+    × (vec_items new.steps ≡ [])

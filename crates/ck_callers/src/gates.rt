@@ -1,0 +1,41 @@
+use crate::asks::{Ask, Status};
+use crate::callers::Caller;
+use crate::identity::TokenId;
+use ck_journal::{Call, Reply};
+use ck_types::NoMemory;
+use std::alloc::Global;
+use std::sync::Wait;
+
+/// What answers callers, their calls and what they ask: a shared token, or what stands before one.
+pub trait Gate<K: TokenId, T: Drop> {
+    ghost use Rattle.std.specs.Prelude.{◌≡◌, IfOk, OnErr, IfSome, IfNone, OnSome};
+    ghost use Rattle.ck_journal.specs.Answers.{IsLegal, answer};
+    ghost use Rattle.ck_journal.specs.Callers.{entries_by};
+    ghost use Rattle.ck_journal.specs.Fronts.{IsFront};
+    ghost use Rattle.ck_callers.specs.Asks.{call_of, reply_of};
+    ghost use Rattle.ck_callers.specs.Callers.{HasCalled};
+
+    /// One call of a caller.
+    fn call<W: Wait>(
+        &self,
+        rt: &W,
+        alloc: Global,
+        caller: &mut Caller<K, T>,
+        call: Call,
+    ) -> Result<Reply, NoMemory>
+        ensures called { IfOk result (λ reply.
+            HasCalled K.limits caller.old call reply caller.new) }
+        ensures caller { OnErr result (caller.new ≡ caller.old) };
+
+    /// What the token's state was when it had answered the calls that the caller then knows, or
+    /// `None` where that can't be seen.
+    fn status(&self, caller: &mut Caller<K, T>, ask: Ask) -> Option<Status>
+        ensures answer { IfSome result (λ status.
+            reply_of status ≡ answer K.limits caller.new.seen (call_of ask)) }
+        ensures legal { OnSome result (IsLegal K.limits caller.new.seen) }
+        ensures own { OnSome result (entries_by caller.new.number caller.new.seen
+            ≡ entries_by caller.new.number caller.new.last) }
+        ensures front { IsFront caller.old.seen caller.new.seen }
+        ensures same { caller.new ≡ record caller.old { seen = caller.new.seen } }
+        ensures unchanged { IfNone result (caller.new ≡ caller.old) };
+}

@@ -1,0 +1,50 @@
+use ck_journal::Entry;
+use logbook::{Gain, Plain, Play, Rule};
+
+/// The rule of the one word that threads share: it is the length of the log.
+pub struct LengthOfLog;
+
+impl Rule<Entry, u64> for LengthOfLog {
+    ghost use Rattle.std.specs.Prelude.{[]};
+    ghost use base.Fml.{ftrue};
+    ghost use Rattle.ck_callers.specs.Rules.{IsKept};
+
+    ghost holds = { λ cells log. IsKept cells log };
+
+    ghost first = { [] };
+
+    ghost hinted = { λ n log. Unit {0} };
+
+    ghost shows = { λ log. [] };
+
+    ghost keeps = { λ names log. ftrue };
+
+    ghost moves = { λ ask before after answer. Unit {0} };
+}
+
+/// Callers trade nothing.
+pub struct Nothing;
+
+impl Gain<Entry, u64> for Nothing {
+    ghost use base.Fml.{ftrue};
+
+    ghost after = { λ names about answer. ftrue };
+}
+
+/// The step that adds an entry.
+pub struct Add;
+
+impl Play<Entry, u64> for Add {
+    ghost use Rattle.ck_callers.specs.Rules.{Adds};
+
+    ghost then = { Adds };
+}
+
+/// What the step asks for: the entry.
+impl Plain<Entry, Entry, u64> for Add {
+    ghost use Rattle.std.specs.Prelude.{None};
+
+    ghost ask = { λ entry. entry };
+
+    ghost state = { λ entry. None };
+}

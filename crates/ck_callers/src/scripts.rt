@@ -1,0 +1,68 @@
+ghost use Rattle.std.specs.Prelude.{◌≤◌, vec_len, vec_capacity};
+
+use crate::callers::Caller;
+use crate::identity::TokenId;
+use ck_journal::{Call, Reply};
+use ck_types::NoMemory;
+use std::alloc::Global;
+
+/// What a caller is to do, step by step, with room for the replies: calls alone where no other
+/// types are named.
+#[derive(Drop)]
+pub struct Script<K: TokenId, T: Drop, S: Drop = Call, A: Drop = Reply> {
+    pub caller: Caller<K, T>,
+    pub(crate) steps: Vec<S>,
+    pub(crate) replies: Vec<A>,
+    pub(crate) outcome: Result<(), NoMemory>,
+    pub ghost room: { vec_len steps ≤ vec_capacity replies },
+}
+
+impl<K: TokenId, T: Drop, S: Drop, A: Drop> Script<K, T, S, A> {
+    ghost use Rattle.std.specs.Prelude.{◌≡◌, [], Ok, IfOk, IfErr};
+
+    /// A script that is still to be played. Where there is no room for the replies, the caller and
+    /// the steps come back.
+    pub fn new(
+        alloc: Global,
+        caller: Caller<K, T>,
+        steps: Vec<S>,
+    ) -> Result<Script<K, T, S, A>, (Caller<K, T>, Vec<S>)>
+        ensures caller { IfOk result (λ script. script.caller ≡ caller) }
+        ensures steps { IfOk result (λ script. script.steps ≡ steps) }
+        ensures replies { IfOk result (λ script. script.replies.items ≡ []) }
+        ensures outcome { IfOk result (λ script. script.outcome ≡ Ok tt) }
+        ensures back { IfErr result (λ refused. refused ≡ (caller, steps)) }
+    {
+        match Vec::with_capacity(alloc, steps.len()) {
+            Ok(replies) => Ok(Script {
+                caller,
+                steps,
+                replies,
+                outcome: Ok(()),
+            }),
+            Err(_) => Err((caller, steps)),
+        }
+    }
+
+    /// The replies to the steps that were taken when the script was played, in their order.
+    pub fn replies(&self) -> &[A]
+        ensures { result.now ≡ self.now.replies.items }
+    {
+        self.replies.as_slice()
+    }
+
+    /// The caller, and the replies to its steps.
+    pub fn into_parts(self) -> (Caller<K, T>, Vec<A>)
+        ensures { result ≡ (self.caller, self.replies) }
+    {
+        (self.caller, self.replies)
+    }
+
+    /// Where it is not `Ok`, the step after those that were answered is a call that found no
+    /// memory, and those after it were not taken.
+    pub fn outcome(&self) -> Result<(), NoMemory>
+        ensures { result ≡ self.now.outcome }
+    {
+        self.outcome
+    }
+}

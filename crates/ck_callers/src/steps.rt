@@ -1,0 +1,68 @@
+use crate::asks::{Ask, Status};
+use crate::callers::Caller;
+use crate::gates::Gate;
+use crate::identity::TokenId;
+use crate::turns::Turn;
+use ck_journal::{Call, Reply};
+use ck_types::NoMemory;
+use std::alloc::Global;
+use std::sync::Wait;
+
+/// A step of a caller: a call, or a question about the token's state.
+#[derive(Drop)]
+pub enum Step {
+    Call(Call),
+    Ask(Ask),
+}
+
+/// What is answered to a step, and how many entries the history has that the caller then knows.
+#[derive(Drop)]
+pub enum Answered {
+    Reply(Reply, u64),
+    Status(Option<Status>, u64),
+}
+
+impl<K: TokenId> Turn<K, Reply> for Call {
+    ghost use Rattle.ck_callers.specs.Callers.{HasCalled};
+
+    ghost does = { HasCalled K.limits };
+
+    ghost may_fail = { λ call. Unit {0} };
+
+    fn make<T: Drop, G: Gate<K, T>, W: Wait>(
+        self,
+        rt: &W,
+        alloc: Global,
+        gate: &G,
+        caller: &mut Caller<K, T>,
+    ) -> Result<Reply, NoMemory> {
+        gate.call(rt, alloc, caller, self)
+    }
+}
+
+impl<K: TokenId> Turn<K, Answered> for Step {
+    ghost use Rattle.ck_callers.specs.Steps.{HasStepped, IsCall};
+
+    ghost does = { HasStepped K.limits };
+
+    ghost may_fail = { IsCall };
+
+    fn make<T: Drop, G: Gate<K, T>, W: Wait>(
+        self,
+        rt: &W,
+        alloc: Global,
+        gate: &G,
+        caller: &mut Caller<K, T>,
+    ) -> Result<Answered, NoMemory> {
+        match self {
+            Step::Call(call) => {
+                let reply = gate.call(rt, alloc, caller, call)?;
+                Ok(Answered::Reply(reply, caller.seen()))
+            }
+            Step::Ask(ask) => {
+                let status = gate.status(caller, ask);
+                Ok(Answered::Status(status, caller.seen()))
+            }
+        }
+    }
+}

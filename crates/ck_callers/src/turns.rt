@@ -1,0 +1,31 @@
+ghost use Rattle.std.specs.Prelude.{◌≡◌, IfOk, OnErr};
+
+use crate::callers::Caller;
+use crate::gates::Gate;
+use crate::identity::TokenId;
+use ck_types::NoMemory;
+use std::alloc::Global;
+use std::sync::Wait;
+
+/// What a caller does in one turn at a gate. What is answered to it is an `A`.
+pub trait Turn<K: TokenId, A: Drop>: Drop {
+    ghost use Rattle.ck_callers.specs.Callers.{CallerState};
+
+    // what it does: the caller before it, the turn, what is answered, the caller after it
+    ghost does: { CallerState → Self → A → CallerState → Type 0 };
+
+    // whether it may find no memory
+    ghost may_fail: { Self → Type 0 };
+
+    /// Takes the turn at the gate, as this caller.
+    fn make<T: Drop, G: Gate<K, T>, W: Wait>(
+        self,
+        rt: &W,
+        alloc: Global,
+        gate: &G,
+        caller: &mut Caller<K, T>,
+    ) -> Result<A, NoMemory>
+        ensures made { IfOk result (λ answer. does caller.old self answer caller.new) }
+        ensures memory { OnErr result (may_fail self) }
+        ensures caller { OnErr result (caller.new ≡ caller.old) };
+}

@@ -1,0 +1,34 @@
+use Rattle.std.proofs.Common.{ap, refl, subst, inl, inr, codes, ◌≡◌, ◌∙◌, []}
+use Rattle.std.specs.Prelude.{Option, map, string_bytes}
+use Rattle.clap.specs.Words.{App, Text, fault_of, first_of, found_of, is_simple}
+use Rattle.clap.specs.Words.{is_simple_and_free, kind_of, matches_of, IsAmong}
+use Rattle.clap.proofs.WalkLemmas.{first_value-rows}
+use Rattle.ck_program.specs.Options.{IsChosenBy}
+use Rattle.ck_program.proofs.arguments.options_of.Goals as goal
+
+pub returns-in-Ok : goal.returns-in-Ok
+returns-in-Ok c =
+    let words = map string_bytes c.args.words.now in
+    let same = c.in_ok-command.ensures in
+    let taken = subst (λ (a : App). fault_of a words ≡ []) same
+    (c.in-Ok.ensures.kinds (ap is_simple_and_free same)) in
+    let rows = (c.in-Ok.ensures.matches (ap is_simple same)).0 ∙ ap (λ (a : App). matches_of a words) same in
+    let text = first_value-rows (found_of c.in-Ok.matches) (codes "callers") ∙ ap (first_of (codes "callers")) rows in
+    inl (taken, subst (λ (t : Option Text). IsChosenBy t c.options_in.result) text c.options_in.ensures)
+
+pub returns : goal.returns
+returns c =
+    let words = map string_bytes c.args.words.now in
+    let same = c.in_ok-command.ensures in
+    let kinds = c.in-Err.ensures.kinds (ap is_simple_and_free same) in
+    elim kinds [
+      | inl memory ↦ absurd (c.in_default.not-OutOfMemory (c.kind.ensures ∙ memory))
+      | inr among ↦ inr (inr (inl (
+        (
+          kind_of c.in-Err.error,
+          subst (λ (a : App). IsAmong (kind_of c.in-Err.error) (fault_of a words)) same among,
+          λ is. c.in_default.not-DisplayHelp (c.kind.ensures ∙ is),
+        ),
+        refl,
+      )))
+    ]

@@ -1,0 +1,60 @@
+-- What the program is asked to do by its words
+use Rattle.std.specs.Prelude.{⊤, ◌≡◌, ◌⊎◌, ◌-◌, ◌&&◌, ℕ, List, [], ◌∷◌, Option, Some, None, Result, Ok}
+use Rattle.std.specs.Prelude.{Err, if◌then◌else◌, nat_le, codes}
+use Rattle.clap.specs.Words.{App, Rule, Text, IsAmong, fault_of, first_of, matches_of, new_app}
+use Rattle.clap.specs.Words.{new_rule, with_rule}
+use Rattle.clap.specs.declared.error.kind.ErrorKind.{ErrorKind}
+use Rattle.clap.specs.declared.error.kind.ErrorKind.TheVariants as kind
+use Rattle.ck_program.specs.declared.options.ArgumentFault.{ArgumentFault}
+use Rattle.ck_program.specs.declared.options.ArgumentFault.TheVariants as fault
+use Rattle.ck_program.specs.declared.options.Options.{Options}
+use Rattle.ck_program.specs.declared.options.Options.TheVariants as option
+
+-- the option `--callers` with one value, and the command that has no other
+abbrev pub callers_option : Rule
+callers_option = record (new_rule (codes "callers")) {
+  long = Some (codes "callers");
+  value_names = 1;
+}
+
+abbrev pub program : App
+program = with_rule (new_app (codes "ck_run")) callers_option
+
+-- a number of callers: one digit from 1 to 8
+abbrev pub callers_in : Text → Option ℕ
+callers_in (digit ∷ []) = if nat_le 49 digit && nat_le digit 56 then Some (digit - 48) else None
+callers_in _ = None
+
+-- the command takes the words, of which the first is the program's name; they ask for its help; or
+-- it refuses them
+abbrev pub AreTaken : List Text → Type 0
+AreTaken words = fault_of program words ≡ []
+
+abbrev pub AskForHelp : List Text → Type 0
+AskForHelp words = IsAmong kind.DisplayHelp (fault_of program words)
+
+abbrev pub AreRefused : List Text → Type 0
+AreRefused words = (k : ErrorKind) × IsAmong k (fault_of program words) × (k ≡ kind.DisplayHelp → ⊥)
+
+-- the text that they give the option, where they give it one
+abbrev pub callers_text : List Text → Option Text
+callers_text words = first_of (codes "callers") (matches_of program words)
+
+-- without a value the script is played line by line, with a number of callers by so many in threads,
+-- and any other value is bad
+abbrev pub IsChosenBy : Option Text → Result Options ArgumentFault → Type 0
+IsChosenBy None (Ok option.InTurn) = ⊤
+IsChosenBy (Some text) (Ok (option.InThreads callers)) = callers_in text ≡ Some callers.count
+IsChosenBy (Some text) (Err fault.Bad) = callers_in text ≡ None
+IsChosenBy _ _ = ⊥
+
+abbrev pub IsHelp : Result Options ArgumentFault → Type 0
+IsHelp (Ok (option.Help text)) = ⊤
+IsHelp _ = ⊥
+
+-- the words ask for this, or the answer is that there was no memory, of which nothing more is said
+abbrev pub IsAskedBy : List Text → Result Options ArgumentFault → Type 0
+IsAskedBy words result = (AreTaken words × IsChosenBy (callers_text words) result)
+    ⊎ (AskForHelp words × IsHelp result)
+    ⊎ (AreRefused words × (result ≡ Err fault.Bad))
+    ⊎ (result ≡ Err fault.Memory)

@@ -1,0 +1,65 @@
+//! What the program's arguments ask for.
+ghost use Rattle.std.specs.Prelude.{◌≡◌, IfOk, codes, map, option_map, string_bytes};
+ghost use Rattle.clap.specs.Words.{app_of, first_value, found_of};
+ghost use Rattle.ck_program.specs.Options.{IsAskedBy, IsChosenBy, callers_in, program};
+
+use crate::options::{ArgumentFault, Callers, Options};
+use ck_journal::MOST_CALLERS;
+use clap::error::ErrorKind;
+use clap::{Arg, ArgMatches, Command};
+use std::alloc::{AllocError, Global};
+
+/// The program's command line: its one option is `--callers` with a value.
+fn command<'a>(alloc: Global) -> Result<Command<'a>, AllocError>
+    ensures { IfOk result (λ command. app_of command ≡ program) }
+{
+    let callers = Arg::new(alloc, "callers")
+        .long("callers")
+        .value_name("N")
+        .help("Play each caller's lines in a thread of its own; N is 1 to 8");
+    Command::new(alloc, "ck_run")
+        .about("Plays a script of PKCS #11 calls, read from standard input, on a new token")
+        .arg(callers)
+}
+
+/// A number of callers: one digit from 1 to the most.
+fn callers_in(text: &str) -> Option<Callers>
+    ensures { option_map (λ callers. callers.count) result ≡ callers_in text.now }
+{
+    match text.as_bytes() {
+        [digit] if b'1' <= *digit && u32::from(*digit - b'0') <= MOST_CALLERS => Some(Callers {
+            count: u32::from(*digit - b'0'),
+        }),
+        _ => None,
+    }
+}
+
+/// What the words that the command takes ask for.
+fn options_in(matches: &ArgMatches<'_>) -> Result<Options, ArgumentFault>
+    ensures { IsChosenBy (first_value (found_of matches.now) (codes "callers")) result }
+{
+    match matches.get_str("callers") {
+        Some(text) => match callers_in(text) {
+            Some(callers) => Ok(Options::InThreads(callers)),
+            None => Err(ArgumentFault::Bad),
+        },
+        None => Ok(Options::InTurn),
+    }
+}
+
+/// What the program is asked to do by its words, of which the first is its name.
+pub fn options_of(alloc: Global, words: &[String]) -> Result<Options, ArgumentFault>
+    ensures { IsAskedBy (map string_bytes words.now) result }
+{
+    match command(alloc)?.try_get_matches_from(words) {
+        Ok(matches) => options_in(&matches),
+        Err(error) => match error.kind() {
+            ErrorKind::DisplayHelp => match format!(in alloc; "{error}") {
+                Ok(text) => Ok(Options::Help(text)),
+                Err(_) => Err(ArgumentFault::Memory),
+            },
+            ErrorKind::OutOfMemory => Err(ArgumentFault::Memory),
+            _ => Err(ArgumentFault::Bad),
+        },
+    }
+}

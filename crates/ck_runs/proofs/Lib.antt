@@ -1,4 +1,0 @@
-pub mod Playing
-pub mod Places
-pub mod Taking
-pub mod Turning

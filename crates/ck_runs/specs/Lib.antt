@@ -1,4 +1,0 @@
-pub mod Runs
-pub mod Scripts
-pub mod Steps
-pub mod Turns
