@@ -1,11 +1,12 @@
 pub mod Adding
+pub mod AllCallers
 pub mod Asked
+pub mod Following
 pub mod KnownLemmas
 pub mod Lengths
 pub mod Places
 pub mod Playing
 pub mod Prefixes
 pub mod Settling
-pub mod Steps
 pub mod Taking
 pub mod Turning

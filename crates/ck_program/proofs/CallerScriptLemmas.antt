@@ -6,11 +6,11 @@ use Rattle.std.proofs.lemmas.List.{append-nil, length_push}
 use Rattle.ck_journal.specs.declared.calls.Call.{Call}
 use Rattle.ck_script.specs.Lines.{meaning}
 use Rattle.ck_program.specs.CallerScripts.{is_bad_for, AreGoodFor, AreCallsOf, IsRefusedFor, IsRefusedLine}
-use Rattle.ck_play.specs.Devices.{IsCount}
-use Rattle.ck_play.specs.Plays.{with_call}
-use Rattle.ck_play.specs.declared.faults.PlayFault.{PlayFault}
-use Rattle.ck_play.specs.declared.faults.PlayFault.TheVariants as fault
-use Rattle.ck_play.proofs.ReplyLemmas.{calls_in-append}
+use Rattle.ck_program.specs.Devices.{IsCount}
+use Rattle.ck_program.specs.Plays.{with_call}
+use Rattle.ck_program.specs.declared.faults.PlayFault.{PlayFault}
+use Rattle.ck_program.specs.declared.faults.PlayFault.TheVariants as fault
+use Rattle.ck_program.proofs.ReplyLemmas.{calls_in-append}
 
 -- of all lines these come later, and those before have these calls
 pub record HasCallsSoFar (callers : ℕ) (lines later : List (List ℕ)) (number : ℕ)

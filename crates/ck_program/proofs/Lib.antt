@@ -1,3 +1,9 @@
 pub mod CallerCallLemmas
 pub mod CallerScriptLemmas
+pub mod LineLemmas
 pub mod NumberLemmas
+pub mod PlayLemmas
+pub mod PlayerLemmas
+pub mod ReadingLemmas
+pub mod ReplyLemmas
+pub mod WriteLemmas

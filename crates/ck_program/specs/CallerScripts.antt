@@ -12,12 +12,12 @@ use Rattle.ck_script.specs.Lines.{lines_in, meaning}
 use Rattle.ck_script.specs.declared.lines.Line.{Line}
 use Rattle.ck_script.specs.declared.lines.Line.TheVariants as line
 use Rattle.ck_program.specs.CallerCalls.{HasEntriesOf}
-use Rattle.ck_play.specs.Devices.{Reading, Writing, IsCount, wrote}
-use Rattle.ck_play.specs.Players.{WriteFailed}
-use Rattle.ck_play.specs.Plays.{calls_in}
-use Rattle.ck_play.specs.Readings.{IsReadWhole, IsUnread}
-use Rattle.ck_play.specs.declared.faults.PlayFault.{PlayFault}
-use Rattle.ck_play.specs.declared.faults.PlayFault.TheVariants as fault
+use Rattle.ck_program.specs.Devices.{Reading, Writing, IsCount, wrote}
+use Rattle.ck_program.specs.Players.{WriteFailed}
+use Rattle.ck_program.specs.Plays.{calls_in}
+use Rattle.ck_program.specs.Readings.{IsReadWhole, IsUnread}
+use Rattle.ck_program.specs.declared.faults.PlayFault.{PlayFault}
+use Rattle.ck_program.specs.declared.faults.PlayFault.TheVariants as fault
 
 -- ---- the lines of so many callers
 

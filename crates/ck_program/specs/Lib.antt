@@ -1,5 +1,12 @@
-pub use Rattle.ck_play.specs.Plays
+pub use Rattle.ck_script.specs.Lines
+pub use Rattle.ck_token.specs.TokenStates
 pub mod CallerCalls
 pub mod CallerScripts
+pub mod Devices
+pub mod Faults
+pub mod MemoryDevices
 pub mod Options
+pub mod Players
+pub mod Plays
 pub mod Programs
+pub mod Readings

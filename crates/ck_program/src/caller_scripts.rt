@@ -1,13 +1,15 @@
 //! The calls of a script that is read whole, each of one of so many callers.
 ghost use Rattle.std.specs.Prelude.{◌≡◌, ◌++◌, false, [], ◌∷◌, Some, IfOk, OnOk, IfErr};
 ghost use Rattle.ck_script.specs.Lines.{lines_in, meaning};
-ghost use Rattle.ck_play.specs.Devices.{Reading};
-ghost use Rattle.ck_play.specs.Plays.{with_call};
+ghost use Rattle.ck_program.specs.Devices.{Reading};
+ghost use Rattle.ck_program.specs.Plays.{with_call};
 ghost use Rattle.ck_program.specs.CallerScripts.{is_bad_for, AreCallsOf, IsRefusedFor, IsRefusedLine};
 ghost use Rattle.ck_program.specs.CallerScripts.{HasGoodScript, HasNoCalls};
 
+use crate::devices::Source;
+use crate::faults::PlayFault;
+use crate::readings::read_script;
 use ck_journal::Call;
-use ck_play::{PlayFault, Source, read_script};
 use ck_script::{BadLine, Line, LineError, cut_line};
 use std::alloc::Global;
 

@@ -1,15 +1,18 @@
 //! The program over any options, reader and writer.
 ghost use Rattle.std.specs.Prelude.{◌≡◌, ◌⊎◌, ◌↔◌, Ok, Err};
 ghost use Rattle.ck_program.specs.CallerScripts.{IsPlayedInThreads};
-ghost use Rattle.ck_play.specs.Devices.{Reading, Writing};
-ghost use Rattle.ck_play.specs.Faults.{status_of};
+ghost use Rattle.ck_program.specs.Devices.{Reading, Writing};
+ghost use Rattle.ck_program.specs.Faults.{status_of};
 ghost use Rattle.ck_program.specs.Programs.{IsDone};
-ghost use Rattle.ck_play.specs.declared.faults.PlayFault.{PlayFault};
+ghost use Rattle.ck_program.specs.declared.faults.PlayFault.{PlayFault};
 
 use crate::caller_scripts::read_calls;
+use crate::devices::{Sink, Source};
+use crate::faults::PlayFault;
 use crate::options::{ArgumentFault, Callers, Options};
+use crate::players::write_all;
+use crate::plays::{TURNS, play};
 use crate::thread_plays::play_calls;
-use ck_play::{PlayFault, Sink, Source, TURNS, play, write_all};
 use ck_types::Limits;
 use std::alloc::Global;
 use std::sync::Wait;

@@ -49,6 +49,23 @@ fn calls_by(alloc: Global, calls: &[(u32, Call)], number: u32) -> Result<Vec<Cal
     Ok(own)
 }
 
+/// A script of the caller's calls.
+fn script_of<K: TokenId, T: Drop>(
+    alloc: Global,
+    caller: Caller<K, T>,
+    calls: &[(u32, Call)],
+) -> Result<Script<K, T>, NoMemory>
+    requires { IsNewCaller caller }
+    ensures unplayed { IfOk result (IsUnplayed calls.now) }
+    ensures number { IfOk result (λ script. script.caller.number ≡ caller.number) }
+{
+    let own = calls_by(alloc, calls, caller.number())?;
+    match Script::new(alloc, caller, own) {
+        Ok(script) => Ok(script),
+        Err(_) => Err(NoMemory),
+    }
+}
+
 /// For each caller a script of its calls.
 fn scripts_of<K: TokenId, T: Drop>(
     alloc: Global,
@@ -62,13 +79,20 @@ fn scripts_of<K: TokenId, T: Drop>(
 {
     let mut scripts = Vec::with_capacity(alloc, callers.len())?;
     for caller in callers {
-        let own = calls_by(alloc, calls, caller.number())?;
-        match Script::new(alloc, caller, own) {
-            Ok(script) => scripts.push(script)?,
-            Err(_) => return Err(NoMemory),
-        }
+        let script = script_of(alloc, caller, calls)?;
+        scripts.push(script)?;
     }
     Ok(scripts)
+}
+
+/// The caller of a script that was played to its end.
+fn caller_of<K: TokenId, T: Drop>(script: Script<K, T>) -> Result<Caller<K, T>, NoMemory>
+    ensures made { (calls : List (ℕ × Call)) → IsPlayedAll calls script
+        → IfOk result (HasMadeAll calls) }
+    ensures number { IfOk result (λ caller. caller.number ≡ script.caller.number) }
+{
+    script.outcome()?;
+    Ok(script.into_parts().0)
 }
 
 /// The callers of scripts that were played to their ends.
@@ -83,8 +107,8 @@ fn callers_of<K: TokenId, T: Drop>(
 {
     let mut callers = Vec::with_capacity(alloc, scripts.len())?;
     for script in scripts {
-        script.outcome()?;
-        callers.push(script.into_parts().0)?;
+        let caller = caller_of(script)?;
+        callers.push(caller)?;
     }
     Ok(callers)
 }

@@ -1,8 +1,22 @@
 //! Hands what the arguments ask for, standard input and standard output to what plays scripts.
 #![tactic(auto)]
 
-use ck_play::{ReadSource, WriteSink};
-use ck_program::{ArgumentFault, Options, options_of, run};
+#[cfg(test)]
+mod devices;
+#[cfg(test)]
+mod failures;
+#[cfg(test)]
+mod faults;
+#[cfg(test)]
+mod plays;
+#[cfg(test)]
+mod programs;
+#[cfg(test)]
+mod token;
+#[cfg(test)]
+mod words;
+
+use ck_program::{ArgumentFault, Options, ReadSource, WriteSink, options_of, run};
 use std::alloc::Global;
 use std::env::Env;
 use std::process::ExitCode;

@@ -1,3 +1,2 @@
-pub mod AllCallers
 pub mod Settling
 pub mod Shown

@@ -2,7 +2,6 @@
 //! token's state without the lock.
 #![tactic(auto)]
 
-mod counts;
 mod gates;
 mod locked;
 mod shared;

@@ -1,21 +1,12 @@
-ghost use Rattle.std.specs.Prelude.{◌≡◌, ◌==◌, ◌≤◌, ℕ, [], IfOk, map};
-ghost use Rattle.std.specs.List.{list_any};
-ghost use Rattle.left_right.specs.Handles.{published, pending};
-ghost use Rattle.ck_journal.specs.Boards.{board_of};
-ghost use Rattle.ck_journal.specs.Histories.{start};
-ghost use Rattle.ck_callers.specs.Accounts.{AreNew, name_of, no_calls};
-ghost use Rattle.ck_callers.specs.Callers.{are_all, new_caller, new_callers};
-
-use crate::counts::CallerCount;
 use crate::locked::Locked;
 use ck_callers::{
-    Account, BoardCopy, CallBooks, Caller, EntrySlot, Head, KnownHistory, NewIdentity, ReadBoard,
-    Slot, TokenId, WriteBoard,
+    BoardCopy, Caller, CallerCount, EntrySlot, NewIdentity, Opened, ReadBoard, Slot, TokenId,
+    WriteBoard,
 };
-use ck_journal::{Call, Reply, TokenBoard};
+use ck_journal::{Call, Reply};
 use ck_token::Token;
 use ck_types::{Limits, NoMemory};
-use left_right::{Absorb, WriteHandle};
+use left_right::Absorb;
 use std::alloc::Global;
 use std::sync::{Mutex, Wait};
 
@@ -38,96 +29,6 @@ pub type Shared<K, R> = SharedToken<K, EntrySlot<K>, BoardCopy<K>, R>;
 
 /// A caller of such a token.
 pub type SharedCaller<K> = Caller<K, BoardCopy<K>>;
-
-/// What a shared token has beside the token, before the first call.
-#[derive(Drop)]
-struct Opened<K: TokenId, O: Slot<K>, T: Absorb<O> + ReadBoard<K> + Drop, R: Wait + Drop> {
-    books: CallBooks<K>,
-    known: KnownHistory<K>,
-    head: Head<K>,
-    writer: WriteHandle<T, O, R>,
-    callers: Vec<Caller<K, T>>,
-}
-
-/// The caller that has this account, with a reader of the board.
-fn caller_of<K: TokenId, O: Slot<K>, T: Absorb<O> + ReadBoard<K> + Drop, R: Wait + Drop>(
-    account: Account<K>,
-    known: &KnownHistory<K>,
-    writer: &WriteHandle<T, O, R>,
-) -> Result<Caller<K, T>, NoMemory>
-    requires count { account.count ≡ 0 }
-    requires known { known.now.history ≡ start K.base }
-    ensures { IfOk result (λ caller. caller ≡ new_caller K.base account) }
-{
-    let reader = writer.handle()?;
-    Ok(Caller::new(account, known, reader))
-}
-
-/// The callers that have these accounts.
-fn callers_of<K: TokenId, O: Slot<K>, T: Absorb<O> + ReadBoard<K> + Drop, R: Wait + Drop>(
-    alloc: Global,
-    accounts: Vec<Account<K>>,
-    known: &KnownHistory<K>,
-    writer: &WriteHandle<T, O, R>,
-) -> Result<Vec<Caller<K, T>>, NoMemory>
-    requires counts { AreNew accounts.items }
-    requires known { known.now.history ≡ start K.base }
-    ensures { IfOk result (λ callers. callers.items ≡ map (new_caller K.base) accounts.items) }
-{
-    let mut callers = Vec::with_capacity(alloc, accounts.len())?;
-    for account in accounts {
-        callers.push(caller_of(account, known, writer)?)?;
-    }
-    Ok(callers)
-}
-
-/// All that a shared token takes memory for when it is opened.
-fn prepare<K: TokenId, O: Slot<K>, T: WriteBoard<K, O> + Drop, R: Wait + Drop>(
-    rt: R,
-    alloc: Global,
-    board: TokenBoard,
-    callers: u32,
-    identity: NewIdentity,
-) -> Result<Opened<K, O, T, R>, NoMemory>
-    requires board { board ≡ board_of K.limits (start K.base) }
-    requires callers { (1 ≤ callers) × (callers ≤ 8) × (callers ≡ K.callers) }
-    requires history { identity.history.seen.book ≡ K.book }
-    requires ledgers { (n : ℕ) → K.ledger n ≡ name_of identity.ledgers n }
-    ensures books { IfOk result (λ opened. opened.books ≡ no_calls) }
-    ensures history { IfOk result (λ opened. opened.known.history ≡ start K.base) }
-    ensures changed { IfOk result (λ opened. opened.known.changed ≡ start K.base) }
-    ensures published { IfOk result (λ opened. T.history (published opened.writer) ≡ start K.base) }
-    ensures pending { IfOk result (λ opened. pending opened.writer ≡ []) }
-    ensures callers { IfOk result (λ opened. opened.callers.items ≡ new_callers K.base callers) }
-{
-    let NewIdentity { history, ledgers } = identity;
-    let (head, front) = history.named::<K>();
-    let (books, accounts) = ledgers.named::<K>(alloc, callers)?;
-    let known = KnownHistory::new(&front);
-    let (shown, hidden) = T::pair(&board, &known);
-    let writer = WriteHandle::new(alloc, rt, shown, hidden, callers as usize)?;
-    let callers = callers_of(alloc, accounts, &known, &writer)?;
-    Ok(Opened {
-        books,
-        known,
-        head,
-        writer,
-        callers,
-    })
-}
-
-fn has_caller<K: TokenId, T: Drop>(number: u32, callers: &[Caller<K, T>]) -> bool
-    ensures { result ≡ list_any (λ caller. caller.number == number) callers.now }
-{
-    callers.iter().any(|caller| caller.number() == number)
-}
-
-/// Whether each of the numbers 1 to `most` is that of one of the callers.
-fn are_all<K: TokenId, T: Drop>(most: u32, callers: &[Caller<K, T>]) -> bool
-    ensures { result ≡ are_all most callers.now }
-{
-    most == 0 || (has_caller(most, callers) && are_all(most - 1, callers))
-}
 
 impl<K: TokenId, O: Slot<K>, T: WriteBoard<K, O> + Drop, R: Wait + Drop> SharedToken<K, O, T, R> {
     ghost use Rattle.std.specs.Prelude.{◌≡◌, ◌≤◌, ℕ, IfOk, IfErr};
@@ -153,7 +54,7 @@ impl<K: TokenId, O: Slot<K>, T: WriteBoard<K, O> + Drop, R: Wait + Drop> SharedT
         ensures callers { IfOk result (λ ends. ends.callers.items ≡ new_callers K.base callers) }
         ensures token { IfErr result (λ refused. refused.0 ≡ token) }
     {
-        match prepare(rt, alloc, token.board(), callers, identity) {
+        match Opened::new(rt, alloc, token.board(), callers, identity) {
             Ok(opened) => Ok(Ends {
                 token: SharedToken {
                     lock: Mutex::new(Locked::new(
@@ -231,7 +132,7 @@ impl<K: TokenId, O: Slot<K>, T: Absorb<O> + ReadBoard<K> + Drop, R: Wait + Drop>
         ensures callers { IfOk result (λ token. AreCallers K.callers token.history) }
         ensures settled { IfOk result (λ token. All (IsSettled token.history) callers.items) }
     {
-        if !are_all(self.callers.get(), callers.as_slice()) {
+        if !self.callers.are_all(callers.as_slice()) {
             return Err((self, callers));
         }
         let mut locked = self.lock.into_inner();

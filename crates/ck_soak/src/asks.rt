@@ -292,25 +292,16 @@ fn check_after<K: TokenId>(
     expect(caller.count() == 0 && caller.seen() == seen && seen > first.seen())
 }
 
-/// All that three callers do. They come back, the third apart.
+/// All that three callers do. They come back.
 fn ask<K: TokenId + Send + Sync, R: Threads + Wait + Drop + Send + Sync>(
     rt: &R,
     alloc: Global,
     token: &Shared<K, R>,
     mut callers: Vec<SharedCaller<K>>,
-) -> Result<(Vec<SharedCaller<K>>, SharedCaller<K>), SoakError> {
+) -> Result<Vec<SharedCaller<K>>, SoakError> {
     let first = prepare(rt, alloc, token, callers.as_mut_slice())?;
     let mut callers = play(rt, alloc, token, callers)?;
     check_after(callers.as_mut_slice(), &first)?;
-    let third = callers.pop().ok_or(SoakError::Asked)?;
-    Ok((callers, third))
-}
-
-fn with_third<K: TokenId>(
-    mut callers: Vec<SharedCaller<K>>,
-    third: SharedCaller<K>,
-) -> Result<Vec<SharedCaller<K>>, NoMemory> {
-    callers.push(third)?;
     Ok(callers)
 }
 
@@ -330,8 +321,7 @@ fn cut_token(alloc: Global) -> Result<Token, SoakError>
     }
 }
 
-/// Three callers share the token. Without the third it isn't taken back, and all is handed back;
-/// with all it is.
+/// Three callers share the token, and it is taken back.
 fn ask_shared<K: TokenId + Send + Sync, R: Threads + Wait + Copy + Drop + Send + Sync>(
     rt: R,
     alloc: Global,
@@ -347,11 +337,8 @@ fn ask_shared<K: TokenId + Send + Sync, R: Threads + Wait + Copy + Drop + Send +
     let Ok(Ends { token, callers }) = Shared::<K, R>::adopt(rt, alloc, token, 3, identity) else {
         return Err(SoakError::Memory);
     };
-    let (callers, third) = ask(&rt, alloc, &token, callers)?;
-    let Err((token, callers)) = token.close(&rt, callers) else {
-        return Err(SoakError::Asked);
-    };
-    let Ok(token) = token.close(&rt, with_third(callers, third)?) else {
+    let callers = ask(&rt, alloc, &token, callers)?;
+    let Ok(token) = token.close(&rt, callers) else {
         return Err(SoakError::NotClosed);
     };
     check_length(&token)

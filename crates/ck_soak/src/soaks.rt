@@ -132,11 +132,11 @@ fn soak_shared<K: TokenId + Send + Sync, R: Threads + Wait + Copy + Drop + Send 
     requires ledgers { (n : ℕ) → K.ledger n ≡ name_of identity.ledgers n }
 {
     let Ends { token, mut callers } = Shared::<K, R>::open(rt, alloc, limits, 8, identity)?;
-    let all = soak(&rt, alloc, &token, callers.as_mut_slice())?;
+    let soaked = soak(&rt, alloc, &token, callers.as_mut_slice());
     let Ok(token) = token.close(&rt, callers) else {
         return Err(SoakError::NotClosed);
     };
-    check_journal(alloc, &token, all.as_slice())
+    check_journal(alloc, &token, soaked?.as_slice())
 }
 
 /// Makes the drawn calls of eight callers on a new token, and checks its journal. Says how many

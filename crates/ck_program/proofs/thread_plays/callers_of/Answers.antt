@@ -1,4 +1,4 @@
-use Rattle.std.proofs.Common.{sym, ap, ◌∙◌, subst, arith}
+use Rattle.std.proofs.Common.{sym, subst, arith}
 use Rattle.std.specs.Prelude.{All, vec_items}
 use Rattle.std.specs.Vec.Iter.{into_iter_items}
 use Rattle.std.proofs.lemmas.List.Elements.{All-push, All-tail}
@@ -13,18 +13,17 @@ loop-script-preserved g c = (
   λ calls all.
       let before = c.loop-script.invariant.2 calls all in
       let left = subst (All (IsPlayedAll calls)) c.in-Some.ensures.steps.0 before.1 in
-      let made = left 0 c.in-Some.script (omega arith) (sym c.outcome.ensures ∙ c.in_ok-outcome.was) in (
+      let made = c.in_ok-caller.ensures.made calls (left 0 c.in-Some.script (omega arith)) in (
         subst (All (HasMadeAll calls)) (sym c.in_ok-push.ensures.items)
-            (All-push (HasMadeAll calls) (vec_items c.loop-script.callers) c.into_parts.result.0 before.0
-            (subst (HasMadeAll calls) (sym (ap (λ p. p.0) c.into_parts.ensures)) made)),
+            (All-push (HasMadeAll calls) (vec_items c.loop-script.callers) c.in_ok-caller.caller before.0 made),
         All-tail (IsPlayedAll calls) c.in-Some.script (into_iter_items c.next.new.self) left,
       ),
   one_moved (λ x. x.number) (λ s. s.caller.number) (vec_items c.loop-script.callers)
-      _ c.into_parts.result.0
+      _ c.in_ok-caller.caller
       (into_iter_items c.loop-script.script-iterator) (into_iter_items c.next.new.self)
       c.in-Some.script (script_numbers (vec_items c.args.scripts)) c.loop-script.invariant.3
       c.in-Some.ensures.steps.0 c.in_ok-push.ensures.items
-      (ap (λ p. p.0.number) c.into_parts.ensures),
+      c.in_ok-caller.ensures.number,
 )
 
 pub returns-clause-made : goal.returns-clause-made

@@ -3,7 +3,7 @@ use Rattle.ck_journal.specs.Answers.{IsLegal}
 use Rattle.ck_journal.specs.Histories.{entry_count}
 use Rattle.ck_journal.proofs.FrontLemmas.{front_refl}
 use Rattle.ck_callers.specs.Callers.{CallerState, IsNextCall}
-use Rattle.ck_callers.proofs.Steps.{count_fits, count_next, called}
+use Rattle.ck_callers.proofs.Following.{count_fits, count_next, called}
 use Rattle.ck_callers.proofs.callers.Caller.follow.Goals as goal
 
 pub count-requires : goal.count-requires

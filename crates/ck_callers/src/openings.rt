@@ -1,0 +1,105 @@
+//! What is made where a token comes to be shared.
+ghost use Rattle.std.specs.Prelude.{◌≡◌, IfOk, map};
+ghost use Rattle.ck_journal.specs.Histories.{start};
+ghost use Rattle.ck_callers.specs.Accounts.{AreNew};
+ghost use Rattle.ck_callers.specs.Callers.{new_caller};
+
+use crate::boards::{ReadBoard, WriteBoard};
+use crate::callers::Caller;
+use crate::histories::Head;
+use crate::identity::{NewIdentity, TokenId};
+use crate::known_histories::KnownHistory;
+use crate::ledgers::{Account, CallBooks};
+use crate::slots::Slot;
+use ck_journal::TokenBoard;
+use ck_types::NoMemory;
+use left_right::{Absorb, WriteHandle};
+use std::alloc::Global;
+use std::sync::Wait;
+
+/// What a shared token has beside the token, and its callers, before the first call.
+#[derive(Drop)]
+pub struct Opened<K: TokenId, O: Slot<K>, T: Absorb<O> + ReadBoard<K> + Drop, R: Wait + Drop> {
+    pub books: CallBooks<K>,
+    pub known: KnownHistory<K>,
+    pub head: Head<K>,
+    /// The board's writer.
+    pub writer: WriteHandle<T, O, R>,
+    pub callers: Vec<Caller<K, T>>,
+}
+
+/// The caller that has this account, with a reader of the board.
+fn caller_of<K: TokenId, O: Slot<K>, T: Absorb<O> + ReadBoard<K> + Drop, R: Wait + Drop>(
+    account: Account<K>,
+    known: &KnownHistory<K>,
+    writer: &WriteHandle<T, O, R>,
+) -> Result<Caller<K, T>, NoMemory>
+    requires count { account.count ≡ 0 }
+    requires known { known.now.history ≡ start K.base }
+    ensures { IfOk result (λ caller. caller ≡ new_caller K.base account) }
+{
+    let reader = writer.handle()?;
+    Ok(Caller::new(account, known, reader))
+}
+
+/// The callers that have these accounts.
+fn callers_of<K: TokenId, O: Slot<K>, T: Absorb<O> + ReadBoard<K> + Drop, R: Wait + Drop>(
+    alloc: Global,
+    accounts: Vec<Account<K>>,
+    known: &KnownHistory<K>,
+    writer: &WriteHandle<T, O, R>,
+) -> Result<Vec<Caller<K, T>>, NoMemory>
+    requires counts { AreNew accounts.items }
+    requires known { known.now.history ≡ start K.base }
+    ensures { IfOk result (λ callers. callers.items ≡ map (new_caller K.base) accounts.items) }
+{
+    let mut callers = Vec::with_capacity(alloc, accounts.len())?;
+    for account in accounts {
+        callers.push(caller_of(account, known, writer)?)?;
+    }
+    Ok(callers)
+}
+
+impl<K: TokenId, O: Slot<K>, T: WriteBoard<K, O> + Drop, R: Wait + Drop> Opened<K, O, T, R> {
+    ghost use Rattle.std.specs.Prelude.{◌≡◌, ◌≤◌, ℕ, [], IfOk};
+    ghost use Rattle.left_right.specs.Handles.{published, pending};
+    ghost use Rattle.ck_journal.specs.Boards.{board_of};
+    ghost use Rattle.ck_journal.specs.Histories.{start};
+    ghost use Rattle.ck_callers.specs.Accounts.{name_of, no_calls};
+    ghost use Rattle.ck_callers.specs.Callers.{new_callers};
+
+    /// All that a shared token takes memory for when it is opened with this board.
+    pub fn new(
+        rt: R,
+        alloc: Global,
+        board: TokenBoard,
+        callers: u32,
+        identity: NewIdentity,
+    ) -> Result<Opened<K, O, T, R>, NoMemory>
+        requires board { board ≡ board_of K.limits (start K.base) }
+        requires callers { (1 ≤ callers) × (callers ≤ 8) × (callers ≡ K.callers) }
+        requires history { identity.history.seen.book ≡ K.book }
+        requires ledgers { (n : ℕ) → K.ledger n ≡ name_of identity.ledgers n }
+        ensures books { IfOk result (λ opened. opened.books ≡ no_calls) }
+        ensures history { IfOk result (λ opened. opened.known.history ≡ start K.base) }
+        ensures changed { IfOk result (λ opened. opened.known.changed ≡ start K.base) }
+        ensures published { IfOk result (λ opened. T.history (published opened.writer) ≡ start K.base) }
+        ensures pending { IfOk result (λ opened. pending opened.writer ≡ []) }
+        ensures callers { IfOk result (λ opened. opened.callers.items ≡ new_callers K.base callers) }
+    {
+        let NewIdentity { history, ledgers } = identity;
+        let (head, front) = history.named::<K>();
+        let (books, accounts) = ledgers.named::<K>(alloc, callers)?;
+        let known = KnownHistory::new(&front);
+        let (shown, hidden) = T::pair(&board, &known);
+        let writer = WriteHandle::new(alloc, rt, shown, hidden, callers as usize)?;
+        let callers = callers_of(alloc, accounts, &known, &writer)?;
+        Ok(Opened {
+            books,
+            known,
+            head,
+            writer,
+            callers,
+        })
+    }
+}
