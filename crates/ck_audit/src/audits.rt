@@ -5,8 +5,7 @@ ghost use Rattle.ck_audit.specs.Verdicts.{IsFirstWrong, IsVerdict};
 ghost use Rattle.ck_audit.specs.declared.audits.Verdict.TheVariants as verdict;
 
 use crate::comparisons::are_same_replies;
-use ck_journal::{Entry, Journal};
-use ck_token::Token;
+use ck_journal::{Entry, Journal, JournaledToken};
 use ck_types::{Limits, NoMemory};
 use std::alloc::Global;
 
@@ -21,32 +20,43 @@ pub enum Verdict {
 
 /// Audits a journal: starts a token of these limits from its base, makes the calls again and
 /// compares each reply. It takes memory for that token and its journal, and time for each entry.
-pub fn audit(alloc: Global, journal: &Journal, limits: Limits) -> Result<Verdict, NoMemory>
+/// Which kind of token it is makes no difference to what is found.
+pub fn audit<G: JournaledToken>(
+    alloc: Global,
+    journal: &Journal,
+    limits: Limits,
+) -> Result<Verdict, NoMemory>
     ensures legal { IfOk result (λ found.
         (found ≡ verdict.Legal) ↔ IsLegal limits journal.now.history) }
     ensures wrong { IfOk result (λ found. (number : ℕ)
         → (found ≡ verdict.Wrong number) ↔ IsFirstWrong limits journal.now.history number) }
 {
     let base = journal.base().clone()?;
-    let token = Token::from_base(alloc, limits, base)?;
+    let token = G::from_base(alloc, limits, base)?;
     replay(alloc, token, journal)
 }
 
 /// Audits the journal of a token, which is legal: every token keeps that.
-pub fn audit_token(alloc: Global, token: &Token) -> Result<Verdict, NoMemory>
+pub fn audit_token<G: JournaledToken>(alloc: Global, token: &G) -> Result<Verdict, NoMemory>
     ensures { IfOk result (λ found. found ≡ verdict.Legal) }
 {
-    audit(alloc, token.journal(), token.limits())
+    audit::<G>(alloc, token.journal(), token.limits())
 }
 
 /// Makes the call of an entry, and says whether it is answered as the entry has it.
-fn repeat_call(token: &mut Token, alloc: Global, entry: &Entry) -> Result<bool, NoMemory>
+fn repeat_call<G: JournaledToken>(
+    token: &mut G,
+    alloc: Global,
+    entry: &Entry,
+) -> Result<bool, NoMemory>
     ensures same { IfOk result (λ same. IsTrue same
-        ↔ (entry.now.reply ≡ answer token.old.limits token.old.history entry.now.call)) }
+        ↔ (entry.now.reply
+        ≡ answer (G.state token.old).limits (G.state token.old).history entry.now.call)) }
     ensures entered { IfOk result (λ same. IsTrue same
-        → token.new.history ≡ entry.now ◁ token.old.history) }
-    ensures limits { OnOk result (token.new.limits ≡ token.old.limits) }
-    ensures legal { OnOk result (IsLegal token.new.limits token.new.history) }
+        → (G.state token.new).history ≡ entry.now ◁ (G.state token.old).history) }
+    ensures limits { OnOk result ((G.state token.new).limits ≡ (G.state token.old).limits) }
+    ensures legal { OnOk result
+        (IsLegal (G.state token.new).limits (G.state token.new).history) }
 {
     let call = entry.call.clone()?;
     let reply = token.call(alloc, entry.caller, call)?;
@@ -55,9 +65,14 @@ fn repeat_call(token: &mut Token, alloc: Global, entry: &Entry) -> Result<bool, 
 
 /// Makes the calls of a journal on a token that starts from its base, up to the first that is
 /// answered otherwise.
-fn replay(alloc: Global, mut token: Token, journal: &Journal) -> Result<Verdict, NoMemory>
-    requires { token.history ≡ start (start_of journal.now.history) }
-    ensures { IfOk result (λ found. IsVerdict token.limits journal.now.history found) }
+fn replay<G: JournaledToken>(
+    alloc: Global,
+    mut token: G,
+    journal: &Journal,
+) -> Result<Verdict, NoMemory>
+    requires { (G.state token).history ≡ start (start_of journal.now.history) }
+    ensures { IfOk result (λ found.
+        IsVerdict (G.state token).limits journal.now.history found) }
 {
     let entries = journal.entries();
     for (index, entry) in entries.iter().enumerate() {

@@ -97,7 +97,7 @@ fn give<K: TokenId>(workers: &mut [Worker<K>], task: Task) {
 fn ask_times<K: TokenId + Send + Sync, R: Clock + Threads + Wait + Drop + Send + Sync>(
     rt: &R,
     alloc: Global,
-    token: &Shared<K, R>,
+    token: &Shared<K, Token, R>,
     workers: &mut [Worker<K>],
     effort: Effort,
 ) -> Result<(u128, u128), Failed> {
@@ -112,7 +112,7 @@ fn ask_times<K: TokenId + Send + Sync, R: Clock + Threads + Wait + Drop + Send +
 fn time_beside<K: TokenId + Send + Sync, R: Clock + Threads + Wait + Drop + Send + Sync>(
     rt: &R,
     alloc: Global,
-    token: &Shared<K, R>,
+    token: &Shared<K, Token, R>,
     workers: &mut [Worker<K>],
     effort: Effort,
 ) -> Result<u128, Failed> {
@@ -128,7 +128,7 @@ fn time_beside<K: TokenId + Send + Sync, R: Clock + Threads + Wait + Drop + Send
 fn thread_times<K: TokenId + Send + Sync, R: Clock + Threads + Wait + Drop + Send + Sync>(
     rt: &R,
     alloc: Global,
-    token: &Shared<K, R>,
+    token: &Shared<K, Token, R>,
     workers: &mut [Worker<K>],
     effort: Effort,
 ) -> Result<ThreadTimes, Failed> {
@@ -148,7 +148,7 @@ fn thread_times<K: TokenId + Send + Sync, R: Clock + Threads + Wait + Drop + Sen
 fn times_of<K: TokenId + Send + Sync, R: Clock + Threads + Wait + Drop + Send + Sync>(
     rt: &R,
     alloc: Global,
-    token: &Shared<K, R>,
+    token: &Shared<K, Token, R>,
     workers: &mut [Worker<K>],
     effort: Effort,
 ) -> Result<(CallTimes, ThreadTimes), Failed> {
@@ -185,7 +185,7 @@ fn times_shared<K: TokenId + Send + Sync, R: Clock + Threads + Wait + Copy + Dro
     requires book { identity.history.seen.book ≡ K.book }
     requires ledgers { (n : ℕ) → K.ledger n ≡ name_of identity.ledgers n }
 {
-    let Ends { token, callers } = Shared::<K, R>::open(rt, alloc, limits, 4, identity)?;
+    let Ends { token, callers } = Shared::<K, Token, R>::open(rt, alloc, limits, 4, identity)?;
     let mut workers = workers_of(alloc, callers)?;
     times_of(&rt, alloc, &token, workers.as_mut_slice(), effort)
 }

@@ -3,6 +3,7 @@ use crate::rounds::{Failed, Kind, READ_WRITE, Target, make_rounds, round};
 use ck_callers::{Ask, Status, TokenId};
 use ck_journal::{Body, Call, Reply};
 use ck_shared::{Shared, SharedCaller};
+use ck_token::Token;
 use ck_types::{NoMemory, Rv};
 use crossbeam_utils::CachePadded;
 use std::alloc::Global;
@@ -16,7 +17,7 @@ use std::time::{Clock, Instant};
 #[derive(Drop)]
 pub(crate) struct SharedTarget<'a, K: TokenId, R: Wait + Drop> {
     pub(crate) rt: &'a R,
-    pub(crate) token: &'a Shared<K, R>,
+    pub(crate) token: &'a Shared<K, Token, R>,
     pub(crate) caller: &'a mut SharedCaller<K>,
 }
 
@@ -100,7 +101,7 @@ fn change_until<K: TokenId, R: Wait + Drop>(
 fn do_task<K: TokenId, R: Wait + Drop>(
     rt: &R,
     alloc: Global,
-    token: &Shared<K, R>,
+    token: &Shared<K, Token, R>,
     worker: &mut Worker<K>,
     is_done: &AtomicBool,
 ) -> Result<(), Failed> {
@@ -122,7 +123,7 @@ fn do_task<K: TokenId, R: Wait + Drop>(
 fn work<K: TokenId, R: Clock + Wait + Drop>(
     rt: &R,
     alloc: Global,
-    token: &Shared<K, R>,
+    token: &Shared<K, Token, R>,
     worker: &mut Worker<K>,
     is_done: &AtomicBool,
 ) -> Result<u128, Failed> {
@@ -144,7 +145,7 @@ fn slowest<K: TokenId>(workers: &[Worker<K>]) -> Result<u128, Failed> {
 fn time_together<K: TokenId + Send + Sync, R: Clock + Threads + Wait + Drop + Send + Sync>(
     rt: &R,
     alloc: Global,
-    token: &Shared<K, R>,
+    token: &Shared<K, Token, R>,
     workers: &mut [Worker<K>],
 ) -> Result<u128, Failed> {
     let is_done = AtomicBool::new(false);
@@ -171,7 +172,7 @@ pub(crate) fn best_together<
 >(
     rt: &R,
     alloc: Global,
-    token: &Shared<K, R>,
+    token: &Shared<K, Token, R>,
     workers: &mut [Worker<K>],
     tries: u64,
 ) -> Result<u128, Failed> {

@@ -2,6 +2,7 @@
 use crate::case_errors::CaseError;
 use ck_audit::{Verdict, audit};
 use ck_journal::{Body, Entry, Journal, Reply};
+use ck_token::Token;
 use ck_types::{Bytes, Limits, NoMemory, Rv, RvError, Sequence};
 use std::alloc::Global;
 
@@ -107,7 +108,7 @@ fn check_change(
     part: Part,
 ) -> Result<(), CaseError> {
     let changed = changed_journal(alloc, journal, number, part)?;
-    if audit(alloc, &changed, limits)? == Verdict::Wrong(number) {
+    if audit::<Token>(alloc, &changed, limits)? == Verdict::Wrong(number) {
         return Ok(());
     }
     Err(CaseError::ChangeNotFound(number))

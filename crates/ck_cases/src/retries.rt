@@ -94,11 +94,11 @@ impl RetryingToken {
     /// Audits the journal as one of a token of these limits.
     pub(crate) fn audit(&mut self, alloc: Global, limits: Limits) -> Result<Verdict, CaseError> {
         let entries = self.token.journal().len();
-        if let Ok(verdict) = audit(alloc, self.token.journal(), limits) {
+        if let Ok(verdict) = audit::<Token>(alloc, self.token.journal(), limits) {
             return Ok(verdict);
         }
         self.retry(entries)?;
-        Ok(audit(alloc, self.token.journal(), limits)?)
+        Ok(audit::<Token>(alloc, self.token.journal(), limits)?)
     }
 
     /// Cuts the journal, or says why it isn't cut.

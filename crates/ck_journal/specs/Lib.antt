@@ -18,3 +18,4 @@ pub mod Queries
 pub mod Replies
 pub mod Searches
 pub mod Sessions
+pub mod TokenStates

@@ -11,6 +11,7 @@ pub mod laws;
 mod operations;
 mod replies;
 mod session_flags;
+mod tokens;
 mod views;
 
 pub use bases::{Base, KeptObject};
@@ -21,4 +22,5 @@ pub use journals::Journal;
 pub use operations::{OperationKind, is_long_piece};
 pub use replies::{Answer, Body, Reply};
 pub use session_flags::{RW_SESSION, SERIAL_SESSION, is_read_write};
+pub use tokens::JournaledToken;
 pub use views::{View, number_of_handle};

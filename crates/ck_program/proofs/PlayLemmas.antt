@@ -6,7 +6,7 @@ use Rattle.std.proofs.lemmas.List.{append-nil, length_push}
 use Rattle.std.specs.Prelude.{◌==◌, if◌then◌else◌}
 use Rattle.ck_types.specs.TokenLimits.{Ranges}
 use Rattle.ck_script.specs.Lines.{lines_in}
-use Rattle.ck_token.specs.TokenStates.{TokenState}
+use Rattle.ck_journal.specs.TokenStates.{TokenState}
 use Rattle.ck_program.specs.Devices.{Reading, Writing, end_read, failed_read, read_on}
 use Rattle.ck_program.specs.Players.{HasAnswered, IsStopped, IsAnsweredSoFar, IsReading, IsTurn}
 use Rattle.ck_program.specs.Players.{IsOfLine, onto}

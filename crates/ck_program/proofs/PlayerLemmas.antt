@@ -12,7 +12,7 @@ use Rattle.ck_script.specs.Replies.{reply_text}
 use Rattle.ck_script.specs.declared.line_errors.BadLine.{BadLine}
 use Rattle.ck_script.specs.declared.lines.Line.TheVariants as line
 use Rattle.ck_script.specs.declared.lines.TheConstants.{LONGEST_LINE}
-use Rattle.ck_token.specs.TokenStates.{TokenState}
+use Rattle.ck_journal.specs.TokenStates.{TokenState}
 use Rattle.ck_program.specs.Devices.{Writing, wrote, failed_write, IsCount}
 use Rattle.ck_program.specs.Players.{HasAnswered, IsStopped, IsUnwritten, WriteFailed, IsCalled}
 use Rattle.ck_program.specs.Players.{IsRefused, next_number}

@@ -8,7 +8,7 @@ use Rattle.ck_journal.specs.declared.calls.Call.{Call}
 use Rattle.ck_script.specs.Lines.{meaning}
 use Rattle.ck_script.specs.declared.lines.Line.{Line}
 use Rattle.ck_script.specs.declared.lines.Line.TheVariants as line
-use Rattle.ck_token.specs.TokenStates.{after}
+use Rattle.ck_journal.specs.TokenStates.{after}
 use Rattle.ck_program.specs.Plays.{calls_in, with_call, called, history_of, AreGood, is_bad}
 
 with_call-append : (m : Option Line) (cs ds : List (ℕ × Call))

@@ -1,5 +1,5 @@
 pub use Rattle.ck_script.specs.Lines
-pub use Rattle.ck_token.specs.TokenStates
+pub use Rattle.ck_journal.specs.TokenStates
 pub mod CallerCalls
 pub mod CallerScripts
 pub mod Devices

@@ -7,7 +7,7 @@ use Rattle.ck_journal.specs.declared.calls.Call.{Call}
 use Rattle.ck_script.specs.Lines.{lines_in}
 use Rattle.ck_script.specs.Replies.{reply_text}
 use Rattle.ck_script.specs.declared.lines.TheConstants.{LONGEST_LINE}
-use Rattle.ck_token.specs.TokenStates.{TokenState}
+use Rattle.ck_journal.specs.TokenStates.{TokenState}
 use Rattle.ck_program.specs.Devices.{Reading, Writing, wrote, failed_write, IsCount}
 use Rattle.ck_program.specs.Plays.{AreGood, called, history_of, output_of, Outcome, failed_writes}
 use Rattle.ck_program.specs.Plays.{is_over, after_reads, IsPlayed}

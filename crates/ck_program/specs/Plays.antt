@@ -10,7 +10,7 @@ use Rattle.ck_script.specs.Replies.{reply_text}
 use Rattle.ck_script.specs.declared.lines.Line.{Line}
 use Rattle.ck_script.specs.declared.lines.Line.TheVariants as line
 use Rattle.ck_script.specs.declared.lines.TheConstants.{LONGEST_LINE}
-use Rattle.ck_token.specs.TokenStates.{after, entry_of}
+use Rattle.ck_journal.specs.TokenStates.{after, entry_of}
 use Rattle.ck_program.specs.Devices.{Reading, Writing, IsCount}
 use Rattle.ck_program.specs.declared.faults.PlayFault.{PlayFault}
 use Rattle.ck_program.specs.declared.faults.PlayFault.TheVariants as fault

@@ -117,7 +117,7 @@ fn callers_of<K: TokenId, T: Drop>(
 fn play_scripts<K: TokenId + Send + Sync, R: Threads + Wait + Copy + Drop + Send + Sync>(
     rt: R,
     alloc: Global,
-    token: &Shared<K, R>,
+    token: &Shared<K, Token, R>,
     callers: Vec<SharedCaller<K>>,
     calls: &[(u32, Call)],
 ) -> Result<Vec<SharedCaller<K>>, NoMemory>
@@ -150,7 +150,9 @@ fn play_shared<K: TokenId + Send + Sync, R: Threads + Wait + Copy + Drop + Send 
     ensures all { IfOk result (λ token. (number : ℕ) → 1 ≤ number → number ≤ callers
         → HasEntriesOf calls.now number token.history) }
 {
-    let Ends { token, callers } = Shared::<K, R>::open(rt, alloc, limits, callers, identity)?;
+    let Ends { token, callers } = Shared::<K, Token, R>::open(
+        rt, alloc, limits, callers, identity,
+    )?;
     let callers = play_scripts(rt, alloc, &token, callers, calls)?;
     match token.close(&rt, callers) {
         Ok(token) => Ok(token),

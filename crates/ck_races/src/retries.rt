@@ -70,7 +70,7 @@ fn is_as_wanted<K: TokenId>(
 fn make_call<K: TokenId, R: Wait + Drop>(
     rt: &R,
     alloc: Global,
-    token: &Shared<K, R>,
+    token: &Shared<K, Token, R>,
     caller: &mut SharedCaller<K>,
     call: Call,
     entries: u64,
@@ -89,7 +89,7 @@ fn make_call<K: TokenId, R: Wait + Drop>(
 struct Retrying<'a, K: TokenId, R: Wait + Drop> {
     rt: &'a R,
     alloc: Global,
-    token: &'a Shared<K, R>,
+    token: &'a Shared<K, Token, R>,
     callers: &'a mut [SharedCaller<K>],
     answered: u64,
 }
@@ -148,7 +148,7 @@ impl<'a, K: TokenId, R: Wait + Drop> Retrying<'a, K, R> {
 fn make_steps<K: TokenId, R: Wait + Drop>(
     rt: &R,
     alloc: Global,
-    token: &Shared<K, R>,
+    token: &Shared<K, Token, R>,
     callers: &mut [SharedCaller<K>],
     race: &Race,
 ) -> Result<u64, RaceError> {
@@ -194,7 +194,7 @@ fn retry_shared<K: TokenId, R: Wait + Copy + Drop>(
     requires book { identity.history.seen.book ≡ K.book }
     requires ledgers { (n : ℕ) → K.ledger n ≡ name_of identity.ledgers n }
 {
-    let ends = Shared::<K, R>::adopt(rt, alloc, token, 8, identity);
+    let ends = Shared::<K, Token, R>::adopt(rt, alloc, token, 8, identity);
     let Ok(Ends { token, mut callers }) = ends else {
         return Err(RaceError::Memory);
     };

@@ -62,7 +62,7 @@ fn check_outcomes<K: TokenId>(scripts: &[Script<K, BoardCopy<K>>]) -> Result<(),
 fn run_together<K: TokenId + Send + Sync, R: Threads + Wait + Drop + Send + Sync>(
     rt: &R,
     alloc: Global,
-    token: &Shared<K, R>,
+    token: &Shared<K, Token, R>,
     scripts: &mut [Script<K, BoardCopy<K>>],
     order: &[u32],
 ) -> Result<(), RaceError> {
@@ -102,7 +102,7 @@ fn callers_of<K: TokenId>(
 fn make_together<K: TokenId + Send + Sync, R: Threads + Wait + Drop + Send + Sync>(
     rt: &R,
     alloc: Global,
-    token: &Shared<K, R>,
+    token: &Shared<K, Token, R>,
     callers: Vec<SharedCaller<K>>,
     steps: &[Step],
     order: &[u32],
@@ -130,7 +130,8 @@ fn run_shared<K: TokenId + Send + Sync, R: Threads + Wait + Copy + Drop + Send +
     requires book { identity.history.seen.book ≡ K.book }
     requires ledgers { (n : ℕ) → K.ledger n ≡ name_of identity.ledgers n }
 {
-    let Ok(Ends { token, callers }) = Shared::<K, R>::adopt(rt, alloc, token, 8, identity) else {
+    let Ok(Ends { token, callers }) = Shared::<K, Token, R>::adopt(rt, alloc, token, 8, identity)
+    else {
         return Err(RaceError::Memory);
     };
     let steps = race.steps.as_slice();

@@ -4,7 +4,7 @@ use Rattle.ck_types.specs.TokenLimits.{Ranges}
 use Rattle.ck_journal.specs.Callers.{call_counts, AreCallers}
 use Rattle.ck_journal.specs.Histories.{History}
 use Rattle.ck_callers.specs.KnownHistories.{KnownState, Covers}
-use Rattle.ck_token.specs.TokenStates.{TokenState}
+use Rattle.ck_journal.specs.TokenStates.{TokenState}
 
 -- the token has these limits and no other callers; the books and what is known are of its history,
 -- and what was published has the same board

@@ -1,14 +1,19 @@
 use crate::shared::SharedToken;
 use ck_callers::{Ask, Caller, Gate, ReadBoard, Slot, Status, TokenId};
-use ck_journal::{Call, Reply};
+use ck_journal::{Call, JournaledToken, Reply};
 use ck_types::NoMemory;
 use left_right::Absorb;
 use std::alloc::Global;
 use std::sync::Wait;
 
 /// A shared token answers the calls of a run, each under its lock.
-impl<K: TokenId, O: Slot<K>, T: Absorb<O> + ReadBoard<K> + Drop, R: Wait + Drop> Gate<K, T>
-    for SharedToken<K, O, T, R> {
+impl<
+    K: TokenId,
+    G: JournaledToken,
+    O: Slot<K>,
+    T: Absorb<O> + ReadBoard<K> + Drop,
+    R: Wait + Drop,
+> Gate<K, T> for SharedToken<K, G, O, T, R> {
     fn call<W: Wait>(
         &self,
         rt: &W,

@@ -6,8 +6,7 @@ ghost use Rattle.ck_callers.specs.KnownHistories.{Covers};
 ghost use Rattle.ck_journal.specs.declared.calls.Entry.{Entry};
 
 use ck_callers::{CallBooks, Caller, Front, Head, KnownHistory, ReadBoard, Slot, TokenId};
-use ck_journal::{Call, Reply};
-use ck_token::Token;
+use ck_journal::{Call, JournaledToken, Reply};
 use ck_types::NoMemory;
 use left_right::{Absorb, WriteHandle};
 use std::alloc::Global;
@@ -17,30 +16,41 @@ use std::sync::Wait;
 /// What lies under the lock: the token, and what ties it to its callers and to the board. Contracts
 /// see the token.
 #[derive(Drop)]
-pub struct Locked<K: TokenId, O: Slot<K>, T: Absorb<O> + ReadBoard<K> + Drop, R: Wait + Drop> {
-    token: Token,
+pub struct Locked<
+    K: TokenId,
+    G: JournaledToken,
+    O: Slot<K>,
+    T: Absorb<O> + ReadBoard<K> + Drop,
+    R: Wait + Drop,
+> {
+    token: G,
     books: CallBooks<K>,
     known: KnownHistory<K>,
     head: Head<K>,
     writer: WriteHandle<T, O, R>,
 }
 
-impl<K: TokenId, O: Slot<K>, T: Absorb<O> + ReadBoard<K> + Drop, R: Wait + Drop> Model
-    for Locked<K, O, T, R> {
+impl<
+    K: TokenId,
+    G: JournaledToken,
+    O: Slot<K>,
+    T: Absorb<O> + ReadBoard<K> + Drop,
+    R: Wait + Drop,
+> Model for Locked<K, G, O, T, R> {
     ghost use Rattle.std.specs.Prelude.{◌≡◌, []};
     ghost use Rattle.std.specs.Coded.{codes};
     ghost use Rattle.left_right.specs.Handles.{published, pending};
     ghost use Rattle.ck_journal.specs.HistoryCode.{history_code};
-    ghost use Rattle.ck_token.specs.TokenStates.{TokenState};
+    ghost use Rattle.ck_journal.specs.TokenStates.{TokenState};
     ghost use Rattle.ck_shared.specs.Locked.{IsTied};
 
     ghost Value = { TokenState };
 
     ghost coded = { Prim.hlevel (codes, history_code) };
 
-    ghost view = { λ l. l.token };
+    ghost view = { λ l. G.state l.token };
 
-    ghost invariant = { λ l. IsTied K.limits K.callers l.token l.books l.known
+    ghost invariant = { λ l. IsTied K.limits K.callers (G.state l.token) l.books l.known
         (T.history (published l.writer)) × (pending l.writer ≡ []) };
 }
 
@@ -83,15 +93,16 @@ fn show<K: TokenId, O: Slot<K>, T: Absorb<O> + ReadBoard<K> + Drop, R: Wait + Dr
 }
 
 /// Shows the token's board by way of a slot. Where there is none, it is shown already.
-fn show_by<K: TokenId, O: Slot<K>, T: Absorb<O> + ReadBoard<K> + Drop, R: Wait + Drop, W: Wait>(
-    rt: &W,
-    writer: &mut WriteHandle<T, O, R>,
-    slot: Option<O>,
-    token: &Token,
-    known: &KnownHistory<K>,
-)
-    requires limits { token.now.limits ≡ K.limits }
-    requires history { known.now.history ≡ token.now.history }
+fn show_by<
+    K: TokenId,
+    G: JournaledToken,
+    O: Slot<K>,
+    T: Absorb<O> + ReadBoard<K> + Drop,
+    R: Wait + Drop,
+    W: Wait,
+>(rt: &W, writer: &mut WriteHandle<T, O, R>, slot: Option<O>, token: &G, known: &KnownHistory<K>)
+    requires limits { (G.state token.now).limits ≡ K.limits }
+    requires history { known.now.history ≡ (G.state token.now).history }
     requires shown { IfNone slot (Covers known.now (T.history (published writer.old))
         × (pending writer.old ≡ [])) }
     ensures board { Covers known.now (T.history (published writer.new)) }
@@ -104,17 +115,17 @@ fn show_by<K: TokenId, O: Slot<K>, T: Absorb<O> + ReadBoard<K> + Drop, R: Wait +
 }
 
 /// Adds the token's newest entry to the history. The other front is then one of the history before.
-fn extend<K: TokenId, W: Wait>(
+fn extend<K: TokenId, G: JournaledToken, W: Wait>(
     rt: &W,
     front: &mut Front<K>,
     head: &Head<K>,
     other: &Front<K>,
-    token: &Token,
+    token: &G,
 )
-    requires limits { token.now.limits ≡ K.limits }
+    requires limits { (G.state token.now).limits ≡ K.limits }
     requires room { entry_count front.old < 2 ^ 64 - 1 }
-    requires next { (e : Entry) × (token.now.history ≡ e ◁ front.old) }
-    ensures { (front.new ≡ token.now.history) × IsFront other.now front.old }
+    requires next { (e : Entry) × ((G.state token.now).history ≡ e ◁ front.old) }
+    ensures { (front.new ≡ (G.state token.now).history) × IsFront other.now front.old }
 {
     for _ in rt.forever() {
         if let Some(entry) = token.journal().newest() {
@@ -138,31 +149,32 @@ fn await_front<K: TokenId, W: Wait>(rt: &W, other: &Front<K>, front: &Front<K>)
     unreachable!()
 }
 
-impl<K: TokenId, O: Slot<K>, T: Absorb<O> + ReadBoard<K> + Drop, R: Wait + Drop> Locked<
-    K,
-    O,
-    T,
-    R,
-> {
+impl<
+    K: TokenId,
+    G: JournaledToken,
+    O: Slot<K>,
+    T: Absorb<O> + ReadBoard<K> + Drop,
+    R: Wait + Drop,
+> Locked<K, G, O, T, R> {
     ghost use Rattle.std.specs.Prelude.{◌≡◌, [], IfOk, OnOk, OnErr};
     ghost use Rattle.left_right.specs.Handles.{published, pending};
     ghost use Rattle.ck_journal.specs.Callers.{AreCallers};
-    ghost use Rattle.ck_token.specs.TokenStates.{IsAnswered, IsUnchanged};
+    ghost use Rattle.ck_journal.specs.TokenStates.{IsAnswered, IsUnchanged};
     ghost use Rattle.ck_callers.specs.Callers.{HasCalled, IsSettled};
     ghost use Rattle.ck_shared.specs.Locked.{IsTied};
 
     /// Ties a token to its callers and to the board.
     pub(crate) fn new(
-        token: Token,
+        token: G,
         books: CallBooks<K>,
         known: KnownHistory<K>,
         head: Head<K>,
         writer: WriteHandle<T, O, R>,
-    ) -> Locked<K, O, T, R>
-        requires tied { IsTied K.limits K.callers token books known
+    ) -> Locked<K, G, O, T, R>
+        requires tied { IsTied K.limits K.callers (G.state token) books known
             (T.history (published writer)) }
         requires pending { pending writer ≡ [] }
-        ensures { result ≡ token }
+        ensures { result ≡ G.state token }
     {
         Locked {
             token,
@@ -184,10 +196,10 @@ impl<K: TokenId, O: Slot<K>, T: Absorb<O> + ReadBoard<K> + Drop, R: Wait + Drop>
     }
 
     /// The token without its lock. It waits for those who still read the board.
-    pub(crate) fn into_token(self) -> Token
-        ensures token { result ≡ self }
-        ensures limits { result.limits ≡ K.limits }
-        ensures callers { AreCallers K.callers result.history }
+    pub(crate) fn into_token(self) -> G
+        ensures token { G.state result ≡ self }
+        ensures limits { (G.state result).limits ≡ K.limits }
+        ensures callers { AreCallers K.callers (G.state result).history }
     {
         self.token
     }

@@ -3,8 +3,7 @@ use ck_callers::{
     BoardCopy, Caller, CallerCount, EntrySlot, NewIdentity, Opened, ReadBoard, Slot, TokenId,
     WriteBoard,
 };
-use ck_journal::{Call, Reply};
-use ck_token::Token;
+use ck_journal::{Call, JournaledToken, Reply};
 use ck_types::{Limits, NoMemory};
 use left_right::Absorb;
 use std::alloc::Global;
@@ -12,25 +11,43 @@ use std::sync::{Mutex, Wait};
 
 /// A token behind a lock, which its callers share.
 #[derive(Drop)]
-pub struct SharedToken<K: TokenId, O: Slot<K>, T: Absorb<O> + ReadBoard<K> + Drop, R: Wait + Drop> {
-    lock: Mutex<Locked<K, O, T, R>>,
+pub struct SharedToken<
+    K: TokenId,
+    G: JournaledToken,
+    O: Slot<K>,
+    T: Absorb<O> + ReadBoard<K> + Drop,
+    R: Wait + Drop,
+> {
+    lock: Mutex<Locked<K, G, O, T, R>>,
     callers: CallerCount<K>,
 }
 
 /// The two ends of a token that is shared: what is shared, and what each caller has.
 #[derive(Drop)]
-pub struct Ends<K: TokenId, O: Slot<K>, T: Absorb<O> + ReadBoard<K> + Drop, R: Wait + Drop> {
-    pub token: SharedToken<K, O, T, R>,
+pub struct Ends<
+    K: TokenId,
+    G: JournaledToken,
+    O: Slot<K>,
+    T: Absorb<O> + ReadBoard<K> + Drop,
+    R: Wait + Drop,
+> {
+    pub token: SharedToken<K, G, O, T, R>,
     pub callers: Vec<Caller<K, T>>,
 }
 
 /// A shared token with the slots and the board of ck_callers.
-pub type Shared<K, R> = SharedToken<K, EntrySlot<K>, BoardCopy<K>, R>;
+pub type Shared<K, G, R> = SharedToken<K, G, EntrySlot<K>, BoardCopy<K>, R>;
 
 /// A caller of such a token.
 pub type SharedCaller<K> = Caller<K, BoardCopy<K>>;
 
-impl<K: TokenId, O: Slot<K>, T: WriteBoard<K, O> + Drop, R: Wait + Drop> SharedToken<K, O, T, R> {
+impl<
+    K: TokenId,
+    G: JournaledToken,
+    O: Slot<K>,
+    T: WriteBoard<K, O> + Drop,
+    R: Wait + Drop,
+> SharedToken<K, G, O, T, R> {
     ghost use Rattle.std.specs.Prelude.{◌≡◌, ◌≤◌, ℕ, IfOk, IfErr};
     ghost use Rattle.ck_journal.specs.Bases.{empty_base};
     ghost use Rattle.ck_journal.specs.Histories.{start};
@@ -42,12 +59,12 @@ impl<K: TokenId, O: Slot<K>, T: WriteBoard<K, O> + Drop, R: Wait + Drop> SharedT
     pub fn adopt(
         rt: R,
         alloc: Global,
-        token: Token,
+        token: G,
         callers: u32,
         identity: NewIdentity,
-    ) -> Result<Ends<K, O, T, R>, (Token, NoMemory)>
-        requires history { token.history ≡ start K.base }
-        requires limits { token.limits ≡ K.limits }
+    ) -> Result<Ends<K, G, O, T, R>, (G, NoMemory)>
+        requires history { (G.state token).history ≡ start K.base }
+        requires limits { (G.state token).limits ≡ K.limits }
         requires callers { (1 ≤ callers) × (callers ≤ 8) × (callers ≡ K.callers) }
         requires book { identity.history.seen.book ≡ K.book }
         requires ledgers { (n : ℕ) → K.ledger n ≡ name_of identity.ledgers n }
@@ -79,7 +96,7 @@ impl<K: TokenId, O: Slot<K>, T: WriteBoard<K, O> + Drop, R: Wait + Drop> SharedT
         limits: Limits,
         callers: u32,
         identity: NewIdentity,
-    ) -> Result<Ends<K, O, T, R>, NoMemory>
+    ) -> Result<Ends<K, G, O, T, R>, NoMemory>
         requires base { K.base ≡ empty_base }
         requires limits { limits ≡ K.limits }
         requires callers { (1 ≤ callers) × (callers ≤ 8) × (callers ≡ K.callers) }
@@ -87,17 +104,18 @@ impl<K: TokenId, O: Slot<K>, T: WriteBoard<K, O> + Drop, R: Wait + Drop> SharedT
         requires ledgers { (n : ℕ) → K.ledger n ≡ name_of identity.ledgers n }
         ensures { IfOk result (λ ends. ends.callers.items ≡ new_callers K.base callers) }
     {
-        let token = Token::new(alloc, limits);
+        let token = G::new(alloc, limits);
         SharedToken::adopt(rt, alloc, token, callers, identity).map_err(|refused| refused.1)
     }
 }
 
-impl<K: TokenId, O: Slot<K>, T: Absorb<O> + ReadBoard<K> + Drop, R: Wait + Drop> SharedToken<
-    K,
-    O,
-    T,
-    R,
-> {
+impl<
+    K: TokenId,
+    G: JournaledToken,
+    O: Slot<K>,
+    T: Absorb<O> + ReadBoard<K> + Drop,
+    R: Wait + Drop,
+> SharedToken<K, G, O, T, R> {
     ghost use Rattle.std.specs.Prelude.{◌≡◌, true, false, All, IfOk, OnOk, IfErr, OnErr};
     ghost use Rattle.ck_journal.specs.Callers.{AreCallers};
     ghost use Rattle.ck_callers.specs.Callers.{HasCalled, IsSettled, are_all};
@@ -124,13 +142,13 @@ impl<K: TokenId, O: Slot<K>, T: Absorb<O> + ReadBoard<K> + Drop, R: Wait + Drop>
         self,
         rt: &W,
         callers: Vec<Caller<K, T>>,
-    ) -> Result<Token, (SharedToken<K, O, T, R>, Vec<Caller<K, T>>)>
+    ) -> Result<G, (SharedToken<K, G, O, T, R>, Vec<Caller<K, T>>)>
         ensures all { OnOk result (are_all K.callers callers.items ≡ true) }
         ensures missing { OnErr result (are_all K.callers callers.items ≡ false) }
         ensures back { IfErr result (λ refused. refused.1 ≡ callers) }
-        ensures limits { IfOk result (λ token. token.limits ≡ K.limits) }
-        ensures callers { IfOk result (λ token. AreCallers K.callers token.history) }
-        ensures settled { IfOk result (λ token. All (IsSettled token.history) callers.items) }
+        ensures limits { IfOk result (λ token. (G.state token).limits ≡ K.limits) }
+        ensures callers { IfOk result (λ token. AreCallers K.callers (G.state token).history) }
+        ensures settled { IfOk result (λ token. All (IsSettled (G.state token).history) callers.items) }
     {
         if !self.callers.are_all(callers.as_slice()) {
             return Err((self, callers));

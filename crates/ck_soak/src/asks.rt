@@ -105,7 +105,7 @@ fn first_calls(alloc: Global) -> Result<Vec<Call>, SoakError> {
 fn make_calls<K: TokenId, R: Wait + Drop>(
     rt: &R,
     alloc: Global,
-    token: &Shared<K, R>,
+    token: &Shared<K, Token, R>,
     caller: &mut SharedCaller<K>,
     calls: Vec<Call>,
 ) -> Result<(), SoakError> {
@@ -134,7 +134,7 @@ fn check_open<K: TokenId>(caller: &mut SharedCaller<K>) -> Result<(), SoakError>
 fn make_first_calls<K: TokenId, R: Wait + Drop>(
     rt: &R,
     alloc: Global,
-    token: &Shared<K, R>,
+    token: &Shared<K, Token, R>,
     caller: &mut SharedCaller<K>,
 ) -> Result<News<K>, SoakError> {
     make_calls(rt, alloc, token, caller, first_calls(alloc)?)?;
@@ -156,7 +156,7 @@ fn check_learnt<K: TokenId>(
 fn prepare<K: TokenId, R: Wait + Drop>(
     rt: &R,
     alloc: Global,
-    token: &Shared<K, R>,
+    token: &Shared<K, Token, R>,
     callers: &mut [SharedCaller<K>],
 ) -> Result<News<K>, SoakError> {
     check_new(callers.last_mut().ok_or(SoakError::Asked)?)?;
@@ -271,7 +271,7 @@ fn callers_of<K: TokenId>(
 fn play<K: TokenId + Send + Sync, R: Threads + Wait + Drop + Send + Sync>(
     rt: &R,
     alloc: Global,
-    token: &Shared<K, R>,
+    token: &Shared<K, Token, R>,
     callers: Vec<SharedCaller<K>>,
 ) -> Result<Vec<SharedCaller<K>>, SoakError> {
     let mut scripts = scripts_of(alloc, callers)?;
@@ -296,7 +296,7 @@ fn check_after<K: TokenId>(
 fn ask<K: TokenId + Send + Sync, R: Threads + Wait + Drop + Send + Sync>(
     rt: &R,
     alloc: Global,
-    token: &Shared<K, R>,
+    token: &Shared<K, Token, R>,
     mut callers: Vec<SharedCaller<K>>,
 ) -> Result<Vec<SharedCaller<K>>, SoakError> {
     let first = prepare(rt, alloc, token, callers.as_mut_slice())?;
@@ -334,7 +334,8 @@ fn ask_shared<K: TokenId + Send + Sync, R: Threads + Wait + Copy + Drop + Send +
     requires book { identity.history.seen.book ≡ K.book }
     requires ledgers { (n : ℕ) → K.ledger n ≡ name_of identity.ledgers n }
 {
-    let Ok(Ends { token, callers }) = Shared::<K, R>::adopt(rt, alloc, token, 3, identity) else {
+    let Ok(Ends { token, callers }) = Shared::<K, Token, R>::adopt(rt, alloc, token, 3, identity)
+    else {
         return Err(SoakError::Memory);
     };
     let callers = ask(&rt, alloc, &token, callers)?;

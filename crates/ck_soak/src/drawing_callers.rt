@@ -4,6 +4,7 @@ use crate::mix::{PLACES, Place, ROWS, SELDOM, call_of};
 use ck_callers::{Ask, TokenId};
 use ck_journal::{Body, Reply};
 use ck_shared::{Shared, SharedCaller};
+use ck_token::Token;
 use ck_types::Rv;
 use rand_core::{Rng, SeedableRng};
 use rand_xoshiro::Xoshiro256PlusPlus;
@@ -22,7 +23,7 @@ const SELDOM_IN: u64 = 256;
 pub(crate) struct Target<'a, K: TokenId, R: Wait + Drop> {
     pub(crate) rt: &'a R,
     pub(crate) alloc: Global,
-    pub(crate) token: &'a Shared<K, R>,
+    pub(crate) token: &'a Shared<K, Token, R>,
     pub(crate) places: [Place; PLACES],
 }
 

@@ -51,7 +51,7 @@ fn prepare<K: TokenId, R: Wait + Drop>(
 fn soak_together<K: TokenId + Send + Sync, R: Threads + Wait + Drop + Send + Sync>(
     rt: &R,
     alloc: Global,
-    token: &Shared<K, R>,
+    token: &Shared<K, Token, R>,
     drawing_callers: &mut [DrawingCaller<K>],
 ) -> Result<(), SoakError> {
     let target = Target {
@@ -90,7 +90,7 @@ fn replies_of<K: TokenId>(
 fn soak<K: TokenId + Send + Sync, R: Threads + Wait + Drop + Send + Sync>(
     rt: &R,
     alloc: Global,
-    token: &Shared<K, R>,
+    token: &Shared<K, Token, R>,
     callers: &mut [SharedCaller<K>],
 ) -> Result<Vec<CallerReplies>, SoakError> {
     let mut drawing_callers = drawing_callers_of(alloc, callers)?;
@@ -131,7 +131,7 @@ fn soak_shared<K: TokenId + Send + Sync, R: Threads + Wait + Copy + Drop + Send 
     requires book { identity.history.seen.book ≡ K.book }
     requires ledgers { (n : ℕ) → K.ledger n ≡ name_of identity.ledgers n }
 {
-    let Ends { token, mut callers } = Shared::<K, R>::open(rt, alloc, limits, 8, identity)?;
+    let Ends { token, mut callers } = Shared::<K, Token, R>::open(rt, alloc, limits, 8, identity)?;
     let soaked = soak(&rt, alloc, &token, callers.as_mut_slice());
     let Ok(token) = token.close(&rt, callers) else {
         return Err(SoakError::NotClosed);

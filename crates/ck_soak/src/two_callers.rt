@@ -6,6 +6,7 @@ ghost use Rattle.ck_callers.specs.Accounts.{name_of};
 use ck_callers::{Ask, NewIdentity, Status, TokenId};
 use ck_journal::{Body, Call, RW_SESSION, Reply, SERIAL_SESSION};
 use ck_shared::{Ends, Shared, SharedCaller};
+use ck_token::Token;
 use ck_types::{Limits, Pin};
 use std::alloc::Global;
 use std::marker::Brand;
@@ -20,7 +21,7 @@ pub(crate) const READ_WRITE: u64 = SERIAL_SESSION | RW_SESSION;
 fn open_sessions<K: TokenId, R: Wait + Drop>(
     rt: &R,
     alloc: Global,
-    token: &Shared<K, R>,
+    token: &Shared<K, Token, R>,
     caller: &mut SharedCaller<K>,
 ) {
     for _ in 0..3u32 {
@@ -46,7 +47,7 @@ fn open_count<K: TokenId>(caller: &mut SharedCaller<K>) -> Option<u64> {
 fn call_both<K: TokenId + Send + Sync, R: Threads + Wait + Drop + Send + Sync>(
     rt: &R,
     alloc: Global,
-    token: &Shared<K, R>,
+    token: &Shared<K, Token, R>,
     one: &mut SharedCaller<K>,
     two: &mut SharedCaller<K>,
 ) {
@@ -64,7 +65,7 @@ fn call_both<K: TokenId + Send + Sync, R: Threads + Wait + Drop + Send + Sync>(
 fn use_token<K: TokenId + Send + Sync, R: Threads + Wait + Drop + Send + Sync>(
     rt: &R,
     alloc: Global,
-    token: &Shared<K, R>,
+    token: &Shared<K, Token, R>,
     callers: &mut [SharedCaller<K>],
 ) -> Option<(u64, (u64, u64))> {
     let (one, others) = callers.split_first_mut()?;
@@ -97,7 +98,7 @@ fn shared_by_two<K: TokenId + Send + Sync, R: Threads + Wait + Copy + Drop + Sen
     requires book { identity.history.seen.book ≡ K.book }
     requires ledgers { (n : ℕ) → K.ledger n ≡ name_of identity.ledgers n }
 {
-    let ends = Shared::<K, R>::open(rt, alloc, limits, 2, identity).ok()?;
+    let ends = Shared::<K, Token, R>::open(rt, alloc, limits, 2, identity).ok()?;
     let Ends { token, mut callers } = ends;
     let (sessions, calls) = use_token(&rt, alloc, &token, callers.as_mut_slice())?;
     let token = token.close(&rt, callers).ok()?;

@@ -10,7 +10,7 @@ use Rattle.ck_journal.specs.Answers.{IsLegal}
 use Rattle.ck_journal.specs.Histories.{History, ◌◁◌}
 use Rattle.ck_journal.specs.declared.calls.Call.{Call}
 use Rattle.ck_token.specs.Decisions.{takes_memory}
-use Rattle.ck_token.specs.TokenStates.{TokenState, entry_of, after, HasAnswered, IsAnswered}
+use Rattle.ck_journal.specs.TokenStates.{TokenState, entry_of, after, HasAnswered, IsAnswered}
 
 -- so many calls of the list are answered, and the others are left, the last first
 pub record Answers (old : TokenState) (calls : List (ℕ × Call)) (count : ℕ) (left : List (ℕ × Call))

@@ -3,7 +3,7 @@ use Rattle.std.specs.Prelude.{◌≡◌, ◌<◌, [], Result, Ok, Err, length}
 use Rattle.ck_journal.specs.Cuts.{base_of}
 use Rattle.ck_journal.specs.Histories.{JournalState, start}
 use Rattle.ck_journal.specs.Sessions.{open_sessions}
-use Rattle.ck_token.specs.TokenStates.{TokenState}
+use Rattle.ck_journal.specs.TokenStates.{TokenState}
 use Rattle.ck_token.specs.declared.cuts.Uncut.{Uncut}
 use Rattle.ck_token.specs.declared.cuts.Uncut.TheVariants as uncut
 

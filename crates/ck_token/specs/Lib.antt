@@ -4,9 +4,9 @@ pub use Rattle.ck_journal.specs.Objects
 pub use Rattle.ck_journal.specs.Pins
 pub use Rattle.ck_journal.specs.Queries
 pub use Rattle.ck_journal.specs.Sessions
+pub use Rattle.ck_journal.specs.TokenStates
 pub mod Agreement
 pub mod Cuts
 pub mod Decisions
 pub mod QueryCodes
 pub mod Runs
-pub mod TokenStates

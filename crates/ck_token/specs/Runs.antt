@@ -1,7 +1,7 @@
 -- What a run of a list of calls does to the token that it is lent
 use Rattle.std.specs.Prelude.{ℕ, ◌<◌, List, Result, Ok, Err, length, take}
 use Rattle.ck_journal.specs.declared.calls.Call.{Call}
-use Rattle.ck_token.specs.TokenStates.{TokenState, HasAnswered}
+use Rattle.ck_journal.specs.TokenStates.{TokenState, HasAnswered}
 use Rattle.ck_token.specs.declared.runs.Stopped.{Stopped}
 
 -- all calls were answered, or the first of them, fewer than all

@@ -3,6 +3,7 @@
 #![tactic(auto)]
 
 mod cuts;
+mod journaled;
 mod queries;
 mod runs;
 mod tokens;

@@ -3,7 +3,7 @@ ghost use Rattle.ck_journal.specs.Answers.{answer, IsLegal};
 ghost use Rattle.ck_journal.specs.declared.calls.Call.{Call};
 ghost use Rattle.ck_token.specs.Decisions.{takes_memory, may_run_out};
 ghost use Rattle.ck_token.specs.Runs.{IsRun};
-ghost use Rattle.ck_token.specs.TokenStates.{IsAnswered, IsUnchanged};
+ghost use Rattle.ck_journal.specs.TokenStates.{IsAnswered, IsUnchanged};
 
 use crate::tokens::Token;
 use ck_journal::Call;

@@ -31,7 +31,7 @@ pub struct Token {
 impl Model for Token {
     ghost use Rattle.std.specs.Coded.{codes};
     ghost use Rattle.ck_journal.specs.HistoryCode.{history_code};
-    ghost use Rattle.ck_token.specs.TokenStates.{TokenState};
+    ghost use Rattle.ck_journal.specs.TokenStates.{TokenState};
     ghost use Rattle.ck_token.specs.Agreement.{TokenAgrees};
 
     ghost Value = { TokenState };
@@ -104,7 +104,7 @@ impl Token {
     ghost use Rattle.ck_parts.specs.Changes.{effect};
     ghost use Rattle.ck_token.specs.Cuts.{IsCut};
     ghost use Rattle.ck_token.specs.Decisions.{IsDecision, may_run_out, reply_of};
-    ghost use Rattle.ck_token.specs.TokenStates.{IsAnswered, IsUnchanged};
+    ghost use Rattle.ck_journal.specs.TokenStates.{IsAnswered, IsUnchanged};
 
     /// A token that has answered no call, which takes no memory.
     pub fn new(alloc: Global, limits: Limits) -> Token

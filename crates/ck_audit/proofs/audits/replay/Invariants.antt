@@ -6,8 +6,8 @@ use Rattle.ck_audit.proofs.audits.replay.Given as goal
 
 -- the token has answered the entries so far as they are, and they are legal
 abbrev pub invariant-loop-index : goal.invariant-loop-index
-invariant-loop-index l = record {
-  limits : l.token.limits ≡ l.fn.token.limits;
-  history : l.token.history ≡ history_of (start_of l.fn.journal.history) (take l.index l.entries);
-  legal : IsLegal l.token.limits l.token.history;
+invariant-loop-index g l = let token = g.G.JournaledToken.state l.token in record {
+  limits : token.limits ≡ (g.G.JournaledToken.state l.fn.token).limits;
+  history : token.history ≡ history_of (start_of l.fn.journal.history) (take l.index l.entries);
+  legal : IsLegal token.limits token.history;
 }

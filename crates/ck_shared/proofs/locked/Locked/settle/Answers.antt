@@ -4,8 +4,9 @@ use Rattle.ck_shared.proofs.locked.Locked.settle.Goals as goal
 
 pub returns-clause-settled : goal.returns-clause-settled
 returns-clause-settled g c =
-    let front : IsFront c.args.caller.seen c.self.inside.token.history =
-    subst (λ h. IsFront h c.self.inside.token.history)
+    let h = (g.G.JournaledToken.state c.self.inside.token).history in
+    let front : IsFront c.args.caller.seen h =
+    subst (λ seen. IsFront seen h)
     (c.front.ensures ∙ c.known.ensures ∙ ap (λ caller. caller.seen) c.compare.ensures.caller)
     (subst (IsFront c.front.result.now) (c.front-2.ensures ∙ c.self.invariant.0.history) c.await_front.ensures) in
-    rw (← c.self.view_is) (c.compare.ensures.settled c.self.inside.token.history c.self.invariant.0.books front)
+    rw (← c.self.view_is) (c.compare.ensures.settled h c.self.invariant.0.books front)

@@ -9,9 +9,9 @@ use Rattle.ck_shared.proofs.locked.Locked.step.Goals as goal
 pub follow-requires-2 : goal.follow-requires-2
 follow-requires-2 g c =
     let caller = c.args.caller.now in
-    let h = c.self.inside.token.history in
+    let h = (g.G.JournaledToken.state c.self.inside.token).history in
     let answered = c.in-Ok.ensures.answered in
-    let entered : c.call.new.self.history ≡ entry_by caller.number c.args.call c.in-Ok.reply ◁ h =
+    let entered : (g.G.JournaledToken.state c.call.new.self).history ≡ entry_by caller.number c.args.call c.in-Ok.reply ◁ h =
     answered.entered ∙ ap (λ r. entry_by c.number-number.result c.args.call r ◁ h) (sym answered.answered)
     ∙ ap (λ n. entry_by n c.args.call c.in-Ok.reply ◁ h) (c.number-number.ensures.value ∙ c.account.ensures.number) in
     let front : IsFront caller.seen h =
@@ -29,9 +29,9 @@ follow-requires-2 g c =
 
 pub show_by-requires-clause-shown : goal.show_by-requires-clause-shown
 show_by-requires-clause-shown g c =
-    let h = c.self.inside.token.history in
+    let h = (g.G.JournaledToken.state c.self.inside.token).history in
     let answered = c.in-Ok.ensures.answered in
-    let entered : c.call.new.self.history ≡ entry_by c.number-number.result c.args.call c.in-Ok.reply ◁ h =
+    let entered : (g.G.JournaledToken.state c.call.new.self).history ≡ entry_by c.number-number.result c.args.call c.in-Ok.reply ◁ h =
     answered.entered ∙ ap (λ r. entry_by c.number-number.result c.args.call r ◁ h) (sym answered.answered) in
     if_none c.in_ok-slot.slot c.in_ok-slot.ensures.none (λ kept. (
       covered_on (entry_by c.number-number.result c.args.call c.in-Ok.reply) c.leaves_board-leaves.result
@@ -47,9 +47,9 @@ show_by-requires-clause-shown g c =
 pub returns-clause-called : goal.returns-clause-called
 returns-clause-called g c =
     let caller = c.args.caller.now in
-    let h = c.self.inside.token.history in
+    let h = (g.G.JournaledToken.state c.self.inside.token).history in
     let answered = c.in-Ok.ensures.answered in
-    let entered : c.call.new.self.history ≡ entry_by caller.number c.args.call c.in-Ok.reply ◁ h =
+    let entered : (g.G.JournaledToken.state c.call.new.self).history ≡ entry_by caller.number c.args.call c.in-Ok.reply ◁ h =
     answered.entered ∙ ap (λ r. entry_by c.number-number.result c.args.call r ◁ h) (sym answered.answered)
     ∙ ap (λ n. entry_by n c.args.call c.in-Ok.reply ◁ h) (c.number-number.ensures.value ∙ c.account.ensures.number) in
     let front : IsFront caller.seen h =

@@ -1,0 +1,52 @@
+use crate::bases::Base;
+use crate::boards::TokenBoard;
+use crate::calls::Call;
+use crate::journals::Journal;
+use crate::replies::Reply;
+use ck_types::{Limits, NoMemory};
+use std::alloc::Global;
+
+/// What answers calls and enters each in a journal: a token. What threads share, and what audits a
+/// journal, stands on this alone.
+pub trait JournaledToken: Drop {
+    ghost use Rattle.std.specs.Prelude.{◌≡◌, IfOk, OnErr};
+    ghost use Rattle.ck_journal.specs.Answers.{IsLegal};
+    ghost use Rattle.ck_journal.specs.Bases.{empty_base, IsSound};
+    ghost use Rattle.ck_journal.specs.Boards.{board_of};
+    ghost use Rattle.ck_journal.specs.Histories.{start};
+    ghost use Rattle.ck_journal.specs.TokenStates.{TokenState, IsAnswered, IsUnchanged};
+
+    ghost state: { Self → TokenState };
+
+    /// A token that has answered no call, which takes no memory.
+    fn new(alloc: Global, limits: Limits) -> Self
+        ensures limits { (state result).limits ≡ limits }
+        ensures history { (state result).history ≡ start empty_base };
+
+    /// A token that starts from a base and has answered no call since.
+    fn from_base(alloc: Global, limits: Limits, base: Base) -> Result<Self, NoMemory>
+        requires { IsSound base }
+        ensures limits { IfOk result (λ token. (state token).limits ≡ limits) }
+        ensures history { IfOk result (λ token. (state token).history ≡ start base) };
+
+    /// Answers a call and enters it in the journal. Where there is no memory for it, nothing has
+    /// changed and the call isn't in the journal.
+    fn call(&mut self, alloc: Global, caller: u32, call: Call) -> Result<Reply, NoMemory>
+        ensures answered { IfOk result (λ reply.
+            IsAnswered (state self.old) (state self.new) caller call reply) }
+        ensures unchanged { OnErr result (IsUnchanged (state self.old) (state self.new)) }
+        ensures legal { IsLegal (state self.new).limits (state self.new).history };
+
+    /// All answered calls.
+    fn journal(&self) -> &Journal
+        ensures history { result.now.history ≡ (state self.now).history }
+        ensures legal { IsLegal (state self.now).limits (state self.now).history };
+
+    /// How many sessions may be open, and how many sessions, objects and logins there may be.
+    fn limits(&self) -> Limits
+        ensures { result ≡ (state self.now).limits };
+
+    /// What C_GetSessionInfo and C_GetTokenInfo read of the token.
+    fn board(&self) -> TokenBoard
+        ensures { result ≡ board_of (state self.now).limits (state self.now).history };
+}
