@@ -162,6 +162,13 @@ enum Request {
     Try,
     Measure,
     MeasureAmong(u32),
+    /// None of these.
+    Unknown,
+}
+
+/// The number of objects that a word gives.
+fn objects_in(word: Option<String>) -> Option<u32> {
+    word?.as_str().parse().ok()
 }
 
 /// What the arguments ask for.
@@ -172,12 +179,11 @@ fn request_of<R: Env + AllocGlobal>(rt: &R) -> Result<Request, Failed> {
     };
     match word.as_str() {
         "measure" => Ok(Request::Measure),
-        "among" => {
-            let number = words.next().ok_or(Failed)?;
-            let objects = number.as_str().parse().ok().ok_or(Failed)?;
-            Ok(Request::MeasureAmong(objects))
-        }
-        _ => Err(Failed),
+        "among" => match objects_in(words.next()) {
+            Some(objects) => Ok(Request::MeasureAmong(objects)),
+            None => Ok(Request::Unknown),
+        },
+        _ => Ok(Request::Unknown),
     }
 }
 
@@ -196,6 +202,10 @@ fn run<
             measure_audit(&rt, 100_000, true)
         }
         Request::MeasureAmong(objects) => measure_among(&rt, objects, true),
+        Request::Unknown => {
+            println!(rt; "ck_bench: the arguments are none, `measure`, or `among` and a number")?;
+            Err(Failed)
+        }
     }
 }
 

@@ -3,6 +3,7 @@ ghost use Rattle.ck_callers.specs.Accounts.{with_account};
 ghost use Rattle.ck_callers.specs.Shares.{caller_of, amount_of, parts_of};
 
 use crate::identity::TokenId;
+use ck_journal::MOST_CALLERS;
 use ck_types::NoMemory;
 use std::alloc::Global;
 use std::marker::{Model, PhantomData};
@@ -178,7 +179,7 @@ impl NewLedgers {
         ensures books { IfOk result (λ named. named.0 ≡ no_calls) }
         ensures accounts { IfOk result (λ named. named.1.items ≡ new_accounts callers) }
     {
-        let mut accounts = Vec::with_capacity(alloc, 8)?;
+        let mut accounts = Vec::with_capacity(alloc, MOST_CALLERS as usize)?;
         let (one, share) = open_ledger::<CallerLedger<K, 1>>(self.one);
         add_account(&mut accounts, callers, 1, CallerShare::One(share));
         let (two, share) = open_ledger::<CallerLedger<K, 2>>(self.two);

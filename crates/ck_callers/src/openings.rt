@@ -21,9 +21,11 @@ use std::sync::Wait;
 #[derive(Drop)]
 pub struct Opened<K: TokenId, O: Slot<K>, T: Absorb<O> + ReadBoard<K> + Drop, R: Wait + Drop> {
     pub books: CallBooks<K>,
+    /// The base alone.
     pub known: KnownHistory<K>,
+    /// The length of the one history.
     pub head: Head<K>,
-    /// The board's writer.
+    /// The writer of the board's two copies.
     pub writer: WriteHandle<T, O, R>,
     pub callers: Vec<Caller<K, T>>,
 }

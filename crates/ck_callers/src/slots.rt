@@ -20,8 +20,8 @@ pub trait Slot<K: TokenId>: Drop {
         requires { board ≡ board_of K.limits known.now.history };
 }
 
-/// A slot whose two handles share a place for the board. Who has a handle has the token's lock, so
-/// the lock of the place is free whenever it is taken.
+/// A slot whose two handles share a place for the board. Only who holds the token's lock uses a
+/// handle, so nobody waits for the lock of the place.
 #[derive(Drop)]
 pub struct EntrySlot<K: TokenId> {
     pub(crate) place: Arc<Mutex<Option<BoardCopy<K>>>>,

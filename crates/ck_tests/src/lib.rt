@@ -10,6 +10,4 @@ mod lines;
 #[cfg(test)]
 mod mac;
 #[cfg(test)]
-mod replies;
-#[cfg(test)]
 mod types;

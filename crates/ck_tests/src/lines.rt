@@ -13,45 +13,77 @@ fn call_of(alloc: Global, text: &str) -> Result<Call, Fail> {
     }
 }
 
-/// Arguments that are easily taken for one another: two PINs, numbers in decimal and in hexadecimal,
-/// bytes of a message and of a signature.
-fn check_calls(rt: &impl Abort, alloc: Global) -> Result<(), Fail> {
-    let call = call_of(alloc, "8 SetPIN 2 616263 -")?;
-    let (abc, none) = (Pin::of(b"abc"), Pin::of(b""));
-    let is_set =
-        matches!(&call, Call::SetPin { session: 2, old, new } if *old == abc && *new == none);
-    assert!(rt; is_set);
-    let call = call_of(alloc, "8 SessionCancel 18446744073709551615 2c00")?;
-    assert!(rt;
-        matches!(
-            &call,
-            Call::SessionCancel {
-                session: u64::MAX,
-                flags: 0x2c00
-            }
-        )
-    );
-    let call = call_of(alloc, "8 SetKeyState 10 3 4")?;
-    assert!(rt;
-        matches!(
-            &call,
-            Call::SetKeyState {
-                session: 10,
-                key: 3,
-                state: 4
-            }
-        )
-    );
-    let call = call_of(alloc, "8 Verify 2 61 6bC0")?;
-    let is_verify = matches!(&call, Call::Verify { session: 2, bytes, signature }
-        if bytes.as_slice() == b"a".as_slice() && signature.as_slice() == [0x6b, 0xc0].as_slice());
-    assert!(rt; is_verify);
-    Ok(())
+fn is_pin_change(call: &Call) -> bool {
+    match call {
+        Call::SetPin {
+            session: 2,
+            old,
+            new,
+        } => *old == Pin::of(b"abc") && *new == Pin::of(b""),
+        _ => false,
+    }
 }
 
 #[test]
-fn lines_have_their_calls(rt: HostRuntime) -> Result<(), Fail> {
-    check_calls(&rt, rt.alloc())
+fn the_old_pin_stands_first(rt: HostRuntime) -> Result<(), Fail> {
+    let call = call_of(rt.alloc(), "8 SetPIN 2 616263 -")?;
+    assert!(rt; is_pin_change(&call));
+    Ok(())
+}
+
+fn is_cancel(call: &Call) -> bool {
+    matches!(
+        call,
+        Call::SessionCancel {
+            session: u64::MAX,
+            flags: 0x2c00
+        }
+    )
+}
+
+#[test]
+fn handles_are_decimal_and_flags_hexadecimal(rt: HostRuntime) -> Result<(), Fail> {
+    let call = call_of(rt.alloc(), "8 SessionCancel 18446744073709551615 2c00")?;
+    assert!(rt; is_cancel(&call));
+    Ok(())
+}
+
+fn is_state_change(call: &Call) -> bool {
+    matches!(
+        call,
+        Call::SetKeyState {
+            session: 10,
+            key: 3,
+            state: 4
+        }
+    )
+}
+
+#[test]
+fn the_state_stands_behind_the_key(rt: HostRuntime) -> Result<(), Fail> {
+    let call = call_of(rt.alloc(), "8 SetKeyState 10 3 4")?;
+    assert!(rt; is_state_change(&call));
+    Ok(())
+}
+
+fn is_check(call: &Call) -> bool {
+    match call {
+        Call::Verify {
+            session: 2,
+            bytes,
+            signature,
+        } => {
+            bytes.as_slice() == b"a".as_slice() && signature.as_slice() == [0x6b, 0xc0].as_slice()
+        }
+        _ => false,
+    }
+}
+
+#[test]
+fn the_signature_stands_behind_the_message(rt: HostRuntime) -> Result<(), Fail> {
+    let call = call_of(rt.alloc(), "8 Verify 2 61 6bC0")?;
+    assert!(rt; is_check(&call));
+    Ok(())
 }
 
 /// A comment of so many bytes.

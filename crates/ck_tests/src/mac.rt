@@ -1,8 +1,7 @@
-//! Digests and HMACs in pieces by one vector each. Vectors of all lengths stand among the cases of
+//! A digest and an HMAC in pieces by one vector each. Vectors of all lengths stand among the cases of
 //! ck_cases.
-use ck_types::{Hash, Mac, Running, RunningTag, RvError, digest};
+use ck_types::{Hash, Mac, Running, RunningTag};
 use std::process::Abort;
-use std::test::Fail;
 
 /// The SHA-256 digest of `abc` (FIPS 180-2, appendix B.1).
 const ABC: [u8; 32] = [
@@ -16,50 +15,6 @@ const JEFE: [u8; 32] = [
     0x5b, 0xdc, 0xc1, 0x46, 0xbf, 0x60, 0x75, 0x4e, 0x6a, 0x04, 0x24, 0x26, 0x08, 0x95, 0x75, 0xc7,
     0x5a, 0x00, 0x3f, 0x08, 0x9d, 0x27, 0x39, 0x83, 0x9d, 0xec, 0x58, 0xb9, 0x64, 0xec, 0x38, 0x43,
 ];
-
-/// A clone goes on by itself.
-#[test]
-fn digests(rt: HostRuntime) -> Result<(), Fail> {
-    assert!(rt; digest(Hash::Sha256, b"abc").bytes() == ABC.as_slice());
-    let mut running = Running::new(Hash::Sha256);
-    running.update(b"ab");
-    let mut clone = running.clone()?;
-    clone.update(b"x");
-    running.update(b"c");
-    assert!(rt; running.finish().bytes() == ABC.as_slice());
-    assert!(rt; clone.finish().bytes() != ABC.as_slice());
-    Ok(())
-}
-
-/// The HMAC of the first words.
-fn begun() -> Mac {
-    let mut mac = Mac::new(Hash::Sha256, b"Jefe");
-    mac.update(b"what do ya want ");
-    mac
-}
-
-/// A clone goes on by itself.
-#[test]
-fn hmacs(rt: HostRuntime) -> Result<(), Fail> {
-    let mut mac = begun();
-    let mut clone = mac.clone()?;
-    clone.update(b"for something?");
-    mac.update(b"for nothing?");
-    assert!(rt; mac.finish().bytes() == JEFE.as_slice());
-    assert!(rt; clone.finish().bytes() != JEFE.as_slice());
-    Ok(())
-}
-
-/// The tag is a signature, and its front is none.
-#[test]
-fn signatures(rt: HostRuntime) -> Result<(), Fail> {
-    let mut mac = begun();
-    mac.update(b"for nothing?");
-    let front = JEFE.as_slice().get(..31).unwrap_or(&[]);
-    assert!(rt; mac.clone()?.check(front) == Err(RvError::SignatureLenRange));
-    assert!(rt; mac.check(JEFE.as_slice()) == Ok(()));
-    Ok(())
-}
 
 /// The tag takes in these two pieces, the second also where it is only read.
 fn tag_of_two_pieces(rt: &impl Abort, mut running: RunningTag, pieces: [&[u8]; 2], tag: &[u8]) {

@@ -1,79 +1,8 @@
-use ck_objects::{AttributeValue, Item, Record, Template};
+use ck_objects::{AttributeValue, Item, Template};
 use ck_types::{Limits, NoMemory, Rv, RvError, Sequence};
 use std::alloc::Global;
 use std::process::Abort;
 use std::test::Fail;
-
-/// CKA_LABEL, CKA_VALUE and CKA_VALUE_LEN.
-const LABEL: u64 = 0x3;
-
-const VALUE: u64 = 0x11;
-
-const VALUE_LEN: u64 = 0x161;
-
-fn template_of(alloc: Global, items: &[(u64, &[u8])]) -> Result<Template, NoMemory> {
-    let mut list = Vec::new(alloc);
-    for (kind, value) in items {
-        let value = AttributeValue::from_slice(alloc, value)?;
-        list.push(Item { kind: *kind, value })?;
-    }
-    let items = Sequence::from_vec(list);
-    Ok(Template { items })
-}
-
-fn check_value(
-    rt: &impl Abort,
-    alloc: Global,
-    record: &Record,
-    kind: u64,
-    expected: &[u8],
-) -> Result<(), NoMemory> {
-    let value = record.value(alloc, kind)?;
-    let value = value.as_ref().map(|value| value.as_slice());
-    assert!(rt; value == Some(expected), "{kind:x}");
-    Ok(())
-}
-
-/// An object that is created with these items.
-fn created(alloc: Global, items: &[(u64, &[u8])]) -> Result<Record, Fail> {
-    let template = template_of(alloc, items)?;
-    template.check_creation()?;
-    Ok(Record::create_with(alloc, &template)?)
-}
-
-/// A copy of the object with these items.
-fn copied(alloc: Global, object: &Record, items: &[(u64, &[u8])]) -> Result<Record, Fail> {
-    let template = template_of(alloc, items)?;
-    object.check_copy(&template)?;
-    Ok(object.copy_with(alloc, &template)?)
-}
-
-/// A copy of the object that is changed by these items.
-fn changed(alloc: Global, object: &Record, items: &[(u64, &[u8])]) -> Result<Record, Fail> {
-    let template = template_of(alloc, items)?;
-    object.check_change(&template)?;
-    let mut changed = object.clone()?;
-    changed.change(template);
-    Ok(changed)
-}
-
-/// What was made has this label.
-fn check_label(
-    rt: &impl Abort,
-    alloc: Global,
-    made: Result<Record, Fail>,
-    label: &[u8],
-) -> Result<(), Fail> {
-    Ok(check_value(rt, alloc, &made?, LABEL, label)?)
-}
-
-/// A copy and a change of the object have another label, and it keeps its own.
-fn check_labels(rt: &impl Abort, alloc: Global, object: &Record) -> Result<(), Fail> {
-    let label: &[(u64, &[u8])] = &[(LABEL, b"b")];
-    check_label(rt, alloc, copied(alloc, object, label), b"b")?;
-    check_label(rt, alloc, changed(alloc, object, label), b"b")?;
-    Ok(check_value(rt, alloc, object, LABEL, b"a")?)
-}
 
 /// A value has these bytes, and so has its copy.
 fn check_bytes(
@@ -102,26 +31,6 @@ fn attribute_values(rt: HostRuntime) -> Result<(), Fail> {
     check_made(&rt, rt.alloc(), &[b'a'; 16])?;
     check_made(&rt, rt.alloc(), &[b'a'; 17])?;
     Ok(())
-}
-
-#[test]
-fn data_objects(rt: HostRuntime) -> Result<(), Fail> {
-    let object = created(rt.alloc(), &[(0, &[0; 8]), (LABEL, b"a")])?;
-    check_labels(&rt, rt.alloc(), &object)
-}
-
-/// A key of these bytes, which are three.
-fn generated(alloc: Global, bytes: &[u8]) -> Result<Record, Fail> {
-    let length: &[u8] = &[3, 0, 0, 0, 0, 0, 0, 0];
-    let template = template_of(alloc, &[(VALUE_LEN, length)])?;
-    template.check_generation(bytes)?;
-    Ok(Record::generate_with(alloc, &template, bytes)?)
-}
-
-#[test]
-fn generated_keys(rt: HostRuntime) -> Result<(), Fail> {
-    let key = generated(rt.alloc(), &[0, 1, 2])?;
-    Ok(check_value(&rt, rt.alloc(), &key, VALUE, &[0, 1, 2])?)
 }
 
 /// Adds 300,000 items of this type, without values.
@@ -237,25 +146,17 @@ const ERRORS: [(u64, RvError, &str); 39] = [
     (0x150, RvError::BufferTooSmall, "CKR_BUFFER_TOO_SMALL"),
 ];
 
-/// That the error has this number and this name, as itself and as a return code.
-fn check_error(
-    rt: &impl Abort,
-    alloc: Global,
-    number: u64,
-    error: RvError,
-    name: &str,
-) -> Result<(), Fail> {
+/// Whether the error has this number and this name, as itself and as a return code.
+fn is_error(alloc: Global, number: u64, error: RvError, name: &str) -> Result<bool, Fail> {
     let code = Rv::from(error);
-    assert!(rt; RvError::of(number) == Some(error), "{number:x}");
-    assert!(rt; Rv::of(number) == Some(code), "{number:x}");
-    assert!(rt; error.number() == number, "{number:x}");
-    assert!(rt; code.number() == number, "{number:x}");
-    assert!(rt;
-        format!(in alloc; "{error}")?.as_str() == name,
-        "{number:x}"
-    );
-    assert!(rt; format!(in alloc; "{code}")?.as_str() == name, "{number:x}");
-    Ok(())
+    Ok(
+        RvError::of(number) == Some(error)
+            && Rv::of(number) == Some(code)
+            && error.number() == number
+            && code.number() == number
+            && format!(in alloc; "{error}")?.as_str() == name
+            && format!(in alloc; "{code}")?.as_str() == name,
+    )
 }
 
 fn check_errors(
@@ -264,7 +165,7 @@ fn check_errors(
     errors: &[(u64, RvError, &str)],
 ) -> Result<(), Fail> {
     for (number, error, name) in errors {
-        check_error(rt, alloc, *number, *error, name)?;
+        assert!(rt; is_error(alloc, *number, *error, name)?, "{number:x}");
     }
     Ok(())
 }
@@ -281,7 +182,7 @@ fn return_codes(rt: HostRuntime) -> Result<(), Fail> {
     assert!(rt; Rv::Ok.number() == 0);
     assert!(rt; format!(in rt.alloc(); "{}", Rv::Ok)?.as_str() == "CKR_OK");
     for number in [0x1, 0x5, 0x151] {
-        assert!(rt; Rv::of(number).is_none(), "{number:x}");
+        assert!(rt; Rv::of(number).is_none());
     }
     Ok(())
 }
