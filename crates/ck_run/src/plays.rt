@@ -63,46 +63,6 @@ fn scripts_have_their_transcripts(rt: HostRuntime) -> Result<(), Fail> {
     check_plays(&rt, rt.alloc(), PLAYS)
 }
 
-/// The last of many items of a template, and the transcript of the script that creates an object
-/// by it.
-const LAST_ITEMS: [(&str, &str); 3] = [
-    (",3=61", "0\n0 1\n0 1\nplayed"),
-    (",3=62", "0\n0 1\nd1\nplayed"),
-    (",103=01", "0\n0 1\n12\nplayed"),
-];
-
-/// Items of the same label, 9,999 of them.
-fn many_labels(alloc: Global) -> Result<String, Fail> {
-    let mut items = String::new(alloc);
-    for _ in 0..9_999 {
-        items.push_str(",3=61")?;
-    }
-    Ok(items)
-}
-
-/// A script that creates an object by a template of a class and these items.
-fn creation_script(alloc: Global, items: &str, last: &str) -> Result<String, Fail> {
-    let text = format!(in alloc;
-        "1 InitToken 31323334\n1 OpenSession 6\n1 CreateObject 1 0=0000000000000000{items}{last}"
-    )?;
-    Ok(text)
-}
-
-fn check_last_items(rt: &impl Abort, alloc: Global, rows: &[(&str, &str)]) -> Result<(), Fail> {
-    let items = many_labels(alloc)?;
-    for (last, want) in rows {
-        let script = creation_script(alloc, items.as_str(), last)?;
-        let text = transcript(alloc, script.as_bytes(), Devices::of(100_000))?;
-        assert!(rt; text.as_str() == *want, "{last}");
-    }
-    Ok(())
-}
-
-#[test]
-fn a_template_may_have_many_items(rt: HostRuntime) -> Result<(), Fail> {
-    check_last_items(&rt, rt.alloc(), LAST_ITEMS.as_slice())
-}
-
 /// What stands behind a line that is as long as one may be, and the transcript of both.
 const BEHIND_LONGEST_LINE: [(&[u8], &str); 3] = [
     (b"", "played"),

@@ -1,39 +1,15 @@
 //! What the cases of ck_cases don't show of a token: long messages, an empty journal, room for
 //! entries and what a stopped run is printed as.
-use ck_journal::{Body, Call, RW_SESSION, SERIAL_SESSION};
+use ck_journal::{Body, Call};
+use ck_script::Line;
 use ck_token::{Stopped, Token};
-use ck_types::{Bytes, Limits, Mechanism, NoMemory, Pin, Rv, RvError};
+use ck_types::{Bytes, Limits, Rv, RvError};
 use std::alloc::Global;
 use std::process::Abort;
 use std::test::Fail;
 
-/// CKM_SHA256.
-const SHA256: u64 = 0x250;
-
 /// The most bytes of a piece of a message.
 const LONGEST_PIECE: usize = 0x10_0000;
-
-fn start_sha256(alloc: Global) -> Call {
-    let mechanism = Mechanism {
-        kind: SHA256,
-        parameter: Bytes::new(alloc),
-    };
-    Call::DigestInit {
-        session: 1,
-        mechanism,
-    }
-}
-
-fn update(bytes: Bytes) -> Call {
-    Call::DigestUpdate { session: 1, bytes }
-}
-
-fn finish(room: u64) -> Call {
-    Call::DigestFinal {
-        session: 1,
-        room: Some(room),
-    }
-}
 
 #[test]
 fn stopped_runs_are_printed(rt: HostRuntime) -> Result<(), Fail> {
@@ -43,52 +19,51 @@ fn stopped_runs_are_printed(rt: HostRuntime) -> Result<(), Fail> {
     Ok(())
 }
 
-/// Makes a call that must be answered with this code, and gives the body of the reply.
+/// Makes the call of a line, which must be answered with this code, and gives the reply's body.
 fn answered(
     rt: &impl Abort,
     alloc: Global,
     token: &mut Token,
-    call: Call,
+    line: &str,
     rv: Rv,
-) -> Result<Body, NoMemory> {
-    let reply = token.call(alloc, 1, call)?;
+) -> Result<Body, Fail> {
+    let Line::Called { caller, call } = Line::parse(alloc, line.as_bytes())? else {
+        return Err(Fail::new("no call"));
+    };
+    let reply = token.call(alloc, caller, call)?;
     assert!(rt; reply.rv == rv);
     Ok(reply.body)
 }
 
-fn check_empty(rt: &impl Abort, alloc: Global, token: &mut Token) -> Result<(), NoMemory> {
-    assert!(rt; token.journal().is_empty());
-    answered(rt, alloc, token, Call::CloseAllSessions, Rv::Ok)?;
-    assert!(rt; !token.journal().is_empty());
-    Ok(())
-}
-
-#[test]
-fn a_journal_is_empty_until_a_call_is_answered(rt: HostRuntime) -> Result<(), Fail> {
-    let mut token = Token::new(rt.alloc(), Limits::largest());
-    Ok(check_empty(&rt, rt.alloc(), &mut token)?)
-}
-
-fn check_room(rt: &impl Abort, alloc: Global, token: &mut Token) -> Result<(), NoMemory> {
+fn check_room(rt: &impl Abort, alloc: Global, token: &mut Token) -> Result<(), Fail> {
     assert!(rt; token.spare() == 0);
     token.reserve(3)?;
     assert!(rt; token.spare() >= 3);
-    assert!(rt; token.journal().len() == 0);
-    answered(rt, alloc, token, Call::CloseAllSessions, Rv::Ok)?;
+    assert!(rt; token.journal().is_empty());
+    answered(rt, alloc, token, "1 CloseAllSessions", Rv::Ok)?;
     assert!(rt; token.spare() >= 2);
+    assert!(rt; !token.journal().is_empty());
     Ok(())
 }
 
 #[test]
 fn room_for_entries(rt: HostRuntime) -> Result<(), Fail> {
     let mut token = Token::new(rt.alloc(), Limits::largest());
-    Ok(check_room(&rt, rt.alloc(), &mut token)?)
+    check_room(&rt, rt.alloc(), &mut token)
 }
 
-/// So many bytes `a`.
-fn filled(alloc: Global, count: usize) -> Result<Bytes, NoMemory> {
-    let bytes = vec![in alloc; b'a'; count]?;
-    Ok(Bytes::from_vec(bytes))
+/// Adds so many bytes `a` to the message, which must be answered with this code.
+fn add_piece(
+    rt: &impl Abort,
+    alloc: Global,
+    token: &mut Token,
+    count: usize,
+    rv: Rv,
+) -> Result<(), Fail> {
+    let bytes = Bytes::from_vec(vec![in alloc; b'a'; count]?);
+    let reply = token.call(alloc, 1, Call::DigestUpdate { session: 1, bytes })?;
+    assert!(rt; reply.rv == rv);
+    Ok(())
 }
 
 /// The SHA-256 digest of a million bytes `a` (FIPS 180-2, appendix B.3).
@@ -99,37 +74,31 @@ const MILLION: [u8; 32] = [
 
 /// A message that is one long piece.
 fn check_million(rt: &impl Abort, alloc: Global, token: &mut Token) -> Result<(), Fail> {
-    answered(rt, alloc, token, start_sha256(alloc), Rv::Ok)?;
-    let message = filled(alloc, 1_000_000)?;
-    answered(rt, alloc, token, update(message), Rv::Ok)?;
-    let Body::Bytes(digest) = answered(rt, alloc, token, finish(32), Rv::Ok)? else {
-        return Err(Fail::new("no digest"));
-    };
-    assert!(rt; digest.as_slice() == MILLION.as_slice());
+    answered(rt, alloc, token, "1 DigestInit 1 250", Rv::Ok)?;
+    add_piece(rt, alloc, token, 1_000_000, Rv::Ok)?;
+    match answered(rt, alloc, token, "1 DigestFinal 1 32", Rv::Ok)? {
+        Body::Bytes(digest) => assert!(rt; digest.as_slice() == MILLION.as_slice()),
+        _ => return Err(Fail::new("no digest")),
+    }
     Ok(())
 }
 
 /// A piece that is as long as one may be, and one that is longer.
-fn check_longest(rt: &impl Abort, alloc: Global, token: &mut Token) -> Result<(), NoMemory> {
-    answered(rt, alloc, token, start_sha256(alloc), Rv::Ok)?;
-    let longest = filled(alloc, LONGEST_PIECE)?;
-    answered(rt, alloc, token, update(longest), Rv::Ok)?;
-    let longer = filled(alloc, LONGEST_PIECE + 1)?;
+fn check_longest(rt: &impl Abort, alloc: Global, token: &mut Token) -> Result<(), Fail> {
+    answered(rt, alloc, token, "1 DigestInit 1 250", Rv::Ok)?;
+    add_piece(rt, alloc, token, LONGEST_PIECE, Rv::Ok)?;
     let refused = Rv::Error(RvError::DataLenRange);
-    answered(rt, alloc, token, update(longer), refused)?;
+    add_piece(rt, alloc, token, LONGEST_PIECE + 1, refused)?;
     let ended = Rv::Error(RvError::OperationNotInitialized);
-    answered(rt, alloc, token, finish(32), ended)?;
+    answered(rt, alloc, token, "1 DigestFinal 1 32", ended)?;
     Ok(())
 }
 
 fn check_pieces(rt: &impl Abort, alloc: Global, token: &mut Token) -> Result<(), Fail> {
-    let pin = Pin::of(b"1234");
-    answered(rt, alloc, token, Call::InitToken { pin }, Rv::Ok)?;
-    let flags = SERIAL_SESSION | RW_SESSION;
-    answered(rt, alloc, token, Call::OpenSession { flags }, Rv::Ok)?;
+    answered(rt, alloc, token, "1 InitToken 31323334", Rv::Ok)?;
+    answered(rt, alloc, token, "1 OpenSession 6", Rv::Ok)?;
     check_million(rt, alloc, token)?;
-    check_longest(rt, alloc, token)?;
-    Ok(())
+    check_longest(rt, alloc, token)
 }
 
 #[test]
