@@ -3,7 +3,7 @@ ghost use Rattle.ck_types.specs.TokenLimits.{Ranges};
 ghost use Rattle.ck_journal.specs.Answers.{answer};
 ghost use Rattle.ck_journal.specs.Histories.{History};
 
-use ck_callers::{Front, Head, HistoryId, NewHistory};
+use ck_callers::{Front, HistoryId, NewHistory};
 use ck_journal::{Body, Call, Entry, Reply};
 use ck_types::Rv;
 use std::marker::Brand;
