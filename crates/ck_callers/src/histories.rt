@@ -138,16 +138,6 @@ impl<K: HistoryId> Front<K> {
         self.count <= other.count
     }
 
-    /// Whether it is as long as another front, which it then is.
-    pub fn is_same(&self, other: &Front<K>) -> bool
-        ensures length { IsTrue result ↔ (entry_count self.now ≡ entry_count other.now) }
-        ensures same { IsTrue result → self.now ≡ other.now }
-    {
-        let mut both = self.seen.again();
-        both.learn(&other.seen);
-        self.count == other.count
-    }
-
     /// Adds an entry to the history where it is as long as this front, and says whether it did. The
     /// other front is then one of the history before.
     pub fn add_after(&mut self, head: &Head<K>, other: &Front<K>, entry: &Entry) -> bool

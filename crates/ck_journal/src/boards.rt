@@ -5,11 +5,11 @@ ghost use Rattle.ck_journal.specs.Sessions.{has_rw_flag};
 
 use crate::replies::{Body, Reply};
 use crate::session_flags::is_read_write;
-use ck_types::{Rv, RvError, SessionState, TokenFlags, UserType};
+use ck_types::{MOST_SESSIONS, Rv, RvError, SessionState, TokenFlags, UserType};
 use std::marker::Model;
 
-/// The most sessions that a token may have open at once.
-const MOST_SESSIONS: usize = 64;
+/// A place for each session that a token may have open.
+const PLACES: usize = MOST_SESSIONS as usize;
 
 /// Who is logged in, and what of the PINs the calls that read a token's state answer.
 #[derive(Clone, Copy, Debug, PartialEq, Eq)]
@@ -23,16 +23,16 @@ pub struct LoginStatus {
     pub has_user_pin: bool,
 }
 
-/// What C_GetSessionInfo and C_GetTokenInfo read of a token: a copy of it answers them as the token
-/// does. It takes no memory beside its own, which has a place for each session that a token may
-/// have open.
+/// What C_GetSessionInfo and C_GetTokenInfo (PKCS #11 Base 3.0, Session management functions, Slot
+/// and token management functions) read of a token: a copy of it answers them as the token does. It
+/// takes no memory beside its own, which has a place for each session that a token may have open.
 #[derive(Debug, Drop)]
 pub struct TokenBoard {
     limit: u64,
     status: LoginStatus,
     /// The handles and flags of the open sessions, in the order of their openings, in the first
     /// `count` places.
-    rows: [(u64, u64); MOST_SESSIONS],
+    rows: [(u64, u64); PLACES],
     count: usize,
 }
 
@@ -51,7 +51,8 @@ impl Model for TokenBoard {
     ghost invariant = { λ b. b.count ≤ 64 };
 }
 
-/// The state of a session, by who is logged in and whether the session is read/write.
+/// The state of a session, by who is logged in and whether the session is read/write (PKCS #11 Base
+/// 3.0, Session types).
 pub fn session_state(login: Option<UserType>, is_read_write: bool) -> SessionState
     ensures { result ≡ session_state login is_read_write }
 {
@@ -91,7 +92,7 @@ impl TokenBoard {
         TokenBoard {
             limit,
             status,
-            rows: [(0, 0); MOST_SESSIONS],
+            rows: [(0, 0); PLACES],
             count: 0,
         }
     }

@@ -107,12 +107,14 @@ pub fn copies_stay_unextractable()
     ensures { CopiesStayUnextractable }
 {}
 
-/// A key with CKA_ALWAYS_SENSITIVE true has been sensitive at every front since its creation.
+/// A key with CKA_ALWAYS_SENSITIVE true is sensitive at every front of the history at which it is
+/// there.
 pub fn always_sensitive_is_true()
     ensures { AlwaysSensitiveIsTrue }
 {}
 
-/// A key with CKA_NEVER_EXTRACTABLE true has been extractable at no front since its creation.
+/// A key with CKA_NEVER_EXTRACTABLE true is extractable at no front of the history at which it is
+/// there.
 pub fn never_extractable_is_true()
     ensures { NeverExtractableIsTrue }
 {}

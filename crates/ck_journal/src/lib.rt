@@ -21,6 +21,6 @@ pub use cuts::{base_law, cut_law};
 pub use journals::Journal;
 pub use operations::{OperationKind, is_long_piece};
 pub use replies::{Answer, Body, Reply};
-pub use session_flags::{RW_SESSION, SERIAL_SESSION, is_read_write};
+pub use session_flags::{READ_WRITE, RW_SESSION, SERIAL_SESSION, is_read_write};
 pub use tokens::JournaledToken;
 pub use views::{View, number_of_handle};

@@ -24,7 +24,7 @@ use ck_types::{NoMemory, RvError, error_if, number_of};
 use std::alloc::Global;
 use std::mem;
 
-/// One attribute of a template or of an object (CK_ATTRIBUTE; PKCS #11 Base 3.0, Objects): its type
+/// One attribute of a template or of an object (CK_ATTRIBUTE; PKCS #11 Base 3.0, Object types): its type
 /// and the bytes of its value.
 #[derive(Clone, Drop)]
 pub struct Item {

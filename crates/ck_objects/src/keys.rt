@@ -9,7 +9,7 @@ use ck_types::{GENERIC_SECRET_KEY_GEN, NoMemory};
 use std::alloc::{AllocError, Global};
 
 /// How a key came to be: the attributes that no template gives. A copy has its source's.
-#[derive(Clone, Copy, Debug)]
+#[derive(Clone, Copy)]
 pub(crate) struct Origin {
     pub(crate) local: bool,
     pub(crate) never_extractable: bool,

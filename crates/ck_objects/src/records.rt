@@ -1,6 +1,5 @@
 ghost use Rattle.std.specs.Prelude.{◌≡◌, None, IfOk};
 
-use crate::attribute_values::AttributeValue;
 use crate::attributes::{Attribute, Class, Purpose};
 use crate::data_objects::Data;
 use crate::fields::Field;
@@ -286,19 +285,6 @@ impl Record {
         matches!(self.field_of(flag), Some(Field::Flag(true)))
     }
 
-    /// A copy of the value of an attribute, or `None` where the object doesn't have the attribute.
-    pub fn value(&self, alloc: Global, kind: u64) -> Result<Option<AttributeValue>, NoMemory>
-        ensures { IfOk result (λ value. value ≡ value_at self.now kind) }
-    {
-        match self.field(kind) {
-            None => Ok(None),
-            Some(field) => {
-                let value = field.to_value(alloc)?;
-                Ok(Some(value))
-            }
-        }
-    }
-
     /// The value of an attribute as C_GetAttributeValue reads it (PKCS #11 Base 3.0, Object
     /// management functions): CKR_ATTRIBUTE_SENSITIVE for a value that may not be revealed,
     /// CKR_ATTRIBUTE_TYPE_INVALID for an attribute that the object doesn't have.
@@ -345,15 +331,7 @@ impl Record {
         ensures value { option_map field_bytes result ≡ value_at self.now kind }
         ensures flag { flag_field result ≡ flag_in self.now kind }
     {
-        match &self.object {
-            Object::Data(data) => match Attribute::of(kind) {
-                None => None,
-                Some(attribute) => data.field(attribute),
-            },
-            Object::Key(key) => match Attribute::of(kind) {
-                None => None,
-                Some(attribute) => key.field(attribute),
-            },
-        }
+        let attribute = Attribute::of(kind)?;
+        self.field_of(attribute)
     }
 }

@@ -190,7 +190,7 @@ impl Sessions {
             → created ≡ creations h → objects ≡ kept_objects h → result ≡ base_of h }
     {
         Base {
-            initialized: self.so.pin.is_some(),
+            initialized: self.is_initialized(),
             so: self.so.pin,
             user: self.user.pin,
             so_tries: self.so.tries,
@@ -209,7 +209,7 @@ impl Sessions {
             login: self.login,
             so_tries: self.so.tries,
             user_tries: self.user.tries,
-            is_initialized: self.so.pin.is_some(),
+            is_initialized: self.is_initialized(),
             has_user_pin: self.user.pin.is_some(),
         }
     }

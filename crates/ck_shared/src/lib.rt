@@ -5,6 +5,8 @@
 mod gates;
 mod locked;
 mod shared;
+mod sharing;
 
 pub use locked::Locked;
 pub use shared::{Ends, Shared, SharedCaller, SharedToken};
+pub use sharing::{SharedWork, share};

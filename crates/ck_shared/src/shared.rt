@@ -159,4 +159,12 @@ impl<
         }
         Ok(locked.into_token())
     }
+
+    /// Takes the token back, whatever has come of its callers.
+    pub(crate) fn into_token(self) -> G
+        ensures limits { (G.state result).limits ≡ K.limits }
+        ensures callers { AreCallers K.callers (G.state result).history }
+    {
+        self.lock.into_inner().into_token()
+    }
 }

@@ -1,10 +1,8 @@
 //! A caller that draws its calls.
 use crate::errors::SoakError;
 use crate::mix::{PLACES, Place, ROWS, SELDOM, call_of};
-use ck_callers::{Ask, TokenId};
+use ck_callers::{Ask, Caller, Gate, TokenId};
 use ck_journal::{Body, Reply};
-use ck_shared::{Shared, SharedCaller};
-use ck_token::Token;
 use ck_types::Rv;
 use rand_core::{Rng, SeedableRng};
 use rand_xoshiro::Xoshiro256PlusPlus;
@@ -20,17 +18,17 @@ const SELDOM_IN: u64 = 256;
 
 /// What all callers call, and the handles that they know.
 #[derive(Drop)]
-pub(crate) struct Target<'a, K: TokenId, R: Wait + Drop> {
+pub(crate) struct Target<'a, G, R> {
     pub(crate) rt: &'a R,
     pub(crate) alloc: Global,
-    pub(crate) token: &'a Shared<K, Token, R>,
+    pub(crate) gate: &'a G,
     pub(crate) places: [Place; PLACES],
 }
 
 /// A caller with its draws and all replies that it got.
 #[derive(Drop)]
-pub(crate) struct DrawingCaller<'a, K: TokenId> {
-    caller: &'a mut SharedCaller<K>,
+pub(crate) struct DrawingCaller<'a, K: TokenId, T: Drop> {
+    caller: &'a mut Caller<K, T>,
     pub(crate) number: u32,
     pub(crate) replies: Vec<Reply>,
     pub(crate) outcome: Result<(), SoakError>,
@@ -57,9 +55,9 @@ fn keep_handle(place: &Place, word: &str, reply: &Reply) {
     }
 }
 
-impl<'a, K: TokenId> DrawingCaller<'a, K> {
+impl<'a, K: TokenId, T: Drop> DrawingCaller<'a, K, T> {
     /// The draws follow from the caller's number.
-    pub(crate) fn new(alloc: Global, caller: &'a mut SharedCaller<K>) -> DrawingCaller<'a, K> {
+    pub(crate) fn new(alloc: Global, caller: &'a mut Caller<K, T>) -> DrawingCaller<'a, K, T> {
         let number = caller.number();
         DrawingCaller {
             caller,
@@ -71,16 +69,16 @@ impl<'a, K: TokenId> DrawingCaller<'a, K> {
     }
 
     /// Makes one call of a row with the handles of a place, and keeps its reply.
-    fn make_call<R: Wait + Drop>(
+    fn make_call<G: Gate<K, T>, R: Wait>(
         &mut self,
-        target: &Target<K, R>,
+        target: &Target<G, R>,
         place: &Place,
         step: &str,
     ) -> Result<(), SoakError> {
         let (text, word) = step.split_once(" > ").unwrap_or((step, ""));
         let call = call_of(target.alloc, place, text)?;
         let reply = target
-            .token
+            .gate
             .call(target.rt, target.alloc, self.caller, call)?;
         keep_handle(place, word, &reply);
         self.replies.push(reply)?;
@@ -88,9 +86,9 @@ impl<'a, K: TokenId> DrawingCaller<'a, K> {
     }
 
     /// Makes the calls of a row, as long as the caller has calls to make.
-    pub(crate) fn make_row<R: Wait + Drop>(
+    pub(crate) fn make_row<G: Gate<K, T>, R: Wait>(
         &mut self,
-        target: &Target<K, R>,
+        target: &Target<G, R>,
         place: &Place,
         row: &str,
     ) -> Result<(), SoakError> {
@@ -104,21 +102,24 @@ impl<'a, K: TokenId> DrawingCaller<'a, K> {
 
     /// Makes a drawn row. Then the caller asks for the state of a session without the lock: which
     /// one it sees depends on the others.
-    fn make_drawn_row<R: Wait + Drop>(&mut self, target: &Target<K, R>) -> Result<(), SoakError> {
+    fn make_drawn_row<G: Gate<K, T>, R: Wait>(
+        &mut self,
+        target: &Target<G, R>,
+    ) -> Result<(), SoakError> {
         let row = row_of(self.draws.next_u64());
         let number = self.draws.next_u64();
         if let Some(place) = target.places.get(number as usize % PLACES) {
             self.make_row(target, place, row)?;
             let session = place.session.load(Ordering::SeqCst);
-            let _status = self.caller.status(Ask::Session(session));
+            let _status = target.gate.status(self.caller, Ask::Session(session));
         }
         Ok(())
     }
 
     /// Draws rows until the caller has made its calls.
-    pub(crate) fn make_calls<R: Wait + Drop>(
+    pub(crate) fn make_calls<G: Gate<K, T>, R: Wait>(
         &mut self,
-        target: &Target<K, R>,
+        target: &Target<G, R>,
     ) -> Result<(), SoakError> {
         for _ in 0..CALLS {
             if self.replies.len() < CALLS {

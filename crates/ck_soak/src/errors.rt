@@ -10,8 +10,6 @@ pub(crate) enum SoakError {
     Memory,
     #[error("no line can be written")]
     Output,
-    #[error("the token doesn't take its callers back")]
-    NotClosed,
     #[error("the replies of caller {0} are not those of its entries")]
     NotEntered(u32),
     #[error("the audit finds entry {0} wrong")]

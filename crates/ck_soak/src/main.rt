@@ -36,7 +36,7 @@ fn play_callers<R: Print + AllocGlobal + Threads + Wait + Copy + Drop + Send + S
     rt: R,
 ) -> Result<(), SoakError> {
     let alloc = rt.alloc();
-    let counts = counts_of_two(rt, alloc).ok_or(SoakError::NotCounted)?;
+    let counts = counts_of_two(rt, alloc)?;
     write_counts(&rt, counts)?;
     run_asks(rt, alloc)?;
     println!(rt; "asks: {RUNS} passed")?;

@@ -1,21 +1,16 @@
 //! Eight callers in threads of their own make drawn calls of one token at once, until each has made
 //! its number. Then the token is taken back, and its journal is audited and compared with what each
 //! caller got.
-ghost use Rattle.std.specs.Prelude.{◌≡◌, ℕ};
-ghost use Rattle.ck_journal.specs.Bases.{empty_base};
-ghost use Rattle.ck_callers.specs.Accounts.{name_of};
-
 use crate::drawing_callers::{DrawingCaller, Target};
 use crate::errors::SoakError;
 use crate::mix::{FIRST_ROW, Place};
 use ck_audit::{Verdict, are_replies_of, audit_token};
-use ck_callers::{NewIdentity, TokenId};
+use ck_callers::{Caller, Gate, TokenId};
 use ck_journal::{Entry, Reply};
-use ck_shared::{Ends, Shared, SharedCaller};
+use ck_shared::{SharedWork, share};
 use ck_token::Token;
 use ck_types::{Limits, NoMemory};
 use std::alloc::Global;
-use std::marker::Brand;
 use std::sync::Wait;
 use std::thread::Threads;
 use std::{mem, thread};
@@ -23,10 +18,10 @@ use std::{mem, thread};
 /// A caller's number, and the replies that it got, in the order of its calls.
 type CallerReplies = (u32, Vec<Reply>);
 
-fn drawing_callers_of<K: TokenId>(
+fn drawing_callers_of<K: TokenId, T: Drop>(
     alloc: Global,
-    callers: &mut [SharedCaller<K>],
-) -> Result<Vec<DrawingCaller<'_, K>>, NoMemory> {
+    callers: &mut [Caller<K, T>],
+) -> Result<Vec<DrawingCaller<'_, K, T>>, NoMemory> {
     let mut drawing_callers = Vec::with_capacity(alloc, callers.len())?;
     for caller in callers {
         drawing_callers.push(DrawingCaller::new(alloc, caller))?;
@@ -35,9 +30,9 @@ fn drawing_callers_of<K: TokenId>(
 }
 
 /// The first caller opens a session for each place.
-fn prepare<K: TokenId, R: Wait + Drop>(
-    target: &Target<K, R>,
-    drawing_callers: &mut [DrawingCaller<K>],
+fn prepare<K: TokenId, T: Drop, G: Gate<K, T>, R: Wait>(
+    target: &Target<G, R>,
+    drawing_callers: &mut [DrawingCaller<K, T>],
 ) -> Result<(), SoakError> {
     if let Some(first) = drawing_callers.first_mut() {
         for place in target.places.iter() {
@@ -48,16 +43,21 @@ fn prepare<K: TokenId, R: Wait + Drop>(
 }
 
 /// All callers make their calls, each in a thread of its own.
-fn soak_together<K: TokenId + Send + Sync, R: Threads + Wait + Drop + Send + Sync>(
+fn soak_together<
+    K: TokenId + Send + Sync,
+    T: Drop + Send + Sync,
+    G: Gate<K, T> + Sync,
+    R: Threads + Wait + Send + Sync,
+>(
     rt: &R,
     alloc: Global,
-    token: &Shared<K, Token, R>,
-    drawing_callers: &mut [DrawingCaller<K>],
+    gate: &G,
+    drawing_callers: &mut [DrawingCaller<K, T>],
 ) -> Result<(), SoakError> {
     let target = Target {
         rt,
         alloc,
-        token,
+        gate,
         places: [Place::new(), Place::new(), Place::new(), Place::new()],
     };
     prepare(&target, drawing_callers)?;
@@ -65,7 +65,7 @@ fn soak_together<K: TokenId + Send + Sync, R: Threads + Wait + Drop + Send + Syn
         rt,
         drawing_callers,
         8,
-        &|_: usize, drawing_caller: &mut DrawingCaller<K>| {
+        &|_: usize, drawing_caller: &mut DrawingCaller<K, T>| {
             drawing_caller.outcome = drawing_caller.make_calls(&target);
         },
     );
@@ -73,9 +73,9 @@ fn soak_together<K: TokenId + Send + Sync, R: Threads + Wait + Drop + Send + Syn
 }
 
 /// The replies of each caller, where each has made its calls.
-fn replies_of<K: TokenId>(
+fn replies_of<K: TokenId, T: Drop>(
     alloc: Global,
-    drawing_callers: &mut [DrawingCaller<K>],
+    drawing_callers: &mut [DrawingCaller<K, T>],
 ) -> Result<Vec<CallerReplies>, SoakError> {
     let mut all = Vec::with_capacity(alloc, drawing_callers.len())?;
     for drawing_caller in drawing_callers {
@@ -86,16 +86,25 @@ fn replies_of<K: TokenId>(
     Ok(all)
 }
 
-/// All that eight callers do. Gives the replies of each.
-fn soak<K: TokenId + Send + Sync, R: Threads + Wait + Drop + Send + Sync>(
-    rt: &R,
-    alloc: Global,
-    token: &Shared<K, Token, R>,
-    callers: &mut [SharedCaller<K>],
-) -> Result<Vec<CallerReplies>, SoakError> {
-    let mut drawing_callers = drawing_callers_of(alloc, callers)?;
-    soak_together(rt, alloc, token, drawing_callers.as_mut_slice())?;
-    replies_of(alloc, drawing_callers.as_mut_slice())
+/// Drawn calls of eight callers.
+#[derive(Drop)]
+struct DrawnCalls;
+
+impl<R: Threads + Wait + Drop + Send + Sync> SharedWork<R> for DrawnCalls {
+    /// The replies of each caller.
+    type Output = Result<Vec<CallerReplies>, SoakError>;
+
+    fn run<K: TokenId + Send + Sync, T: Drop + Send + Sync, G: Gate<K, T> + Sync>(
+        &self,
+        rt: &R,
+        alloc: Global,
+        gate: &G,
+        mut callers: Vec<Caller<K, T>>,
+    ) -> Result<Vec<CallerReplies>, SoakError> {
+        let mut drawing_callers = drawing_callers_of(alloc, callers.as_mut_slice())?;
+        soak_together(rt, alloc, gate, drawing_callers.as_mut_slice())?;
+        replies_of(alloc, drawing_callers.as_mut_slice())
+    }
 }
 
 /// Each caller got the replies of its entries.
@@ -117,33 +126,13 @@ fn check_journal(alloc: Global, token: &Token, all: &[CallerReplies]) -> Result<
     }
 }
 
-/// Shares a new token among eight callers, and takes it back where all are done. Says how many
-/// calls its journal has.
-fn soak_shared<K: TokenId + Send + Sync, R: Threads + Wait + Copy + Drop + Send + Sync>(
-    rt: R,
-    alloc: Global,
-    limits: Limits,
-    identity: NewIdentity,
-) -> Result<u64, SoakError>
-    requires base { K.base ≡ empty_base }
-    requires limits { limits ≡ K.limits }
-    requires callers { K.callers ≡ 8 }
-    requires book { identity.history.seen.book ≡ K.book }
-    requires ledgers { (n : ℕ) → K.ledger n ≡ name_of identity.ledgers n }
-{
-    let Ends { token, mut callers } = Shared::<K, Token, R>::open(rt, alloc, limits, 8, identity)?;
-    let soaked = soak(&rt, alloc, &token, callers.as_mut_slice());
-    let Ok(token) = token.close(&rt, callers) else {
-        return Err(SoakError::NotClosed);
-    };
-    check_journal(alloc, &token, soaked?.as_slice())
-}
-
 /// Makes the drawn calls of eight callers on a new token, and checks its journal. Says how many
 /// they are.
 pub(crate) fn soak_once<R: Threads + Wait + Copy + Drop + Send + Sync>(
     rt: R,
     alloc: Global,
 ) -> Result<u64, SoakError> {
-    soak_shared::<Brand, R>(rt, alloc, Limits::largest(), NewIdentity::new())
+    let mut token = Token::new(alloc, Limits::largest());
+    let all = share(rt, alloc, &mut token, 8, &DrawnCalls)??;
+    check_journal(alloc, &token, all.as_slice())
 }

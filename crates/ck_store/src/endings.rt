@@ -9,7 +9,7 @@ use crate::stored_objects::StoredObject;
 use slab::Slab;
 
 /// What ends session objects.
-#[derive(Clone, Copy, Debug, PartialEq, Eq)]
+#[derive(Clone, Copy)]
 pub(crate) enum Ending {
     /// The session is closed.
     Session(u64),

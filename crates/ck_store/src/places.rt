@@ -18,7 +18,7 @@ use slab::Slab;
 use std::alloc::Global;
 
 /// Where the object of a number lies. Once the object has ended, its key may have another object.
-#[derive(Clone, Copy, Debug)]
+#[derive(Clone, Copy)]
 pub(crate) struct Place {
     pub(crate) number: u64,
     pub(crate) key: usize,

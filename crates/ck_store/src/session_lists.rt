@@ -12,7 +12,7 @@ use std::alloc::Global;
 
 /// The places of a session's private objects, or of its public ones, so that a logout walks over no
 /// others. A place stays in the list for a while after its object has ended.
-#[derive(Debug, Drop)]
+#[derive(Drop)]
 pub(crate) struct SessionList {
     session: u64,
     /// Whether its objects are private.

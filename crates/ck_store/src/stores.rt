@@ -13,7 +13,7 @@ use slab::Slab;
 use std::alloc::Global;
 use std::marker::Model;
 
-/// The token's objects.
+/// The token's objects (PKCS #11 Base 3.0, Objects).
 #[derive(Drop)]
 pub struct Store {
     objects: Slab<StoredObject>,

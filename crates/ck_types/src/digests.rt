@@ -95,7 +95,7 @@ impl Clone for Running {
 ghost use Rattle.ck_types.specs.Digests.{digest_of};
 
 /// The digest of the message.
-pub fn digest(hash: Hash, message: &[u8]) -> Tag
+pub(crate) fn digest(hash: Hash, message: &[u8]) -> Tag
     ensures { result ≡ digest_of hash message.now }
 {
     let mut running = Running::new(hash);

@@ -20,7 +20,7 @@ mod token_limits;
 mod users;
 
 pub use checks::error_if;
-pub use digests::{Running, digest};
+pub use digests::Running;
 pub use errors::RvError;
 pub use hashes::Hash;
 pub use macs::Mac;
@@ -35,5 +35,5 @@ pub use running_tags::RunningTag;
 pub use sequences::{Bytes, Sequence};
 pub use tags::Tag;
 pub use token_flags::TokenFlags;
-pub use token_limits::Limits;
+pub use token_limits::{Limits, MOST_SESSIONS};
 pub use users::{SessionState, UserType};

@@ -3,7 +3,6 @@ ghost use Rattle.ck_types.specs.Hashes.{block_length, digest_length};
 ghost use Rattle.ck_types.specs.declared.hashes.Hash.{Hash};
 
 use crate::digests::{Running, digest};
-use crate::errors::RvError;
 use crate::hashes::Hash;
 use crate::tags::{Tag, with_zeros};
 use std::alloc::AllocError;
@@ -28,15 +27,7 @@ pub struct Mac {
 }
 
 impl Mac {
-    ghost use Rattle.ck_types.specs.Checks.{check_of};
-    ghost use Rattle.ck_types.specs.Macs.{HoldsMac, hmac, signature_error};
-
-    /// The HMAC of the empty message under this key, of any length.
-    pub fn new(hash: Hash, key: &[u8]) -> Mac
-        ensures { HoldsMac hash key.now (digest_length hash) result [] }
-    {
-        Mac::general(hash, key, hash.len())
-    }
+    ghost use Rattle.ck_types.specs.Macs.{HoldsMac, hmac};
 
     /// The first `n` bytes of the HMAC of the empty message under this key, of any length.
     #[tactic(auto, unfolding(crate::specs::Macs::HoldsMac))]
@@ -74,10 +65,8 @@ impl Mac {
 
     /// The HMAC of the message, or its first bytes.
     pub fn finish(self) -> Tag
-        ensures first { (hash : Hash) (key : List ℕ) (n : ℕ) (message : List ℕ)
+        ensures { (hash : Hash) (key : List ℕ) (n : ℕ) (message : List ℕ)
             → HoldsMac hash key n self message → result ≡ take n (hmac hash key message) }
-        ensures whole { (hash : Hash) (key : List ℕ) (message : List ℕ)
-            → HoldsMac hash key (digest_length hash) self message → result ≡ hmac hash key message }
     {
         let Mac {
             inner,
@@ -88,16 +77,6 @@ impl Mac {
         let mut tag = outer.finish();
         tag.truncate(len as usize);
         tag
-    }
-
-    /// Checks a signature of the message: CKR_SIGNATURE_LEN_RANGE for one of another length than
-    /// the tag's, CKR_SIGNATURE_INVALID for other bytes.
-    pub fn check(self, signature: &[u8]) -> Result<(), RvError>
-        ensures { (hash : Hash) (key : List ℕ) (n : ℕ) (message : List ℕ)
-            → HoldsMac hash key n self message
-            → result ≡ check_of (signature_error (take n (hmac hash key message)) signature.now) }
-    {
-        self.finish().check(signature)
     }
 }
 

@@ -7,7 +7,7 @@ use crate::numbers::number_of;
 use crate::sequences::Bytes;
 use std::alloc::AllocError;
 
-/// A mechanism with its parameter (CK_MECHANISM; PKCS #11 Base 3.0, General data types).
+/// A mechanism with its parameter (CK_MECHANISM; PKCS #11 Base 3.0, Data types for mechanisms).
 #[derive(Drop)]
 pub struct Mechanism {
     /// The mechanism's type (CK_MECHANISM_TYPE), known to the token or not.
@@ -66,7 +66,7 @@ fn given_tag_length(hash: Hash, parameter: &[u8]) -> Option<u64>
 }
 
 /// What a mechanism computes.
-#[derive(Clone, Copy, Debug, PartialEq, Eq)]
+#[derive(Clone, Copy)]
 enum Algorithm {
     Digest(Hash),
     Hmac(Hash),
@@ -95,8 +95,8 @@ const MECHANISMS: [(u64, Algorithm); 13] = [
     (GENERIC_SECRET_KEY_GEN, Algorithm::GenericSecretKey),
 ];
 
-/// The types of all mechanisms that the token has, rising (C_GetMechanismList, PKCS #11 Base 3.0;
-/// the types are those of the Current Mechanisms 3.0).
+/// The types of all mechanisms that the token has, rising (C_GetMechanismList; PKCS #11 Base 3.0,
+/// Slot and token management functions). Their numbers are those of the Current Mechanisms 3.0.
 pub fn mechanism_types() -> [u64; 13]
     ensures { result ≡ mechanism_types }
 {

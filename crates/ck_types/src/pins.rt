@@ -3,16 +3,18 @@ ghost use Rattle.std.specs.Prelude.{◌≡◌};
 use sha2::{Digest, Sha256};
 
 /// The fewest bytes of a PIN that the token takes.
-pub const SHORTEST_PIN: u64 = 4;
+const SHORTEST_PIN: u64 = 4;
 
 /// The most bytes of a PIN that the token takes.
-pub const LONGEST_PIN: u64 = 64;
+const LONGEST_PIN: u64 = 64;
 
 /// What the token knows of a PIN: its length in bytes and its SHA-256 digest (FIPS 180-4). Two PINs
 /// are the same where both agree.
 #[derive(Clone, Copy, PartialEq, Eq)]
 pub struct Pin {
+    /// How many bytes the PIN has.
     pub len: u64,
+    /// The SHA-256 digest of these bytes.
     pub tag: [u8; 32],
 }
 

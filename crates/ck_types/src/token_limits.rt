@@ -1,7 +1,13 @@
 use std::marker::Model;
 
 /// The most sessions that any token may have open at once.
-const MOST_SESSIONS: u64 = 64;
+pub const MOST_SESSIONS: u64 = 64;
+
+/// The most openings of sessions, and the most creations of objects.
+const MOST_HANDLES: u64 = 0xffff_ffff;
+
+/// The most OK logins of the user.
+const MOST_LOGINS: u64 = 0x7fff_ffff;
 
 /// The limits of one token: sessions open at once (1 to 64), openings of sessions in all and
 /// creations of objects in all (each 1 to 2^32 - 1), and OK logins of the user in all
@@ -53,11 +59,11 @@ impl Limits {
         let is_in_range = 1 <= sessions
             && sessions <= MOST_SESSIONS
             && 1 <= openings
-            && openings <= 0xffff_ffff
+            && openings <= MOST_HANDLES
             && 1 <= creations
-            && creations <= 0xffff_ffff
+            && creations <= MOST_HANDLES
             && 1 <= logins
-            && logins <= 0x7fff_ffff;
+            && logins <= MOST_LOGINS;
         if is_in_range {
             Some(Limits {
                 sessions,
@@ -81,9 +87,9 @@ impl Limits {
     {
         Limits {
             sessions: MOST_SESSIONS,
-            openings: 0xffff_ffff,
-            creations: 0xffff_ffff,
-            logins: 0x7fff_ffff,
+            openings: MOST_HANDLES,
+            creations: MOST_HANDLES,
+            logins: MOST_LOGINS,
         }
     }
 

@@ -129,7 +129,6 @@ impl Token {
     ghost use Rattle.ck_journal.specs.Objects.{object_named};
     ghost use Rattle.ck_journal.specs.Operations.{message_in, is_updated};
     ghost use Rattle.ck_journal.specs.declared.calls.Call.TheVariants as call;
-    ghost use Rattle.ck_journal.specs.declared.operations.OperationKind.TheVariants as kind;
     ghost use Rattle.ck_operations.specs.Agreement.{OperationAgrees, active_operation};
     ghost use Rattle.ck_parts.specs.Changes.{finish_change, end_if_too_long, start_hmac};
     ghost use Rattle.ck_token.specs.Decisions.{IsDecision, IsDecided};
