@@ -1,13 +1,18 @@
 //! A token that callers share: its calls by the lock beside those of a token alone, and what four
 //! callers do in threads.
+ghost use Rattle.std.specs.Prelude.{◌≡◌, ℕ};
+ghost use Rattle.ck_journal.specs.Bases.{empty_base};
+ghost use Rattle.ck_callers.specs.Accounts.{name_of};
+
 use crate::rounds::{Failed, Kind, Target, make_rounds, prepare};
-use crate::threads::{GateTarget, Task, Worker, best_together};
-use ck_callers::{Caller, Gate, TokenId};
-use ck_shared::{SharedWork, share};
+use crate::threads::{SharedTarget, Task, Worker, best_together};
+use ck_callers::{NewIdentity, TokenId};
+use ck_shared::{Ends, Shared, SharedCaller};
 use ck_token::Token;
 use ck_types::{Limits, NoMemory};
 use std::alloc::Global;
 use std::io;
+use std::marker::Brand;
 use std::sync::Wait;
 use std::thread::Threads;
 use std::time::{Clock, Instant};
@@ -82,70 +87,55 @@ fn call_times<T: Target, C: Clock>(
 }
 
 /// The callers of the slice all get this task.
-fn give<K: TokenId, T: Drop>(workers: &mut [Worker<K, T>], task: Task) {
+fn give<K: TokenId>(workers: &mut [Worker<K>], task: Task) {
     for worker in workers {
         worker.task = task;
     }
 }
 
 /// What the asks of one caller take, and then those of all at once.
-fn ask_times<
-    K: TokenId + Send + Sync,
-    T: Drop + Send + Sync,
-    G: Gate<K, T> + Sync,
-    R: Clock + Threads + Wait + Send + Sync,
->(
+fn ask_times<K: TokenId + Send + Sync, R: Clock + Threads + Wait + Drop + Send + Sync>(
     rt: &R,
     alloc: Global,
-    gate: &G,
-    workers: &mut [Worker<K, T>],
+    token: &Shared<K, Token, R>,
+    workers: &mut [Worker<K>],
     effort: Effort,
 ) -> Result<(u128, u128), Failed> {
     give(workers, Task::Ask(effort.asks));
     let first = workers.get_mut(..1).ok_or(Failed)?;
-    let alone = best_together(rt, alloc, gate, first, effort.tries)?;
-    let all = best_together(rt, alloc, gate, workers, effort.tries)?;
+    let alone = best_together(rt, alloc, token, first, effort.tries)?;
+    let all = best_together(rt, alloc, token, workers, effort.tries)?;
     Ok((alone, all))
 }
 
 /// What the asks of one caller take beside another caller that changes the token.
-fn time_beside<
-    K: TokenId + Send + Sync,
-    T: Drop + Send + Sync,
-    G: Gate<K, T> + Sync,
-    R: Clock + Threads + Wait + Send + Sync,
->(
+fn time_beside<K: TokenId + Send + Sync, R: Clock + Threads + Wait + Drop + Send + Sync>(
     rt: &R,
     alloc: Global,
-    gate: &G,
-    workers: &mut [Worker<K, T>],
+    token: &Shared<K, Token, R>,
+    workers: &mut [Worker<K>],
     effort: Effort,
 ) -> Result<u128, Failed> {
     give(workers, Task::Ask(effort.asks));
     let second = workers.get_mut(1).ok_or(Failed)?;
     second.task = Task::ChangeBeside;
     let two = workers.get_mut(..2).ok_or(Failed)?;
-    best_together(rt, alloc, gate, two, effort.tries)
+    best_together(rt, alloc, token, two, effort.tries)
 }
 
 /// What four callers do in threads: one asks, all ask, one asks beside one that changes the token,
 /// and all change it.
-fn thread_times<
-    K: TokenId + Send + Sync,
-    T: Drop + Send + Sync,
-    G: Gate<K, T> + Sync,
-    R: Clock + Threads + Wait + Send + Sync,
->(
+fn thread_times<K: TokenId + Send + Sync, R: Clock + Threads + Wait + Drop + Send + Sync>(
     rt: &R,
     alloc: Global,
-    gate: &G,
-    workers: &mut [Worker<K, T>],
+    token: &Shared<K, Token, R>,
+    workers: &mut [Worker<K>],
     effort: Effort,
 ) -> Result<ThreadTimes, Failed> {
-    let (ask_alone, four_ask) = ask_times(rt, alloc, gate, workers, effort)?;
-    let ask_beside = time_beside(rt, alloc, gate, workers, effort)?;
+    let (ask_alone, four_ask) = ask_times(rt, alloc, token, workers, effort)?;
+    let ask_beside = time_beside(rt, alloc, token, workers, effort)?;
     give(workers, Task::Change(effort.rounds.saturating_mul(CHANGES)));
-    let four_change = best_together(rt, alloc, gate, workers, effort.tries)?;
+    let four_change = best_together(rt, alloc, token, workers, effort.tries)?;
     Ok(ThreadTimes {
         ask_alone,
         ask_beside,
@@ -155,30 +145,25 @@ fn thread_times<
 }
 
 /// The callers' calls by the lock, and what they do in threads.
-fn times_of<
-    K: TokenId + Send + Sync,
-    T: Drop + Send + Sync,
-    G: Gate<K, T> + Sync,
-    R: Clock + Threads + Wait + Send + Sync,
->(
+fn times_of<K: TokenId + Send + Sync, R: Clock + Threads + Wait + Drop + Send + Sync>(
     rt: &R,
     alloc: Global,
-    gate: &G,
-    workers: &mut [Worker<K, T>],
+    token: &Shared<K, Token, R>,
+    workers: &mut [Worker<K>],
     effort: Effort,
 ) -> Result<(CallTimes, ThreadTimes), Failed> {
     let first = workers.first_mut().ok_or(Failed)?;
     let caller = &mut *first.caller;
-    let mut target = GateTarget { rt, gate, caller };
+    let mut target = SharedTarget { rt, token, caller };
     let calls = call_times(rt, alloc, &mut target, effort)?;
-    let threads = thread_times(rt, alloc, gate, workers, effort)?;
+    let threads = thread_times(rt, alloc, token, workers, effort)?;
     Ok((calls, threads))
 }
 
-fn workers_of<K: TokenId, T: Drop>(
+fn workers_of<K: TokenId>(
     alloc: Global,
-    callers: Vec<Caller<K, T>>,
-) -> Result<Vec<Worker<K, T>>, NoMemory> {
+    callers: Vec<SharedCaller<K>>,
+) -> Result<Vec<Worker<K>>, NoMemory> {
     let mut workers = Vec::with_capacity(alloc, callers.len())?;
     for caller in callers {
         workers.push(Worker::new(caller))?;
@@ -186,23 +171,23 @@ fn workers_of<K: TokenId, T: Drop>(
     Ok(workers)
 }
 
-/// What is measured of four callers: their calls by the lock, and what they do in threads.
-#[derive(Drop)]
-struct FourCallers(Effort);
-
-impl<R: Clock + Threads + Wait + Drop + Send + Sync> SharedWork<R> for FourCallers {
-    type Output = Result<(CallTimes, ThreadTimes), Failed>;
-
-    fn run<K: TokenId + Send + Sync, T: Drop + Send + Sync, G: Gate<K, T> + Sync>(
-        &self,
-        rt: &R,
-        alloc: Global,
-        gate: &G,
-        callers: Vec<Caller<K, T>>,
-    ) -> Result<(CallTimes, ThreadTimes), Failed> {
-        let mut workers = workers_of(alloc, callers)?;
-        times_of(rt, alloc, gate, workers.as_mut_slice(), self.0)
-    }
+/// Shares a new token among four callers, and measures their calls by the lock and in threads.
+fn times_shared<K: TokenId + Send + Sync, R: Clock + Threads + Wait + Copy + Drop + Send + Sync>(
+    rt: R,
+    alloc: Global,
+    limits: Limits,
+    identity: NewIdentity,
+    effort: Effort,
+) -> Result<(CallTimes, ThreadTimes), Failed>
+    requires base { K.base ≡ empty_base }
+    requires limits { limits ≡ K.limits }
+    requires callers { K.callers ≡ 4 }
+    requires book { identity.history.seen.book ≡ K.book }
+    requires ledgers { (n : ℕ) → K.ledger n ≡ name_of identity.ledgers n }
+{
+    let Ends { token, callers } = Shared::<K, Token, R>::open(rt, alloc, limits, 4, identity)?;
+    let mut workers = workers_of(alloc, callers)?;
+    times_of(&rt, alloc, &token, workers.as_mut_slice(), effort)
 }
 
 /// The time of each of so many, 0 of none.
@@ -268,8 +253,8 @@ pub(crate) fn measure_shared<
     let effort = if measures { MEASURED } else { TRIED };
     let limits = Limits::largest();
     let alone = times_alone(&rt, alloc, limits, effort)?;
-    let mut token = Token::new(alloc, limits);
-    let (locked, threads) = share(rt, alloc, &mut token, 4, &FourCallers(effort))??;
+    let identity = NewIdentity::new();
+    let (locked, threads) = times_shared::<Brand, _>(rt, alloc, limits, identity, effort)?;
     if measures {
         write_calls(&rt, alone, locked)?;
         write_threads(&rt, threads)?;

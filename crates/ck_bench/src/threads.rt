@@ -1,7 +1,9 @@
 //! Callers of a shared token, in threads of their own.
 use crate::rounds::{Failed, Kind, READ_WRITE, Target, make_rounds, round};
-use ck_callers::{Ask, Caller, Gate, Status, TokenId};
+use ck_callers::{Ask, Status, TokenId};
 use ck_journal::{Body, Call, Reply};
+use ck_shared::{Shared, SharedCaller};
+use ck_token::Token;
 use ck_types::{NoMemory, Rv};
 use crossbeam_utils::CachePadded;
 use std::alloc::Global;
@@ -11,17 +13,17 @@ use std::thread;
 use std::thread::Threads;
 use std::time::{Clock, Instant};
 
-/// A gate and one of its callers.
+/// A shared token and one of its callers.
 #[derive(Drop)]
-pub(crate) struct GateTarget<'a, K: TokenId, T: Drop, G, R> {
+pub(crate) struct SharedTarget<'a, K: TokenId, R: Wait + Drop> {
     pub(crate) rt: &'a R,
-    pub(crate) gate: &'a G,
-    pub(crate) caller: &'a mut Caller<K, T>,
+    pub(crate) token: &'a Shared<K, Token, R>,
+    pub(crate) caller: &'a mut SharedCaller<K>,
 }
 
-impl<'a, K: TokenId, T: Drop, G: Gate<K, T>, R: Wait> Target for GateTarget<'a, K, T, G, R> {
+impl<'a, K: TokenId, R: Wait + Drop> Target for SharedTarget<'a, K, R> {
     fn call(&mut self, alloc: Global, call: Call) -> Result<Reply, NoMemory> {
-        self.gate.call(self.rt, alloc, self.caller, call)
+        self.token.call(self.rt, alloc, self.caller, call)
     }
 }
 
@@ -39,14 +41,14 @@ pub(crate) enum Task {
 /// A caller with its task, and the nanoseconds that it took. It has cache lines of its own, as it
 /// would have where its thread owns it.
 #[derive(Drop)]
-pub(crate) struct Worker<K: TokenId, T: Drop> {
-    pub(crate) caller: CachePadded<Caller<K, T>>,
+pub(crate) struct Worker<K: TokenId> {
+    pub(crate) caller: CachePadded<SharedCaller<K>>,
     pub(crate) task: Task,
     time: Result<u128, Failed>,
 }
 
-impl<K: TokenId, T: Drop> Worker<K, T> {
-    pub(crate) fn new(caller: Caller<K, T>) -> Worker<K, T> {
+impl<K: TokenId> Worker<K> {
+    pub(crate) fn new(caller: SharedCaller<K>) -> Worker<K> {
         Worker {
             caller: CachePadded::new(caller),
             task: Task::Ask(0),
@@ -71,13 +73,9 @@ fn is_open(status: Option<Status>) -> bool {
 }
 
 /// Asks so often. Each time the session must be open.
-fn ask<K: TokenId, T: Drop, G: Gate<K, T>>(
-    gate: &G,
-    caller: &mut Caller<K, T>,
-    count: u64,
-) -> Result<(), Failed> {
+fn ask<K: TokenId>(caller: &mut SharedCaller<K>, count: u64) -> Result<(), Failed> {
     for _ in 0..count {
-        if !is_open(gate.status(caller, Ask::Session(1))) {
+        if !is_open(caller.status(Ask::Session(1))) {
             return Err(Failed);
         }
     }
@@ -85,8 +83,8 @@ fn ask<K: TokenId, T: Drop, G: Gate<K, T>>(
 }
 
 /// Makes rounds until another caller is done.
-fn change_until<T: Target>(
-    target: &mut T,
+fn change_until<K: TokenId, R: Wait + Drop>(
+    target: &mut SharedTarget<K, R>,
     alloc: Global,
     is_done: &AtomicBool,
 ) -> Result<(), Failed> {
@@ -100,42 +98,42 @@ fn change_until<T: Target>(
 }
 
 /// Does the task of a caller.
-fn do_task<K: TokenId, T: Drop, G: Gate<K, T>, R: Wait>(
+fn do_task<K: TokenId, R: Wait + Drop>(
     rt: &R,
     alloc: Global,
-    gate: &G,
-    worker: &mut Worker<K, T>,
+    token: &Shared<K, Token, R>,
+    worker: &mut Worker<K>,
     is_done: &AtomicBool,
 ) -> Result<(), Failed> {
     let caller = &mut *worker.caller;
     match worker.task {
-        Task::Ask(count) => ask(gate, caller, count),
+        Task::Ask(count) => ask(caller, count),
         Task::Change(count) => {
-            let mut target = GateTarget { rt, gate, caller };
+            let mut target = SharedTarget { rt, token, caller };
             make_rounds(&mut target, alloc, Kind::CreateReadDestroy, count)
         }
         Task::ChangeBeside => {
-            let mut target = GateTarget { rt, gate, caller };
+            let mut target = SharedTarget { rt, token, caller };
             change_until(&mut target, alloc, is_done)
         }
     }
 }
 
 /// Does the task of a caller, and says what it took.
-fn work<K: TokenId, T: Drop, G: Gate<K, T>, R: Clock + Wait>(
+fn work<K: TokenId, R: Clock + Wait + Drop>(
     rt: &R,
     alloc: Global,
-    gate: &G,
-    worker: &mut Worker<K, T>,
+    token: &Shared<K, Token, R>,
+    worker: &mut Worker<K>,
     is_done: &AtomicBool,
 ) -> Result<u128, Failed> {
     let before = Instant::now(rt)?;
-    do_task(rt, alloc, gate, worker, is_done)?;
+    do_task(rt, alloc, token, worker, is_done)?;
     Ok(before.elapsed(rt)?.as_nanos())
 }
 
 /// The nanoseconds that the slowest of the callers took.
-fn slowest<K: TokenId, T: Drop>(workers: &[Worker<K, T>]) -> Result<u128, Failed> {
+fn slowest<K: TokenId>(workers: &[Worker<K>]) -> Result<u128, Failed> {
     let mut most = 0;
     for worker in workers {
         most = worker.time?.max(most);
@@ -144,12 +142,12 @@ fn slowest<K: TokenId, T: Drop>(workers: &[Worker<K, T>]) -> Result<u128, Failed
 }
 
 /// All callers do their tasks, each in a thread of its own. Gives the nanoseconds of the slowest.
-fn time_together<
-    K: TokenId + Send + Sync,
-    T: Drop + Send + Sync,
-    G: Gate<K, T> + Sync,
-    R: Clock + Threads + Wait + Send + Sync,
->(rt: &R, alloc: Global, gate: &G, workers: &mut [Worker<K, T>]) -> Result<u128, Failed> {
+fn time_together<K: TokenId + Send + Sync, R: Clock + Threads + Wait + Drop + Send + Sync>(
+    rt: &R,
+    alloc: Global,
+    token: &Shared<K, Token, R>,
+    workers: &mut [Worker<K>],
+) -> Result<u128, Failed> {
     let is_done = AtomicBool::new(false);
     let most = workers.len();
     if most == 0 {
@@ -159,8 +157,8 @@ fn time_together<
         rt,
         workers,
         most,
-        &|_: usize, worker: &mut Worker<K, T>| {
-            worker.time = work(rt, alloc, gate, worker, &is_done);
+        &|_: usize, worker: &mut Worker<K>| {
+            worker.time = work(rt, alloc, token, worker, &is_done);
             is_done.store(true, Ordering::SeqCst);
         },
     );
@@ -170,19 +168,17 @@ fn time_together<
 /// The nanoseconds of the best of so many tries.
 pub(crate) fn best_together<
     K: TokenId + Send + Sync,
-    T: Drop + Send + Sync,
-    G: Gate<K, T> + Sync,
-    R: Clock + Threads + Wait + Send + Sync,
+    R: Clock + Threads + Wait + Drop + Send + Sync,
 >(
     rt: &R,
     alloc: Global,
-    gate: &G,
-    workers: &mut [Worker<K, T>],
+    token: &Shared<K, Token, R>,
+    workers: &mut [Worker<K>],
     tries: u64,
 ) -> Result<u128, Failed> {
     let mut best = u128::MAX;
     for _ in 0..tries {
-        best = best.min(time_together(rt, alloc, gate, workers)?);
+        best = best.min(time_together(rt, alloc, token, workers)?);
     }
     Ok(best)
 }

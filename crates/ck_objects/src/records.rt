@@ -331,7 +331,15 @@ impl Record {
         ensures value { option_map field_bytes result ≡ value_at self.now kind }
         ensures flag { flag_field result ≡ flag_in self.now kind }
     {
-        let attribute = Attribute::of(kind)?;
-        self.field_of(attribute)
+        match &self.object {
+            Object::Data(data) => match Attribute::of(kind) {
+                None => None,
+                Some(attribute) => data.field(attribute),
+            },
+            Object::Key(key) => match Attribute::of(kind) {
+                None => None,
+                Some(attribute) => key.field(attribute),
+            },
+        }
     }
 }

@@ -22,6 +22,8 @@ pub(crate) enum RaceError {
     Late,
     #[error("the calls were not made in the order of their turns")]
     Order,
+    #[error("the token doesn't take its callers back")]
+    NotClosed,
     #[error("the replies of caller {0} are not those of its entries")]
     NotEntered(u32),
     #[error("the audit finds entry {0} wrong")]

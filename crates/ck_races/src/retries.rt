@@ -1,14 +1,19 @@
 //! The steps of a race, one after the other on a shared token. What finds no memory is made again.
+ghost use Rattle.std.specs.Prelude.{◌≡◌, ℕ};
+ghost use Rattle.ck_journal.specs.Histories.{start};
+ghost use Rattle.ck_callers.specs.Accounts.{name_of};
+
 use crate::errors::RaceError;
 use crate::journals::check_audit;
 use crate::races::{Race, Step, compare};
 use crate::tokens::token_of;
 use ck_audit::are_same_replies;
-use ck_callers::{Ask, Caller, Gate, Status, TokenId};
+use ck_callers::{Ask, NewIdentity, Status, TokenId};
 use ck_journal::{Call, Reply};
-use ck_shared::{SharedWork, share};
+use ck_shared::{Ends, Shared, SharedCaller};
 use ck_token::Token;
 use std::alloc::Global;
+use std::marker::Brand;
 use std::sync::Wait;
 
 /// What a caller knows, and what it is answered without a call.
@@ -21,10 +26,10 @@ struct View {
 }
 
 /// What a caller sees. It asks before it counts what it knows.
-fn view_of<K: TokenId, T: Drop, G: Gate<K, T>>(gate: &G, caller: &mut Caller<K, T>) -> View {
+fn view_of<K: TokenId>(caller: &mut SharedCaller<K>) -> View {
     View {
-        session: gate.status(caller, Ask::Session(1)),
-        token: gate.status(caller, Ask::Token),
+        session: caller.status(Ask::Session(1)),
+        token: caller.status(Ask::Token),
         seen: caller.seen(),
         count: caller.count(),
     }
@@ -37,59 +42,74 @@ fn are_same(one: &Option<Status>, other: &Option<Status>) -> bool {
     }
 }
 
-/// Why a call of the line has no reply. The caller must see what it saw.
-fn without_reply<K: TokenId, T: Drop, G: Gate<K, T>>(
-    gate: &G,
-    caller: &mut Caller<K, T>,
-    before: &View,
-    line: u64,
-) -> RaceError {
-    if sees(gate, caller, before) {
-        RaceError::Memory
-    } else {
-        RaceError::Changed(line)
-    }
-}
-
 /// Whether a caller sees what it saw.
-fn sees<K: TokenId, T: Drop, G: Gate<K, T>>(
-    gate: &G,
-    caller: &mut Caller<K, T>,
-    before: &View,
-) -> bool {
-    let after = view_of(gate, caller);
+fn sees<K: TokenId>(caller: &mut SharedCaller<K>, before: &View) -> bool {
+    let after = view_of(caller);
     after.seen == before.seen
         && after.count == before.count
         && are_same(&after.session, &before.session)
         && are_same(&after.token, &before.token)
 }
 
-/// The eight callers of a gate, and how many of their calls were answered.
+/// Whether an answered call added an entry to so many, or a caller that wasn't answered sees what it
+/// saw.
+fn is_as_wanted<K: TokenId>(
+    caller: &mut SharedCaller<K>,
+    before: &View,
+    is_answered: bool,
+    entries: u64,
+) -> bool {
+    if is_answered {
+        caller.seen() == entries.saturating_add(1)
+    } else {
+        sees(caller, before)
+    }
+}
+
+/// Makes a call of a step on the line, which adds an entry to so many or finds no memory.
+fn make_call<K: TokenId, R: Wait + Drop>(
+    rt: &R,
+    alloc: Global,
+    token: &Shared<K, Token, R>,
+    caller: &mut SharedCaller<K>,
+    call: Call,
+    entries: u64,
+    line: u64,
+) -> Result<Reply, RaceError> {
+    let before = view_of(caller);
+    let reply = token.call(rt, alloc, caller, call).ok();
+    if !is_as_wanted(caller, &before, reply.is_some(), entries) {
+        return Err(RaceError::Changed(line));
+    }
+    reply.ok_or(RaceError::Memory)
+}
+
+/// The eight callers of a shared token, and how many of their calls were answered.
 #[derive(Drop)]
-struct Retrying<'a, K: TokenId, T: Drop, G, R> {
+struct Retrying<'a, K: TokenId, R: Wait + Drop> {
     rt: &'a R,
     alloc: Global,
-    gate: &'a G,
-    callers: Vec<Caller<K, T>>,
+    token: &'a Shared<K, Token, R>,
+    callers: &'a mut [SharedCaller<K>],
     answered: u64,
 }
 
-impl<'a, K: TokenId, T: Drop, G: Gate<K, T>, R: Wait> Retrying<'a, K, T, G, R> {
-    /// Makes a call of a step on the line. With a reply the caller knows one entry more than there
-    /// were, and without one it sees what it saw.
+fn caller_of<K: TokenId>(
+    callers: &mut [SharedCaller<K>],
+    number: u32,
+) -> Option<&mut SharedCaller<K>> {
+    callers.iter_mut().find(|caller| caller.number() == number)
+}
+
+impl<'a, K: TokenId, R: Wait + Drop> Retrying<'a, K, R> {
+    /// Makes a call, which adds one entry to those that were there, or finds no memory.
     fn call(&mut self, number: u32, line: u64, call: Call) -> Result<Reply, RaceError> {
-        let mut callers = self.callers.iter_mut();
-        let Some(caller) = callers.find(|caller| caller.number() == number) else {
+        let Some(caller) = caller_of(self.callers, number) else {
             return Err(RaceError::NoRace(line));
         };
-        let before = view_of(self.gate, caller);
-        let Ok(reply) = self.gate.call(self.rt, self.alloc, caller, call) else {
-            return Err(without_reply(self.gate, caller, &before, line));
-        };
-        self.answered = self.answered.saturating_add(1);
-        if caller.seen() != self.answered {
-            return Err(RaceError::Changed(line));
-        }
+        let entries = self.answered;
+        let reply = make_call(self.rt, self.alloc, self.token, caller, call, entries, line)?;
+        self.answered = entries.saturating_add(1);
         Ok(reply)
     }
 
@@ -117,34 +137,30 @@ impl<'a, K: TokenId, T: Drop, G: Gate<K, T>, R: Wait> Retrying<'a, K, T, G, R> {
         }
         Ok(())
     }
+
+    fn make_race(&mut self, race: &Race) -> Result<(), RaceError> {
+        self.make_all(race.steps.as_slice())?;
+        self.make_all(race.afterwards.as_slice())
+    }
 }
 
-/// The steps of a race in their order.
-#[derive(Drop)]
-struct Retries<'a>(&'a Race<'a>);
-
-impl<'a, R: Wait + Drop> SharedWork<R> for Retries<'a> {
-    /// How many calls were answered.
-    type Output = Result<u64, RaceError>;
-
-    fn run<K: TokenId + Send + Sync, T: Drop + Send + Sync, G: Gate<K, T> + Sync>(
-        &self,
-        rt: &R,
-        alloc: Global,
-        gate: &G,
-        callers: Vec<Caller<K, T>>,
-    ) -> Result<u64, RaceError> {
-        let mut retrying = Retrying {
-            rt,
-            alloc,
-            gate,
-            callers,
-            answered: 0,
-        };
-        retrying.make_all(self.0.steps.as_slice())?;
-        retrying.make_all(self.0.afterwards.as_slice())?;
-        Ok(retrying.answered)
-    }
+/// Makes the steps of the race in their order. Says how many calls were answered.
+fn make_steps<K: TokenId, R: Wait + Drop>(
+    rt: &R,
+    alloc: Global,
+    token: &Shared<K, Token, R>,
+    callers: &mut [SharedCaller<K>],
+    race: &Race,
+) -> Result<u64, RaceError> {
+    let mut retrying = Retrying {
+        rt,
+        alloc,
+        token,
+        callers,
+        answered: 0,
+    };
+    retrying.make_race(race)?;
+    Ok(retrying.answered)
 }
 
 /// The journal is legal and has the entries of the answered calls. Says how many they are beside
@@ -163,14 +179,39 @@ fn count_others(
     Ok(answered.saturating_sub(steps as u64))
 }
 
+/// Shares the token, and makes the steps of the race in their order. Says how many calls were
+/// answered beside them.
+fn retry_shared<K: TokenId, R: Wait + Copy + Drop>(
+    rt: R,
+    alloc: Global,
+    token: Token,
+    identity: NewIdentity,
+    race: &Race,
+) -> Result<u64, RaceError>
+    requires history { token.history ≡ start K.base }
+    requires limits { token.limits ≡ K.limits }
+    requires callers { K.callers ≡ 8 }
+    requires book { identity.history.seen.book ≡ K.book }
+    requires ledgers { (n : ℕ) → K.ledger n ≡ name_of identity.ledgers n }
+{
+    let ends = Shared::<K, Token, R>::adopt(rt, alloc, token, 8, identity);
+    let Ok(Ends { token, mut callers }) = ends else {
+        return Err(RaceError::Memory);
+    };
+    let answered = make_steps(&rt, alloc, &token, callers.as_mut_slice(), race)?;
+    let Ok(token) = token.close(&rt, callers) else {
+        return Err(RaceError::NotClosed);
+    };
+    count_others(alloc, &token, race, answered)
+}
+
 /// Makes the steps of a race one after the other on a shared token, and says how often one was made
 /// again.
-pub(crate) fn retry_race<R: Wait + Copy + Drop + Send + Sync>(
+pub(crate) fn retry_race<R: Wait + Copy + Drop>(
     rt: R,
     alloc: Global,
     race: &Race,
 ) -> Result<u64, RaceError> {
-    let mut token = token_of(alloc, race)?;
-    let answered = share(rt, alloc, &mut token, 8, &Retries(race))??;
-    count_others(alloc, &token, race, answered)
+    let token = token_of(alloc, race)?;
+    retry_shared::<Brand, R>(rt, alloc, token, NewIdentity::new(), race)
 }

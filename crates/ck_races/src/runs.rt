@@ -1,94 +1,48 @@
 //! One run of a race on a shared token.
 use crate::errors::RaceError;
-use crate::journals::{CallerReplies, check_token};
-use crate::orders::OrderedGate;
+use crate::journals::check_token;
+use crate::orders::Turns;
 use crate::races::{Race, Step};
 use crate::tokens::token_of;
-use ck_callers::{Caller, Gate, Script, TokenId, run_scripts};
-use ck_journal::Call;
-use ck_shared::{SharedWork, share};
-use ck_types::NoMemory;
+use ck_callers::{Caller, Gate, TokenId};
+use ck_journal::Reply;
+use ck_shared::{CallerWork, share};
 use std::alloc::Global;
 use std::sync::Wait;
 use std::thread::Threads;
 
-/// Copies of the calls of one caller among the steps.
-fn calls_by(alloc: Global, caller: u32, steps: &[Step]) -> Result<Vec<Call>, NoMemory> {
-    let mut calls = Vec::new(alloc);
-    for step in steps {
-        if step.caller == caller {
-            calls.push(step.call.clone()?)?;
-        }
-    }
-    Ok(calls)
-}
+/// A caller's number, and the replies that it got, in the order of its calls.
+pub(crate) type CallerReplies = (u32, Vec<Reply>);
 
-fn script_of<K: TokenId, T: Drop>(
-    alloc: Global,
-    caller: Caller<K, T>,
-    steps: &[Step],
-) -> Result<Script<K, T>, NoMemory> {
-    let calls = calls_by(alloc, caller.number(), steps)?;
-    Script::new(alloc, caller, calls).ok().ok_or(NoMemory)
-}
-
-fn scripts_of<K: TokenId, T: Drop>(
-    alloc: Global,
-    callers: Vec<Caller<K, T>>,
-    steps: &[Step],
-) -> Result<Vec<Script<K, T>>, NoMemory> {
-    let mut scripts = Vec::with_capacity(alloc, callers.len())?;
-    for caller in callers {
-        scripts.push(script_of(alloc, caller, steps)?)?;
-    }
-    Ok(scripts)
-}
-
-/// The number and the replies of the caller of a script, all of whose calls found memory.
-fn replies_in<K: TokenId, T: Drop>(script: Script<K, T>) -> Result<CallerReplies, NoMemory> {
-    script.outcome()?;
-    let (caller, replies) = script.into_parts();
-    Ok((caller.number(), replies))
-}
-
-/// The replies of each caller, all of whose calls found memory.
-fn replies_of<K: TokenId, T: Drop>(
-    alloc: Global,
-    scripts: Vec<Script<K, T>>,
-) -> Result<Vec<CallerReplies>, NoMemory> {
-    let mut all = Vec::with_capacity(alloc, scripts.len())?;
-    for script in scripts {
-        all.push(replies_in(script)?)?;
-    }
-    Ok(all)
-}
-
-/// The steps of a race, the first of them in this order of their callers.
+/// Steps, the first of which are made in an order of their callers.
 #[derive(Drop)]
 struct Run<'a> {
     steps: &'a [Step<'a>],
-    order: &'a [u32],
+    turns: Turns<'a>,
 }
 
-impl<'a, R: Threads + Wait + Drop + Send + Sync> SharedWork<R> for Run<'a> {
-    /// The replies of each caller.
-    type Output = Result<Vec<CallerReplies>, RaceError>;
+impl<'a, R: Wait> CallerWork<R> for Run<'a> {
+    /// The caller's number and its replies.
+    type Output = Result<CallerReplies, RaceError>;
 
-    /// The callers make the steps in threads.
-    fn run<K: TokenId + Send + Sync, T: Drop + Send + Sync, G: Gate<K, T> + Sync>(
+    /// Makes the steps of the caller.
+    fn act<K: TokenId, T: Drop, G: Gate<K, T>>(
         &self,
         rt: &R,
         alloc: Global,
         gate: &G,
-        callers: Vec<Caller<K, T>>,
-    ) -> Result<Vec<CallerReplies>, RaceError> {
-        let mut scripts = scripts_of(alloc, callers, self.steps)?;
-        let ordered = OrderedGate::new(gate, self.order);
-        run_scripts(rt, alloc, &ordered, scripts.as_mut_slice());
-        if ordered.is_late() {
-            return Err(RaceError::Late);
+        mut caller: Caller<K, T>,
+    ) -> Result<CallerReplies, RaceError> {
+        let number = caller.number();
+        let mut replies = Vec::new(alloc);
+        for step in self.steps.iter().filter(|step| step.caller == number) {
+            let call = step.call.clone()?;
+            self.turns.await_turn(number);
+            let reply = gate.call(rt, alloc, &mut caller, call);
+            self.turns.pass();
+            replies.push(reply?)?;
         }
-        Ok(replies_of(alloc, scripts)?)
+        Ok((number, replies))
     }
 }
 
@@ -101,7 +55,13 @@ pub(crate) fn run_race<R: Threads + Wait + Copy + Drop + Send + Sync>(
     order: &[u32],
 ) -> Result<(), RaceError> {
     let mut token = token_of(alloc, race)?;
-    let steps = race.steps.as_slice();
-    let all = share(rt, alloc, &mut token, 8, &Run { steps, order })??;
-    check_token(alloc, &mut token, all.as_slice(), race, order)
+    let run = Run {
+        steps: race.steps.as_slice(),
+        turns: Turns::new(order),
+    };
+    let all = share(rt, alloc, &mut token, 8, &run)?;
+    if run.turns.is_late() {
+        return Err(RaceError::Late);
+    }
+    check_token(alloc, &mut token, all, race, order)
 }

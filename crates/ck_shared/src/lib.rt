@@ -9,4 +9,4 @@ mod sharing;
 
 pub use locked::Locked;
 pub use shared::{Ends, Shared, SharedCaller, SharedToken};
-pub use sharing::{SharedWork, share};
+pub use sharing::{CallerWork, share};

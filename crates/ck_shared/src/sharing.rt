@@ -1,5 +1,5 @@
-//! A token that is shared while its callers do some work.
-ghost use Rattle.std.specs.Prelude.{◌≡◌, ◌≤◌, ℕ, OnOk, OnErr};
+//! A token that is shared while each of its callers does some work in a thread of its own.
+ghost use Rattle.std.specs.Prelude.{◌≡◌, ◌≤◌, ℕ};
 ghost use Rattle.ck_journal.specs.Callers.{AreCallers};
 ghost use Rattle.ck_journal.specs.Histories.{start, start_of};
 ghost use Rattle.ck_callers.specs.Accounts.{name_of};
@@ -10,32 +10,55 @@ use ck_journal::JournaledToken;
 use ck_types::NoMemory;
 use std::alloc::Global;
 use std::marker::Brand;
-use std::mem;
 use std::sync::Wait;
+use std::thread::Threads;
+use std::{mem, thread};
 
-/// What the callers of a shared token do, whatever type stands for its history.
-pub trait SharedWork<R: Wait + Drop> {
+/// What each caller of a shared token does, whatever type stands for the token's history.
+pub trait CallerWork<R> {
     /// What comes of it.
-    type Output: Drop;
+    type Output: Send + Drop;
 
-    /// Does the work. Callers that are not used any more may be dropped.
-    fn run<K: TokenId + Send + Sync, T: Drop + Send + Sync, G: Gate<K, T> + Sync>(
+    /// What this caller does at the gate, which is the shared token.
+    fn act<K: TokenId, T: Drop, G: Gate<K, T>>(
         &self,
         rt: &R,
         alloc: Global,
         gate: &G,
-        callers: Vec<Caller<K, T>>,
+        caller: Caller<K, T>,
     ) -> Self::Output;
 }
 
-/// As `share`, for a type that stands for the token's history, slots and a board.
+/// All callers do their work, each in a thread of its own.
+fn act_together<
+    K: TokenId + Send + Sync,
+    T: Drop + Send + Sync,
+    G: Gate<K, T> + Sync,
+    S: CallerWork<R> + Sync,
+    R: Threads + Wait + Sync,
+>(
+    rt: &R,
+    alloc: Global,
+    gate: &G,
+    callers: Vec<Caller<K, T>>,
+    work: &S,
+) -> Result<Vec<S::Output>, NoMemory> {
+    let outputs = thread::map_vec(
+        rt,
+        callers,
+        &|caller: Caller<K, T>| work.act(rt, alloc, gate, caller),
+    );
+    Ok(outputs?)
+}
+
+/// As `share`, for types that stand for the token's history, its slots and its board.
 fn share_by<
     K: TokenId + Send + Sync,
     G: JournaledToken + Send,
     O: Slot<K> + Send,
     T: WriteBoard<K, O> + Drop + Send + Sync,
-    S: SharedWork<R>,
-    R: Wait + Copy + Drop + Send + Sync,
+    S: CallerWork<R> + Sync,
+    R: Threads + Wait + Copy + Drop + Send + Sync,
 >(
     rt: R,
     alloc: Global,
@@ -43,15 +66,14 @@ fn share_by<
     callers: u32,
     identity: NewIdentity,
     work: &S,
-) -> Result<S::Output, NoMemory>
+) -> Result<Vec<S::Output>, NoMemory>
     requires history { (G.state token.old).history ≡ start K.base }
     requires limits { (G.state token.old).limits ≡ K.limits }
     requires callers { (1 ≤ callers) × (callers ≤ 8) × (callers ≡ K.callers) }
     requires book { identity.history.seen.book ≡ K.book }
     requires ledgers { (n : ℕ) → K.ledger n ≡ name_of identity.ledgers n }
     ensures limits { (G.state token.new).limits ≡ (G.state token.old).limits }
-    ensures callers { OnOk result (AreCallers callers (G.state token.new).history) }
-    ensures unchanged { OnErr result (token.new ≡ token.old) }
+    ensures callers { AreCallers callers (G.state token.new).history }
 {
     let limits = token.limits();
     let own = mem::replace(token, G::new(alloc, limits));
@@ -62,9 +84,9 @@ fn share_by<
                 callers,
             },
         ) => {
-            let output = work.run(&rt, alloc, &shared, callers);
+            let outputs = act_together(&rt, alloc, &shared, callers, work);
             *token = shared.into_token();
-            Ok(output)
+            outputs
         }
         Err((own, error)) => {
             *token = own;
@@ -77,8 +99,8 @@ fn share_by<
 fn share_as<
     K: TokenId + Send + Sync,
     G: JournaledToken + Send,
-    S: SharedWork<R>,
-    R: Wait + Copy + Drop + Send + Sync,
+    S: CallerWork<R> + Sync,
+    R: Threads + Wait + Copy + Drop + Send + Sync,
 >(
     rt: R,
     alloc: Global,
@@ -86,33 +108,30 @@ fn share_as<
     callers: u32,
     identity: NewIdentity,
     work: &S,
-) -> Result<S::Output, NoMemory>
+) -> Result<Vec<S::Output>, NoMemory>
     requires history { (G.state token.old).history ≡ start K.base }
     requires limits { (G.state token.old).limits ≡ K.limits }
     requires callers { (1 ≤ callers) × (callers ≤ 8) × (callers ≡ K.callers) }
     requires book { identity.history.seen.book ≡ K.book }
     requires ledgers { (n : ℕ) → K.ledger n ≡ name_of identity.ledgers n }
     ensures limits { (G.state token.new).limits ≡ (G.state token.old).limits }
-    ensures callers { OnOk result (AreCallers callers (G.state token.new).history) }
-    ensures unchanged { OnErr result (token.new ≡ token.old) }
+    ensures callers { AreCallers callers (G.state token.new).history }
 {
     share_by::<K, G, EntrySlot<K>, BoardCopy<K>, S, R>(rt, alloc, token, callers, identity, work)
 }
 
 /// Shares a token whose journal has no entries among the callers 1 to `callers`, at most eight,
-/// until the work is done. Without memory for sharing it the work isn't begun.
-pub fn share<G: JournaledToken + Send, S: SharedWork<R>, R: Wait + Copy + Drop + Send + Sync>(
-    rt: R,
-    alloc: Global,
-    token: &mut G,
-    callers: u32,
-    work: &S,
-) -> Result<S::Output, NoMemory>
+/// until each has done its work in a thread of its own. Gives what comes of each, in the order of
+/// their numbers. Without memory some callers may have done nothing.
+pub fn share<
+    G: JournaledToken + Send,
+    S: CallerWork<R> + Sync,
+    R: Threads + Wait + Copy + Drop + Send + Sync,
+>(rt: R, alloc: Global, token: &mut G, callers: u32, work: &S) -> Result<Vec<S::Output>, NoMemory>
     requires history { (G.state token.old).history ≡ start (start_of (G.state token.old).history) }
     requires callers { (1 ≤ callers) × (callers ≤ 8) }
     ensures limits { (G.state token.new).limits ≡ (G.state token.old).limits }
-    ensures callers { OnOk result (AreCallers callers (G.state token.new).history) }
-    ensures unchanged { OnErr result (token.new ≡ token.old) }
+    ensures callers { AreCallers callers (G.state token.new).history }
 {
     share_as::<Brand, G, S, R>(rt, alloc, token, callers, NewIdentity::new(), work)
 }

@@ -1,18 +1,23 @@
 //! A caller asks for the state of a session, without the lock, while another logs in. Then both
 //! call and ask at once. A third caller makes no call: it asks before the first one and after the
 //! last. In the end the token is taken back. Its journal was cut before it was shared.
-ghost use Rattle.std.specs.Prelude.{◌≡◌, IfOk};
-ghost use Rattle.ck_journal.specs.Histories.{start, start_of};
+ghost use Rattle.std.specs.Prelude.{◌≡◌, ℕ};
+ghost use Rattle.ck_journal.specs.Histories.{start};
+ghost use Rattle.ck_callers.specs.Accounts.{name_of};
 
 use crate::errors::SoakError;
+use crate::tokens::token_after;
 use crate::two_callers::READ_WRITE;
 use ck_audit::are_same_replies;
-use ck_callers::{Answered, Ask, Caller, Gate, News, Script, Status, Step, TokenId, run_steps};
+use ck_callers::{
+    Answered, Ask, BoardCopy, NewIdentity, News, Script, Status, Step, TokenId, run_steps,
+};
 use ck_journal::{Body, Call, Reply};
-use ck_shared::{SharedWork, share};
+use ck_shared::{Ends, Shared, SharedCaller};
 use ck_token::Token;
-use ck_types::{Limits, NoMemory, Pin, Rv, RvError, SessionState, TokenFlags, mechanism_types};
+use ck_types::{NoMemory, Pin, Rv, RvError, SessionState, TokenFlags, mechanism_types};
 use std::alloc::Global;
+use std::marker::Brand;
 use std::sync::Wait;
 use std::thread::Threads;
 
@@ -28,7 +33,7 @@ const FIRST_CALLS: u64 = 5;
 /// How often all of it is run.
 pub(crate) const RUNS: u32 = 100;
 
-type AskingScript<K, T> = Script<K, T, Step, Answered>;
+type AskingScript<K> = Script<K, BoardCopy<K>, Step, Answered>;
 
 fn expect(holds: bool) -> Result<(), SoakError> {
     if holds {
@@ -38,47 +43,42 @@ fn expect(holds: bool) -> Result<(), SoakError> {
 }
 
 /// An ask is answered so.
-fn check_status<K: TokenId, T: Drop, G: Gate<K, T>>(
-    gate: &G,
-    caller: &mut Caller<K, T>,
+fn check_status<K: TokenId>(
+    caller: &mut SharedCaller<K>,
     ask: Ask,
     rv: Rv,
     body: Body,
 ) -> Result<(), SoakError> {
-    match gate.status(caller, ask) {
+    match caller.status(ask) {
         Some(Status::Reply(reply)) => expect(are_same_replies(&reply, &Reply { rv, body })),
         _ => Err(SoakError::Asked),
     }
 }
 
 /// Session 1 is a read/write session in this state.
-fn check_session<K: TokenId, T: Drop, G: Gate<K, T>>(
-    gate: &G,
-    caller: &mut Caller<K, T>,
+fn check_session<K: TokenId>(
+    caller: &mut SharedCaller<K>,
     state: SessionState,
 ) -> Result<(), SoakError> {
     let body = Body::Session {
         state,
         flags: READ_WRITE,
     };
-    check_status(gate, caller, Ask::Session(1), Rv::Ok, body)
+    check_status(caller, Ask::Session(1), Rv::Ok, body)
 }
 
 /// A new token has no PINs and no sessions, and all mechanisms.
-fn check_new<K: TokenId, T: Drop, G: Gate<K, T>>(
-    gate: &G,
-    caller: &mut Caller<K, T>,
-) -> Result<(), SoakError> {
+fn check_new<K: TokenId>(caller: &mut SharedCaller<K>) -> Result<(), SoakError> {
     let body = Body::Token {
         flags: TokenFlags::LOGIN_REQUIRED,
         limit: 64,
         sessions: 0,
         rw_sessions: 0,
     };
-    check_status(gate, caller, Ask::Token, Rv::Ok, body)?;
+    check_status(caller, Ask::Token, Rv::Ok, body)?;
     let rv = Rv::Error(RvError::SessionHandleInvalid);
-    check_status(gate, caller, Ask::Session(1), rv, Body::Empty)?;
-    match gate.status(caller, Ask::Mechanisms) {
+    check_status(caller, Ask::Session(1), rv, Body::Empty)?;
+    match caller.status(Ask::Mechanisms) {
         Some(Status::Mechanisms(types)) => expect(types == mechanism_types()),
         _ => Err(SoakError::Asked),
     }
@@ -103,25 +103,22 @@ fn first_calls(alloc: Global) -> Result<Vec<Call>, SoakError> {
 }
 
 /// Makes calls, each of which is answered OK.
-fn make_calls<K: TokenId, T: Drop, G: Gate<K, T>, R: Wait>(
+fn make_calls<K: TokenId, R: Wait + Drop>(
     rt: &R,
     alloc: Global,
-    gate: &G,
-    caller: &mut Caller<K, T>,
+    token: &Shared<K, Token, R>,
+    caller: &mut SharedCaller<K>,
     calls: Vec<Call>,
 ) -> Result<(), SoakError> {
     for call in calls {
-        let reply = gate.call(rt, alloc, caller, call)?;
+        let reply = token.call(rt, alloc, caller, call)?;
         expect(reply.rv == Rv::Ok)?;
     }
     Ok(())
 }
 
 /// One session is open, and nobody is logged in.
-fn check_open<K: TokenId, T: Drop, G: Gate<K, T>>(
-    gate: &G,
-    caller: &mut Caller<K, T>,
-) -> Result<(), SoakError> {
+fn check_open<K: TokenId>(caller: &mut SharedCaller<K>) -> Result<(), SoakError> {
     let body = Body::Token {
         flags: TokenFlags::LOGIN_REQUIRED
             | TokenFlags::TOKEN_INITIALIZED
@@ -130,26 +127,26 @@ fn check_open<K: TokenId, T: Drop, G: Gate<K, T>>(
         sessions: 1,
         rw_sessions: 1,
     };
-    check_status(gate, caller, Ask::Token, Rv::Ok, body)?;
-    check_session(gate, caller, SessionState::RwPublic)
+    check_status(caller, Ask::Token, Rv::Ok, body)?;
+    check_session(caller, SessionState::RwPublic)
 }
 
 /// Makes the first calls. Says what the caller then knows.
-fn make_first_calls<K: TokenId, T: Drop, G: Gate<K, T>, R: Wait>(
+fn make_first_calls<K: TokenId, R: Wait + Drop>(
     rt: &R,
     alloc: Global,
-    gate: &G,
-    caller: &mut Caller<K, T>,
+    token: &Shared<K, Token, R>,
+    caller: &mut SharedCaller<K>,
 ) -> Result<News<K>, SoakError> {
-    make_calls(rt, alloc, gate, caller, first_calls(alloc)?)?;
+    make_calls(rt, alloc, token, caller, first_calls(alloc)?)?;
     expect(caller.count() == FIRST_CALLS && caller.seen() == FIRST_CALLS)?;
-    check_open(gate, caller)?;
+    check_open(caller)?;
     Ok(caller.news())
 }
 
 /// A caller learns what another knows, and has made no call.
-fn check_learnt<K: TokenId, T: Drop>(
-    caller: &mut Caller<K, T>,
+fn check_learnt<K: TokenId>(
+    caller: &mut SharedCaller<K>,
     first: &News<K>,
 ) -> Result<(), SoakError> {
     caller.learn(first);
@@ -157,15 +154,15 @@ fn check_learnt<K: TokenId, T: Drop>(
 }
 
 /// The third caller asks a new token. Then the first prepares it, and the second learns that.
-fn prepare<K: TokenId, T: Drop, G: Gate<K, T>, R: Wait>(
+fn prepare<K: TokenId, R: Wait + Drop>(
     rt: &R,
     alloc: Global,
-    gate: &G,
-    callers: &mut [Caller<K, T>],
+    token: &Shared<K, Token, R>,
+    callers: &mut [SharedCaller<K>],
 ) -> Result<News<K>, SoakError> {
-    check_new(gate, callers.last_mut().ok_or(SoakError::Asked)?)?;
+    check_new(callers.last_mut().ok_or(SoakError::Asked)?)?;
     let one = callers.first_mut().ok_or(SoakError::Asked)?;
-    let first = make_first_calls(rt, alloc, gate, one)?;
+    let first = make_first_calls(rt, alloc, token, one)?;
     check_learnt(callers.get_mut(1).ok_or(SoakError::Asked)?, &first)?;
     Ok(first)
 }
@@ -209,18 +206,18 @@ fn steps_of(alloc: Global, caller: u32) -> Result<Vec<Step>, NoMemory> {
     Ok(steps)
 }
 
-fn script_of<K: TokenId, T: Drop>(
+fn script_of<K: TokenId>(
     alloc: Global,
-    caller: Caller<K, T>,
-) -> Result<AskingScript<K, T>, NoMemory> {
+    caller: SharedCaller<K>,
+) -> Result<AskingScript<K>, NoMemory> {
     let steps = steps_of(alloc, caller.number())?;
     Script::new(alloc, caller, steps).ok().ok_or(NoMemory)
 }
 
-fn scripts_of<K: TokenId, T: Drop>(
+fn scripts_of<K: TokenId>(
     alloc: Global,
-    callers: Vec<Caller<K, T>>,
-) -> Result<Vec<AskingScript<K, T>>, NoMemory> {
+    callers: Vec<SharedCaller<K>>,
+) -> Result<Vec<AskingScript<K>>, NoMemory> {
     let mut scripts = Vec::with_capacity(alloc, callers.len())?;
     for caller in callers {
         scripts.push(script_of(alloc, caller)?)?;
@@ -252,7 +249,7 @@ fn check_answers(answers: &[Answered], wanted: u32) -> Result<(), SoakError> {
 }
 
 /// All steps were taken, and all answers are right.
-fn check_scripts<K: TokenId, T: Drop>(scripts: &[AskingScript<K, T>]) -> Result<(), SoakError> {
+fn check_scripts<K: TokenId>(scripts: &[AskingScript<K>]) -> Result<(), SoakError> {
     for script in scripts {
         script.outcome()?;
         check_answers(script.replies(), asks_of(script.caller.number()))?;
@@ -260,40 +257,53 @@ fn check_scripts<K: TokenId, T: Drop>(scripts: &[AskingScript<K, T>]) -> Result<
     Ok(())
 }
 
-/// A caller that has made no call sees that the user has logged in, and loses nothing by what is
-/// older.
-fn check_after<K: TokenId, T: Drop, G: Gate<K, T>>(
-    gate: &G,
-    caller: &mut Caller<K, T>,
+fn callers_of<K: TokenId>(
+    alloc: Global,
+    scripts: Vec<AskingScript<K>>,
+) -> Result<Vec<SharedCaller<K>>, NoMemory> {
+    let mut callers = Vec::with_capacity(alloc, scripts.len())?;
+    for script in scripts {
+        callers.push(script.into_parts().0)?;
+    }
+    Ok(callers)
+}
+
+/// The callers take their steps, each in a thread of its own.
+fn play<K: TokenId + Send + Sync, R: Threads + Wait + Drop + Send + Sync>(
+    rt: &R,
+    alloc: Global,
+    token: &Shared<K, Token, R>,
+    callers: Vec<SharedCaller<K>>,
+) -> Result<Vec<SharedCaller<K>>, SoakError> {
+    let mut scripts = scripts_of(alloc, callers)?;
+    run_steps(rt, alloc, token, scripts.as_mut_slice());
+    check_scripts(scripts.as_slice())?;
+    Ok(callers_of(alloc, scripts)?)
+}
+
+/// The third caller sees that the user has logged in, and loses nothing by what is older.
+fn check_after<K: TokenId>(
+    callers: &mut [SharedCaller<K>],
     first: &News<K>,
 ) -> Result<(), SoakError> {
-    check_session(gate, caller, SessionState::RwUser)?;
+    let caller = callers.last_mut().ok_or(SoakError::Asked)?;
+    check_session(caller, SessionState::RwUser)?;
     let seen = caller.seen();
     caller.learn(first);
     expect(caller.count() == 0 && caller.seen() == seen && seen > first.seen())
 }
 
-/// What three callers do.
-#[derive(Drop)]
-struct Asks;
-
-impl<R: Threads + Wait + Drop + Send + Sync> SharedWork<R> for Asks {
-    type Output = Result<(), SoakError>;
-
-    fn run<K: TokenId + Send + Sync, T: Drop + Send + Sync, G: Gate<K, T> + Sync>(
-        &self,
-        rt: &R,
-        alloc: Global,
-        gate: &G,
-        mut callers: Vec<Caller<K, T>>,
-    ) -> Result<(), SoakError> {
-        let first = prepare(rt, alloc, gate, callers.as_mut_slice())?;
-        let mut scripts = scripts_of(alloc, callers)?;
-        run_steps(rt, alloc, gate, scripts.as_mut_slice());
-        check_scripts(scripts.as_slice())?;
-        let third = scripts.last_mut().ok_or(SoakError::Asked)?;
-        check_after(gate, &mut third.caller, &first)
-    }
+/// All that three callers do. They come back.
+fn ask<K: TokenId + Send + Sync, R: Threads + Wait + Drop + Send + Sync>(
+    rt: &R,
+    alloc: Global,
+    token: &Shared<K, Token, R>,
+    mut callers: Vec<SharedCaller<K>>,
+) -> Result<Vec<SharedCaller<K>>, SoakError> {
+    let first = prepare(rt, alloc, token, callers.as_mut_slice())?;
+    let mut callers = play(rt, alloc, token, callers)?;
+    check_after(callers.as_mut_slice(), &first)?;
+    Ok(callers)
 }
 
 /// The journal has the entries of all calls.
@@ -301,25 +311,36 @@ fn check_length(token: &Token) -> Result<(), SoakError> {
     expect(token.journal().len() == FIRST_CALLS + 1 + 2 * u64::from(CALLS))
 }
 
-/// A new token, whose journal is cut.
-fn cut_token(alloc: Global) -> Result<Token, SoakError>
-    ensures { IfOk result (λ token. token.history ≡ start (start_of token.history)) }
+/// Three callers share the token, and it is taken back.
+fn ask_shared<K: TokenId + Send + Sync, R: Threads + Wait + Copy + Drop + Send + Sync>(
+    rt: R,
+    alloc: Global,
+    token: Token,
+    identity: NewIdentity,
+) -> Result<(), SoakError>
+    requires history { token.history ≡ start K.base }
+    requires limits { token.limits ≡ K.limits }
+    requires callers { K.callers ≡ 3 }
+    requires book { identity.history.seen.book ≡ K.book }
+    requires ledgers { (n : ℕ) → K.ledger n ≡ name_of identity.ledgers n }
 {
-    let mut token = Token::new(alloc, Limits::largest());
-    match token.cut(alloc) {
-        Ok(_) => Ok(token),
-        Err(_) => Err(SoakError::Memory),
-    }
+    let Ok(Ends { token, callers }) = Shared::<K, Token, R>::adopt(rt, alloc, token, 3, identity)
+    else {
+        return Err(SoakError::Memory);
+    };
+    let callers = ask(&rt, alloc, &token, callers)?;
+    let Ok(token) = token.close(&rt, callers) else {
+        return Err(SoakError::NotClosed);
+    };
+    check_length(&token)
 }
 
-/// Three callers share a token whose journal is cut, and it is taken back.
 fn ask_once<R: Threads + Wait + Copy + Drop + Send + Sync>(
     rt: R,
     alloc: Global,
 ) -> Result<(), SoakError> {
-    let mut token = cut_token(alloc)?;
-    share(rt, alloc, &mut token, 3, &Asks)??;
-    check_length(&token)
+    let token = token_after(alloc, &[])?;
+    ask_shared::<Brand, R>(rt, alloc, token, NewIdentity::new())
 }
 
 /// Runs it so often, each time on a new token.

@@ -3,6 +3,7 @@ use crate::errors::SoakError;
 use crate::mix::{PLACES, Place, ROWS, SELDOM, call_of};
 use ck_callers::{Ask, Caller, Gate, TokenId};
 use ck_journal::{Body, Reply};
+use ck_shared::CallerWork;
 use ck_types::Rv;
 use rand_core::{Rng, SeedableRng};
 use rand_xoshiro::Xoshiro256PlusPlus;
@@ -16,22 +17,18 @@ const CALLS: usize = 5_000;
 /// One row in so many is one of those that are drawn seldom.
 const SELDOM_IN: u64 = 256;
 
-/// What all callers call, and the handles that they know.
-#[derive(Drop)]
-pub(crate) struct Target<'a, G, R> {
-    pub(crate) rt: &'a R,
-    pub(crate) alloc: Global,
-    pub(crate) gate: &'a G,
-    pub(crate) places: [Place; PLACES],
-}
+/// A caller's number, and the replies that it got, in the order of its calls.
+pub(crate) type CallerReplies = (u32, Vec<Reply>);
 
-/// A caller with its draws and all replies that it got.
+/// A caller at a gate, with the handles that it knows, its draws and all replies that it got.
 #[derive(Drop)]
-pub(crate) struct DrawingCaller<'a, K: TokenId, T: Drop> {
-    caller: &'a mut Caller<K, T>,
-    pub(crate) number: u32,
-    pub(crate) replies: Vec<Reply>,
-    pub(crate) outcome: Result<(), SoakError>,
+struct DrawingCaller<'a, K: TokenId, T: Drop, G, R> {
+    rt: &'a R,
+    alloc: Global,
+    gate: &'a G,
+    caller: Caller<K, T>,
+    places: &'a [Place; PLACES],
+    replies: Vec<Reply>,
     draws: Xoshiro256PlusPlus,
 }
 
@@ -55,46 +52,22 @@ fn keep_handle(place: &Place, word: &str, reply: &Reply) {
     }
 }
 
-impl<'a, K: TokenId, T: Drop> DrawingCaller<'a, K, T> {
-    /// The draws follow from the caller's number.
-    pub(crate) fn new(alloc: Global, caller: &'a mut Caller<K, T>) -> DrawingCaller<'a, K, T> {
-        let number = caller.number();
-        DrawingCaller {
-            caller,
-            number,
-            replies: Vec::new(alloc),
-            outcome: Ok(()),
-            draws: Xoshiro256PlusPlus::seed_from_u64(u64::from(number)),
-        }
-    }
-
+impl<'a, K: TokenId, T: Drop, G: Gate<K, T>, R: Wait> DrawingCaller<'a, K, T, G, R> {
     /// Makes one call of a row with the handles of a place, and keeps its reply.
-    fn make_call<G: Gate<K, T>, R: Wait>(
-        &mut self,
-        target: &Target<G, R>,
-        place: &Place,
-        step: &str,
-    ) -> Result<(), SoakError> {
+    fn make_call(&mut self, place: &Place, step: &str) -> Result<(), SoakError> {
         let (text, word) = step.split_once(" > ").unwrap_or((step, ""));
-        let call = call_of(target.alloc, place, text)?;
-        let reply = target
-            .gate
-            .call(target.rt, target.alloc, self.caller, call)?;
+        let call = call_of(self.alloc, place, text)?;
+        let reply = self.gate.call(self.rt, self.alloc, &mut self.caller, call)?;
         keep_handle(place, word, &reply);
         self.replies.push(reply)?;
         Ok(())
     }
 
     /// Makes the calls of a row, as long as the caller has calls to make.
-    pub(crate) fn make_row<G: Gate<K, T>, R: Wait>(
-        &mut self,
-        target: &Target<G, R>,
-        place: &Place,
-        row: &str,
-    ) -> Result<(), SoakError> {
+    fn make_row(&mut self, place: &Place, row: &str) -> Result<(), SoakError> {
         for step in row.split("; ") {
             if self.replies.len() < CALLS {
-                self.make_call(target, place, step)?;
+                self.make_call(place, step)?;
             }
         }
         Ok(())
@@ -102,30 +75,54 @@ impl<'a, K: TokenId, T: Drop> DrawingCaller<'a, K, T> {
 
     /// Makes a drawn row. Then the caller asks for the state of a session without the lock: which
     /// one it sees depends on the others.
-    fn make_drawn_row<G: Gate<K, T>, R: Wait>(
-        &mut self,
-        target: &Target<G, R>,
-    ) -> Result<(), SoakError> {
+    fn make_drawn_row(&mut self) -> Result<(), SoakError> {
         let row = row_of(self.draws.next_u64());
         let number = self.draws.next_u64();
-        if let Some(place) = target.places.get(number as usize % PLACES) {
-            self.make_row(target, place, row)?;
+        if let Some(place) = self.places.get(number as usize % PLACES) {
+            self.make_row(place, row)?;
             let session = place.session.load(Ordering::SeqCst);
-            let _status = target.gate.status(self.caller, Ask::Session(session));
+            let _status = self.gate.status(&mut self.caller, Ask::Session(session));
         }
         Ok(())
     }
 
     /// Draws rows until the caller has made its calls.
-    pub(crate) fn make_calls<G: Gate<K, T>, R: Wait>(
-        &mut self,
-        target: &Target<G, R>,
-    ) -> Result<(), SoakError> {
+    fn make_calls(&mut self) -> Result<(), SoakError> {
         for _ in 0..CALLS {
             if self.replies.len() < CALLS {
-                self.make_drawn_row(target)?;
+                self.make_drawn_row()?;
             }
         }
         Ok(())
+    }
+}
+
+/// Drawn calls of callers, which know these handles between them.
+#[derive(Drop)]
+pub(crate) struct DrawnCalls(pub(crate) [Place; PLACES]);
+
+impl<R: Wait> CallerWork<R> for DrawnCalls {
+    type Output = Result<CallerReplies, SoakError>;
+
+    /// The draws follow from the caller's number.
+    fn act<K: TokenId, T: Drop, G: Gate<K, T>>(
+        &self,
+        rt: &R,
+        alloc: Global,
+        gate: &G,
+        caller: Caller<K, T>,
+    ) -> Result<CallerReplies, SoakError> {
+        let number = caller.number();
+        let mut drawing_caller = DrawingCaller {
+            rt,
+            alloc,
+            gate,
+            caller,
+            places: &self.0,
+            replies: Vec::new(alloc),
+            draws: Xoshiro256PlusPlus::seed_from_u64(u64::from(number)),
+        };
+        drawing_caller.make_calls()?;
+        Ok((number, drawing_caller.replies))
     }
 }

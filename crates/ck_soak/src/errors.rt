@@ -10,12 +10,14 @@ pub(crate) enum SoakError {
     Memory,
     #[error("no line can be written")]
     Output,
+    #[error("the token doesn't take its callers back")]
+    NotClosed,
     #[error("the replies of caller {0} are not those of its entries")]
     NotEntered(u32),
     #[error("the audit finds entry {0} wrong")]
     Wrong(u64),
-    #[error("two callers open sessions, and there are no counts")]
-    NotCounted,
+    #[error("the journal can't be cut")]
+    NotCut,
     #[error("a check of calls and asks fails")]
     Asked,
     #[error("a row of calls is bad")]

@@ -8,6 +8,7 @@ mod drawing_callers;
 mod errors;
 mod mix;
 mod soaks;
+mod tokens;
 mod two_callers;
 
 use asks::{RUNS, run_asks};
@@ -23,11 +24,10 @@ use two_callers::{Counts, counts_of_two};
 fn write_counts<R: Print>(rt: &R, counts: Counts) -> io::Result<()> {
     let Counts {
         sessions,
-        calls: (one, two),
+        calls,
         entries,
     } = counts;
-    println!(rt; "{sessions} sessions are open")?;
-    println!(rt; "calls: {one} and {two}")?;
+    println!(rt; "{sessions} sessions were opened by {calls} calls")?;
     println!(rt; "the journal has {entries} entries")
 }
 

@@ -8,12 +8,6 @@ use std::sync::atomic::{AtomicU64, Ordering};
 /// How many places of handles the callers have between them.
 pub(crate) const PLACES: usize = 4;
 
-/// What is called for each place before all callers begin, to open its session. The first time the
-/// token is initialized and the user gets a PIN. In the end the user is logged in.
-pub(crate) const FIRST_ROW: &str = "InitToken 31323334; OpenSession 6 > $session; \
-    Login $session 0 31323334; InitPIN $session 75736572; Logout $session; \
-    Login $session 1 75736572";
-
 /// Calls in a row that a caller draws. They stand in the language of scripts. `$session`, `$object`
 /// and `$key` are handles that all callers know, and behind `>` stands which one is replaced by the
 /// handle of the reply. Between two calls of a row come those of other callers.
