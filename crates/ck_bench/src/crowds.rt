@@ -3,10 +3,9 @@ ghost use Rattle.std.specs.Prelude.{◌<◌, ◌^◌};
 
 use crate::clocks::{time_since, time_so_far};
 use crate::rounds::{
-    Failed, READ_WRITE, Target, call, data_of, destroy, get_label, label_of, open_and_close,
-    prepare,
+    Failed, Target, call, data_of, destroy, get_label, label_of, open_and_close, prepare,
 };
-use ck_journal::{Body, Call};
+use ck_journal::{Body, Call, READ_WRITE};
 use ck_token::Token;
 use ck_types::{Limits, Pin};
 use std::alloc::Global;

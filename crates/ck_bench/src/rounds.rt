@@ -1,23 +1,12 @@
 //! The calls that are measured.
 ghost use Rattle.std.specs.Prelude.{◌≤◌};
 
-use ck_journal::{AttributeQuery, Body, Call, RW_SESSION, Reply, SERIAL_SESSION};
-use ck_objects::{AttributeValue, Item, Template};
+use ck_journal::{AttributeQuery, Body, Call, READ_WRITE, Reply};
+use ck_objects::{Attribute, AttributeValue, Item, Template};
 use ck_token::Token;
 use ck_types::{Bytes, Mechanism, NoMemory, Pin, Rv, Sequence};
 use std::alloc::Global;
 use std::io;
-
-/// CKA_CLASS, CKA_PRIVATE, CKA_LABEL, CKA_VALUE and CKA_KEY_TYPE.
-const CLASS: u64 = 0;
-
-const PRIVATE: u64 = 2;
-
-const LABEL: u64 = 3;
-
-const VALUE: u64 = 0x11;
-
-const KEY_TYPE: u64 = 0x100;
 
 /// CKO_DATA, CKO_SECRET_KEY and CKK_GENERIC_SECRET as the bytes of attributes.
 const DATA: &[u8] = &[0; 8];
@@ -25,9 +14,6 @@ const DATA: &[u8] = &[0; 8];
 const SECRET_KEY: &[u8] = &[4, 0, 0, 0, 0, 0, 0, 0];
 
 const GENERIC_SECRET: &[u8] = &[16, 0, 0, 0, 0, 0, 0, 0];
-
-/// The flags of a read/write session.
-pub(crate) const READ_WRITE: u64 = SERIAL_SESSION | RW_SESSION;
 
 #[derive(Clone, Copy)]
 pub(crate) enum Kind {
@@ -137,10 +123,10 @@ fn item(alloc: Global, kind: u64, value: &[u8]) -> Result<Item, NoMemory> {
 }
 
 /// A template of these attributes.
-fn template_of(alloc: Global, items: &[(u64, &[u8])]) -> Result<Template, NoMemory> {
+fn template_of(alloc: Global, items: &[(Attribute, &[u8])]) -> Result<Template, NoMemory> {
     let mut all = Vec::with_capacity(alloc, items.len())?;
-    for (kind, value) in items {
-        all.push(item(alloc, *kind, value)?)?;
+    for (attribute, value) in items {
+        all.push(item(alloc, attribute.number(), value)?)?;
     }
     let items = Sequence::from_vec(all);
     Ok(Template { items })
@@ -148,16 +134,19 @@ fn template_of(alloc: Global, items: &[(u64, &[u8])]) -> Result<Template, NoMemo
 
 /// The template of a data object with this label.
 pub(crate) fn data_of(alloc: Global, label: &[u8]) -> Result<Template, NoMemory> {
-    template_of(alloc, &[(CLASS, DATA), (LABEL, label)])
+    template_of(
+        alloc,
+        &[(Attribute::Class, DATA), (Attribute::Label, label)],
+    )
 }
 
 /// A template that has a label alone.
 pub(crate) fn label_of(alloc: Global, label: &[u8]) -> Result<Template, NoMemory> {
-    template_of(alloc, &[(LABEL, label)])
+    template_of(alloc, &[(Attribute::Label, label)])
 }
 
 /// A call that creates an object with these attributes.
-fn create(alloc: Global, items: &[(u64, &[u8])]) -> Result<Call, NoMemory> {
+fn create(alloc: Global, items: &[(Attribute, &[u8])]) -> Result<Call, NoMemory> {
     let template = template_of(alloc, items)?;
     Ok(Call::CreateObject {
         session: 1,
@@ -167,13 +156,17 @@ fn create(alloc: Global, items: &[(u64, &[u8])]) -> Result<Call, NoMemory> {
 
 /// A data object with a label of 8 bytes.
 fn labelled(alloc: Global) -> Result<Call, NoMemory> {
-    create(alloc, &[(CLASS, DATA), (LABEL, b"a label ")])
+    Ok(Call::CreateObject {
+        session: 1,
+        template: data_of(alloc, b"a label ")?,
+    })
 }
 
 fn read_label(alloc: Global, object: u64) -> Result<Call, NoMemory> {
     let mut queries = Vec::with_capacity(alloc, 1)?;
     let room = Some(8);
-    queries.push(AttributeQuery { kind: LABEL, room })?;
+    let kind = Attribute::Label.number();
+    queries.push(AttributeQuery { kind, room })?;
     Ok(Call::GetAttributeValue {
         session: 1,
         object,
@@ -182,17 +175,17 @@ fn read_label(alloc: Global, object: u64) -> Result<Call, NoMemory> {
 }
 
 fn data_object(alloc: Global) -> Result<Call, NoMemory> {
-    create(alloc, &[(CLASS, DATA)])
+    create(alloc, &[(Attribute::Class, DATA)])
 }
 
 fn secret_key(alloc: Global) -> Result<Call, NoMemory> {
     create(
         alloc,
         &[
-            (CLASS, SECRET_KEY),
-            (KEY_TYPE, GENERIC_SECRET),
-            (VALUE, &[7; 32]),
-            (PRIVATE, &[0]),
+            (Attribute::Class, SECRET_KEY),
+            (Attribute::KeyType, GENERIC_SECRET),
+            (Attribute::Value, &[7; 32]),
+            (Attribute::Private, &[0]),
         ],
     )
 }

@@ -1,7 +1,7 @@
 //! Callers of a shared token, in threads of their own.
-use crate::rounds::{Failed, Kind, READ_WRITE, Target, make_rounds, round};
+use crate::rounds::{Failed, Kind, Target, make_rounds, round};
 use ck_callers::{Ask, Status, TokenId};
-use ck_journal::{Body, Call, Reply};
+use ck_journal::{Body, Call, READ_WRITE, Reply};
 use ck_shared::{Shared, SharedCaller};
 use ck_token::Token;
 use ck_types::{NoMemory, Rv};

@@ -112,6 +112,7 @@ impl<K: HistoryId> Front<K> {
     /// How many entries it has.
     pub fn len(&self) -> u64
         ensures length { result ≡ entry_count self.now }
+        ensures base { IsFront (start K.base) self.now }
         ensures legal { IsLegal K.limits self.now }
     {
         self.count

@@ -98,6 +98,9 @@ fn limits_in(text: &str) -> Option<Limits> {
     for number in numbers.iter_mut() {
         *number = words.next()?.parse().ok()?;
     }
+    if words.next().is_some() {
+        return None;
+    }
     let [sessions, openings, creations, logins] = numbers;
     Limits::of(sessions, openings, creations, logins)
 }

@@ -7,6 +7,7 @@ use crate::tokens::token_of;
 use ck_callers::{Caller, Gate, TokenId};
 use ck_journal::Reply;
 use ck_shared::{CallerWork, share};
+use ck_types::NoMemory;
 use std::alloc::Global;
 use std::sync::Wait;
 use std::thread::Threads;
@@ -19,6 +20,24 @@ pub(crate) type CallerReplies = (u32, Vec<Reply>);
 struct Run<'a> {
     steps: &'a [Step<'a>],
     turns: Turns<'a>,
+}
+
+impl<'a> Run<'a> {
+    /// Makes a step when the turn of its caller has come.
+    fn make<K: TokenId, T: Drop, G: Gate<K, T>, R: Wait>(
+        &self,
+        rt: &R,
+        alloc: Global,
+        gate: &G,
+        caller: &mut Caller<K, T>,
+        step: &Step,
+    ) -> Result<Reply, NoMemory> {
+        let call = step.call.clone()?;
+        self.turns.await_turn(step.caller);
+        let reply = gate.call(rt, alloc, caller, call);
+        self.turns.pass();
+        reply
+    }
 }
 
 impl<'a, R: Wait> CallerWork<R> for Run<'a> {
@@ -36,11 +55,7 @@ impl<'a, R: Wait> CallerWork<R> for Run<'a> {
         let number = caller.number();
         let mut replies = Vec::new(alloc);
         for step in self.steps.iter().filter(|step| step.caller == number) {
-            let call = step.call.clone()?;
-            self.turns.await_turn(number);
-            let reply = gate.call(rt, alloc, &mut caller, call);
-            self.turns.pass();
-            replies.push(reply?)?;
+            replies.push(self.make(rt, alloc, gate, &mut caller, step)?)?;
         }
         Ok((number, replies))
     }

@@ -1,2 +1,3 @@
+pub mod CallerNumbers
 pub mod Settling
 pub mod Shown

@@ -159,6 +159,8 @@ impl<
     ghost use Rattle.std.specs.Prelude.{◌≡◌, [], IfOk, OnOk, OnErr};
     ghost use Rattle.left_right.specs.Handles.{published, pending};
     ghost use Rattle.ck_journal.specs.Callers.{AreCallers};
+    ghost use Rattle.ck_journal.specs.Fronts.{IsFront};
+    ghost use Rattle.ck_journal.specs.Histories.{start};
     ghost use Rattle.ck_journal.specs.TokenStates.{IsAnswered, IsUnchanged};
     ghost use Rattle.ck_callers.specs.Callers.{HasCalled, IsSettled};
     ghost use Rattle.ck_shared.specs.Locked.{IsTied};
@@ -200,7 +202,10 @@ impl<
         ensures token { G.state result ≡ self }
         ensures limits { (G.state result).limits ≡ K.limits }
         ensures callers { AreCallers K.callers (G.state result).history }
+        ensures base { IsFront (start K.base) (G.state result).history }
     {
+        // Tells the prover that the history goes on from the base.
+        let _entries = self.known.front().len();
         self.token
     }
 

@@ -118,6 +118,8 @@ impl<
 > SharedToken<K, G, O, T, R> {
     ghost use Rattle.std.specs.Prelude.{◌≡◌, true, false, All, IfOk, OnOk, IfErr, OnErr};
     ghost use Rattle.ck_journal.specs.Callers.{AreCallers};
+    ghost use Rattle.ck_journal.specs.Fronts.{IsFront};
+    ghost use Rattle.ck_journal.specs.Histories.{start};
     ghost use Rattle.ck_callers.specs.Callers.{HasCalled, IsSettled, are_all};
 
     /// One call of a caller, under the lock.
@@ -164,6 +166,7 @@ impl<
     pub(crate) fn into_token(self) -> G
         ensures limits { (G.state result).limits ≡ K.limits }
         ensures callers { AreCallers K.callers (G.state result).history }
+        ensures base { IsFront (start K.base) (G.state result).history }
     {
         self.lock.into_inner().into_token()
     }

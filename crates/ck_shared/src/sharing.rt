@@ -1,6 +1,7 @@
 //! A token that is shared while each of its callers does some work in a thread of its own.
-ghost use Rattle.std.specs.Prelude.{◌≡◌, ◌≤◌, ℕ};
+ghost use Rattle.std.specs.Prelude.{◌≡◌, ◌≤◌, ℕ, IfOk, vec_len};
 ghost use Rattle.ck_journal.specs.Callers.{AreCallers};
+ghost use Rattle.ck_journal.specs.Fronts.{IsFront};
 ghost use Rattle.ck_journal.specs.Histories.{start, start_of};
 ghost use Rattle.ck_callers.specs.Accounts.{name_of};
 
@@ -42,7 +43,9 @@ fn act_together<
     gate: &G,
     callers: Vec<Caller<K, T>>,
     work: &S,
-) -> Result<Vec<S::Output>, NoMemory> {
+) -> Result<Vec<S::Output>, NoMemory>
+    ensures { IfOk result (λ outputs. vec_len outputs ≡ vec_len callers) }
+{
     let outputs = thread::map_vec(
         rt,
         callers,
@@ -73,7 +76,9 @@ fn share_by<
     requires book { identity.history.seen.book ≡ K.book }
     requires ledgers { (n : ℕ) → K.ledger n ≡ name_of identity.ledgers n }
     ensures limits { (G.state token.new).limits ≡ (G.state token.old).limits }
+    ensures front { IsFront (G.state token.old).history (G.state token.new).history }
     ensures callers { AreCallers callers (G.state token.new).history }
+    ensures outputs { IfOk result (λ outputs. vec_len outputs ≡ callers) }
 {
     let limits = token.limits();
     let own = mem::replace(token, G::new(alloc, limits));
@@ -115,7 +120,9 @@ fn share_as<
     requires book { identity.history.seen.book ≡ K.book }
     requires ledgers { (n : ℕ) → K.ledger n ≡ name_of identity.ledgers n }
     ensures limits { (G.state token.new).limits ≡ (G.state token.old).limits }
+    ensures front { IsFront (G.state token.old).history (G.state token.new).history }
     ensures callers { AreCallers callers (G.state token.new).history }
+    ensures outputs { IfOk result (λ outputs. vec_len outputs ≡ callers) }
 {
     share_by::<K, G, EntrySlot<K>, BoardCopy<K>, S, R>(rt, alloc, token, callers, identity, work)
 }
@@ -131,7 +138,9 @@ pub fn share<
     requires history { (G.state token.old).history ≡ start (start_of (G.state token.old).history) }
     requires callers { (1 ≤ callers) × (callers ≤ 8) }
     ensures limits { (G.state token.new).limits ≡ (G.state token.old).limits }
+    ensures front { IsFront (G.state token.old).history (G.state token.new).history }
     ensures callers { AreCallers callers (G.state token.new).history }
+    ensures outputs { IfOk result (λ outputs. vec_len outputs ≡ callers) }
 {
     share_as::<Brand, G, S, R>(rt, alloc, token, callers, NewIdentity::new(), work)
 }

@@ -7,12 +7,11 @@ ghost use Rattle.ck_callers.specs.Accounts.{name_of};
 
 use crate::errors::SoakError;
 use crate::tokens::token_after;
-use crate::two_callers::READ_WRITE;
 use ck_audit::are_same_replies;
 use ck_callers::{
     Answered, Ask, BoardCopy, NewIdentity, News, Script, Status, Step, TokenId, run_steps,
 };
-use ck_journal::{Body, Call, Reply};
+use ck_journal::{Body, Call, READ_WRITE, Reply};
 use ck_shared::{Ends, Shared, SharedCaller};
 use ck_token::Token;
 use ck_types::{NoMemory, Pin, Rv, RvError, SessionState, TokenFlags, mechanism_types};

@@ -78,7 +78,8 @@ impl<'a, K: TokenId, T: Drop, G: Gate<K, T>, R: Wait> DrawingCaller<'a, K, T, G,
     fn make_drawn_row(&mut self) -> Result<(), SoakError> {
         let row = row_of(self.draws.next_u64());
         let number = self.draws.next_u64();
-        if let Some(place) = self.places.get(number as usize % PLACES) {
+        let places = self.places;
+        if let Some(place) = places.get(number as usize % PLACES) {
             self.make_row(place, row)?;
             let session = place.session.load(Ordering::SeqCst);
             let _status = self.gate.status(&mut self.caller, Ask::Session(session));

@@ -2,15 +2,12 @@
 use crate::errors::SoakError;
 use crate::tokens::token_after;
 use ck_callers::{Caller, Gate, TokenId};
-use ck_journal::{Call, RW_SESSION, SERIAL_SESSION};
+use ck_journal::{Call, READ_WRITE};
 use ck_shared::{CallerWork, share};
 use ck_types::Rv;
 use std::alloc::Global;
 use std::sync::Wait;
 use std::thread::Threads;
-
-/// The flags of a read/write session.
-pub(crate) const READ_WRITE: u64 = SERIAL_SESSION | RW_SESSION;
 
 /// A caller that opens three sessions.
 #[derive(Drop)]

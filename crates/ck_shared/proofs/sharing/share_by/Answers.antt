@@ -1,0 +1,13 @@
+use Rattle.std.proofs.Common.{ℕ, ◌≡◌, length, ap, ◌∙◌, subst}
+use Rattle.std.specs.Prelude.{IfOk, vec_len}
+use Rattle.ck_shared.proofs.CallerNumbers.{length-new_callers}
+use Rattle.ck_shared.proofs.sharing.share_by.Goals as goal
+
+-- as many as the callers that the token was opened with
+pub returns-in-Ok-clause-outputs : goal.returns-in-Ok-clause-outputs
+returns-in-Ok-clause-outputs g c =
+    let opened = c.in-Ok.field-0.callers in
+    let count : vec_len opened ≡ c.args.callers =
+    opened.ok.0 ∙ ap length c.in-Ok.ensures.callers ∙ length-new_callers g.K.HistoryId.base c.args.callers in
+    subst (λ (n : ℕ). IfOk c.act_together-outputs.result (λ outputs. vec_len outputs ≡ n)) count
+    c.act_together-outputs.ensures
