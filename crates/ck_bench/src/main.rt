@@ -1,10 +1,11 @@
 //! Measures what calls of a token take, without a script. With no argument it makes each kind of
 //! call a few times and writes nothing. With the argument `measure` it writes, by the clock, what
 //! calls and asks of a token take that callers share, and then, in processor time, what single
-//! calls of a token alone take: each the best of some tries. With the arguments `among` and a
-//! number it writes, in processor time, what calls take among so many objects. That has a process
-//! of its own: the allocator gives memory again that other measures have freed, which spares calls
-//! new pages of the system, among few objects more than among many.
+//! calls of a token alone, a digest of a MiB and audits of journals take: each the best of some
+//! tries. With the arguments `among` and a number it writes, in processor time, what calls take
+//! among so many objects. That has a process of its own: the allocator gives memory again that other
+//! measures have freed, which spares calls new pages of the system, among few objects more than
+//! among many.
 #![tactic(auto)]
 
 mod audits;

@@ -16,6 +16,7 @@ pub trait JournaledToken: Drop {
     ghost use Rattle.ck_journal.specs.Histories.{start};
     ghost use Rattle.ck_journal.specs.TokenStates.{TokenState, IsAnswered, IsUnchanged};
 
+    // the token's limits and its history
     ghost state: { Self → TokenState };
 
     /// A token that has answered no call, which takes no memory.

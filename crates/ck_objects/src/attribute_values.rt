@@ -3,9 +3,9 @@ use smallvec::SmallVec;
 use std::alloc::{AllocError, Global};
 use std::marker::Model;
 
-/// The bytes of an attribute's value (CK_ATTRIBUTE; PKCS #11 Base 3.0, Object types). A copy of at most 16 bytes
-/// lies in the value itself, so most labels, identifiers and flags take no memory of their own; a
-/// longer one lies in a vector. Contracts see the bytes.
+/// The bytes of an attribute's value (CK_ATTRIBUTE; PKCS #11 Base 3.0, Object types). A copy of at
+/// most 16 bytes lies in the value itself, so most labels, identifiers and flags take no memory of
+/// their own; a longer one lies in a vector. Contracts see the bytes.
 #[derive(Drop)]
 pub struct AttributeValue {
     bytes: SmallVec<u8, 16>,

@@ -3,7 +3,8 @@ ghost use Rattle.ck_objects.specs.declared.attributes.Class.TheVariants as class
 
 use crate::forms::Form;
 
-/// An object's class (CK_OBJECT_CLASS; PKCS #11 Base 3.0, Object types): data objects and secret keys.
+/// An object's class (CK_OBJECT_CLASS; PKCS #11 Base 3.0, Object types): data objects and secret
+/// keys.
 #[derive(Clone, Copy, Debug, PartialEq, Eq)]
 pub enum Class {
     Data,

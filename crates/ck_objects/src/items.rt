@@ -24,8 +24,8 @@ use ck_types::{NoMemory, RvError, error_if, number_of};
 use std::alloc::Global;
 use std::mem;
 
-/// One attribute of a template or of an object (CK_ATTRIBUTE; PKCS #11 Base 3.0, Object types): its type
-/// and the bytes of its value.
+/// One attribute of a template or of an object (CK_ATTRIBUTE; PKCS #11 Base 3.0, Object types): its
+/// type and the bytes of its value.
 #[derive(Clone, Drop)]
 pub struct Item {
     /// The attribute's type (CK_ATTRIBUTE_TYPE), known to the token or not.

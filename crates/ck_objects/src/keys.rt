@@ -82,7 +82,8 @@ impl Key {
     ghost use Rattle.ck_objects.specs.Templates.{value_at, flag_at, form_error, class_of};
     ghost use Rattle.ck_objects.specs.Templates.{created_error, generated_error};
     ghost use Rattle.ck_objects.specs.Records.{key_items, placement_of, is_revealable, blank_key};
-    ghost use Rattle.ck_objects.specs.Records.{with_given, KeepsKey, created_items, generated_items};
+    ghost use Rattle.ck_objects.specs.Records.{with_given, KeepsKey, created_items};
+    ghost use Rattle.ck_objects.specs.Records.{generated_items};
     ghost use Rattle.ck_objects.specs.Records.{changed_key};
     ghost use Rattle.ck_objects.specs.Fields.{field_bytes, flag_field};
     ghost use Rattle.ck_objects.specs.declared.attributes.Class.TheVariants as class;

@@ -2,7 +2,8 @@ ghost use Rattle.std.specs.Prelude.{◌≡◌, ◌==◌, ◌∷◌, [], None, no
 ghost use Rattle.ck_objects.specs.Attributes.{type_of};
 ghost use Rattle.ck_types.specs.Checks.{check_of, first_error, first_of, error_if};
 ghost use Rattle.ck_objects.specs.Templates.{form_error, gives_other_class, is_key_length};
-ghost use Rattle.ck_objects.specs.Templates.{new_key_error, new_object_error, given_length, value_at};
+ghost use Rattle.ck_objects.specs.Templates.{new_key_error, new_object_error, given_length};
+ghost use Rattle.ck_objects.specs.Templates.{value_at};
 ghost use Rattle.ck_objects.specs.declared.attributes.Attribute.TheVariants as attribute;
 ghost use Rattle.ck_types.specs.declared.errors.RvError.TheVariants as rv_error;
 

@@ -4,7 +4,8 @@ ghost use Rattle.std.specs.Prelude.{OnOk, OnErr};
 ghost use Rattle.ck_journal.specs.Answers.{answer};
 ghost use Rattle.ck_script.specs.Replies.{reply_text};
 ghost use Rattle.ck_program.specs.Devices.{Writing, wrote, failed_write};
-ghost use Rattle.ck_program.specs.Players.{WriteFailed, IsUnwritten, IsRefused, IsCalled, AnswersLine};
+ghost use Rattle.ck_program.specs.Players.{WriteFailed, IsUnwritten, IsRefused, IsCalled};
+ghost use Rattle.ck_program.specs.Players.{AnswersLine};
 ghost use Rattle.ck_program.specs.Players.{StopsAtLine, AnswersChunk, StopsInChunk, next_number};
 
 use crate::devices::Sink;

@@ -1,5 +1,6 @@
 //! Callers that play their calls in threads.
-ghost use Rattle.std.specs.Prelude.{◌≡◌, ◌++◌, ◌≤◌, ℕ, List, [], ◌∷◌, All, IfOk, OnOk, string_bytes};
+ghost use Rattle.std.specs.Prelude.{◌≡◌, ◌++◌, ◌≤◌, ℕ, List, [], ◌∷◌, All, IfOk, OnOk};
+ghost use Rattle.std.specs.Prelude.{string_bytes};
 ghost use Rattle.ck_journal.specs.Answers.{IsLegal};
 ghost use Rattle.ck_journal.specs.Bases.{empty_base};
 ghost use Rattle.ck_journal.specs.Callers.{AreCallers};

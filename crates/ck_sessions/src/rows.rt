@@ -1,8 +1,10 @@
-ghost use Rattle.std.specs.Prelude.{◌≡◌, ◌+◌, ◌≤◌, ◌++◌, not, filter, find, length, map, position, None};
+ghost use Rattle.std.specs.Prelude.{◌≡◌, ◌+◌, ◌≤◌, ◌++◌, not, filter, find, length, map, position};
+ghost use Rattle.std.specs.Prelude.{None};
 ghost use Rattle.std.specs.List.{list_any};
 ghost use Rattle.std.specs.Option.{option_copied};
 ghost use Rattle.ck_journal.specs.Lists.{change_first};
-ghost use Rattle.ck_sessions.specs.Rows.{SessionRow, is_session, is_rw_row, is_read_only_row, board_row, with_search, with_last_found};
+ghost use Rattle.ck_sessions.specs.Rows.{SessionRow, is_session, is_rw_row, is_read_only_row};
+ghost use Rattle.ck_sessions.specs.Rows.{board_row, with_search, with_last_found};
 
 use crate::open_sessions::Session;
 use crate::searches::Search;

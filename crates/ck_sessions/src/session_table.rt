@@ -43,7 +43,8 @@ impl Model for Sessions {
 }
 
 impl Sessions {
-    ghost use Rattle.std.specs.Prelude.{◌≡◌, ◌+◌, ◌<◌, ◌≤◌, ◌^◌, ℕ, suc, true, false, not, Some, None, OnOk, IsOk, is_some, length, map};
+    ghost use Rattle.std.specs.Prelude.{◌≡◌, ◌+◌, ◌<◌, ◌≤◌, ◌^◌, ℕ, suc, true, false, not, Some};
+    ghost use Rattle.std.specs.Prelude.{None, OnOk, IsOk, is_some, length, map};
     ghost use Rattle.std.specs.List.{list_any};
     ghost use Rattle.std.specs.Option.{option_copied};
     ghost use Rattle.ck_types.specs.TokenLimits.{Ranges};
@@ -56,8 +57,10 @@ impl Sessions {
     ghost use Rattle.ck_journal.specs.Histories.{History, start, ◌◁◌, done, wrong_try};
     ghost use Rattle.ck_journal.specs.Objects.{creations};
     ghost use Rattle.ck_journal.specs.Pins.{is_initialized, present_pin, tries, pin_owner, about};
-    ghost use Rattle.ck_journal.specs.Searches.{is_searching, number_of_handle, handles_in, last_or, last_number};
-    ghost use Rattle.ck_journal.specs.Sessions.{openings, is_open, open_sessions, is_read_write, rw_sessions, login, user_logins, state_of};
+    ghost use Rattle.ck_journal.specs.Searches.{is_searching, number_of_handle, handles_in};
+    ghost use Rattle.ck_journal.specs.Searches.{last_or, last_number};
+    ghost use Rattle.ck_journal.specs.Sessions.{openings, is_open, open_sessions, is_read_write};
+    ghost use Rattle.ck_journal.specs.Sessions.{rw_sessions, login, user_logins, state_of};
     ghost use Rattle.ck_journal.specs.declared.calls.Call.{Call};
     ghost use Rattle.ck_journal.specs.declared.calls.Call.TheVariants as call;
     ghost use Rattle.ck_journal.specs.declared.calls.Entry.{Entry};

@@ -9,7 +9,9 @@ use left_right::Absorb;
 use std::alloc::Global;
 use std::sync::{Mutex, Wait};
 
-/// A token behind a lock, which its callers share.
+/// A token behind a lock, which its callers share. `K` stands for the token's history, `G` is the
+/// token's type, `T` is the board that is read without the lock, `O` the slots by which it is changed,
+/// and `R` the runtime.
 #[derive(Drop)]
 pub struct SharedToken<
     K: TokenId,

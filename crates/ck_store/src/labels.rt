@@ -5,9 +5,9 @@ ghost use Rattle.ck_store.specs.Labels.{label_mark, IsMarkOf, IsWanted, is_refus
 use ck_objects::{Attribute, Field, Record, Template};
 use ck_types::NoMemory;
 
-/// The mark of a label, a hash of 32 bits: for each byte what there is is multiplied by the prime of
-/// the FNV-1 hash, and the byte is added; it begins with the offset of that hash. Equal labels have
-/// equal marks, and others seldom do.
+/// The mark of a label, a hash of 32 bits. It begins with the offset of the FNV-1 hash; for each byte
+/// it is multiplied by the prime of that hash, and the byte is added. Equal labels have equal marks,
+/// and others seldom do.
 fn label_mark(label: &[u8]) -> u32
     ensures { result ≡ label_mark label.now }
 {

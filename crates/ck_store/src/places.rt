@@ -5,7 +5,8 @@ ghost use Rattle.slab.specs.Slab.{get};
 ghost use Rattle.ck_store.specs.Rows.{ObjectRow, has_number, matching_numbers};
 ghost use Rattle.ck_store.specs.Rows.{with_key_state, matching_number};
 ghost use Rattle.ck_store.specs.Labels.{IsMarked, IsMarkOf, IsWanted};
-ghost use Rattle.ck_store.specs.Index.{place, is_at, object_at, objects_at, is_there, IsIndex, PlacesRise};
+ghost use Rattle.ck_store.specs.Index.{place, is_at, object_at, objects_at, is_there, IsIndex};
+ghost use Rattle.ck_store.specs.Index.{PlacesRise};
 ghost use Rattle.ck_store.specs.Index.{IsChanged, IsGiven, IsKeyOf, IsLeft, EndsAll};
 ghost use Rattle.ck_store.specs.declared.places.Place.{Place};
 

@@ -37,7 +37,8 @@ impl StoredObject {
     ghost use Rattle.ck_journal.specs.Objects.{is_visible_with};
     ghost use Rattle.ck_store.specs.Rows.{is_of_session, is_session_row, is_private_row};
     ghost use Rattle.ck_store.specs.Rows.{is_private_session_row};
-    ghost use Rattle.ck_store.specs.Rows.{object_row, is_match, visible_handle, is_ended_by, kept_of};
+    ghost use Rattle.ck_store.specs.Rows.{object_row, is_match, visible_handle, is_ended_by};
+    ghost use Rattle.ck_store.specs.Rows.{kept_of};
 
     /// An object that the session creates.
     pub(crate) fn new(number: u64, session: u64, attributes: Record) -> StoredObject

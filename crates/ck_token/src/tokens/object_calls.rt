@@ -52,7 +52,8 @@ fn transition(key: &Record, number: u64) -> Result<KeyState, RvError>
 impl Token {
     ghost use Rattle.std.specs.Prelude.{◌≡◌, ◌+◌, ◌<◌, ◌^◌, ℕ, IfOk, IfErr, Some, None};
     ghost use Rattle.ck_types.specs.Checks.{check_of};
-    ghost use Rattle.ck_journal.specs.Answers.{ok, read_only_session_error, placement_error, creations_error, new_handle};
+    ghost use Rattle.ck_journal.specs.Answers.{ok, read_only_session_error, placement_error};
+    ghost use Rattle.ck_journal.specs.Answers.{creations_error, new_handle};
     ghost use Rattle.ck_journal.specs.Objects.{creations};
     ghost use Rattle.ck_journal.specs.declared.replies.Body.TheVariants as body;
     ghost use Rattle.ck_journal.specs.declared.calls.Call.TheVariants as call;

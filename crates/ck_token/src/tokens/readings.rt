@@ -18,12 +18,15 @@ fn is_user_in(login: Option<UserType>) -> bool
 
 /// What is read of the history.
 impl Token {
-    ghost use Rattle.std.specs.Prelude.{◌≡◌, ◌<◌, ◌^◌, ℕ, true, false, not, Some, None, IfOk, IfErr, length};
+    ghost use Rattle.std.specs.Prelude.{◌≡◌, ◌<◌, ◌^◌, ℕ, true, false, not, Some, None, IfOk};
+    ghost use Rattle.std.specs.Prelude.{IfErr, length};
     ghost use Rattle.std.specs.List.{list_any};
     ghost use Rattle.ck_types.specs.declared.errors.RvError.TheVariants as rv_error;
-    ghost use Rattle.ck_journal.specs.Objects.{creations, view_of, is_user_in, object_named, attributes_named, key_named};
+    ghost use Rattle.ck_journal.specs.Objects.{creations, view_of, is_user_in, object_named};
+    ghost use Rattle.ck_journal.specs.Objects.{attributes_named, key_named};
     ghost use Rattle.ck_journal.specs.Pins.{is_initialized, present_pin, tries};
-    ghost use Rattle.ck_journal.specs.Sessions.{openings, is_open, open_sessions, is_read_write, rw_sessions, login, user_logins, state_of};
+    ghost use Rattle.ck_journal.specs.Sessions.{openings, is_open, open_sessions, is_read_write};
+    ghost use Rattle.ck_journal.specs.Sessions.{rw_sessions, login, user_logins, state_of};
     ghost use Rattle.ck_journal.specs.Operations.{is_active};
     ghost use Rattle.ck_operations.specs.Agreement.{OperationAgrees, active_operation};
     ghost use Rattle.ck_sessions.specs.Agreement.{session_row};
