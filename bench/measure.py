@@ -4,8 +4,8 @@ searches among 1,000, 10,000 and 50,000 objects, data objects and keys, and prin
 Last it prints what calls among many objects take, and calls and asks of a shared token, each beside what is wanted.
 
 The program is crates/ck_run/out/ck_run, or the path that is given; it is built by `rt run` in crates/ck_run. Times are
-processor time, the best of several runs, and memory is the peak (by GNU time); those of an empty script are taken off both. Off the
-time of searches is taken that of a script that only makes their objects. The last figures are those of
+processor time, the best of several runs, and memory is the peak (by GNU time); those of an empty script are taken off
+both. Off the time of searches is taken that of a script that only makes their objects. The last figures are those of
 crates/ck_bench/out/ck_bench, the best of several runs; those of a shared token are by the clock, and want four
 processors without other work. Calls among many objects have a process of their own for each number of objects. With
 the argument `figures` the last figures alone are printed.
