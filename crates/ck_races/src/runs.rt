@@ -41,8 +41,12 @@ impl<'a> Run<'a> {
 }
 
 impl<'a, R: Wait> CallerWork<R> for Run<'a> {
+    ghost use Rattle.std.specs.Prelude.{⊤};
+
     /// The caller's number and its replies.
     type Output = Result<CallerReplies, RaceError>;
+
+    ghost tells = { λ work caller replies. ⊤ };
 
     /// Makes the steps of the caller.
     fn act<K: TokenId, T: Drop, G: Gate<K, T>>(
@@ -50,12 +54,12 @@ impl<'a, R: Wait> CallerWork<R> for Run<'a> {
         rt: &R,
         alloc: Global,
         gate: &G,
-        mut caller: Caller<K, T>,
+        caller: &mut Caller<K, T>,
     ) -> Result<CallerReplies, RaceError> {
         let number = caller.number();
         let mut replies = Vec::new(alloc);
         for step in self.steps.iter().filter(|step| step.caller == number) {
-            replies.push(self.make(rt, alloc, gate, &mut caller, step)?)?;
+            replies.push(self.make(rt, alloc, gate, caller, step)?)?;
         }
         Ok((number, replies))
     }

@@ -1,1 +1,2 @@
 pub mod Locked
+pub mod Outputs

@@ -120,8 +120,6 @@ impl<
 > SharedToken<K, G, O, T, R> {
     ghost use Rattle.std.specs.Prelude.{◌≡◌, true, false, All, IfOk, OnOk, IfErr, OnErr};
     ghost use Rattle.ck_journal.specs.Callers.{AreCallers};
-    ghost use Rattle.ck_journal.specs.Fronts.{IsFront};
-    ghost use Rattle.ck_journal.specs.Histories.{start};
     ghost use Rattle.ck_callers.specs.Callers.{HasCalled, IsSettled, are_all};
 
     /// One call of a caller, under the lock.
@@ -164,12 +162,8 @@ impl<
         Ok(locked.into_token())
     }
 
-    /// Takes the token back, whatever has come of its callers.
-    pub(crate) fn into_token(self) -> G
-        ensures limits { (G.state result).limits ≡ K.limits }
-        ensures callers { AreCallers K.callers (G.state result).history }
-        ensures base { IsFront (start K.base) (G.state result).history }
-    {
-        self.lock.into_inner().into_token()
+    /// What lies under the lock, whatever has come of the callers.
+    pub(crate) fn into_locked(self) -> Locked<K, G, O, T, R> {
+        self.lock.into_inner()
     }
 }

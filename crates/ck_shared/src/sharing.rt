@@ -1,14 +1,19 @@
 //! A token that is shared while each of its callers does some work in a thread of its own.
-ghost use Rattle.std.specs.Prelude.{◌≡◌, ◌≤◌, ℕ, IfOk, vec_len};
+ghost use Rattle.std.specs.Prelude.{◌≡◌, ◌≤◌, ℕ, [], All, IfOk, vec_len, vec_capacity};
 ghost use Rattle.ck_journal.specs.Callers.{AreCallers};
 ghost use Rattle.ck_journal.specs.Fronts.{IsFront};
 ghost use Rattle.ck_journal.specs.Histories.{start, start_of};
 ghost use Rattle.ck_callers.specs.Accounts.{name_of};
+ghost use Rattle.ck_shared.specs.Outputs.{IsOfCaller};
 
+use crate::locked::Locked;
 use crate::shared::{Ends, SharedToken};
-use ck_callers::{BoardCopy, Caller, EntrySlot, Gate, NewIdentity, Slot, TokenId, WriteBoard};
+use ck_callers::{
+    BoardCopy, Caller, EntrySlot, Gate, NewIdentity, ReadBoard, Slot, TokenId, WriteBoard,
+};
 use ck_journal::JournaledToken;
 use ck_types::NoMemory;
+use left_right::Absorb;
 use std::alloc::Global;
 use std::marker::Brand;
 use std::sync::Wait;
@@ -17,8 +22,13 @@ use std::{mem, thread};
 
 /// What each caller of a shared token does, whatever type stands for the token's history.
 pub trait CallerWork<R> {
+    ghost use Rattle.ck_callers.specs.Callers.{CallerState};
+
     /// What comes of it.
     type Output: Send + Drop;
+
+    // what is said by what comes of it: of the work and of the caller in the end
+    ghost tells: { Self → CallerState → Self.Output → Type 0 };
 
     /// What this caller does at the gate, which is the shared token.
     fn act<K: TokenId, T: Drop, G: Gate<K, T>>(
@@ -26,11 +36,12 @@ pub trait CallerWork<R> {
         rt: &R,
         alloc: Global,
         gate: &G,
-        caller: Caller<K, T>,
-    ) -> Self::Output;
+        caller: &mut Caller<K, T>,
+    ) -> Self::Output
+        ensures { tells self.now caller.new result };
 }
 
-/// All callers do their work, each in a thread of its own.
+/// All callers do their work, each in a thread of its own. They come back with what came of it.
 fn act_together<
     K: TokenId + Send + Sync,
     T: Drop + Send + Sync,
@@ -43,15 +54,85 @@ fn act_together<
     gate: &G,
     callers: Vec<Caller<K, T>>,
     work: &S,
-) -> Result<Vec<S::Output>, NoMemory>
-    ensures { IfOk result (λ outputs. vec_len outputs ≡ vec_len callers) }
+) -> Result<Vec<(S::Output, Caller<K, T>)>, NoMemory>
+    ensures len { IfOk result (λ done. vec_len done ≡ vec_len callers) }
+    ensures told { IfOk result (λ done. All (λ d. S.tells work.now d.1 d.0) done.items) }
 {
-    let outputs = thread::map_vec(
+    let done = thread::map_vec(
         rt,
         callers,
-        &|caller: Caller<K, T>| work.act(rt, alloc, gate, caller),
+        &|mut caller: Caller<K, T>|
+            ensures { S.tells work.entry.now result.1 result.0 }
+        {
+            let output = work.act(rt, alloc, gate, &mut caller);
+            (output, caller)
+        },
     );
-    Ok(outputs?)
+    Ok(done?)
+}
+
+/// Takes all callers back, and keeps what came of their work.
+fn settle_all<
+    K: TokenId,
+    G: JournaledToken,
+    O: Slot<K>,
+    T: Absorb<O> + ReadBoard<K> + Drop,
+    S: CallerWork<R>,
+    R: Wait + Drop,
+>(
+    rt: &R,
+    locked: &mut Locked<K, G, O, T, R>,
+    work: &S,
+    done: Vec<(S::Output, Caller<K, T>)>,
+    outputs: &mut Vec<S::Output>,
+)
+    requires none { outputs.old.items ≡ [] }
+    requires room { vec_len done ≤ vec_capacity outputs.old }
+    requires told { All (λ d. S.tells work.now d.1 d.0) done.items }
+    ensures same { locked.new ≡ locked.old }
+    ensures told { All (IsOfCaller (S.tells work.now) locked.old.history) outputs.new.items }
+    ensures len { vec_len outputs.new ≡ vec_len done }
+{
+    for (output, caller) in done {
+        locked.settle(rt, caller);
+        outputs.push(output).unwrap();
+    }
+}
+
+/// All callers do their work on a shared token, and it is taken back with what came of it.
+fn work_on<
+    K: TokenId + Send + Sync,
+    G: JournaledToken + Send,
+    O: Slot<K> + Send,
+    T: Absorb<O> + ReadBoard<K> + Drop + Send + Sync,
+    S: CallerWork<R> + Sync,
+    R: Threads + Wait + Drop + Send + Sync,
+>(
+    rt: &R,
+    alloc: Global,
+    shared: SharedToken<K, G, O, T, R>,
+    callers: Vec<Caller<K, T>>,
+    work: &S,
+) -> (G, Result<Vec<S::Output>, NoMemory>)
+    ensures limits { (G.state result.0).limits ≡ K.limits }
+    ensures callers { AreCallers K.callers (G.state result.0).history }
+    ensures base { IsFront (start K.base) (G.state result.0).history }
+    ensures outputs { IfOk result.1 (λ outputs. vec_len outputs ≡ vec_len callers) }
+    ensures told { IfOk result.1 (λ outputs.
+        All (IsOfCaller (S.tells work.now) (G.state result.0).history) outputs.items) }
+{
+    let Ok(mut outputs) = Vec::with_capacity(alloc, callers.len()) else {
+        return (shared.into_locked().into_token(), Err(NoMemory));
+    };
+    let done = act_together(rt, alloc, &shared, callers, work);
+    let mut locked = shared.into_locked();
+    match done {
+        Ok(done) => {
+            settle_all(rt, &mut locked, work, done, &mut outputs);
+            (locked.into_token(), Ok(outputs))
+        }
+        Err(error) => (locked.into_token(), Err(error)),
+    }
 }
 
 /// As `share`, for types that stand for the token's history, its slots and its board.
@@ -79,6 +160,8 @@ fn share_by<
     ensures front { IsFront (G.state token.old).history (G.state token.new).history }
     ensures callers { AreCallers callers (G.state token.new).history }
     ensures outputs { IfOk result (λ outputs. vec_len outputs ≡ callers) }
+    ensures told { IfOk result (λ outputs.
+        All (IsOfCaller (S.tells work.now) (G.state token.new).history) outputs.items) }
 {
     let limits = token.limits();
     let own = mem::replace(token, G::new(alloc, limits));
@@ -89,8 +172,8 @@ fn share_by<
                 callers,
             },
         ) => {
-            let outputs = act_together(&rt, alloc, &shared, callers, work);
-            *token = shared.into_token();
+            let (own, outputs) = work_on(&rt, alloc, shared, callers, work);
+            *token = own;
             outputs
         }
         Err((own, error)) => {
@@ -123,6 +206,8 @@ fn share_as<
     ensures front { IsFront (G.state token.old).history (G.state token.new).history }
     ensures callers { AreCallers callers (G.state token.new).history }
     ensures outputs { IfOk result (λ outputs. vec_len outputs ≡ callers) }
+    ensures told { IfOk result (λ outputs.
+        All (IsOfCaller (S.tells work.now) (G.state token.new).history) outputs.items) }
 {
     share_by::<K, G, EntrySlot<K>, BoardCopy<K>, S, R>(rt, alloc, token, callers, identity, work)
 }
@@ -141,6 +226,8 @@ pub fn share<
     ensures front { IsFront (G.state token.old).history (G.state token.new).history }
     ensures callers { AreCallers callers (G.state token.new).history }
     ensures outputs { IfOk result (λ outputs. vec_len outputs ≡ callers) }
+    ensures told { IfOk result (λ outputs.
+        All (IsOfCaller (S.tells work.now) (G.state token.new).history) outputs.items) }
 {
     share_as::<Brand, G, S, R>(rt, alloc, token, callers, NewIdentity::new(), work)
 }

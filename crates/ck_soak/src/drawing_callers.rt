@@ -26,7 +26,7 @@ struct DrawingCaller<'a, K: TokenId, T: Drop, G, R> {
     rt: &'a R,
     alloc: Global,
     gate: &'a G,
-    caller: Caller<K, T>,
+    caller: &'a mut Caller<K, T>,
     places: &'a [Place; PLACES],
     replies: Vec<Reply>,
     draws: Xoshiro256PlusPlus,
@@ -57,7 +57,7 @@ impl<'a, K: TokenId, T: Drop, G: Gate<K, T>, R: Wait> DrawingCaller<'a, K, T, G,
     fn make_call(&mut self, place: &Place, step: &str) -> Result<(), SoakError> {
         let (text, word) = step.split_once(" > ").unwrap_or((step, ""));
         let call = call_of(self.alloc, place, text)?;
-        let reply = self.gate.call(self.rt, self.alloc, &mut self.caller, call)?;
+        let reply = self.gate.call(self.rt, self.alloc, self.caller, call)?;
         keep_handle(place, word, &reply);
         self.replies.push(reply)?;
         Ok(())
@@ -82,7 +82,7 @@ impl<'a, K: TokenId, T: Drop, G: Gate<K, T>, R: Wait> DrawingCaller<'a, K, T, G,
         if let Some(place) = places.get(number as usize % PLACES) {
             self.make_row(place, row)?;
             let session = place.session.load(Ordering::SeqCst);
-            let _status = self.gate.status(&mut self.caller, Ask::Session(session));
+            let _status = self.gate.status(self.caller, Ask::Session(session));
         }
         Ok(())
     }
@@ -103,7 +103,11 @@ impl<'a, K: TokenId, T: Drop, G: Gate<K, T>, R: Wait> DrawingCaller<'a, K, T, G,
 pub(crate) struct DrawnCalls(pub(crate) [Place; PLACES]);
 
 impl<R: Wait> CallerWork<R> for DrawnCalls {
+    ghost use Rattle.std.specs.Prelude.{⊤};
+
     type Output = Result<CallerReplies, SoakError>;
+
+    ghost tells = { λ work caller replies. ⊤ };
 
     /// The draws follow from the caller's number.
     fn act<K: TokenId, T: Drop, G: Gate<K, T>>(
@@ -111,7 +115,7 @@ impl<R: Wait> CallerWork<R> for DrawnCalls {
         rt: &R,
         alloc: Global,
         gate: &G,
-        caller: Caller<K, T>,
+        caller: &mut Caller<K, T>,
     ) -> Result<CallerReplies, SoakError> {
         let number = caller.number();
         let mut drawing_caller = DrawingCaller {

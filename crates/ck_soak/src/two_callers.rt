@@ -14,19 +14,23 @@ use std::thread::Threads;
 struct ThreeSessions;
 
 impl<R: Wait> CallerWork<R> for ThreeSessions {
+    ghost use Rattle.std.specs.Prelude.{◌≡◌};
+
     /// How many calls of the caller were answered.
     type Output = u64;
+
+    ghost tells = { λ work caller count. count ≡ caller.count };
 
     fn act<K: TokenId, T: Drop, G: Gate<K, T>>(
         &self,
         rt: &R,
         alloc: Global,
         gate: &G,
-        mut caller: Caller<K, T>,
+        caller: &mut Caller<K, T>,
     ) -> u64 {
         for _ in 0..3u32 {
             let call = Call::OpenSession { flags: READ_WRITE };
-            let _reply = gate.call(rt, alloc, &mut caller, call);
+            let _reply = gate.call(rt, alloc, caller, call);
         }
         caller.count()
     }

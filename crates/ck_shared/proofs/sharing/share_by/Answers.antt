@@ -9,5 +9,5 @@ returns-in-Ok-clause-outputs g c =
     let opened = c.in-Ok.field-0.callers in
     let count : vec_len opened ≡ c.args.callers =
     opened.ok.0 ∙ ap length c.in-Ok.ensures.callers ∙ length-new_callers g.K.HistoryId.base c.args.callers in
-    subst (λ (n : ℕ). IfOk c.act_together-outputs.result (λ outputs. vec_len outputs ≡ n)) count
-    c.act_together-outputs.ensures
+    subst (λ (n : ℕ). IfOk c.work_on-own.result.1 (λ outputs. vec_len outputs ≡ n)) count
+    c.work_on-own.ensures.outputs
