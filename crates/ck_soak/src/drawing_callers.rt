@@ -22,11 +22,11 @@ pub(crate) type CallerReplies = (u32, Vec<Reply>);
 
 /// A caller at a gate, with the handles that it knows, its draws and all replies that it got.
 #[derive(Drop)]
-struct DrawingCaller<'a, K: TokenId, T: Drop, G, R> {
+struct DrawingCaller<'a, 'c, K: TokenId, T: Drop, G, R> {
     rt: &'a R,
     alloc: Global,
     gate: &'a G,
-    caller: &'a mut Caller<K, T>,
+    caller: &'c mut Caller<K, T>,
     places: &'a [Place; PLACES],
     replies: Vec<Reply>,
     draws: Xoshiro256PlusPlus,
@@ -52,7 +52,7 @@ fn keep_handle(place: &Place, word: &str, reply: &Reply) {
     }
 }
 
-impl<'a, K: TokenId, T: Drop, G: Gate<K, T>, R: Wait> DrawingCaller<'a, K, T, G, R> {
+impl<'a, 'c, K: TokenId, T: Drop, G: Gate<K, T>, R: Wait> DrawingCaller<'a, 'c, K, T, G, R> {
     /// Makes one call of a row with the handles of a place, and keeps its reply.
     fn make_call(&mut self, place: &Place, step: &str) -> Result<(), SoakError> {
         let (text, word) = step.split_once(" > ").unwrap_or((step, ""));
