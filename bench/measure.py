@@ -6,9 +6,9 @@ Last it prints what calls among many objects take, and calls and asks of a share
 The program is crates/ck_run/out/ck_run, or the path that is given; it is built by `rt run` in crates/ck_run. Times are
 processor time, the best of several runs, and memory is the peak (by GNU time); those of an empty script are taken off
 both. Off the time of searches is taken that of a script that only makes their objects. The last figures are those of
-crates/ck_bench/out/ck_bench, the best of several runs; those of a shared token are by the clock, and want four
-processors without other work. Calls among many objects have a process of their own for each number of objects. With
-the argument `figures` the last figures alone are printed.
+crates/ck_bench/out/ck_bench, the best of several runs, each of a process of its own; what callers do in threads is by
+the clock, and wants four processors without other work. With the argument `figures` the last figures alone are
+printed.
 
 A line, or an object in a search, may take at most 3 times as much time among the most as among the fewest. Where one
 takes more, or one of the last figures isn't as wanted, the status is 1.
@@ -19,7 +19,7 @@ import subprocess
 import sys
 import tempfile
 
-from make_script import ROUNDS, SEARCHES, script, searched_numbers
+from make_script import ROUNDS, SEARCHES, SINGLE_CALLS, crowd, crowd_rounds, script, searched_numbers, single_calls
 
 SIZES = [1_000, 10_000, 100_000]
 OBJECT_COUNTS = [1_000, 10_000, 50_000]
@@ -31,10 +31,7 @@ PROGRAM = os.path.join(CRATES, "ck_run", "out", "ck_run")
 FIGURES_PROGRAM = os.path.join(CRATES, "ck_bench", "out", "ck_bench")
 
 # How often the program of the last figures is run.
-FIGURE_RUNS = 5
-
-# Among how many objects it makes calls.
-CROWDS = [1_000, 50_000, 100_000]
+FIGURE_RUNS = 15
 
 # What is wanted of calls among 1,000 objects and among 100,000: the most nanoseconds, and the most times as many among
 # the latter.
@@ -52,16 +49,13 @@ CALLS_AMONG = [
 SEARCH = "a search by label (its three calls together)"
 SEARCH_AMONG = {1_000: 12, 50_000: 30}
 
-# What is wanted of a shared token: a line of its program, and the least or the most that its number may be. Where a line
-# has two numbers, it is how much more the second is.
-SHARED_FIGURES = [
-    (r"session info: (\d+) ns, by the lock (\d+) ns", None, 150),
-    (r"open and close, each: (\d+) ns, by the lock (\d+) ns", None, 400),
-    (r"status: (\d+) ns", None, 25),
-    (r"status by four callers: (\d+) percent of the asks of one", 300, None),
-    (r"status beside changes: (\d+) percent of the asks alone", 90, None),
-    (r"create, get label and destroy by four callers: (\d+) calls a second", 700_000, None),
-]
+# How many more nanoseconds a call may take by the lock than of a token alone.
+CALLS_BY_LOCK = {"session info": 150, "open and close, each": 400}
+
+# How often a caller of a shared token asks without the lock. It changes the token a hundredth as often, each time by
+# three calls.
+ASKS = 4_000_000
+CALLS_OF_CHANGE = 3
 
 
 def play(words, text):
@@ -136,18 +130,19 @@ def measure_searches(program, searches, creations, what):
     return is_within(searches, times, OBJECT_COUNTS)
 
 
-def lines_of(outputs, form):
-    """Of each run the line of this form."""
-    lines = [re.search(f"^{form}$", output, re.MULTILINE) for output in outputs]
-    if not all(lines):
-        sys.exit(f"no line of figures is as this: {form}")
-    return lines
-
-
-def time_among(outputs, what, objects):
-    """The fewest nanoseconds that a call took among so many objects, in any of the runs."""
-    lines = lines_of(outputs[objects], rf"{re.escape(what)} among {objects} objects: (\d+) ns")
-    return min(int(line.group(1)) for line in lines)
+def measured(script_of_sections, way):
+    """Of each section the fewest nanoseconds of its calls, over all runs, and of the audit where there is one."""
+    text = "".join(line + "\n" for line in script_of_sections)
+    best = {}
+    for _ in range(FIGURE_RUNS):
+        output = play([FIGURES_PROGRAM, *way], text)[1].decode()
+        for line in output.splitlines():
+            found = re.fullmatch(r"(.*): (\d+) ns", line)
+            if found:
+                best[found[1]] = min(int(found[2]), best.get(found[1], int(found[2])))
+            elif re.search(r"[1-9]\d* refused|false", line):
+                sys.exit(f"not every call was answered OK: {line}")
+    return best
 
 
 def is_as_wanted(text, wanted, is_met):
@@ -156,43 +151,56 @@ def is_as_wanted(text, wanted, is_met):
     return is_met
 
 
-def is_call_met(outputs, what, most, most_growth):
-    few, many = (time_among(outputs, what, objects) for objects in (1_000, 100_000))
+def is_call_met(few, many, what, most, most_growth):
     growth = many / few
-    text = f"{what}: {few} ns among 1,000 objects, {many} among 100,000, {growth:.2f} times as many"
+    text = f"{what}: {few:.0f} ns among 1,000 objects, {many:.0f} among 100,000, {growth:.2f} times as many"
     return is_as_wanted(text, f"at most {most:,} and {most_growth} times", many <= most and growth <= most_growth)
 
 
-def is_search_met(outputs, objects, most):
-    each = time_among(outputs, SEARCH, objects) / objects
-    return is_as_wanted(f"{SEARCH} among {objects:,} objects: {each:.1f} ns each", f"at most {most}", each <= most)
+def times_among(objects):
+    """The nanoseconds of one round of each section among so many objects."""
+    best = measured(crowd(objects), ["alone"])
+    return {name: best[name] / rounds for name, rounds in crowd_rounds(objects).items()}
 
 
-def is_figure_met(outputs, form, least, most):
-    """Of a shared token, by the best of each number in any of the runs."""
-    numbers = zip(*(map(int, line.groups()) for line in lines_of(outputs, form)))
-    best = [(min if least is None else max)(each) for each in numbers]
-    figure = best[0] if len(best) == 1 else best[1] - best[0]
-    text = form.replace(r"(\d+)", "{:,}").format(*best) + ("" if len(best) == 1 else f", {figure:,} more")
-    bound = f"at least {least:,}" if most is None else f"at most {most:,}"
-    is_met = (least is None or figure >= least) and (most is None or figure <= most)
-    return is_as_wanted(text, bound, is_met)
+def met_among_objects():
+    times = {objects: times_among(objects) for objects in (1_000, 50_000, 100_000)}
+    for what, most, most_growth in CALLS_AMONG:
+        yield is_call_met(times[1_000][what], times[100_000][what], what, most, most_growth)
+    for objects, most in SEARCH_AMONG.items():
+        each = times[objects][SEARCH] / objects
+        yield is_as_wanted(f"{SEARCH} among {objects:,} objects: {each:.1f} ns each", f"at most {most}", each <= most)
 
 
-def outputs_of(*words):
-    """What the program of the last figures prints in each of its runs."""
-    command = [FIGURES_PROGRAM, *words]
-    runs = (subprocess.run(command, stdout=subprocess.PIPE, check=True, text=True) for _ in range(FIGURE_RUNS))
-    return [run.stdout for run in runs]
+def met_by_lock():
+    alone, locked = (measured(single_calls(), [way]) for way in ("alone", "locked"))
+    for what, time in alone.items():
+        if what in SINGLE_CALLS and what not in CALLS_BY_LOCK:
+            print(f"{what}: {time / SINGLE_CALLS[what]:.0f} ns")
+    print(f"audit of mixed calls: {alone['audit'] / 1_000:.0f} us")
+    for what, most in CALLS_BY_LOCK.items():
+        direct, shared = (times[what] / SINGLE_CALLS[what] for times in (alone, locked))
+        more = shared - direct
+        text = f"{what}: {direct:.0f} ns, by the lock {shared:.0f} ns, {more:.0f} more"
+        yield is_as_wanted(text, f"at most {most}", more <= most)
+
+
+def met_in_threads():
+    best = measured([], ["threads", str(ASKS)])
+    alone, four = best["asks of one caller"], best["asks of four callers"]
+    each = alone / ASKS
+    yield is_as_wanted(f"status: {each:.0f} ns", "at most 25", each <= 25)
+    share = 400 * alone // four
+    yield is_as_wanted(f"status by four callers: {share} percent of the asks of one", "at least 300", share >= 300)
+    beside = 100 * alone // best["asks beside changes"]
+    yield is_as_wanted(f"status beside changes: {beside} percent of the asks alone", "at least 90", beside >= 90)
+    calls = 4 * CALLS_OF_CHANGE * (ASKS // 100) * 1_000_000_000 // best["changes of four callers"]
+    text = f"create, get label and destroy by four callers: {calls:,} calls a second"
+    yield is_as_wanted(text, "at least 700,000", calls >= 700_000)
 
 
 def measure_figures():
-    among = {objects: outputs_of("among", str(objects)) for objects in CROWDS}
-    met = [is_call_met(among, *wanted) for wanted in CALLS_AMONG]
-    met.extend(is_search_met(among, objects, most) for objects, most in SEARCH_AMONG.items())
-    shared = outputs_of("measure")
-    met.extend(is_figure_met(shared, *wanted) for wanted in SHARED_FIGURES)
-    return met
+    return [*met_among_objects(), *met_by_lock(), *met_in_threads()]
 
 
 def main():

@@ -1,184 +1,272 @@
-//! Callers of a shared token, in threads of their own.
-use crate::rounds::{Failed, Kind, Target, make_rounds, round};
-use ck_callers::{Ask, Status, TokenId};
-use ck_journal::{Body, Call, READ_WRITE, Reply};
-use ck_shared::{Shared, SharedCaller};
+//! What callers of a shared token do at once, each in a thread of its own.
+ghost use Rattle.std.specs.Prelude.{◌≡◌, ◌≤◌, IfOk, length};
+ghost use Rattle.ck_journal.specs.Histories.{start, start_of};
+
+use crate::errors::BenchError;
+use ck_callers::{Ask, Caller, Gate, Status, TokenId};
+use ck_journal::{AttributeQuery, Body, Call, READ_WRITE, Reply};
+use ck_objects::{Attribute, AttributeValue, Item, Template};
+use ck_shared::{CallerWork, share};
 use ck_token::Token;
-use ck_types::{NoMemory, Rv};
-use crossbeam_utils::CachePadded;
+use ck_types::{Limits, NoMemory, Pin, Rv, Sequence};
 use std::alloc::Global;
 use std::sync::Wait;
 use std::sync::atomic::{AtomicBool, Ordering};
-use std::thread;
 use std::thread::Threads;
 use std::time::{Clock, Instant};
 
-/// A shared token and one of its callers.
-#[derive(Drop)]
-pub(crate) struct SharedTarget<'a, K: TokenId, R: Wait + Drop> {
-    pub(crate) rt: &'a R,
-    pub(crate) token: &'a Shared<K, Token, R>,
-    pub(crate) caller: &'a mut SharedCaller<K>,
-}
-
-impl<'a, K: TokenId, R: Wait + Drop> Target for SharedTarget<'a, K, R> {
-    fn call(&mut self, alloc: Global, call: Call) -> Result<Reply, NoMemory> {
-        self.token.call(self.rt, alloc, self.caller, call)
-    }
-}
-
-/// What a caller does in its thread.
+/// What a caller does.
 #[derive(Clone, Copy)]
-pub(crate) enum Task {
-    /// Asks so often for the state of session 1, without the lock.
+enum Task {
+    /// Asks so often for the state of its session, without the lock.
     Ask(u64),
-    /// Creates, reads and destroys an object so often.
+    /// Creates an object, reads its label and destroys it, so often.
     Change(u64),
-    /// Creates, reads and destroys objects until another is done.
+    /// The same until another caller is done.
     ChangeBeside,
 }
 
-/// A caller with its task, and the nanoseconds that it took. It has cache lines of its own, as it
-/// would have where its thread owns it.
+/// The tasks of callers, in the order of their numbers.
 #[derive(Drop)]
-pub(crate) struct Worker<K: TokenId> {
-    pub(crate) caller: CachePadded<SharedCaller<K>>,
-    pub(crate) task: Task,
-    time: Result<u128, Failed>,
+struct Tasks<'a> {
+    tasks: &'a [Task],
+    /// Whether any caller is done.
+    is_done: AtomicBool,
 }
 
-impl<K: TokenId> Worker<K> {
-    pub(crate) fn new(caller: SharedCaller<K>) -> Worker<K> {
-        Worker {
-            caller: CachePadded::new(caller),
-            task: Task::Ask(0),
-            time: Err(Failed),
-        }
+/// Makes a call, which must be answered CKR_OK, and gives its body.
+fn answered<K: TokenId, T: Drop, G: Gate<K, T>, R: Wait>(
+    rt: &R,
+    alloc: Global,
+    gate: &G,
+    caller: &mut Caller<K, T>,
+    call: Call,
+) -> Result<Body, BenchError> {
+    let Reply { rv, body } = gate.call(rt, alloc, caller, call)?;
+    if rv == Rv::Ok {
+        return Ok(body);
+    }
+    Err(BenchError::Answered)
+}
+
+/// Makes a call that gives a handle.
+fn handle_of<K: TokenId, T: Drop, G: Gate<K, T>, R: Wait>(
+    rt: &R,
+    alloc: Global,
+    gate: &G,
+    caller: &mut Caller<K, T>,
+    call: Call,
+) -> Result<u64, BenchError> {
+    match answered(rt, alloc, gate, caller, call)? {
+        Body::Handle(handle) => Ok(handle),
+        _ => Err(BenchError::Answered),
     }
 }
 
-/// Whether what was asked says that a read/write session is open.
-fn is_open(status: Option<Status>) -> bool {
-    match status {
-        Some(
-            Status::Reply(
-                Reply {
-                    rv: Rv::Ok,
-                    body: Body::Session { flags, .. },
-                },
-            ),
-        ) => { flags == READ_WRITE }
-        _ => false,
-    }
-}
-
-/// Asks so often. Each time the session must be open.
-fn ask<K: TokenId>(caller: &mut SharedCaller<K>, count: u64) -> Result<(), Failed> {
+/// Asks so often for the state of a session, which must be open.
+fn ask<K: TokenId, T: Drop, G: Gate<K, T>>(
+    gate: &G,
+    caller: &mut Caller<K, T>,
+    session: u64,
+    count: u64,
+) -> Result<(), BenchError> {
     for _ in 0..count {
-        if !is_open(caller.status(Ask::Session(1))) {
-            return Err(Failed);
+        match gate.status(caller, Ask::Session(session)) {
+            Some(Status::Reply(Reply { rv: Rv::Ok, .. })) => {}
+            _ => return Err(BenchError::Answered),
         }
     }
     Ok(())
 }
 
-/// Makes rounds until another caller is done.
-fn change_until<K: TokenId, R: Wait + Drop>(
-    target: &mut SharedTarget<K, R>,
-    alloc: Global,
-    is_done: &AtomicBool,
-) -> Result<(), Failed> {
-    for _ in 0..u64::MAX {
-        if is_done.load(Ordering::SeqCst) {
-            return Ok(());
-        }
-        round(target, alloc, Kind::CreateReadDestroy)?;
-    }
-    Err(Failed)
+fn item(alloc: Global, attribute: Attribute, value: &[u8]) -> Result<Item, NoMemory> {
+    let value = AttributeValue::from_slice(alloc, value)?;
+    let kind = attribute.number();
+    Ok(Item { kind, value })
 }
 
-/// Does the task of a caller.
-fn do_task<K: TokenId, R: Wait + Drop>(
+/// The creation of a data object with a label of 8 bytes.
+fn creation(alloc: Global, session: u64) -> Result<Call, NoMemory> {
+    let items = vec![in alloc;
+        item(alloc, Attribute::Class, [0; 8].as_slice())?,
+        item(alloc, Attribute::Label, b"a label ")?,
+    ]?;
+    let items = Sequence::from_vec(items);
+    let template = Template { items };
+    Ok(Call::CreateObject { session, template })
+}
+
+/// The reading of a label.
+fn reading(alloc: Global, session: u64, object: u64) -> Result<Call, NoMemory> {
+    let kind = Attribute::Label.number();
+    let room = Some(8);
+    let queries = Sequence::from_vec(vec![in alloc; AttributeQuery { kind, room }]?);
+    Ok(Call::GetAttributeValue {
+        session,
+        object,
+        queries,
+    })
+}
+
+/// Creates an object, reads its label and destroys it.
+fn change<K: TokenId, T: Drop, G: Gate<K, T>, R: Wait>(
     rt: &R,
     alloc: Global,
-    token: &Shared<K, Token, R>,
-    worker: &mut Worker<K>,
-    is_done: &AtomicBool,
-) -> Result<(), Failed> {
-    let caller = &mut *worker.caller;
-    match worker.task {
-        Task::Ask(count) => ask(caller, count),
-        Task::Change(count) => {
-            let mut target = SharedTarget { rt, token, caller };
-            make_rounds(&mut target, alloc, Kind::CreateReadDestroy, count)
-        }
-        Task::ChangeBeside => {
-            let mut target = SharedTarget { rt, token, caller };
-            change_until(&mut target, alloc, is_done)
-        }
-    }
-}
-
-/// Does the task of a caller, and says what it took.
-fn work<K: TokenId, R: Clock + Wait + Drop>(
-    rt: &R,
-    alloc: Global,
-    token: &Shared<K, Token, R>,
-    worker: &mut Worker<K>,
-    is_done: &AtomicBool,
-) -> Result<u128, Failed> {
-    let before = Instant::now(rt)?;
-    do_task(rt, alloc, token, worker, is_done)?;
-    Ok(before.elapsed(rt)?.as_nanos())
-}
-
-/// The nanoseconds that the slowest of the callers took.
-fn slowest<K: TokenId>(workers: &[Worker<K>]) -> Result<u128, Failed> {
-    let mut most = 0;
-    for worker in workers {
-        most = worker.time?.max(most);
-    }
-    Ok(most)
-}
-
-/// All callers do their tasks, each in a thread of its own. Gives the nanoseconds of the slowest.
-fn time_together<K: TokenId + Send + Sync, R: Clock + Threads + Wait + Drop + Send + Sync>(
-    rt: &R,
-    alloc: Global,
-    token: &Shared<K, Token, R>,
-    workers: &mut [Worker<K>],
-) -> Result<u128, Failed> {
-    let is_done = AtomicBool::new(false);
-    let most = workers.len();
-    if most == 0 {
-        return Err(Failed);
-    }
-    thread::for_each_mut(
+    gate: &G,
+    caller: &mut Caller<K, T>,
+    session: u64,
+) -> Result<(), BenchError> {
+    let object = handle_of(rt, alloc, gate, caller, creation(alloc, session)?)?;
+    answered(rt, alloc, gate, caller, reading(alloc, session, object)?)?;
+    answered(
         rt,
-        workers,
-        most,
-        &|_: usize, worker: &mut Worker<K>| {
-            worker.time = work(rt, alloc, token, worker, &is_done);
-            is_done.store(true, Ordering::SeqCst);
-        },
-    );
-    slowest(workers)
+        alloc,
+        gate,
+        caller,
+        Call::DestroyObject { session, object },
+    )?;
+    Ok(())
 }
 
-/// The nanoseconds of the best of so many tries.
-pub(crate) fn best_together<
-    K: TokenId + Send + Sync,
-    R: Clock + Threads + Wait + Drop + Send + Sync,
->(
-    rt: &R,
-    alloc: Global,
-    token: &Shared<K, Token, R>,
-    workers: &mut [Worker<K>],
-    tries: u64,
-) -> Result<u128, Failed> {
-    let mut best = u128::MAX;
-    for _ in 0..tries {
-        best = best.min(time_together(rt, alloc, token, workers)?);
+impl<'a> Tasks<'a> {
+    fn new(tasks: &'a [Task]) -> Tasks<'a> {
+        Tasks {
+            tasks,
+            is_done: AtomicBool::new(false),
+        }
     }
-    Ok(best)
+
+    /// Creates objects, reads their labels and destroys them, at most so often, and no longer than
+    /// until a caller is done.
+    fn change_until_done<K: TokenId, T: Drop, G: Gate<K, T>, R: Wait>(
+        &self,
+        rt: &R,
+        alloc: Global,
+        gate: &G,
+        caller: &mut Caller<K, T>,
+        session: u64,
+    ) -> Result<(), BenchError> {
+        for _ in 0..u64::MAX {
+            if self.is_done.load(Ordering::SeqCst) {
+                break;
+            }
+            change(rt, alloc, gate, caller, session)?;
+        }
+        Ok(())
+    }
+
+    /// Does the task of a caller.
+    fn do_task<K: TokenId, T: Drop, G: Gate<K, T>, R: Wait>(
+        &self,
+        rt: &R,
+        alloc: Global,
+        gate: &G,
+        caller: &mut Caller<K, T>,
+        session: u64,
+    ) -> Result<(), BenchError> {
+        let place = (caller.number() as usize).saturating_sub(1);
+        match self.tasks.get(place) {
+            Some(Task::Ask(count)) => ask(gate, caller, session, *count),
+            Some(Task::Change(count)) => {
+                for _ in 0..*count {
+                    change(rt, alloc, gate, caller, session)?;
+                }
+                Ok(())
+            }
+            Some(Task::ChangeBeside) => self.change_until_done(rt, alloc, gate, caller, session),
+            None => Err(BenchError::Answered),
+        }
+    }
+}
+
+impl<'a, R: Wait + Clock> CallerWork<R> for Tasks<'a> {
+    ghost use Rattle.std.specs.Prelude.{⊤};
+
+    /// The nanoseconds of the caller's task.
+    type Output = Result<u128, BenchError>;
+
+    ghost tells = { λ work caller time. ⊤ };
+
+    /// Opens a session, and does the caller's task in it.
+    fn act<K: TokenId, T: Drop, G: Gate<K, T>>(
+        &self,
+        rt: &R,
+        alloc: Global,
+        gate: &G,
+        caller: &mut Caller<K, T>,
+    ) -> Result<u128, BenchError> {
+        let opening = Call::OpenSession { flags: READ_WRITE };
+        let session = handle_of(rt, alloc, gate, caller, opening)?;
+        let before = Instant::now(rt)?;
+        let done = self.do_task(rt, alloc, gate, caller, session);
+        self.is_done.store(true, Ordering::SeqCst);
+        done?;
+        Ok(before.elapsed(rt)?.as_nanos())
+    }
+}
+
+/// An initialized token whose journal is cut.
+fn initialized(alloc: Global) -> Result<Token, BenchError>
+    ensures { IfOk result (λ token. token.history ≡ start (start_of token.history)) }
+{
+    let mut token = Token::new(alloc, Limits::largest());
+    let pin = Pin::of(b"1234");
+    token.call(alloc, 1, Call::InitToken { pin })?;
+    match token.cut(alloc) {
+        Ok(_) => Ok(token),
+        Err(_) => Err(BenchError::NotCut),
+    }
+}
+
+/// Callers do these tasks on a token of their own, each in a thread. Gives the nanoseconds of the
+/// slowest.
+fn time_of<R: Clock + Threads + Wait + Copy + Drop + Send + Sync>(
+    rt: R,
+    alloc: Global,
+    tasks: &[Task],
+) -> Result<u128, BenchError>
+    requires { (1 ≤ length tasks.now) × (length tasks.now ≤ 8) }
+{
+    let mut token = initialized(alloc)?;
+    let times = share(
+        rt,
+        alloc,
+        &mut token,
+        tasks.len() as u32,
+        &Tasks::new(tasks),
+    )?;
+    let mut slowest = 0;
+    for time in times {
+        slowest = time?.max(slowest);
+    }
+    Ok(slowest)
+}
+
+/// Writes what callers take, by the clock where that is asked for: one asks so often, all of four
+/// do, one asks beside another that changes the token, and four change it a hundredth as often.
+pub(crate) fn play_together<R: Clock + Print + Threads + Wait + Copy + Drop + Send + Sync>(
+    rt: R,
+    alloc: Global,
+    asks: u64,
+    is_timed: bool,
+) -> Result<(), BenchError> {
+    let changes = asks / 100;
+    let runs: [(&str, &[Task]); 4] = [
+        ("asks of one caller", &[Task::Ask(asks)]),
+        ("asks of four callers", &[Task::Ask(asks); 4]),
+        (
+            "asks beside changes",
+            &[Task::Ask(asks), Task::ChangeBeside],
+        ),
+        ("changes of four callers", &[Task::Change(changes); 4]),
+    ];
+    for (name, tasks) in runs {
+        let time = time_of(rt, alloc, tasks)?;
+        if is_timed {
+            println!(rt; "{name}: {time} ns")?;
+        } else {
+            println!(rt; "{name}: done")?;
+        }
+    }
+    Ok(())
 }

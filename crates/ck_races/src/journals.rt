@@ -1,17 +1,19 @@
 //! What a token's journal is compared with when its callers are done.
 use crate::errors::RaceError;
 use crate::races::{Race, Step, compare};
-use crate::runs::CallerReplies;
 use crate::tokens::make_steps;
 use ck_audit::{Verdict, are_replies_of, audit_token};
-use ck_journal::Entry;
+use ck_journal::{Entry, Reply};
 use ck_script::reply_line;
 use ck_token::Token;
 use ck_types::NoMemory;
 use std::alloc::Global;
 
+/// A caller's number, and the replies that it got, in the order of its calls.
+pub(crate) type CallerReplies = (u32, Vec<Reply>);
+
 /// Each caller made its calls, and got the replies of its entries, in their order.
-fn check_replies(
+pub(crate) fn check_replies(
     entries: &[Entry],
     all: Vec<Result<CallerReplies, RaceError>>,
 ) -> Result<(), RaceError> {

@@ -1,20 +1,16 @@
 //! The steps of a race, one after the other on a shared token. What finds no memory is made again.
-ghost use Rattle.std.specs.Prelude.{◌≡◌, ℕ};
-ghost use Rattle.ck_journal.specs.Histories.{start};
-ghost use Rattle.ck_callers.specs.Accounts.{name_of};
-
 use crate::errors::RaceError;
-use crate::journals::check_audit;
 use crate::races::{Race, Step, compare};
+use crate::shared_plays::{Play, play_shared};
 use crate::tokens::token_of;
 use ck_audit::are_same_replies;
-use ck_callers::{Ask, NewIdentity, Status, TokenId};
+use ck_callers::{Ask, Status, TokenId};
 use ck_journal::{Call, Reply};
-use ck_shared::{Ends, Shared, SharedCaller};
+use ck_shared::{Shared, SharedCaller};
 use ck_token::Token;
 use std::alloc::Global;
-use std::marker::Brand;
 use std::sync::Wait;
+use std::thread::Threads;
 
 /// What a caller knows, and what it is answered without a call.
 #[derive(Drop)]
@@ -137,21 +133,16 @@ impl<'a, K: TokenId, R: Wait + Drop> Retrying<'a, K, R> {
         }
         Ok(())
     }
-
-    fn make_race(&mut self, race: &Race) -> Result<(), RaceError> {
-        self.make_all(race.steps.as_slice())?;
-        self.make_all(race.afterwards.as_slice())
-    }
 }
 
-/// Makes the steps of the race in their order. Says how many calls were answered.
-fn make_steps<K: TokenId, R: Wait + Drop>(
+/// Makes the steps of a race in their order.
+pub(crate) fn make_race<K: TokenId, R: Wait + Drop>(
     rt: &R,
     alloc: Global,
     token: &Shared<K, Token, R>,
     callers: &mut [SharedCaller<K>],
     race: &Race,
-) -> Result<u64, RaceError> {
+) -> Result<(), RaceError> {
     let mut retrying = Retrying {
         rt,
         alloc,
@@ -159,59 +150,19 @@ fn make_steps<K: TokenId, R: Wait + Drop>(
         callers,
         answered: 0,
     };
-    retrying.make_race(race)?;
-    Ok(retrying.answered)
+    retrying.make_all(race.steps.as_slice())?;
+    retrying.make_all(race.afterwards.as_slice())
 }
 
-/// The journal is legal and has the entries of the answered calls. Says how many they are beside
-/// the steps.
-fn count_others(
-    alloc: Global,
-    token: &Token,
-    race: &Race,
-    answered: u64,
-) -> Result<u64, RaceError> {
-    check_audit(alloc, token)?;
-    if token.journal().len() != answered {
-        return Err(RaceError::Changed(race.line));
-    }
-    let steps = race.steps.len().saturating_add(race.afterwards.len());
-    Ok(answered.saturating_sub(steps as u64))
-}
-
-/// Shares the token, and makes the steps of the race in their order. Says how many calls were
-/// answered beside them.
-fn retry_shared<K: TokenId, R: Wait + Copy + Drop>(
-    rt: R,
-    alloc: Global,
-    token: Token,
-    identity: NewIdentity,
-    race: &Race,
-) -> Result<u64, RaceError>
-    requires history { token.history ≡ start K.base }
-    requires limits { token.limits ≡ K.limits }
-    requires callers { K.callers ≡ 8 }
-    requires book { identity.history.seen.book ≡ K.book }
-    requires ledgers { (n : ℕ) → K.ledger n ≡ name_of identity.ledgers n }
-{
-    let ends = Shared::<K, Token, R>::adopt(rt, alloc, token, 8, identity);
-    let Ok(Ends { token, mut callers }) = ends else {
-        return Err(RaceError::Memory);
-    };
-    let answered = make_steps(&rt, alloc, &token, callers.as_mut_slice(), race)?;
-    let Ok(token) = token.close(&rt, callers) else {
-        return Err(RaceError::NotClosed);
-    };
-    count_others(alloc, &token, race, answered)
-}
-
-/// Makes the steps of a race one after the other on a shared token, and says how often one was made
-/// again.
-pub(crate) fn retry_race<R: Wait + Copy + Drop>(
+/// Makes the steps of a race one after the other on a shared token, and says how many calls were
+/// answered beside them, each made behind one that found no memory.
+pub(crate) fn retry_race<R: Threads + Wait + Copy + Drop + Send + Sync>(
     rt: R,
     alloc: Global,
     race: &Race,
 ) -> Result<u64, RaceError> {
     let token = token_of(alloc, race)?;
-    retry_shared::<Brand, R>(rt, alloc, token, NewIdentity::new(), race)
+    let answered = play_shared(rt, alloc, token, &Play::Steps(race))?;
+    let steps = race.steps.len().saturating_add(race.afterwards.len());
+    Ok(answered.saturating_sub(steps as u64))
 }

@@ -1,6 +1,6 @@
 //! One run of a race on a shared token.
 use crate::errors::RaceError;
-use crate::journals::check_token;
+use crate::journals::{CallerReplies, check_token};
 use crate::orders::Turns;
 use crate::races::{Race, Step};
 use crate::tokens::token_of;
@@ -11,9 +11,6 @@ use ck_types::NoMemory;
 use std::alloc::Global;
 use std::sync::Wait;
 use std::thread::Threads;
-
-/// A caller's number, and the replies that it got, in the order of its calls.
-pub(crate) type CallerReplies = (u32, Vec<Reply>);
 
 /// Steps, the first of which are made in an order of their callers.
 #[derive(Drop)]

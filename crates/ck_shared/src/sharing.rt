@@ -7,10 +7,8 @@ ghost use Rattle.ck_callers.specs.Accounts.{name_of};
 ghost use Rattle.ck_shared.specs.Outputs.{IsOfCaller};
 
 use crate::locked::Locked;
-use crate::shared::{Ends, SharedToken};
-use ck_callers::{
-    BoardCopy, Caller, EntrySlot, Gate, NewIdentity, ReadBoard, Slot, TokenId, WriteBoard,
-};
+use crate::shared::{Ends, Shared, SharedToken};
+use ck_callers::{Caller, Gate, NewIdentity, ReadBoard, Slot, TokenId};
 use ck_journal::JournaledToken;
 use ck_types::NoMemory;
 use left_right::Absorb;
@@ -135,54 +133,6 @@ fn work_on<
     }
 }
 
-/// As `share`, for types that stand for the token's history, its slots and its board.
-fn share_by<
-    K: TokenId + Send + Sync,
-    G: JournaledToken + Send,
-    O: Slot<K> + Send,
-    T: WriteBoard<K, O> + Drop + Send + Sync,
-    S: CallerWork<R> + Sync,
-    R: Threads + Wait + Copy + Drop + Send + Sync,
->(
-    rt: R,
-    alloc: Global,
-    token: &mut G,
-    callers: u32,
-    identity: NewIdentity,
-    work: &S,
-) -> Result<Vec<S::Output>, NoMemory>
-    requires history { (G.state token.old).history ≡ start K.base }
-    requires limits { (G.state token.old).limits ≡ K.limits }
-    requires callers { (1 ≤ callers) × (callers ≤ 8) × (callers ≡ K.callers) }
-    requires book { identity.history.seen.book ≡ K.book }
-    requires ledgers { (n : ℕ) → K.ledger n ≡ name_of identity.ledgers n }
-    ensures limits { (G.state token.new).limits ≡ (G.state token.old).limits }
-    ensures front { IsFront (G.state token.old).history (G.state token.new).history }
-    ensures callers { AreCallers callers (G.state token.new).history }
-    ensures outputs { IfOk result (λ outputs. vec_len outputs ≡ callers) }
-    ensures told { IfOk result (λ outputs.
-        All (IsOfCaller (S.tells work.now) (G.state token.new).history) outputs.items) }
-{
-    let limits = token.limits();
-    let own = mem::replace(token, G::new(alloc, limits));
-    match SharedToken::<K, G, O, T, R>::adopt(rt, alloc, own, callers, identity) {
-        Ok(
-            Ends {
-                token: shared,
-                callers,
-            },
-        ) => {
-            let (own, outputs) = work_on(&rt, alloc, shared, callers, work);
-            *token = own;
-            outputs
-        }
-        Err((own, error)) => {
-            *token = own;
-            Err(error)
-        }
-    }
-}
-
 /// As `share`, for a type that stands for the token's history.
 fn share_as<
     K: TokenId + Send + Sync,
@@ -209,7 +159,24 @@ fn share_as<
     ensures told { IfOk result (λ outputs.
         All (IsOfCaller (S.tells work.now) (G.state token.new).history) outputs.items) }
 {
-    share_by::<K, G, EntrySlot<K>, BoardCopy<K>, S, R>(rt, alloc, token, callers, identity, work)
+    let limits = token.limits();
+    let own = mem::replace(token, G::new(alloc, limits));
+    match Shared::<K, G, R>::adopt(rt, alloc, own, callers, identity) {
+        Ok(
+            Ends {
+                token: shared,
+                callers,
+            },
+        ) => {
+            let (own, outputs) = work_on(&rt, alloc, shared, callers, work);
+            *token = own;
+            outputs
+        }
+        Err((own, error)) => {
+            *token = own;
+            Err(error)
+        }
+    }
 }
 
 /// Shares a token whose journal has no entries among the callers 1 to `callers`, at most eight,

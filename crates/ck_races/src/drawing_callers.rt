@@ -1,5 +1,6 @@
 //! A caller that draws its calls.
-use crate::errors::SoakError;
+use crate::errors::RaceError;
+use crate::journals::CallerReplies;
 use crate::mix::{PLACES, Place, ROWS, SELDOM, call_of};
 use ck_callers::{Ask, Caller, Gate, TokenId};
 use ck_journal::{Body, Reply};
@@ -16,9 +17,6 @@ const CALLS: usize = 5_000;
 
 /// One row in so many is one of those that are drawn seldom.
 const SELDOM_IN: u64 = 256;
-
-/// A caller's number, and the replies that it got, in the order of its calls.
-pub(crate) type CallerReplies = (u32, Vec<Reply>);
 
 /// A caller at a gate, with the handles that it knows, its draws and all replies that it got.
 #[derive(Drop)]
@@ -54,7 +52,7 @@ fn keep_handle(place: &Place, word: &str, reply: &Reply) {
 
 impl<'a, 'c, K: TokenId, T: Drop, G: Gate<K, T>, R: Wait> DrawingCaller<'a, 'c, K, T, G, R> {
     /// Makes one call of a row with the handles of a place, and keeps its reply.
-    fn make_call(&mut self, place: &Place, step: &str) -> Result<(), SoakError> {
+    fn make_call(&mut self, place: &Place, step: &str) -> Result<(), RaceError> {
         let (text, word) = step.split_once(" > ").unwrap_or((step, ""));
         let call = call_of(self.alloc, place, text)?;
         let reply = self.gate.call(self.rt, self.alloc, self.caller, call)?;
@@ -64,7 +62,7 @@ impl<'a, 'c, K: TokenId, T: Drop, G: Gate<K, T>, R: Wait> DrawingCaller<'a, 'c, 
     }
 
     /// Makes the calls of a row, as long as the caller has calls to make.
-    fn make_row(&mut self, place: &Place, row: &str) -> Result<(), SoakError> {
+    fn make_row(&mut self, place: &Place, row: &str) -> Result<(), RaceError> {
         for step in row.split("; ") {
             if self.replies.len() < CALLS {
                 self.make_call(place, step)?;
@@ -75,7 +73,7 @@ impl<'a, 'c, K: TokenId, T: Drop, G: Gate<K, T>, R: Wait> DrawingCaller<'a, 'c, 
 
     /// Makes a drawn row. Then the caller asks for the state of a session without the lock: which
     /// one it sees depends on the others.
-    fn make_drawn_row(&mut self) -> Result<(), SoakError> {
+    fn make_drawn_row(&mut self) -> Result<(), RaceError> {
         let row = row_of(self.draws.next_u64());
         let number = self.draws.next_u64();
         let places = self.places;
@@ -88,7 +86,7 @@ impl<'a, 'c, K: TokenId, T: Drop, G: Gate<K, T>, R: Wait> DrawingCaller<'a, 'c, 
     }
 
     /// Draws rows until the caller has made its calls.
-    fn make_calls(&mut self) -> Result<(), SoakError> {
+    fn make_calls(&mut self) -> Result<(), RaceError> {
         for _ in 0..CALLS {
             if self.replies.len() < CALLS {
                 self.make_drawn_row()?;
@@ -105,7 +103,7 @@ pub(crate) struct DrawnCalls(pub(crate) [Place; PLACES]);
 impl<R: Wait> CallerWork<R> for DrawnCalls {
     ghost use Rattle.std.specs.Prelude.{⊤};
 
-    type Output = Result<CallerReplies, SoakError>;
+    type Output = Result<CallerReplies, RaceError>;
 
     ghost tells = { λ work caller replies. ⊤ };
 
@@ -116,7 +114,7 @@ impl<R: Wait> CallerWork<R> for DrawnCalls {
         alloc: Global,
         gate: &G,
         caller: &mut Caller<K, T>,
-    ) -> Result<CallerReplies, SoakError> {
+    ) -> Result<CallerReplies, RaceError> {
         let number = caller.number();
         let mut drawing_caller = DrawingCaller {
             rt,

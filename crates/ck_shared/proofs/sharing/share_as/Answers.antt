@@ -1,7 +1,7 @@
 use Rattle.std.proofs.Common.{ℕ, ◌≡◌, length, ap, ◌∙◌, subst}
 use Rattle.std.specs.Prelude.{IfOk, vec_len}
 use Rattle.ck_shared.proofs.CallerNumbers.{length-new_callers}
-use Rattle.ck_shared.proofs.sharing.share_by.Goals as goal
+use Rattle.ck_shared.proofs.sharing.share_as.Goals as goal
 
 -- as many as the callers that the token was opened with
 pub returns-in-Ok-clause-outputs : goal.returns-in-Ok-clause-outputs

@@ -1,22 +1,16 @@
 //! A caller asks for the state of a session, without the lock, while another logs in. Then both
-//! call and ask at once. A third caller makes no call: it asks before the first one and after the
-//! last. In the end the token is taken back. Its journal was cut before it was shared.
-ghost use Rattle.std.specs.Prelude.{◌≡◌, ℕ};
-ghost use Rattle.ck_journal.specs.Histories.{start};
-ghost use Rattle.ck_callers.specs.Accounts.{name_of};
-
-use crate::errors::SoakError;
+//! call and ask at once. The last caller makes no call: it asks before the first one and after the
+//! last.
+use crate::errors::RaceError;
+use crate::shared_plays::{Play, play_shared};
 use crate::tokens::token_after;
 use ck_audit::are_same_replies;
-use ck_callers::{
-    Answered, Ask, BoardCopy, NewIdentity, News, Script, Status, Step, TokenId, run_steps,
-};
+use ck_callers::{Answered, Ask, BoardCopy, News, Script, Status, Step, TokenId, run_steps};
 use ck_journal::{Body, Call, READ_WRITE, Reply};
-use ck_shared::{Ends, Shared, SharedCaller};
+use ck_shared::{Shared, SharedCaller};
 use ck_token::Token;
 use ck_types::{NoMemory, Pin, Rv, RvError, SessionState, TokenFlags, mechanism_types};
 use std::alloc::Global;
-use std::marker::Brand;
 use std::sync::Wait;
 use std::thread::Threads;
 
@@ -34,11 +28,11 @@ pub(crate) const RUNS: u32 = 100;
 
 type AskingScript<K> = Script<K, BoardCopy<K>, Step, Answered>;
 
-fn expect(holds: bool) -> Result<(), SoakError> {
+fn expect(holds: bool) -> Result<(), RaceError> {
     if holds {
         return Ok(());
     }
-    Err(SoakError::Asked)
+    Err(RaceError::Asked)
 }
 
 /// An ask is answered so.
@@ -47,10 +41,10 @@ fn check_status<K: TokenId>(
     ask: Ask,
     rv: Rv,
     body: Body,
-) -> Result<(), SoakError> {
+) -> Result<(), RaceError> {
     match caller.status(ask) {
         Some(Status::Reply(reply)) => expect(are_same_replies(&reply, &Reply { rv, body })),
-        _ => Err(SoakError::Asked),
+        _ => Err(RaceError::Asked),
     }
 }
 
@@ -58,7 +52,7 @@ fn check_status<K: TokenId>(
 fn check_session<K: TokenId>(
     caller: &mut SharedCaller<K>,
     state: SessionState,
-) -> Result<(), SoakError> {
+) -> Result<(), RaceError> {
     let body = Body::Session {
         state,
         flags: READ_WRITE,
@@ -67,7 +61,7 @@ fn check_session<K: TokenId>(
 }
 
 /// A new token has no PINs and no sessions, and all mechanisms.
-fn check_new<K: TokenId>(caller: &mut SharedCaller<K>) -> Result<(), SoakError> {
+fn check_new<K: TokenId>(caller: &mut SharedCaller<K>) -> Result<(), RaceError> {
     let body = Body::Token {
         flags: TokenFlags::LOGIN_REQUIRED,
         limit: 64,
@@ -79,7 +73,7 @@ fn check_new<K: TokenId>(caller: &mut SharedCaller<K>) -> Result<(), SoakError> 
     check_status(caller, Ask::Session(1), rv, Body::Empty)?;
     match caller.status(Ask::Mechanisms) {
         Some(Status::Mechanisms(types)) => expect(types == mechanism_types()),
-        _ => Err(SoakError::Asked),
+        _ => Err(RaceError::Asked),
     }
 }
 
@@ -89,7 +83,7 @@ fn log_in(user: u64, pin: &[u8]) -> Call {
 }
 
 /// After the first calls the user has a PIN, session 1 is open, and nobody is logged in.
-fn first_calls(alloc: Global) -> Result<Vec<Call>, SoakError> {
+fn first_calls(alloc: Global) -> Result<Vec<Call>, RaceError> {
     let (session, officer_pin, pin) = (1, Pin::of(b"1234"), Pin::of(b"user"));
     let calls = vec![in alloc;
         Call::InitToken { pin: officer_pin },
@@ -108,7 +102,7 @@ fn make_calls<K: TokenId, R: Wait + Drop>(
     token: &Shared<K, Token, R>,
     caller: &mut SharedCaller<K>,
     calls: Vec<Call>,
-) -> Result<(), SoakError> {
+) -> Result<(), RaceError> {
     for call in calls {
         let reply = token.call(rt, alloc, caller, call)?;
         expect(reply.rv == Rv::Ok)?;
@@ -117,7 +111,7 @@ fn make_calls<K: TokenId, R: Wait + Drop>(
 }
 
 /// One session is open, and nobody is logged in.
-fn check_open<K: TokenId>(caller: &mut SharedCaller<K>) -> Result<(), SoakError> {
+fn check_open<K: TokenId>(caller: &mut SharedCaller<K>) -> Result<(), RaceError> {
     let body = Body::Token {
         flags: TokenFlags::LOGIN_REQUIRED
             | TokenFlags::TOKEN_INITIALIZED
@@ -136,7 +130,7 @@ fn make_first_calls<K: TokenId, R: Wait + Drop>(
     alloc: Global,
     token: &Shared<K, Token, R>,
     caller: &mut SharedCaller<K>,
-) -> Result<News<K>, SoakError> {
+) -> Result<News<K>, RaceError> {
     make_calls(rt, alloc, token, caller, first_calls(alloc)?)?;
     expect(caller.count() == FIRST_CALLS && caller.seen() == FIRST_CALLS)?;
     check_open(caller)?;
@@ -147,33 +141,33 @@ fn make_first_calls<K: TokenId, R: Wait + Drop>(
 fn check_learnt<K: TokenId>(
     caller: &mut SharedCaller<K>,
     first: &News<K>,
-) -> Result<(), SoakError> {
+) -> Result<(), RaceError> {
     caller.learn(first);
     expect(caller.count() == 0 && caller.seen() == FIRST_CALLS && first.seen() == FIRST_CALLS)
 }
 
-/// The third caller asks a new token. Then the first prepares it, and the second learns that.
+/// The last caller asks a new token. Then the first prepares it, and the second learns that.
 fn prepare<K: TokenId, R: Wait + Drop>(
     rt: &R,
     alloc: Global,
     token: &Shared<K, Token, R>,
     callers: &mut [SharedCaller<K>],
-) -> Result<News<K>, SoakError> {
-    check_new(callers.last_mut().ok_or(SoakError::Asked)?)?;
-    let one = callers.first_mut().ok_or(SoakError::Asked)?;
+) -> Result<News<K>, RaceError> {
+    check_new(callers.last_mut().ok_or(RaceError::Asked)?)?;
+    let one = callers.first_mut().ok_or(RaceError::Asked)?;
     let first = make_first_calls(rt, alloc, token, one)?;
-    check_learnt(callers.get_mut(1).ok_or(SoakError::Asked)?, &first)?;
+    check_learnt(callers.get_mut(1).ok_or(RaceError::Asked)?, &first)?;
     Ok(first)
 }
 
 /// How often the caller of this number asks for the session.
 fn asks_of(caller: u32) -> u32 {
-    if caller == 3 { 0 } else { ASKS }
+    if caller > 2 { 0 } else { ASKS }
 }
 
 /// How often it calls, but for the login.
 fn calls_of(caller: u32) -> u32 {
-    if caller == 3 { 0 } else { CALLS }
+    if caller > 2 { 0 } else { CALLS }
 }
 
 /// Asks for the session, so often.
@@ -194,7 +188,7 @@ fn add_calls(steps: &mut Vec<Step>, count: u32) -> Result<(), NoMemory> {
 }
 
 /// The first caller logs in. It and the second ask again and again, and then call, and ask after
-/// each call. The third does nothing.
+/// each call. The others do nothing.
 fn steps_of(alloc: Global, caller: u32) -> Result<Vec<Step>, NoMemory> {
     let mut steps = Vec::new(alloc);
     if caller == 1 {
@@ -227,13 +221,13 @@ fn scripts_of<K: TokenId>(
 /// Each step is answered OK, and what is known stays. The first caller asks for the session once it
 /// has logged in, the second before it calls. So where either knows more than the first calls, the
 /// login is among it: exactly then the user is logged in.
-fn check_answers(answers: &[Answered], wanted: u32) -> Result<(), SoakError> {
+fn check_answers(answers: &[Answered], wanted: u32) -> Result<(), RaceError> {
     let (mut known, mut asks) = (0, 0u32);
     for answer in answers {
         let (Answered::Reply(reply, seen) | Answered::Status(Some(Status::Reply(reply)), seen)) =
             answer
         else {
-            return Err(SoakError::Asked);
+            return Err(RaceError::Asked);
         };
         expect(reply.rv == Rv::Ok && *seen >= known)?;
         known = *seen;
@@ -248,7 +242,7 @@ fn check_answers(answers: &[Answered], wanted: u32) -> Result<(), SoakError> {
 }
 
 /// All steps were taken, and all answers are right.
-fn check_scripts<K: TokenId>(scripts: &[AskingScript<K>]) -> Result<(), SoakError> {
+fn check_scripts<K: TokenId>(scripts: &[AskingScript<K>]) -> Result<(), RaceError> {
     for script in scripts {
         script.outcome()?;
         check_answers(script.replies(), asks_of(script.caller.number()))?;
@@ -273,82 +267,46 @@ fn play<K: TokenId + Send + Sync, R: Threads + Wait + Drop + Send + Sync>(
     alloc: Global,
     token: &Shared<K, Token, R>,
     callers: Vec<SharedCaller<K>>,
-) -> Result<Vec<SharedCaller<K>>, SoakError> {
+) -> Result<Vec<SharedCaller<K>>, RaceError> {
     let mut scripts = scripts_of(alloc, callers)?;
     run_steps(rt, alloc, token, scripts.as_mut_slice());
     check_scripts(scripts.as_slice())?;
     Ok(callers_of(alloc, scripts)?)
 }
 
-/// The third caller sees that the user has logged in, and loses nothing by what is older.
+/// The last caller sees that the user has logged in, and loses nothing by what is older.
 fn check_after<K: TokenId>(
     callers: &mut [SharedCaller<K>],
     first: &News<K>,
-) -> Result<(), SoakError> {
-    let caller = callers.last_mut().ok_or(SoakError::Asked)?;
+) -> Result<(), RaceError> {
+    let caller = callers.last_mut().ok_or(RaceError::Asked)?;
     check_session(caller, SessionState::RwUser)?;
     let seen = caller.seen();
     caller.learn(first);
     expect(caller.count() == 0 && caller.seen() == seen && seen > first.seen())
 }
 
-/// All that three callers do. They come back.
-fn ask<K: TokenId + Send + Sync, R: Threads + Wait + Drop + Send + Sync>(
+/// All that the callers do. They come back.
+pub(crate) fn ask<K: TokenId + Send + Sync, R: Threads + Wait + Drop + Send + Sync>(
     rt: &R,
     alloc: Global,
     token: &Shared<K, Token, R>,
     mut callers: Vec<SharedCaller<K>>,
-) -> Result<Vec<SharedCaller<K>>, SoakError> {
+) -> Result<Vec<SharedCaller<K>>, RaceError> {
     let first = prepare(rt, alloc, token, callers.as_mut_slice())?;
     let mut callers = play(rt, alloc, token, callers)?;
     check_after(callers.as_mut_slice(), &first)?;
     Ok(callers)
 }
 
-/// The journal has the entries of all calls.
-fn check_length(token: &Token) -> Result<(), SoakError> {
-    expect(token.journal().len() == FIRST_CALLS + 1 + 2 * u64::from(CALLS))
-}
-
-/// Three callers share the token, and it is taken back.
-fn ask_shared<K: TokenId + Send + Sync, R: Threads + Wait + Copy + Drop + Send + Sync>(
-    rt: R,
-    alloc: Global,
-    token: Token,
-    identity: NewIdentity,
-) -> Result<(), SoakError>
-    requires history { token.history ≡ start K.base }
-    requires limits { token.limits ≡ K.limits }
-    requires callers { K.callers ≡ 3 }
-    requires book { identity.history.seen.book ≡ K.book }
-    requires ledgers { (n : ℕ) → K.ledger n ≡ name_of identity.ledgers n }
-{
-    let Ok(Ends { token, callers }) = Shared::<K, Token, R>::adopt(rt, alloc, token, 3, identity)
-    else {
-        return Err(SoakError::Memory);
-    };
-    let callers = ask(&rt, alloc, &token, callers)?;
-    let Ok(token) = token.close(&rt, callers) else {
-        return Err(SoakError::NotClosed);
-    };
-    check_length(&token)
-}
-
-fn ask_once<R: Threads + Wait + Copy + Drop + Send + Sync>(
-    rt: R,
-    alloc: Global,
-) -> Result<(), SoakError> {
-    let token = token_after(alloc, &[])?;
-    ask_shared::<Brand, R>(rt, alloc, token, NewIdentity::new())
-}
-
 /// Runs it so often, each time on a new token.
 pub(crate) fn run_asks<R: Threads + Wait + Copy + Drop + Send + Sync>(
     rt: R,
     alloc: Global,
-) -> Result<(), SoakError> {
+) -> Result<(), RaceError> {
     for _ in 0..RUNS {
-        ask_once(rt, alloc)?;
+        let token = token_after(alloc, &[])?;
+        play_shared(rt, alloc, token, &Play::Asks)?;
     }
     Ok(())
 }

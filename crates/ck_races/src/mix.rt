@@ -1,5 +1,5 @@
 //! The mix of calls: what the callers draw from, and how a call is made of a drawn line.
-use crate::errors::SoakError;
+use crate::errors::RaceError;
 use ck_journal::Call;
 use ck_script::{Line, LineError};
 use std::alloc::{AllocError, Global};
@@ -128,11 +128,11 @@ fn line_of(alloc: Global, place: &Place, text: &str) -> Result<String, AllocErro
 }
 
 /// The call that a line stands for, with the handles of a place.
-pub(crate) fn call_of(alloc: Global, place: &Place, text: &str) -> Result<Call, SoakError> {
+pub(crate) fn call_of(alloc: Global, place: &Place, text: &str) -> Result<Call, RaceError> {
     let line = line_of(alloc, place, text)?;
     match Line::parse(alloc, line.as_bytes()) {
         Ok(Line::Called { call, .. }) => Ok(call),
-        Err(LineError::Memory) => Err(SoakError::Memory),
-        Ok(Line::Skipped) | Err(LineError::Bad(_)) => Err(SoakError::BadRow),
+        Err(LineError::Memory) => Err(RaceError::Memory),
+        Ok(Line::Skipped) | Err(LineError::Bad(_)) => Err(RaceError::BadRow),
     }
 }

@@ -1,5 +1,5 @@
 //! Two callers share a token, each in a thread of its own. docs/threads.md goes through it.
-use crate::errors::SoakError;
+use crate::errors::RaceError;
 use crate::tokens::token_after;
 use ck_callers::{Caller, Gate, TokenId};
 use ck_journal::{Call, READ_WRITE};
@@ -49,7 +49,7 @@ pub(crate) struct Counts {
 pub(crate) fn counts_of_two<R: Threads + Wait + Copy + Drop + Send + Sync>(
     rt: R,
     alloc: Global,
-) -> Result<Counts, SoakError> {
+) -> Result<Counts, RaceError> {
     let mut token = token_after(alloc, ["InitToken 31323334"].as_slice())?;
     let counts = share(rt, alloc, &mut token, 2, &ThreeSessions)?;
     let entries = token.journal().entries().iter();

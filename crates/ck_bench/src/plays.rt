@@ -1,0 +1,150 @@
+//! The sections of a script, whose calls are made of a token alone, or by its one caller under the
+//! lock.
+use crate::errors::BenchError;
+use crate::sections::Section;
+use ck_audit::{Verdict, audit_token};
+use ck_callers::{Caller, Gate, TokenId};
+use ck_journal::{Call, Reply};
+use ck_shared::{CallerWork, share};
+use ck_token::Token;
+use ck_types::{Limits, NoMemory, Rv};
+use std::alloc::Global;
+use std::io;
+use std::sync::Wait;
+use std::thread::Threads;
+use std::time::CpuClock;
+
+/// What answers calls.
+trait Target {
+    fn call(&mut self, alloc: Global, call: Call) -> Result<Reply, NoMemory>;
+}
+
+impl Target for Token {
+    fn call(&mut self, alloc: Global, call: Call) -> Result<Reply, NoMemory> {
+        Token::call(self, alloc, 1, call)
+    }
+}
+
+/// A caller of a shared token.
+#[derive(Drop)]
+struct CallerTarget<'a, 'c, K: TokenId, T: Drop, G, R> {
+    rt: &'a R,
+    gate: &'a G,
+    caller: &'c mut Caller<K, T>,
+}
+
+impl<'a, 'c, K: TokenId, T: Drop, G: Gate<K, T>, R: Wait> Target
+    for CallerTarget<'a, 'c, K, T, G, R> {
+    fn call(&mut self, alloc: Global, call: Call) -> Result<Reply, NoMemory> {
+        self.gate.call(self.rt, alloc, self.caller, call)
+    }
+}
+
+/// Makes copies of the calls, and says how many were not answered CKR_OK.
+fn make_calls<T: Target>(target: &mut T, alloc: Global, calls: &[Call]) -> Result<u64, NoMemory> {
+    let mut refused = 0u64;
+    for call in calls {
+        let reply = target.call(alloc, call.clone()?)?;
+        if reply.rv != Rv::Ok {
+            refused = refused.saturating_add(1);
+        }
+    }
+    Ok(refused)
+}
+
+/// The program's processor time so far, in nanoseconds.
+fn time_so_far<R: CpuClock>(rt: &R) -> io::Result<u128> {
+    Ok(rt.process_cpu_time()?.as_nanos())
+}
+
+/// Makes the calls of each section, and writes how many they are, how many were refused and, where
+/// that is asked for, the processor time that they took.
+fn play<R: CpuClock + Print, T: Target>(
+    rt: &R,
+    alloc: Global,
+    target: &mut T,
+    sections: &[Section],
+    is_timed: bool,
+) -> Result<(), BenchError> {
+    for Section { name, calls } in sections {
+        let before = time_so_far(rt)?;
+        let refused = make_calls(target, alloc, calls.as_slice())?;
+        let time = time_so_far(rt)?.saturating_sub(before);
+        println!(rt; "{name}: {} calls, {refused} refused", calls.len())?;
+        if is_timed {
+            println!(rt; "{name}: {time} ns")?;
+        }
+    }
+    Ok(())
+}
+
+/// Audits the journal, and writes how many entries it has and, where that is asked for, the
+/// processor time that it took.
+fn audit<R: CpuClock + Print>(
+    rt: &R,
+    alloc: Global,
+    token: &Token,
+    is_timed: bool,
+) -> Result<(), BenchError> {
+    let before = time_so_far(rt)?;
+    let is_legal = audit_token(alloc, token)? == Verdict::Legal;
+    let time = time_so_far(rt)?.saturating_sub(before);
+    println!(rt; "audit of {} entries: {is_legal}", token.journal().len())?;
+    if is_timed {
+        println!(rt; "audit: {time} ns")?;
+    }
+    Ok(())
+}
+
+/// Plays the sections on a new token, whose journal is audited then.
+pub(crate) fn play_alone<R: CpuClock + Print>(
+    rt: &R,
+    alloc: Global,
+    sections: &[Section],
+    is_timed: bool,
+) -> Result<(), BenchError> {
+    let mut token = Token::new(alloc, Limits::largest());
+    play(rt, alloc, &mut token, sections, is_timed)?;
+    audit(rt, alloc, &token, is_timed)
+}
+
+/// What the one caller of a shared token does.
+#[derive(Drop)]
+struct SectionPlay<'a> {
+    sections: &'a [Section<'a>],
+    is_timed: bool,
+}
+
+impl<'a, R: Wait + CpuClock + Print> CallerWork<R> for SectionPlay<'a> {
+    ghost use Rattle.std.specs.Prelude.{⊤};
+
+    type Output = Result<(), BenchError>;
+
+    ghost tells = { λ work caller done. ⊤ };
+
+    fn act<K: TokenId, T: Drop, G: Gate<K, T>>(
+        &self,
+        rt: &R,
+        alloc: Global,
+        gate: &G,
+        caller: &mut Caller<K, T>,
+    ) -> Result<(), BenchError> {
+        let mut target = CallerTarget { rt, gate, caller };
+        play(rt, alloc, &mut target, self.sections, self.is_timed)
+    }
+}
+
+/// Plays the sections by one caller of a shared token.
+pub(crate) fn play_locked<R: CpuClock + Print + Threads + Wait + Copy + Drop + Send + Sync>(
+    rt: R,
+    alloc: Global,
+    sections: &[Section],
+    is_timed: bool,
+) -> Result<(), BenchError> {
+    let mut token = Token::new(alloc, Limits::largest());
+    let work = SectionPlay { sections, is_timed };
+    for done in share(rt, alloc, &mut token, 1, &work)? {
+        done?;
+    }
+    Ok(())
+}
