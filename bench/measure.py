@@ -31,7 +31,7 @@ PROGRAM = os.path.join(CRATES, "ck_run", "out", "ck_run")
 FIGURES_PROGRAM = os.path.join(CRATES, "ck_bench", "out", "ck_bench")
 
 # How often the program of the last figures is run.
-FIGURE_RUNS = 15
+FIGURE_RUNS = 5
 
 # What is wanted of calls among 1,000 objects and among 100,000: the most nanoseconds, and the most times as many among
 # the latter.

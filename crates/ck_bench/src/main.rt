@@ -4,8 +4,8 @@
 //! audited then, with `locked` by the one caller of a shared token; what they take is written too, in
 //! processor time. With `threads` and a number nothing is read: callers of a shared token ask so
 //! often without the lock, and others change the token, each in a thread of its own, and what the
-//! slowest takes is written, by the clock. With no argument all of it is done, a little of the last,
-//! and no times are written.
+//! slowest takes is written, by the clock. All of these are done several times. With no argument all
+//! of it is done once, a little of the last, and no times are written.
 #![tactic(auto)]
 
 mod errors;
@@ -15,7 +15,8 @@ mod threads;
 
 use errors::BenchError;
 use plays::{play_alone, play_locked};
-use sections::sections_in;
+use sections::{Section, sections_in};
+use std::alloc::Global;
 use std::env::Env;
 use std::io::Input;
 use std::process::ExitCode;
@@ -28,6 +29,10 @@ use threads::play_together;
 /// How often callers ask where no number is given.
 const FEW_ASKS: u64 = 300;
 
+/// How often what is timed is done. The first time takes new pages of the system for its memory, the
+/// others hardly any.
+const TRIES: u32 = 7;
+
 /// What the program is asked to do.
 #[derive(Clone, Copy)]
 enum Request {
@@ -35,6 +40,15 @@ enum Request {
     Alone,
     Locked,
     Threads(u64),
+}
+
+impl Request {
+    fn tries(self) -> u32 {
+        match self {
+            Request::All => 1,
+            _ => TRIES,
+        }
+    }
 }
 
 /// What the arguments ask for.
@@ -54,6 +68,34 @@ fn request_of<R: Env + AllocGlobal>(rt: &R) -> Result<Request, BenchError> {
     }
 }
 
+/// The script on standard input, none where threads alone are asked for.
+fn script_for<R: Input + AllocGlobal>(rt: &R, request: Request) -> Result<String, BenchError> {
+    let alloc = rt.alloc();
+    match request {
+        Request::Threads(_) => Ok(String::new(alloc)),
+        _ => Ok(io::read_to_string(alloc, rt.reader())?),
+    }
+}
+
+/// Does once what is asked for.
+fn play_once<R: Clock + CpuClock + Print + Threads + Wait + Copy + Drop + Send + Sync>(
+    rt: R,
+    alloc: Global,
+    request: Request,
+    sections: &[Section],
+) -> Result<(), BenchError> {
+    match request {
+        Request::Alone => play_alone(&rt, alloc, sections, true),
+        Request::Locked => play_locked(rt, alloc, sections, true),
+        Request::Threads(asks) => play_together(rt, alloc, asks, true),
+        Request::All => {
+            play_alone(&rt, alloc, sections, false)?;
+            play_locked(rt, alloc, sections, false)?;
+            play_together(rt, alloc, FEW_ASKS, false)
+        }
+    }
+}
+
 fn run<
     R: Env
         + Input
@@ -68,22 +110,13 @@ fn run<
         + Send
         + Sync,
 >(rt: R) -> Result<(), BenchError> {
-    let alloc = rt.alloc();
     let request = request_of(&rt)?;
-    if let Request::Threads(asks) = request {
-        return play_together(rt, alloc, asks, true);
+    let script = script_for(&rt, request)?;
+    let sections = sections_in(rt.alloc(), script.as_str())?;
+    for _ in 0..request.tries() {
+        play_once(rt, rt.alloc(), request, sections.as_slice())?;
     }
-    let script = io::read_to_string(alloc, rt.reader())?;
-    let sections = sections_in(alloc, script.as_str())?;
-    match request {
-        Request::Alone => play_alone(&rt, alloc, sections.as_slice(), true),
-        Request::Locked => play_locked(rt, alloc, sections.as_slice(), true),
-        _ => {
-            play_alone(&rt, alloc, sections.as_slice(), false)?;
-            play_locked(rt, alloc, sections.as_slice(), false)?;
-            play_together(rt, alloc, FEW_ASKS, false)
-        }
-    }
+    Ok(())
 }
 
 fn main(rt: HostRuntime) -> ExitCode {

@@ -107,14 +107,14 @@ pub fn copies_stay_unextractable()
     ensures { CopiesStayUnextractable }
 {}
 
-/// A key with CKA_ALWAYS_SENSITIVE true is sensitive at every front of the history at which it is
-/// there.
+/// Where CKA_ALWAYS_SENSITIVE of a key is true at a front, the key is sensitive there, and was at
+/// every earlier front at which it was there.
 pub fn always_sensitive_is_true()
     ensures { AlwaysSensitiveIsTrue }
 {}
 
-/// A key with CKA_NEVER_EXTRACTABLE true is extractable at no front of the history at which it is
-/// there.
+/// Where CKA_NEVER_EXTRACTABLE of a key is true at a front, the key isn't extractable there, and was
+/// so at no earlier front.
 pub fn never_extractable_is_true()
     ensures { NeverExtractableIsTrue }
 {}

@@ -12,16 +12,22 @@ use std::alloc::Global;
 /// A caller's number, and the replies that it got, in the order of its calls.
 pub(crate) type CallerReplies = (u32, Vec<Reply>);
 
-/// Each caller made its calls, and got the replies of its entries, in their order.
+/// A caller got the replies of its entries, in their order.
+fn check_caller(entries: &[Entry], caller: CallerReplies) -> Result<(), RaceError> {
+    let (number, replies) = caller;
+    if are_replies_of(number, entries, replies.as_slice()) {
+        return Ok(());
+    }
+    Err(RaceError::NotEntered(number))
+}
+
+/// Each caller made its calls, and got the replies of its entries.
 pub(crate) fn check_replies(
     entries: &[Entry],
     all: Vec<Result<CallerReplies, RaceError>>,
 ) -> Result<(), RaceError> {
-    for replies in all {
-        let (number, replies) = replies?;
-        if !are_replies_of(number, entries, replies.as_slice()) {
-            return Err(RaceError::NotEntered(number));
-        }
+    for caller in all {
+        check_caller(entries, caller?)?;
     }
     Ok(())
 }

@@ -90,11 +90,12 @@ struct Retrying<'a, K: TokenId, R: Wait + Drop> {
     answered: u64,
 }
 
+/// The caller of this number: they stand in the order of their numbers, from 1.
 fn caller_of<K: TokenId>(
     callers: &mut [SharedCaller<K>],
     number: u32,
 ) -> Option<&mut SharedCaller<K>> {
-    callers.iter_mut().find(|caller| caller.number() == number)
+    callers.get_mut((number as usize).checked_sub(1)?)
 }
 
 impl<'a, K: TokenId, R: Wait + Drop> Retrying<'a, K, R> {
