@@ -16,7 +16,7 @@ use Rattle.ck_program.specs.Plays.{output_of, after_reads, ended_lines, IsPlayed
 use Rattle.ck_program.specs.Plays.{failed_reads, one_if, Outcome}
 use Rattle.ck_program.specs.declared.faults.PlayFault.{PlayFault}
 use Rattle.ck_program.specs.declared.faults.PlayFault.TheVariants as fault
-use Rattle.ck_program.specs.declared.players.Player.{Player}
+use Rattle.ck_program.specs.Players.{PlayerState}
 use Rattle.ck_program.proofs.LineLemmas.{lines_in-read_on}
 use Rattle.ck_program.proofs.ReadingLemmas.{same_reading, one_more, further, at_end}
 
@@ -33,7 +33,7 @@ ended_lines-parts lines before l e = sym (ap ended_lines e ∙ ended_lines-push 
 -- a failed read
 pub played-read_failed : (limits : Ranges) (turns : ℕ) (read : Reading) (written : Writing)
     (reads : ℕ)
-    (player : Player) (A B : Reading → Type 0) (P : Writing → Type 0) (f : PlayFault)
+    (player : PlayerState) (A B : Reading → Type 0) (P : Writing → Type 0) (f : PlayFault)
     → f ≡ fault.Read → reads < turns → IsReading limits read written reads player A P
     → ((r : Reading) → A r → B (failed_read r)) → IsPlayed limits turns read written B P (Err f)
 played-read_failed limits turns read written reads player A B P f e lt h more =
@@ -52,7 +52,7 @@ played-read_failed limits turns read written reads player A B P f e lt h more =
       within = omega arith;
       outcome = record {
         before = h.so_far.before;
-        open_line = player.open_line.items;
+        open_line = player.open_line;
         no_end = refl;
         parts = h.so_far.parts;
         good = h.so_far.answered.good;
@@ -62,7 +62,7 @@ played-read_failed limits turns read written reads player A B P f e lt h more =
 
 -- no more reads are allowed
 pub played-out : (limits : Ranges) (turns : ℕ) (read : Reading) (written : Writing) (reads : ℕ)
-    (player : Player) (A : Reading → Type 0) (P : Writing → Type 0)
+    (player : PlayerState) (A : Reading → Type 0) (P : Writing → Type 0)
     → reads ≡ turns → IsReading limits read written reads player A P
     → IsPlayed limits turns read written A P (Err fault.Turns)
 played-out limits turns read written reads player A P e h = record {
@@ -76,7 +76,7 @@ played-out limits turns read written reads player A P e h = record {
   within = e;
   outcome = record {
     before = h.so_far.before;
-    open_line = player.open_line.items;
+    open_line = player.open_line;
     no_end = refl;
     parts = h.so_far.parts;
     good = h.so_far.answered.good;
@@ -129,12 +129,12 @@ stopped limits turns read written script earlier lines ended least reads B P f d
 
 -- the end, where the last line is answered
 pub played-ended : (limits : Ranges) (turns : ℕ) (read : Reading) (written : Writing) (reads : ℕ)
-    (player : Player) (token : TokenState) (number count : ℕ) (bytes : List ℕ)
+    (player : PlayerState) (token : TokenState) (number count : ℕ) (bytes : List ℕ)
     (A B : Reading → Type 0)
     (P Q : Writing → Type 0)
     → reads < turns → count ≡ 0 → (h : IsReading limits read written reads player A P)
     → ((r : Reading) → A r → B (if count == 0 then end_read r else read_on r bytes))
-    → HasAnswered limits written (h.so_far.before ++ player.open_line.items ∷ []) token number Q
+    → HasAnswered limits written (h.so_far.before ++ player.open_line ∷ []) token number Q
     → IsPlayed limits turns read written B Q (Ok tt)
 played-ended limits turns read written reads player token number count bytes A B P Q lt none h more
     answered = record {
@@ -142,13 +142,13 @@ played-ended limits turns read written reads player token number count bytes A B
       earlier = h.script;
       ended = true;
       reads = suc reads;
-      output = output_of limits (h.so_far.before ++ player.open_line.items ∷ []);
+      output = output_of limits (h.so_far.before ++ player.open_line ∷ []);
       reader = at_end read h.script h.earlier reads count bytes A B none h.reader more;
       writer = answered.writer;
       within = omega arith;
       outcome = subst (λ (ls : List (List ℕ)).
           Outcome limits ls true (ended_lines (lines_in h.script))
-          (output_of limits (h.so_far.before ++ player.open_line.items ∷ [])) (Ok tt))
+          (output_of limits (h.so_far.before ++ player.open_line ∷ [])) (Ok tt))
           (sym h.so_far.parts)
           (record { end_found = refl; good = answered.good; written = refl });
     }
@@ -156,48 +156,48 @@ played-ended limits turns read written reads player token number count bytes A B
 -- the end, where the last line isn't answered
 pub played-ended_stopped : (limits : Ranges) (turns : ℕ) (read : Reading) (written : Writing)
     (reads : ℕ)
-    (player : Player) (count : ℕ) (bytes : List ℕ) (A B : Reading → Type 0) (P Q : Writing → Type 0)
+    (player : PlayerState) (count : ℕ) (bytes : List ℕ) (A B : Reading → Type 0) (P Q : Writing → Type 0)
     (f d : PlayFault)
     → f ≡ d → reads < turns → count ≡ 0 → (h : IsReading limits read written reads player A P)
     → ((r : Reading) → A r → B (if count == 0 then end_read r else read_on r bytes))
-    → IsStopped limits written (h.so_far.before ++ player.open_line.items ∷ []) true
+    → IsStopped limits written (h.so_far.before ++ player.open_line ∷ []) true
     (length h.so_far.before) Q d
     → IsPlayed limits turns read written B Q (Err f)
 played-ended_stopped limits turns read written reads player count bytes A B P Q f d same lt none h
     more s =
     stopped limits turns read written h.script h.script _ true _
     (suc reads) B Q f d same h.so_far.parts
-    (ended_lines-parts (lines_in h.script) h.so_far.before player.open_line.items h.so_far.parts)
+    (ended_lines-parts (lines_in h.script) h.so_far.before player.open_line h.so_far.parts)
     (omega arith)
     (at_end read h.script h.earlier reads count bytes A B none h.reader more) s
 
 -- further bytes, of which a line isn't answered
 pub played-fed_stopped : (limits : Ranges) (turns : ℕ) (read : Reading) (written : Writing)
     (reads : ℕ)
-    (player : Player) (count : ℕ) (bytes : List ℕ) (A B : Reading → Type 0) (P Q : Writing → Type 0)
+    (player : PlayerState) (count : ℕ) (bytes : List ℕ) (A B : Reading → Type 0) (P Q : Writing → Type 0)
     (f d : PlayFault)
     → f ≡ d → reads < turns → (count == 0) ≡ false
     → (h : IsReading limits read written reads player A P)
     → ((r : Reading) → A r → B (if count == 0 then end_read r else read_on r bytes))
-    → IsStopped limits written (h.so_far.before ++ onto player.open_line.items (lines_in bytes))
+    → IsStopped limits written (h.so_far.before ++ onto player.open_line (lines_in bytes))
     false (length h.so_far.before) Q d
     → IsPlayed limits turns read written B Q (Err f)
 played-fed_stopped limits turns read written reads player count bytes A B P Q f d same lt some h
     more s =
     stopped limits turns read written (h.script ++ bytes) h.script _ false _
     (suc reads) B Q f d same
-    (lines_in-read_on h.script bytes h.so_far.before player.open_line.items h.so_far.parts)
-    (ended_lines-parts (lines_in h.script) h.so_far.before player.open_line.items h.so_far.parts)
+    (lines_in-read_on h.script bytes h.so_far.before player.open_line h.so_far.parts)
+    (ended_lines-parts (lines_in h.script) h.so_far.before player.open_line h.so_far.parts)
     (omega arith)
     (further read h.script h.earlier reads count bytes A B some h.reader more) s
 
 -- further bytes
 pub reading-so_far : (limits : Ranges) (read : Reading) (written : Writing) (reads : ℕ)
-    (player next : Player) (count : ℕ) (bytes : List ℕ) (A B : Reading → Type 0)
+    (player next : PlayerState) (count : ℕ) (bytes : List ℕ) (A B : Reading → Type 0)
     (P Q : Writing → Type 0)
     → (count == 0) ≡ false → (h : IsReading limits read written reads player A P)
     → ((r : Reading) → A r → B (if count == 0 then end_read r else read_on r bytes))
-    → IsAnsweredSoFar limits written (h.so_far.before ++ onto player.open_line.items
+    → IsAnsweredSoFar limits written (h.so_far.before ++ onto player.open_line
     (lines_in bytes)) [] (length h.so_far.before) next Q
     → IsReading limits read written (suc reads) next B Q
 reading-so_far limits read written reads player next count bytes A B P Q some h more so_far =
@@ -206,7 +206,7 @@ reading-so_far limits read written reads player next count bytes A B P Q some h 
       earlier = h.script;
       so_far = record {
         before = so_far.before;
-        parts = lines_in-read_on h.script bytes h.so_far.before player.open_line.items
+        parts = lines_in-read_on h.script bytes h.so_far.before player.open_line
             h.so_far.parts
             ∙ so_far.parts;
         on_time = omega arith;
@@ -216,10 +216,10 @@ reading-so_far limits read written reads player next count bytes A B P Q some h 
     }
 
 -- nothing is read yet
-pub reading-nothing : (limits : Ranges) (read : Reading) (written : Writing) (player : Player)
+pub reading-nothing : (limits : Ranges) (read : Reading) (written : Writing) (player : PlayerState)
     (A : Reading → Type 0) (P : Writing → Type 0)
     → player.token.limits ≡ limits → player.token.history ≡ start empty_base
-    → player.open_line.items ≡ [] → player.number ≡ 1
+    → player.open_line ≡ [] → player.number ≡ 1
     → A read → P written → IsReading limits read written 0 player A P
 reading-nothing limits read written player A P same history empty number h w = record {
   script = [];
@@ -276,7 +276,7 @@ played-nothing limits turns read written A P f e h w =
 -- a turn that found the end
 pub turn-ended : (ended : Bool) (limits : Ranges) (turns : ℕ) (read : Reading) (written : Writing)
     (reads : ℕ)
-    (player : Player) (A : Reading → Type 0) (P : Writing → Type 0)
+    (player : PlayerState) (A : Reading → Type 0) (P : Writing → Type 0)
     → ended ≡ true → IsTurn ended limits turns read written reads player A P
     → IsPlayed limits turns read written A P (Ok tt)
 turn-ended true limits turns read written reads player A P e h = h
@@ -285,7 +285,7 @@ turn-ended false limits turns read written reads player A P e h = cc
 -- a turn that didn't
 pub turn-on : (ended : Bool) (limits : Ranges) (turns : ℕ) (read : Reading) (written : Writing)
     (reads : ℕ)
-    (player : Player) (A : Reading → Type 0) (P : Writing → Type 0)
+    (player : PlayerState) (A : Reading → Type 0) (P : Writing → Type 0)
     → ended ≡ false → IsTurn ended limits turns read written reads player A P
     → IsReading limits read written (reads + 1) player A P
 turn-on true limits turns read written reads player A P e h = cc

@@ -15,7 +15,7 @@ use Rattle.ck_script.specs.declared.lines.TheConstants.{LONGEST_LINE}
 use Rattle.ck_journal.specs.TokenStates.{TokenState}
 use Rattle.ck_program.specs.Devices.{Writing, wrote, failed_write, IsCount}
 use Rattle.ck_program.specs.Players.{HasAnswered, IsStopped, IsUnwritten, WriteFailed, IsCalled}
-use Rattle.ck_program.specs.Players.{IsRefused, next_number}
+use Rattle.ck_program.specs.Players.{PlayerState, IsRefused, next_number}
 use Rattle.ck_program.specs.Plays.{called, history_of, output_of, replies_text, is_over, is_bad}
 use Rattle.ck_program.specs.declared.faults.PlayFault.{PlayFault}
 use Rattle.ck_program.specs.declared.faults.PlayFault.TheVariants as fault
@@ -229,6 +229,12 @@ stopped-extend_open_line limits written lines later ended l token number P fault
     stopped-memory limits written lines later ended l token number P r h
 stopped-extend_open_line limits written lines later ended l token number P fault.Turns r h =
     absurd r
+
+-- what isn't taken of a player's open line, by its parts and by the player
+pub refused-same : (p q : PlayerState) (piece : List ℕ) (f : PlayFault) → p ≡ q
+    → IsRefused p.number (p.open_line ++ piece) f → IsRefused q.number (q.open_line ++ piece) f
+refused-same p q piece f same r =
+    subst (λ (s : PlayerState). IsRefused s.number (s.open_line ++ piece) f) same r
 
 -- the same fault, of the same lines
 pub stopped-same : (limits : Ranges) (written : Writing) (all lines : List (List ℕ)) (ended : Bool)

@@ -13,7 +13,13 @@ use Rattle.ck_program.specs.Plays.{AreGood, called, history_of, output_of, Outco
 use Rattle.ck_program.specs.Plays.{is_over, after_reads, IsPlayed}
 use Rattle.ck_program.specs.declared.faults.PlayFault.{PlayFault}
 use Rattle.ck_program.specs.declared.faults.PlayFault.TheVariants as fault
-use Rattle.ck_program.specs.declared.players.Player.{Player}
+
+-- a token that is played a script: the token, the beginning of the line that has no end yet, and the
+-- number of that line
+pub record PlayerState : Type 0 where
+  pub token : TokenState
+  pub open_line : List ℕ
+  pub number : ℕ
 
 -- a write failed with a beginning of these bytes written
 pub record WriteFailed (is_written : Writing → Type 0) (w : Writing) (bytes : List ℕ) : Type 0 where
@@ -87,15 +93,15 @@ onto open_line (l ∷ lines) = (open_line ++ l) ∷ lines
 -- of all lines these come later, of which the first goes on with the open line; those before are
 -- answered, so many earlier ones at least
 pub record IsAnsweredSoFar (limits : Ranges) (written : Writing) (lines later : List (List ℕ))
-    (earlier : ℕ) (player : Player) (is_written : Writing → Type 0) : Type 0 where
+    (earlier : ℕ) (player : PlayerState) (is_written : Writing → Type 0) : Type 0 where
   pub before : List (List ℕ)
-  pub parts : lines ≡ before ++ onto player.open_line.items later
+  pub parts : lines ≡ before ++ onto player.open_line later
   pub on_time : earlier ≤ length before
   pub answered : HasAnswered limits written before player.token player.number is_written
 
 -- what a reader gave in so many reads is answered as far as its lines are over
 pub record IsReading (limits : Ranges) (read : Reading) (written : Writing) (reads : ℕ)
-    (player : Player) (is_read : Reading → Type 0) (is_written : Writing → Type 0) : Type 0 where
+    (player : PlayerState) (is_read : Reading → Type 0) (is_written : Writing → Type 0) : Type 0 where
   pub script : List ℕ
   pub earlier : List ℕ
   pub so_far : IsAnsweredSoFar limits written (lines_in script) [] 0 player is_written
@@ -121,25 +127,25 @@ StopsAtLine l old number was_written is_written f =
     → IsStopped limits written (lines ++ l ∷ later) ended (length lines) is_written f
 
 -- the lines that end in these further bytes are answered
-abbrev pub AnswersChunk : List ℕ → Player → (Writing → Type 0) → Player → (Writing → Type 0)
+abbrev pub AnswersChunk : List ℕ → PlayerState → (Writing → Type 0) → PlayerState → (Writing → Type 0)
     → Type 0
 AnswersChunk chunk old was_written new is_written =
     (limits : Ranges) (written : Writing) (lines : List (List ℕ))
     → HasAnswered limits written lines old.token old.number was_written
-    → IsAnsweredSoFar limits written (lines ++ onto old.open_line.items (lines_in chunk)) []
+    → IsAnsweredSoFar limits written (lines ++ onto old.open_line (lines_in chunk)) []
     (length lines) new is_written
 
 -- playing ends with this fault in these further bytes
-abbrev pub StopsInChunk : List ℕ → Player → (Writing → Type 0) → (Writing → Type 0) → PlayFault
+abbrev pub StopsInChunk : List ℕ → PlayerState → (Writing → Type 0) → (Writing → Type 0) → PlayFault
     → Type 0
 StopsInChunk chunk old was_written is_written f =
     (limits : Ranges) (written : Writing) (lines : List (List ℕ))
     → HasAnswered limits written lines old.token old.number was_written
-    → IsStopped limits written (lines ++ onto old.open_line.items (lines_in chunk)) false
+    → IsStopped limits written (lines ++ onto old.open_line (lines_in chunk)) false
     (length lines) is_written f
 
 -- after one more read playing goes on, or the end was found
-abbrev pub IsTurn : Bool → Ranges → ℕ → Reading → Writing → ℕ → Player → (Reading → Type 0)
+abbrev pub IsTurn : Bool → Ranges → ℕ → Reading → Writing → ℕ → PlayerState → (Reading → Type 0)
     → (Writing → Type 0) → Type 0
 IsTurn true limits turns read written reads player is_read is_written =
     IsPlayed limits turns read written is_read is_written (Ok tt)
@@ -147,7 +153,7 @@ IsTurn false limits turns read written reads player is_read is_written =
     IsReading limits read written (suc reads) player is_read is_written
 
 -- one more read of those allowed is made, and what it gave is answered
-abbrev pub TakesTurn : Player → (Reading → Type 0) → (Writing → Type 0) → Player
+abbrev pub TakesTurn : PlayerState → (Reading → Type 0) → (Writing → Type 0) → PlayerState
     → (Reading → Type 0) → (Writing → Type 0) → Bool → Type 0
 TakesTurn old was_read was_written new is_read is_written ended =
     (limits : Ranges) (read : Reading) (written : Writing) (reads turns : ℕ) → reads < turns
@@ -155,7 +161,7 @@ TakesTurn old was_read was_written new is_read is_written ended =
     → IsTurn ended limits turns read written reads new is_read is_written
 
 -- one more read of those allowed is made, and playing ends with this fault
-abbrev pub StopsInTurn : Player → (Reading → Type 0) → (Writing → Type 0) → (Reading → Type 0)
+abbrev pub StopsInTurn : PlayerState → (Reading → Type 0) → (Writing → Type 0) → (Reading → Type 0)
     → (Writing → Type 0) → PlayFault → Type 0
 StopsInTurn old was_read was_written is_read is_written f =
     (limits : Ranges) (read : Reading) (written : Writing) (reads turns : ℕ) → reads < turns

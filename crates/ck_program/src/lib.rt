@@ -1,7 +1,7 @@
 //! Scripts of calls that are read from a source, played on a token and answered to a sink; what the
 //! program's arguments ask for; and the program over any options, source and sink: a script line by
 //! line, or the lines of each caller in a thread of its own, or its help, and the status with which
-//! it ends.
+//! it ends. The token is of any type `G` that answers calls and enters them in a journal.
 #![tactic(auto)]
 
 mod arguments;

@@ -10,20 +10,37 @@ ghost use Rattle.ck_program.specs.Players.{StopsAtLine, AnswersChunk, StopsInChu
 
 use crate::devices::Sink;
 use crate::faults::PlayFault;
-use ck_journal::Call;
+use ck_journal::{Call, JournaledToken};
 use ck_script::{BadLine, LONGEST_LINE, Line, LineError, cut_line, push_reply};
-use ck_token::Token;
 use std::alloc::Global;
+use std::marker::Model;
 
+/// A token that is played a script. Contracts see the token, the open line and its number.
 #[derive(Drop)]
-pub(crate) struct Player {
-    pub(crate) token: Token,
+pub(crate) struct Player<G: JournaledToken> {
+    pub(crate) token: G,
     /// The beginning of the line that has no end yet.
     pub(crate) open_line: Vec<u8>,
     /// The text of the newest reply.
     pub(crate) text: Vec<u8>,
     /// The number of the open line, from 1.
     pub(crate) number: u64,
+}
+
+impl<G: JournaledToken> Model for Player<G> {
+    ghost use Rattle.std.specs.Coded.{codes};
+    ghost use Rattle.ck_journal.specs.HistoryCode.{history_code};
+    ghost use Rattle.ck_program.specs.Players.{PlayerState};
+
+    ghost Value = { PlayerState };
+
+    ghost coded = { Prim.hlevel (codes, history_code) };
+
+    ghost view = { λ p. record {
+      token = G.state p.token;
+      open_line = p.open_line.items;
+      number = p.number;
+    } };
 }
 
 /// Writes some of these bytes, or answers that the writer failed.
@@ -82,19 +99,19 @@ pub(crate) fn extend_open_line(
 }
 
 /// Answers a call and writes the reply.
-fn answer_call<W: Sink>(
-    token: &mut Token,
+fn answer_call<G: JournaledToken, W: Sink>(
+    token: &mut G,
     text: &mut Vec<u8>,
     alloc: Global,
     writer: &mut W,
     caller: u32,
     call: Call,
 ) -> Result<(), PlayFault>
-    ensures ok { OnOk result (IsCalled token.old token.new caller call (W.is_written writer.old)
+    ensures ok { OnOk result (IsCalled (G.state token.old) (G.state token.new) caller call (W.is_written writer.old)
         (W.is_written writer.new)) }
     ensures err { IfErr result (λ fault. (w : Writing) → W.is_written writer.old w
         → IsUnwritten (W.is_written writer.new) w
-        (reply_text (answer token.old.limits token.old.history call)) fault) }
+        (reply_text (answer (G.state token.old).limits (G.state token.old).history call)) fault) }
 {
     let reply = token.call(alloc, caller, call)?;
     text.clear();
@@ -103,17 +120,17 @@ fn answer_call<W: Sink>(
 }
 
 /// Answers a line of this number.
-fn answer_line<W: Sink>(
-    token: &mut Token,
+fn answer_line<G: JournaledToken, W: Sink>(
+    token: &mut G,
     text: &mut Vec<u8>,
     alloc: Global,
     writer: &mut W,
     line: &[u8],
     number: u64,
 ) -> Result<(), PlayFault>
-    ensures ok { OnOk result (AnswersLine line.now token.old number (W.is_written writer.old)
-        token.new (next_number number) (W.is_written writer.new)) }
-    ensures err { IfErr result (StopsAtLine line.now token.old number (W.is_written writer.old)
+    ensures ok { OnOk result (AnswersLine line.now (G.state token.old) number
+        (W.is_written writer.old) (G.state token.new) (next_number number) (W.is_written writer.new)) }
+    ensures err { IfErr result (StopsAtLine line.now (G.state token.old) number (W.is_written writer.old)
         (W.is_written writer.new)) }
 {
     match Line::parse(alloc, line) {
@@ -125,16 +142,16 @@ fn answer_line<W: Sink>(
 }
 
 /// Answers the open line, which has its end, and opens the next.
-pub(crate) fn end_line<W: Sink>(
-    player: &mut Player,
+pub(crate) fn end_line<G: JournaledToken, W: Sink>(
+    player: &mut Player<G>,
     alloc: Global,
     writer: &mut W,
 ) -> Result<(), PlayFault>
-    ensures ok { OnOk result (AnswersLine player.old.open_line.items player.old.token
+    ensures ok { OnOk result (AnswersLine player.old.open_line player.old.token
         player.old.number (W.is_written writer.old)
         player.new.token player.new.number (W.is_written writer.new)) }
-    ensures emptied { OnOk result (player.new.open_line.items ≡ []) }
-    ensures err { IfErr result (StopsAtLine player.old.open_line.items player.old.token
+    ensures emptied { OnOk result (player.new.open_line ≡ []) }
+    ensures err { IfErr result (StopsAtLine player.old.open_line player.old.token
         player.old.number (W.is_written writer.old) (W.is_written writer.new)) }
 {
     answer_line(
@@ -151,17 +168,17 @@ pub(crate) fn end_line<W: Sink>(
 }
 
 /// Completes the open line by its last piece, and answers it.
-fn complete_line<W: Sink>(
-    player: &mut Player,
+fn complete_line<G: JournaledToken, W: Sink>(
+    player: &mut Player<G>,
     alloc: Global,
     writer: &mut W,
     piece: &[u8],
 ) -> Result<(), PlayFault>
-    ensures ok { OnOk result (AnswersLine (player.old.open_line.items ++ piece.now)
+    ensures ok { OnOk result (AnswersLine (player.old.open_line ++ piece.now)
         player.old.token player.old.number (W.is_written writer.old)
         player.new.token player.new.number (W.is_written writer.new)) }
-    ensures emptied { OnOk result (player.new.open_line.items ≡ []) }
-    ensures err { IfErr result (StopsAtLine (player.old.open_line.items ++ piece.now)
+    ensures emptied { OnOk result (player.new.open_line ≡ []) }
+    ensures err { IfErr result (StopsAtLine (player.old.open_line ++ piece.now)
         player.old.token player.old.number (W.is_written writer.old) (W.is_written writer.new)) }
 {
     extend_open_line(&mut player.open_line, piece, player.number)?;
@@ -169,8 +186,8 @@ fn complete_line<W: Sink>(
 }
 
 /// Answers the lines that end in this piece of a script, and keeps what follows them.
-pub(crate) fn answer_chunk<W: Sink>(
-    player: &mut Player,
+pub(crate) fn answer_chunk<G: JournaledToken, W: Sink>(
+    player: &mut Player<G>,
     alloc: Global,
     writer: &mut W,
     chunk: &[u8],

@@ -11,7 +11,7 @@ use crate::devices::{Sink, Source};
 use crate::faults::PlayFault;
 use crate::players::{Player, answer_chunk, end_line};
 use crate::readings::{new_buffer, read_some};
-use ck_token::Token;
+use ck_journal::JournaledToken;
 use ck_types::Limits;
 use std::alloc::Global;
 
@@ -19,7 +19,7 @@ use std::alloc::Global;
 pub const TURNS: u64 = 4_294_967_296;
 
 /// Plays a script on a new token, in at most 2^32 reads.
-pub fn play<R: Source, W: Sink>(
+pub fn play<G: JournaledToken, R: Source, W: Sink>(
     alloc: Global,
     limits: Limits,
     reader: &mut R,
@@ -30,13 +30,13 @@ pub fn play<R: Source, W: Sink>(
         → IsPlayed limits TURNS read written
         (R.is_read reader.new) (W.is_written writer.new) result }
 {
-    play_with(alloc, limits, reader, writer, TURNS)
+    play_with::<G, R, W>(alloc, limits, reader, writer, TURNS)
 }
 
 /// Plays a script on a new token: one call after the other as the lines stand. Before it reads on,
 /// it answers all lines that have their ends, and before it makes a call, it has written the
 /// replies to those before. It makes at most so many reads as `turns`.
-pub fn play_with<R: Source, W: Sink>(
+pub fn play_with<G: JournaledToken, R: Source, W: Sink>(
     alloc: Global,
     limits: Limits,
     reader: &mut R,
@@ -49,7 +49,7 @@ pub fn play_with<R: Source, W: Sink>(
         (R.is_read reader.new) (W.is_written writer.new) result }
 {
     let mut buffer = new_buffer(alloc)?;
-    let mut player = new_player(alloc, limits);
+    let mut player = new_player::<G>(alloc, limits);
     play_on(
         &mut player,
         alloc,
@@ -60,22 +60,22 @@ pub fn play_with<R: Source, W: Sink>(
     )
 }
 
-fn new_player(alloc: Global, limits: Limits) -> Player
+fn new_player<G: JournaledToken>(alloc: Global, limits: Limits) -> Player<G>
     ensures limits { result.token.limits ≡ limits }
     ensures history { result.token.history ≡ start empty_base }
-    ensures open_line { result.open_line.items ≡ [] }
+    ensures open_line { result.open_line ≡ [] }
     ensures number { result.number ≡ 1 }
 {
     Player {
-        token: Token::new(alloc, limits),
+        token: G::new(alloc, limits),
         open_line: Vec::new(alloc),
         text: Vec::new(alloc),
         number: 1,
     }
 }
 
-fn play_on<R: Source, W: Sink>(
-    player: &mut Player,
+fn play_on<G: JournaledToken, R: Source, W: Sink>(
+    player: &mut Player<G>,
     alloc: Global,
     reader: &mut R,
     writer: &mut W,
@@ -98,8 +98,8 @@ fn play_on<R: Source, W: Sink>(
 }
 
 /// Reads once and answers the lines that this ends. Says whether it found the end.
-fn take_turn<R: Source, W: Sink>(
-    player: &mut Player,
+fn take_turn<G: JournaledToken, R: Source, W: Sink>(
+    player: &mut Player<G>,
     alloc: Global,
     reader: &mut R,
     writer: &mut W,

@@ -13,6 +13,7 @@ use crate::options::{ArgumentFault, Callers, Options};
 use crate::players::write_all;
 use crate::plays::{TURNS, play};
 use crate::thread_plays::play_calls;
+use ck_journal::JournaledToken;
 use ck_types::Limits;
 use std::alloc::Global;
 use std::sync::Wait;
@@ -24,7 +25,12 @@ const BAD_ARGUMENTS: u8 = 2;
 /// Reads a script whole in at most so many reads as `turns`, plays the lines of so many callers on
 /// a new token, those of each in a thread of its own, and writes how many entries the journal has
 /// and what its audit finds.
-pub fn play_threads<R: Source, W: Sink, RT: Threads + Wait + Copy + Drop + Send + Sync>(
+pub fn play_threads<
+    G: JournaledToken + Send,
+    R: Source,
+    W: Sink,
+    RT: Threads + Wait + Copy + Drop + Send + Sync,
+>(
     rt: RT,
     alloc: Global,
     limits: Limits,
@@ -39,27 +45,26 @@ pub fn play_threads<R: Source, W: Sink, RT: Threads + Wait + Copy + Drop + Send 
         (R.is_read reader.new) (W.is_written writer.new) result }
 {
     let calls = read_calls(alloc, reader, callers.count, turns)?;
-    let summary = play_calls(rt, alloc, limits, callers, calls.as_slice())?;
+    let summary = play_calls::<G, RT>(rt, alloc, limits, callers, calls.as_slice())?;
     write_all(writer, summary.as_bytes())
 }
 
 /// Does what the options say with the largest limits.
-fn play_options<R: Source, W: Sink, RT: Threads + Wait + Copy + Drop + Send + Sync>(
-    rt: RT,
-    alloc: Global,
-    options: Options,
-    reader: &mut R,
-    writer: &mut W,
-) -> Result<(), PlayFault>
+fn play_options<
+    G: JournaledToken + Send,
+    R: Source,
+    W: Sink,
+    RT: Threads + Wait + Copy + Drop + Send + Sync,
+>(rt: RT, alloc: Global, options: Options, reader: &mut R, writer: &mut W) -> Result<(), PlayFault>
     ensures { (read : Reading) (written : Writing)
         → R.is_read reader.old read → W.is_written writer.old written
         → IsDone options read written (R.is_read reader.new) (W.is_written writer.new) result }
 {
     let limits = Limits::largest();
     match options {
-        Options::InTurn => play(alloc, limits, reader, writer),
+        Options::InTurn => play::<G, R, W>(alloc, limits, reader, writer),
         Options::InThreads(callers) => {
-            play_threads(rt, alloc, limits, callers, reader, writer, TURNS)
+            play_threads::<G, R, W, RT>(rt, alloc, limits, callers, reader, writer, TURNS)
         }
         Options::Help(text) => write_all(writer, text.as_bytes()),
     }
@@ -68,7 +73,12 @@ fn play_options<R: Source, W: Sink, RT: Threads + Wait + Copy + Drop + Send + Sy
 /// Does what the options say with the largest limits, and says with which status the program ends:
 /// 0 where it was done, 1 at a bad line, 3 after another fault, and 2 where the arguments aren't
 /// the program's. What went wrong is a line on standard error.
-pub fn run<R: Source, W: Sink, RT: Eprint + Threads + Wait + Copy + Drop + Send + Sync>(
+pub fn run<
+    G: JournaledToken + Send,
+    R: Source,
+    W: Sink,
+    RT: Eprint + Threads + Wait + Copy + Drop + Send + Sync,
+>(
     rt: RT,
     alloc: Global,
     options: Result<Options, ArgumentFault>,
@@ -94,7 +104,7 @@ pub fn run<R: Source, W: Sink, RT: Eprint + Threads + Wait + Copy + Drop + Send 
         (R.is_read reader.new) (W.is_written writer.new) (Err fault)) }
 {
     match options {
-        Ok(options) => match play_options(rt, alloc, options, reader, writer) {
+        Ok(options) => match play_options::<G, R, W, RT>(rt, alloc, options, reader, writer) {
             Ok(()) => 0,
             Err(fault) => {
                 let _ = eprintln!(&rt; "ck_run: {fault}");

@@ -15,12 +15,12 @@ ghost use Rattle.ck_program.specs.CallerScripts.{IsSummary, summary_text};
 use crate::options::Callers;
 use ck_audit::{Verdict, audit_token};
 use ck_callers::{Caller, NewIdentity, Script, TokenId, run_scripts};
-use ck_journal::Call;
+use ck_journal::{Call, JournaledToken};
 use ck_shared::{Ends, Shared, SharedCaller};
-use ck_token::Token;
 use ck_types::{Limits, NoMemory};
 use std::alloc::Global;
 use std::marker::Brand;
+use std::mem;
 use std::sync::Wait;
 use std::thread::Threads;
 
@@ -115,10 +115,14 @@ fn callers_of<K: TokenId, T: Drop>(
 }
 
 /// Plays the calls of each caller in a thread of its own.
-fn play_scripts<K: TokenId + Send + Sync, R: Threads + Wait + Copy + Drop + Send + Sync>(
+fn play_scripts<
+    K: TokenId + Send + Sync,
+    G: JournaledToken + Send,
+    R: Threads + Wait + Copy + Drop + Send + Sync,
+>(
     rt: R,
     alloc: Global,
-    token: &Shared<K, Token, R>,
+    token: &Shared<K, G, R>,
     callers: Vec<SharedCaller<K>>,
     calls: &[(u32, Call)],
 ) -> Result<Vec<SharedCaller<K>>, NoMemory>
@@ -132,28 +136,30 @@ fn play_scripts<K: TokenId + Send + Sync, R: Threads + Wait + Copy + Drop + Send
 }
 
 /// Shares a new token among so many callers, which play their calls, and takes it back.
-fn play_shared<K: TokenId + Send + Sync, R: Threads + Wait + Copy + Drop + Send + Sync>(
+fn play_shared<
+    K: TokenId + Send + Sync,
+    G: JournaledToken + Send,
+    R: Threads + Wait + Copy + Drop + Send + Sync,
+>(
     rt: R,
     alloc: Global,
     limits: Limits,
     callers: u32,
     identity: NewIdentity,
     calls: &[(u32, Call)],
-) -> Result<Token, NoMemory>
+) -> Result<G, NoMemory>
     requires base { K.base ≡ empty_base }
     requires limits { limits ≡ K.limits }
     requires callers { (1 ≤ callers) × (callers ≤ 8) × (callers ≡ K.callers) }
     requires book { identity.history.seen.book ≡ K.book }
     requires ledgers { (n : ℕ) → K.ledger n ≡ name_of identity.ledgers n }
-    ensures limits { IfOk result (λ token. token.limits ≡ limits) }
-    ensures new { IfOk result (λ token. IsFront (start empty_base) token.history) }
-    ensures only { IfOk result (λ token. AreCallers callers token.history) }
+    ensures limits { IfOk result (λ token. (G.state token).limits ≡ limits) }
+    ensures new { IfOk result (λ token. IsFront (start empty_base) (G.state token).history) }
+    ensures only { IfOk result (λ token. AreCallers callers (G.state token).history) }
     ensures all { IfOk result (λ token. (number : ℕ) → 1 ≤ number → number ≤ callers
-        → HasEntriesOf calls.now number token.history) }
+        → HasEntriesOf calls.now number (G.state token).history) }
 {
-    let Ends { token, callers } = Shared::<K, Token, R>::open(
-        rt, alloc, limits, callers, identity,
-    )?;
+    let Ends { token, callers } = Shared::<K, G, R>::open(rt, alloc, limits, callers, identity)?;
     let callers = play_scripts(rt, alloc, &token, callers, calls)?;
     match token.close(&rt, callers) {
         Ok(token) => Ok(token),
@@ -163,10 +169,10 @@ fn play_shared<K: TokenId + Send + Sync, R: Threads + Wait + Copy + Drop + Send 
 }
 
 /// How many entries the token's journal has, and what its audit finds, each on a line.
-fn summary_of(alloc: Global, token: &Token) -> Result<String, NoMemory>
+fn summary_of<G: JournaledToken>(alloc: Global, token: &G) -> Result<String, NoMemory>
     ensures text { IfOk result (λ text.
-        string_bytes text ≡ summary_text (entry_count token.now.history)) }
-    ensures legal { IsLegal token.now.limits token.now.history }
+        string_bytes text ≡ summary_text (entry_count (G.state token.now).history)) }
+    ensures legal { IsLegal (G.state token.now).limits (G.state token.now).history }
 {
     let entries = token.journal().len();
     match audit_token(alloc, token)? {
@@ -177,7 +183,7 @@ fn summary_of(alloc: Global, token: &Token) -> Result<String, NoMemory>
 
 /// Plays the calls of so many callers on a new token, those of each in a thread of its own. Gives
 /// how many entries the journal then has, and what its audit finds, each on a line.
-pub(crate) fn play_calls<R: Threads + Wait + Copy + Drop + Send + Sync>(
+pub(crate) fn play_calls<G: JournaledToken + Send, R: Threads + Wait + Copy + Drop + Send + Sync>(
     rt: R,
     alloc: Global,
     limits: Limits,
@@ -188,6 +194,6 @@ pub(crate) fn play_calls<R: Threads + Wait + Copy + Drop + Send + Sync>(
         IsSummary limits callers.count calls.now (string_bytes text)) }
 {
     let identity = NewIdentity::new();
-    let token = play_shared::<Brand, R>(rt, alloc, limits, callers.count, identity, calls)?;
+    let token = play_shared::<Brand, G, R>(rt, alloc, limits, callers.count, identity, calls)?;
     summary_of(alloc, &token)
 }

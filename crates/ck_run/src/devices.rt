@@ -1,5 +1,6 @@
 //! Devices in memory, and what is written to them while a script is played.
 use ck_program::{MemorySink, MemorySource, PlayFault, play_with};
+use ck_token::Token;
 use ck_types::Limits;
 use std::alloc::Global;
 use std::test::Fail;
@@ -51,7 +52,7 @@ pub(crate) fn transcript(alloc: Global, script: &[u8], devices: Devices) -> Resu
     let mut reader = devices.reader(script);
     let mut writer = devices.writer(alloc);
     let limits = Limits::largest();
-    let result = play_with(alloc, limits, &mut reader, &mut writer, devices.turns);
+    let result = play_with::<Token, _, _>(alloc, limits, &mut reader, &mut writer, devices.turns);
     let mut text = String::from_utf8_lossy(alloc, writer.as_slice())?;
     text.push_str(end_text(alloc, result)?.as_str())?;
     Ok(text)

@@ -1,4 +1,5 @@
-//! Hands what the arguments ask for, standard input and standard output to what plays scripts.
+//! Hands what the arguments ask for, standard input and standard output to what plays scripts on a
+//! token.
 #![tactic(auto)]
 
 #[cfg(test)]
@@ -17,6 +18,7 @@ mod token;
 mod words;
 
 use ck_program::{ArgumentFault, Options, ReadSource, WriteSink, options_of, run};
+use ck_token::Token;
 use std::alloc::Global;
 use std::env::Env;
 use std::process::ExitCode;
@@ -31,7 +33,7 @@ fn given_options<R: Env + Alloc<A = Global>>(rt: &R) -> Result<Options, Argument
 }
 
 fn main(rt: HostRuntime) -> ExitCode {
-    ExitCode::from(run(
+    ExitCode::from(run::<Token, _, _, _>(
         rt,
         rt.alloc(),
         given_options(&rt),

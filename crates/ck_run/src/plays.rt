@@ -2,6 +2,7 @@
 use crate::devices::{Devices, transcript};
 use ck_program::{PlayFault, play_with};
 use ck_script::{BadLine, LONGEST_LINE};
+use ck_token::Token;
 use ck_types::Limits;
 use std::alloc::Global;
 use std::process::Abort;
@@ -95,7 +96,13 @@ fn reads_no_further_than_a_line_may_go(rt: HostRuntime) -> Result<(), Fail> {
     let mut reader = devices.reader(script.as_slice());
     let mut writer = devices.writer(rt.alloc());
     let limits = Limits::largest();
-    let result = play_with(rt.alloc(), limits, &mut reader, &mut writer, devices.turns);
+    let result = play_with::<Token, _, _>(
+        rt.alloc(),
+        limits,
+        &mut reader,
+        &mut writer,
+        devices.turns,
+    );
     assert!(rt; matches!(result, Err(PlayFault::Line(1, BadLine::TooLong))));
     assert_eq!(rt; reader.reads(), LONGEST_LINE_READS + 1);
     Ok(())

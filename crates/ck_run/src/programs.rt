@@ -1,6 +1,7 @@
 //! The program over devices that move single bytes: what it writes, and its status.
 use crate::devices::Devices;
 use ck_program::{ArgumentFault, Callers, Options, run};
+use ck_token::Token;
 use std::alloc::Global;
 use std::process::Abort;
 use std::sync::Wait;
@@ -46,7 +47,7 @@ fn ended<RT: Eprint + Threads + Wait + Copy + Drop + Send + Sync>(
     let devices = failure.devices();
     let mut reader = devices.reader(script.as_bytes());
     let mut writer = devices.writer(alloc);
-    let status = run(rt, alloc, options, &mut reader, &mut writer);
+    let status = run::<Token, _, _, _>(rt, alloc, options, &mut reader, &mut writer);
     let text = String::from_utf8_lossy(alloc, writer.as_slice())?;
     Ok(format!(in alloc; "{text}{status}")?)
 }

@@ -4,6 +4,7 @@ use Rattle.std.proofs.lemmas.Result.{err_from_is_err_and, MatchResult-weaker}
 use Rattle.ck_script.specs.Lines.{lines_in}
 use Rattle.ck_program.proofs.LineLemmas.{first_later, next_later, is_over-lines_in}
 use Rattle.ck_program.proofs.PlayerLemmas.{stopped-extend_open_line, stopped-same, stopped-fewer}
+use Rattle.ck_program.proofs.PlayerLemmas.{refused-same}
 use Rattle.ck_program.proofs.players.answer_chunk.Goals as goal
 
 pub returns-in_err-complete_line-clause-err : goal.returns-in_err-complete_line-clause-err
@@ -32,7 +33,7 @@ lines-preserved g c limits written lines h =
         arith,
         so_far.on_time,
         length_push so_far.before
-            (c.lines.player.open_line.items ++ c.in-Some.piece.now),
+            (c.lines.player.open_line ++ c.in-Some.piece.now),
       );
       answered = c.in_ok-complete_line.ensures.ok limits written so_far.before so_far.answered;
     }
@@ -49,4 +50,4 @@ returns-clause-err g c =
     (first_later _ so_far.before (lines_in c.lines.rest.now) [] _ c.lines.rest.now so_far.parts
     last) refl
     (stopped-extend_open_line limits written so_far.before [] false _ c.lines.player.token
-    c.lines.player.number _ _ refused so_far.answered)))
+    c.lines.player.number _ _ (refused-same _ _ _ _ c.player.view_is refused) so_far.answered)))

@@ -10,7 +10,7 @@ invariant-lines g l =
     (limits : Ranges) (written : Writing) (lines : List (List ℕ))
     → HasAnswered limits written lines l.fn.player.token l.fn.player.number
     (g.W.Sink.is_written l.fn.writer)
-    → IsAnsweredSoFar limits written (lines ++ onto l.fn.player.open_line.items
+    → IsAnsweredSoFar limits written (lines ++ onto l.fn.player.open_line
     (lines_in l.fn.chunk)) (lines_in l.rest) (length lines) l.player (g.W.Sink.is_written l.writer)
 
 abbrev pub decreases-lines : goal.decreases-lines

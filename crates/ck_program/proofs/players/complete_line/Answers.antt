@@ -1,6 +1,6 @@
 use Rattle.std.proofs.Common.{refl}
 use Rattle.std.proofs.lemmas.Result.{err_from_is_err_and}
-use Rattle.ck_program.proofs.PlayerLemmas.{stopped-extend_open_line, stopped-same}
+use Rattle.ck_program.proofs.PlayerLemmas.{stopped-extend_open_line, stopped-same, refused-same}
 use Rattle.ck_program.proofs.players.complete_line.Goals as goal
 
 pub returns-in_err-extend_open_line-clause-err : goal.returns-in_err-extend_open_line-clause-err
@@ -10,4 +10,5 @@ returns-in_err-extend_open_line-clause-err g c =
     (λ limits written lines later ended over h.
     stopped-same limits written _ _ ended _ _ _ _ refl p.2
     (stopped-extend_open_line limits written lines later ended _ c.args.player.now.token
-    c.args.player.now.number _ _ c.in_err-extend_open_line.ensures.err h))
+    c.args.player.now.number _ _
+    (refused-same _ _ _ _ c.player.view_is c.in_err-extend_open_line.ensures.err) h))
