@@ -1,7 +1,8 @@
 #!/usr/bin/env python3
 """Plays scripts of 1,000, 10,000 and 100,000 lines with the built program, and prints what a line takes. Then plays
 searches among 1,000, 10,000 and 50,000 objects, data objects and keys, and prints what an object takes in one search.
-Last it prints what calls among many objects take, and calls and asks of a shared token, each beside what is wanted.
+Last it prints what calls among many objects take, single calls, and calls and asks of a shared token, beside what is
+wanted of them where something is.
 
 The program is crates/ck_run/out/ck_run, or the path that is given; it is built by `rt run` in crates/ck_run. Times are
 processor time, the best of several runs, and memory is the peak (by GNU time); those of an empty script are taken off
@@ -19,7 +20,7 @@ import subprocess
 import sys
 import tempfile
 
-from make_script import ROUNDS, SEARCHES, SINGLE_CALLS, crowd, crowd_rounds, script, searched_numbers, single_calls
+from make_script import ROUNDS, SEARCH, SEARCHES, SINGLE_CALLS, crowd_sections, script, searched_numbers
 
 SIZES = [1_000, 10_000, 100_000]
 OBJECT_COUNTS = [1_000, 10_000, 50_000]
@@ -46,7 +47,6 @@ CALLS_AMONG = [
 ]
 
 # The most nanoseconds that a search by a label may take for each of so many objects.
-SEARCH = "a search by label (its three calls together)"
 SEARCH_AMONG = {1_000: 12, 50_000: 30}
 
 # How many more nanoseconds a call may take by the lock than of a token alone.
@@ -130,17 +130,20 @@ def measure_searches(program, searches, creations, what):
     return is_within(searches, times, OBJECT_COUNTS)
 
 
-def measured(script_of_sections, way):
-    """Of each section the fewest nanoseconds of its calls, over all runs, and of the audit where there is one."""
-    text = "".join(line + "\n" for line in script_of_sections)
+def measured(text, *way):
+    """Of each section of a script the fewest nanoseconds of its calls, over all runs, and those of an audit of an entry."""
     best = {}
     for _ in range(FIGURE_RUNS):
-        output = play([FIGURES_PROGRAM, *way], text)[1].decode()
-        for line in output.splitlines():
-            found = re.fullmatch(r"(.*): (\d+) ns", line)
-            if found:
-                best[found[1]] = min(int(found[2]), best.get(found[1], int(found[2])))
-            elif re.search(r"[1-9]\d* refused|false", line):
+        entries = 1
+        for line in play([FIGURES_PROGRAM, *way], text)[1].decode().splitlines():
+            audit = re.fullmatch(r"audit of (\d+) entries: true", line)
+            time = re.fullmatch(r"(.*): (\d+) ns", line)
+            if audit:
+                entries = int(audit[1])
+            elif time:
+                each = int(time[2]) / (entries if time[1] == "audit" else 1)
+                best[time[1]] = min(each, best.get(time[1], each))
+            elif not line.endswith(" calls, 0 refused"):
                 sys.exit(f"not every call was answered OK: {line}")
     return best
 
@@ -157,10 +160,21 @@ def is_call_met(few, many, what, most, most_growth):
     return is_as_wanted(text, f"at most {most:,} and {most_growth} times", many <= most and growth <= most_growth)
 
 
+def check_crowd(program, text):
+    """Each search of a crowd finds one object."""
+    lines = [line for line in text.splitlines() if not line.startswith("#")]
+    replies = play([program], text)[1].decode().splitlines()
+    found = [reply for line, reply in zip(lines, replies) if line.startswith("1 FindObjects ")]
+    if not found or not all(re.fullmatch(r"0 \d+", reply) for reply in found):
+        sys.exit("crowd: not every search found one object")
+
+
 def times_among(objects):
     """The nanoseconds of one round of each section among so many objects."""
-    best = measured(crowd(objects), ["alone"])
-    return {name: best[name] / rounds for name, rounds in crowd_rounds(objects).items()}
+    text = script("crowd", objects)
+    check_crowd(PROGRAM, text)
+    best = measured(text, "alone")
+    return {name: best[name] / rounds for name, rounds, _ in crowd_sections(objects)}
 
 
 def met_among_objects():
@@ -173,28 +187,29 @@ def met_among_objects():
 
 
 def met_by_lock():
-    alone, locked = (measured(single_calls(), [way]) for way in ("alone", "locked"))
-    for what, time in alone.items():
-        if what in SINGLE_CALLS and what not in CALLS_BY_LOCK:
-            print(f"{what}: {time / SINGLE_CALLS[what]:.0f} ns")
-    print(f"audit of mixed calls: {alone['audit'] / 1_000:.0f} us")
-    for what, most in CALLS_BY_LOCK.items():
-        direct, shared = (times[what] / SINGLE_CALLS[what] for times in (alone, locked))
-        more = shared - direct
-        text = f"{what}: {direct:.0f} ns, by the lock {shared:.0f} ns, {more:.0f} more"
-        yield is_as_wanted(text, f"at most {most}", more <= most)
+    text = script("single-calls")
+    alone, locked = (measured(text, way) for way in ("alone", "locked"))
+    for what, calls, _ in SINGLE_CALLS:
+        direct, shared = (times[what] / calls for times in (alone, locked))
+        text = f"{what}: {direct:.0f} ns, by the lock {shared:.0f} ns"
+        if what in CALLS_BY_LOCK:
+            more, most = shared - direct, CALLS_BY_LOCK[what]
+            yield is_as_wanted(f"{text}, {more:.0f} more", f"at most {most}", more <= most)
+        else:
+            print(text)
+    print(f"audit: {alone['audit']:.0f} ns an entry")
 
 
 def met_in_threads():
-    best = measured([], ["threads", str(ASKS)])
+    best = measured("", "threads", str(ASKS))
     alone, four = best["asks of one caller"], best["asks of four callers"]
     each = alone / ASKS
     yield is_as_wanted(f"status: {each:.0f} ns", "at most 25", each <= 25)
-    share = 400 * alone // four
+    share = int(400 * alone / four)
     yield is_as_wanted(f"status by four callers: {share} percent of the asks of one", "at least 300", share >= 300)
-    beside = 100 * alone // best["asks beside changes"]
+    beside = int(100 * alone / best["asks beside changes"])
     yield is_as_wanted(f"status beside changes: {beside} percent of the asks alone", "at least 90", beside >= 90)
-    calls = 4 * CALLS_OF_CHANGE * (ASKS // 100) * 1_000_000_000 // best["changes of four callers"]
+    calls = int(4 * CALLS_OF_CHANGE * (ASKS // 100) * 1_000_000_000 / best["changes of four callers"])
     text = f"create, get label and destroy by four callers: {calls:,} calls a second"
     yield is_as_wanted(text, "at least 700,000", calls >= 700_000)
 

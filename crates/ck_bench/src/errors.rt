@@ -12,8 +12,6 @@ pub(crate) enum BenchError {
     Device,
     #[error("a line is none of a script's")]
     BadLine,
-    #[error("the journal can't be cut")]
-    NotCut,
     #[error("a caller is answered otherwise than it must be")]
     Answered,
     #[error("the arguments are `locked`, `alone` or `threads` and a number")]

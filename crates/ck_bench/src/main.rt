@@ -1,11 +1,11 @@
 //! Measures calls of a token. A script is read from standard input; a line `#measure NAME` begins a
 //! section of it, and for each section it is written how many calls it has and how many of them
 //! were refused. With the argument `alone` the calls are made of a token alone, whose journal is
-//! audited then, with `locked` by the one caller of a shared token; what they take is written too, in
-//! processor time. With `threads` and a number nothing is read: callers of a shared token ask so
+//! audited then, with `locked` by the one caller of a shared token; what they take is written too,
+//! in processor time. With `threads` and a number nothing is read: callers of a shared token ask so
 //! often without the lock, and others change the token, each in a thread of its own, and what the
-//! slowest takes is written, by the clock. All of these are done several times. With no argument all
-//! of it is done once, a little of the last, and no times are written.
+//! slowest takes is written, by the clock. All of these are done several times. With no argument
+//! each is done once, the last with few asks, and no times are written.
 #![tactic(auto)]
 
 mod errors;
@@ -29,8 +29,8 @@ use threads::play_together;
 /// How often callers ask where no number is given.
 const FEW_ASKS: u64 = 300;
 
-/// How often what is timed is done. The first time takes new pages of the system for its memory, the
-/// others hardly any.
+/// How often what is timed is done. The first time takes new pages of the system for its memory,
+/// the others hardly any.
 const TRIES: u32 = 7;
 
 /// What the program is asked to do.
@@ -57,10 +57,10 @@ fn request_of<R: Env + AllocGlobal>(rt: &R) -> Result<Request, BenchError> {
     let Some(word) = words.next() else {
         return Ok(Request::All);
     };
-    match (word.as_str(), words.next()) {
-        ("alone", None) => Ok(Request::Alone),
-        ("locked", None) => Ok(Request::Locked),
-        ("threads", Some(number)) => match number.as_str().parse() {
+    match (word.as_str(), words.next(), words.next()) {
+        ("alone", None, None) => Ok(Request::Alone),
+        ("locked", None, None) => Ok(Request::Locked),
+        ("threads", Some(number), None) => match number.as_str().parse() {
             Ok(asks) => Ok(Request::Threads(asks)),
             Err(_) => Err(BenchError::Arguments),
         },
@@ -123,7 +123,7 @@ fn main(rt: HostRuntime) -> ExitCode {
     match run(rt) {
         Ok(()) => ExitCode::SUCCESS,
         Err(error) => {
-            let _ = println!(rt; "ck_bench: {error}");
+            let _ = eprintln!(rt; "ck_bench: {error}");
             ExitCode::FAILURE
         }
     }

@@ -7,7 +7,7 @@ use ck_callers::{Ask, Caller, Gate, Status, TokenId};
 use ck_journal::{AttributeQuery, Body, Call, READ_WRITE, Reply};
 use ck_objects::{Attribute, AttributeValue, Item, Template};
 use ck_shared::{CallerWork, share};
-use ck_token::Token;
+use ck_token::{Token, Uncut};
 use ck_types::{Limits, NoMemory, Pin, Rv, Sequence};
 use std::alloc::Global;
 use std::sync::Wait;
@@ -63,6 +63,21 @@ fn handle_of<K: TokenId, T: Drop, G: Gate<K, T>, R: Wait>(
     }
 }
 
+/// Whether what was asked says that a read/write session is open.
+fn is_open(status: Option<Status>) -> bool {
+    match status {
+        Some(
+            Status::Reply(
+                Reply {
+                    rv: Rv::Ok,
+                    body: Body::Session { flags, .. },
+                },
+            ),
+        ) => { flags == READ_WRITE }
+        _ => false,
+    }
+}
+
 /// Asks so often for the state of a session, which must be open.
 fn ask<K: TokenId, T: Drop, G: Gate<K, T>>(
     gate: &G,
@@ -71,9 +86,8 @@ fn ask<K: TokenId, T: Drop, G: Gate<K, T>>(
     count: u64,
 ) -> Result<(), BenchError> {
     for _ in 0..count {
-        match gate.status(caller, Ask::Session(session)) {
-            Some(Status::Reply(Reply { rv: Rv::Ok, .. })) => {}
-            _ => return Err(BenchError::Answered),
+        if !is_open(gate.status(caller, Ask::Session(session))) {
+            return Err(BenchError::Answered);
         }
     }
     Ok(())
@@ -136,8 +150,7 @@ impl<'a> Tasks<'a> {
         }
     }
 
-    /// Creates objects, reads their labels and destroys them, at most so often, and no longer than
-    /// until a caller is done.
+    /// Creates objects, reads their labels and destroys them until another caller is done.
     fn change_until_done<K: TokenId, T: Drop, G: Gate<K, T>, R: Wait>(
         &self,
         rt: &R,
@@ -146,6 +159,7 @@ impl<'a> Tasks<'a> {
         caller: &mut Caller<K, T>,
         session: u64,
     ) -> Result<(), BenchError> {
+        // Each loop must be seen to end.
         for _ in 0..u64::MAX {
             if self.is_done.load(Ordering::SeqCst) {
                 break;
@@ -214,7 +228,8 @@ fn initialized(alloc: Global) -> Result<Token, BenchError>
     token.call(alloc, 1, Call::InitToken { pin })?;
     match token.cut(alloc) {
         Ok(_) => Ok(token),
-        Err(_) => Err(BenchError::NotCut),
+        Err(Uncut::Memory) => Err(BenchError::Memory),
+        Err(Uncut::Session) => Err(BenchError::Answered),
     }
 }
 

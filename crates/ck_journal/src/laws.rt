@@ -113,8 +113,8 @@ pub fn always_sensitive_is_true()
     ensures { AlwaysSensitiveIsTrue }
 {}
 
-/// Where CKA_NEVER_EXTRACTABLE of a key is true at a front, the key isn't extractable there, and was
-/// so at no earlier front.
+/// Where CKA_NEVER_EXTRACTABLE of a key is true at a front, the key isn't extractable there, and
+/// was so at no earlier front.
 pub fn never_extractable_is_true()
     ensures { NeverExtractableIsTrue }
 {}

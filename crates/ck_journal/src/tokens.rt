@@ -6,8 +6,8 @@ use crate::replies::Reply;
 use ck_types::{Limits, NoMemory};
 use std::alloc::Global;
 
-/// What answers calls and enters each in a journal: a token. What threads share, and what audits a
-/// journal, stands on this alone.
+/// What answers calls and enters each in a journal: a token. What threads share, what audits a
+/// journal and what plays a script stand on this alone.
 pub trait JournaledToken: Drop {
     ghost use Rattle.std.specs.Prelude.{◌≡◌, IfOk, OnErr};
     ghost use Rattle.ck_journal.specs.Answers.{IsLegal};

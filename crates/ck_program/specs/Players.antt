@@ -14,8 +14,8 @@ use Rattle.ck_program.specs.Plays.{is_over, after_reads, IsPlayed}
 use Rattle.ck_program.specs.declared.faults.PlayFault.{PlayFault}
 use Rattle.ck_program.specs.declared.faults.PlayFault.TheVariants as fault
 
--- a token that is played a script: the token, the beginning of the line that has no end yet, and the
--- number of that line
+-- a token that is played a script: the token, the beginning of the line that has no end yet, and
+-- the number of that line
 pub record PlayerState : Type 0 where
   pub token : TokenState
   pub open_line : List ℕ
@@ -101,7 +101,8 @@ pub record IsAnsweredSoFar (limits : Ranges) (written : Writing) (lines later : 
 
 -- what a reader gave in so many reads is answered as far as its lines are over
 pub record IsReading (limits : Ranges) (read : Reading) (written : Writing) (reads : ℕ)
-    (player : PlayerState) (is_read : Reading → Type 0) (is_written : Writing → Type 0) : Type 0 where
+    (player : PlayerState) (is_read : Reading → Type 0) (is_written : Writing → Type 0)
+    : Type 0 where
   pub script : List ℕ
   pub earlier : List ℕ
   pub so_far : IsAnsweredSoFar limits written (lines_in script) [] 0 player is_written
@@ -127,8 +128,8 @@ StopsAtLine l old number was_written is_written f =
     → IsStopped limits written (lines ++ l ∷ later) ended (length lines) is_written f
 
 -- the lines that end in these further bytes are answered
-abbrev pub AnswersChunk : List ℕ → PlayerState → (Writing → Type 0) → PlayerState → (Writing → Type 0)
-    → Type 0
+abbrev pub AnswersChunk : List ℕ → PlayerState → (Writing → Type 0) → PlayerState
+    → (Writing → Type 0) → Type 0
 AnswersChunk chunk old was_written new is_written =
     (limits : Ranges) (written : Writing) (lines : List (List ℕ))
     → HasAnswered limits written lines old.token old.number was_written

@@ -107,8 +107,8 @@ fn answer_call<G: JournaledToken, W: Sink>(
     caller: u32,
     call: Call,
 ) -> Result<(), PlayFault>
-    ensures ok { OnOk result (IsCalled (G.state token.old) (G.state token.new) caller call (W.is_written writer.old)
-        (W.is_written writer.new)) }
+    ensures ok { OnOk result (IsCalled (G.state token.old) (G.state token.new) caller call
+        (W.is_written writer.old) (W.is_written writer.new)) }
     ensures err { IfErr result (λ fault. (w : Writing) → W.is_written writer.old w
         → IsUnwritten (W.is_written writer.new) w
         (reply_text (answer (G.state token.old).limits (G.state token.old).history call)) fault) }
@@ -129,9 +129,10 @@ fn answer_line<G: JournaledToken, W: Sink>(
     number: u64,
 ) -> Result<(), PlayFault>
     ensures ok { OnOk result (AnswersLine line.now (G.state token.old) number
-        (W.is_written writer.old) (G.state token.new) (next_number number) (W.is_written writer.new)) }
-    ensures err { IfErr result (StopsAtLine line.now (G.state token.old) number (W.is_written writer.old)
+        (W.is_written writer.old) (G.state token.new) (next_number number)
         (W.is_written writer.new)) }
+    ensures err { IfErr result (StopsAtLine line.now (G.state token.old) number
+        (W.is_written writer.old) (W.is_written writer.new)) }
 {
     match Line::parse(alloc, line) {
         Ok(Line::Skipped) => Ok(()),

@@ -20,7 +20,6 @@ use ck_shared::{Ends, Shared, SharedCaller};
 use ck_types::{Limits, NoMemory};
 use std::alloc::Global;
 use std::marker::Brand;
-use std::mem;
 use std::sync::Wait;
 use std::thread::Threads;
 

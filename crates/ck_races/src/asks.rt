@@ -1,6 +1,6 @@
-//! A caller asks for the state of a session, without the lock, while another logs in. Then both
-//! call and ask at once. The last caller makes no call: it asks before the first one and after the
-//! last.
+//! Of eight callers two make calls. One asks for the state of a session, without the lock, while
+//! the other logs in; then both call and ask at once. The last caller makes no call: it asks before
+//! the first one and after the last.
 use crate::errors::RaceError;
 use crate::shared_plays::{Play, play_shared};
 use crate::tokens::token_after;
@@ -306,7 +306,8 @@ pub(crate) fn run_asks<R: Threads + Wait + Copy + Drop + Send + Sync>(
 ) -> Result<(), RaceError> {
     for _ in 0..RUNS {
         let token = token_after(alloc, &[])?;
-        play_shared(rt, alloc, token, &Play::Asks)?;
+        let answered = play_shared(rt, alloc, token, &Play::Asks)?;
+        expect(answered == FIRST_CALLS + 1 + 2 * u64::from(CALLS))?;
     }
     Ok(())
 }

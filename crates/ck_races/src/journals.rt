@@ -109,8 +109,8 @@ fn check_entries(
     Ok(is_in_order || race.is_in_any_order)
 }
 
-/// Checks what came of a race, whose first calls were made in this order of their callers, and makes
-/// what is made afterwards.
+/// Checks what came of a race, whose first calls were made in this order of their callers, and
+/// makes what is made afterwards.
 pub(crate) fn check_token(
     alloc: Global,
     token: &mut Token,

@@ -1,10 +1,10 @@
 //! What callers of a shared token do to one another. Files of races are played: lists of calls that
-//! callers make, with the replies that they get. Each race is played by one thread, and by threads of
-//! its callers, with all calls in a set order and with the first ones alone. Then two callers open
-//! sessions, a caller asks while another logs in, and eight callers make drawn calls at once. What is
-//! written is the same in every order of the calls. Behind the word `alone` only the steps of each
-//! race are made, one after the other on a shared token, again where there was no memory, and the
-//! line of a file says how many were.
+//! callers make, with the replies that they get. Each race is played by one thread, and by threads
+//! of its callers, with all calls in a set order and with the first ones alone. Then two callers
+//! open sessions, a caller asks while another logs in, and eight callers make drawn calls at once.
+//! What is written is the same in every order of the calls. Behind the word `alone` only the steps
+//! of each race are made, one after the other on a shared token, again where there was no memory,
+//! and the line of a file says how many were.
 #![tactic(auto)]
 
 mod asks;
@@ -47,8 +47,8 @@ fn run_callers<R: AllocGlobal + Threads + Wait + Copy + Drop + Send + Sync>(
     Ok((counts, calls))
 }
 
-/// Writes what callers come to that open sessions, ask and make drawn calls, and says whether all is
-/// as it must be.
+/// Writes what callers come to that open sessions, ask and make drawn calls, and says whether all
+/// is as it must be.
 fn play_callers<R: Print + AllocGlobal + Threads + Wait + Copy + Drop + Send + Sync>(
     rt: R,
 ) -> io::Result<bool> {
@@ -70,8 +70,8 @@ fn play_callers<R: Print + AllocGlobal + Threads + Wait + Copy + Drop + Send + S
     }
 }
 
-/// Plays the files that the arguments name and, where the word `alone` isn't among them, what callers
-/// do at once. Says whether all is as it must be.
+/// Plays the files that the arguments name and, where the word `alone` isn't among them, what
+/// callers do at once. Says whether all is as it must be.
 fn play_all<R: Env + Files + Print + AllocGlobal + Threads + Wait + Copy + Drop + Send + Sync>(
     rt: R,
 ) -> io::Result<bool> {

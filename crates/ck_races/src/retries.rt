@@ -47,8 +47,8 @@ fn sees<K: TokenId>(caller: &mut SharedCaller<K>, before: &View) -> bool {
         && are_same(&after.token, &before.token)
 }
 
-/// Whether an answered call added an entry to so many, or a caller that wasn't answered sees what it
-/// saw.
+/// Whether an answered call added an entry to so many, or a caller that wasn't answered sees what
+/// it saw.
 fn is_as_wanted<K: TokenId>(
     caller: &mut SharedCaller<K>,
     before: &View,

@@ -25,8 +25,8 @@ pub(crate) enum Play<'a> {
     Steps(&'a Race<'a>),
 }
 
-/// Does it. The callers come back.
-fn act<K: TokenId + Send + Sync, R: Threads + Wait + Drop + Send + Sync>(
+/// Lets the callers do what is asked for. They come back.
+fn play_by<K: TokenId + Send + Sync, R: Threads + Wait + Drop + Send + Sync>(
     rt: &R,
     alloc: Global,
     token: &Shared<K, Token, R>,
@@ -43,7 +43,7 @@ fn act<K: TokenId + Send + Sync, R: Threads + Wait + Drop + Send + Sync>(
 }
 
 /// How many calls of the callers were answered.
-fn answered<K: TokenId>(callers: &[SharedCaller<K>]) -> u64 {
+fn answered_calls<K: TokenId>(callers: &[SharedCaller<K>]) -> u64 {
     callers
         .iter()
         .fold(0, |sum, caller| sum.saturating_add(caller.count()))
@@ -76,8 +76,8 @@ fn play_as<K: TokenId + Send + Sync, R: Threads + Wait + Copy + Drop + Send + Sy
     let Ok(Ends { token, callers }) = ends else {
         return Err(RaceError::Memory);
     };
-    let callers = act(&rt, alloc, &token, callers, play)?;
-    let entries = answered(callers.as_slice());
+    let callers = play_by(&rt, alloc, &token, callers, play)?;
+    let entries = answered_calls(callers.as_slice());
     match token.close(&rt, callers) {
         Ok(token) => check_journal(alloc, &token, entries),
         Err(_) => Err(RaceError::NotClosed),
