@@ -169,16 +169,16 @@ def check_crowd(program, text):
         sys.exit("crowd: not every search found one object")
 
 
-def times_among(objects):
+def times_among(program, objects):
     """The nanoseconds of one round of each section among so many objects."""
     text = script("crowd", objects)
-    check_crowd(PROGRAM, text)
+    check_crowd(program, text)
     best = measured(text, "alone")
     return {name: best[name] / rounds for name, rounds, _ in crowd_sections(objects)}
 
 
-def met_among_objects():
-    times = {objects: times_among(objects) for objects in (1_000, 50_000, 100_000)}
+def met_among_objects(program):
+    times = {objects: times_among(program, objects) for objects in (1_000, 50_000, 100_000)}
     for what, most, most_growth in CALLS_AMONG:
         yield is_call_met(times[1_000][what], times[100_000][what], what, most, most_growth)
     for objects, most in SEARCH_AMONG.items():
@@ -214,13 +214,13 @@ def met_in_threads():
     yield is_as_wanted(text, "at least 700,000", calls >= 700_000)
 
 
-def measure_figures():
-    return [*met_among_objects(), *met_by_lock(), *met_in_threads()]
+def measure_figures(program):
+    return [*met_among_objects(program), *met_by_lock(), *met_in_threads()]
 
 
 def main():
     if sys.argv[1:] == ["figures"]:
-        return 0 if all(measure_figures()) else 1
+        return 0 if all(measure_figures(PROGRAM)) else 1
     program = sys.argv[1] if len(sys.argv) > 1 else PROGRAM
     start_time = best_time(program, "", 0)
     start_memory = peak_memory(program, "")
@@ -228,7 +228,7 @@ def main():
     met = [measure(program, kind, start_time, start_memory) for kind in ROUNDS]
     met.append(measure_searches(program, "searches", "labels", "data objects"))
     met.append(measure_searches(program, "key-searches", "keys", "keys"))
-    met.extend(measure_figures())
+    met.extend(measure_figures(program))
     return 0 if all(met) else 1
 
 
