@@ -123,9 +123,6 @@ impl<K: TokenId, T: Drop> Caller<K, T> {
         ensures news { IsFront news.now self.new.seen }
         ensures same { self.new ≡ record self.old { seen = self.new.seen } }
     {
-        if news.known.front().begins(self.seen.front()) {
-            return;
-        }
         if self.seen.front().begins(news.known.front()) {
             self.seen = news.known.duplicate();
         }

@@ -1,4 +1,4 @@
-ghost use Rattle.std.specs.Prelude.{◌≡◌, [], ◌<◌, ◌≤◌, ◌^◌, ◌-◌, ◌↔◌, IsTrue, MatchBool};
+ghost use Rattle.std.specs.Prelude.{◌≡◌, [], ◌<◌, ◌≤◌, ◌^◌, ◌-◌, ◌↔◌, false, IsTrue, MatchBool};
 ghost use Rattle.ck_journal.specs.Answers.{IsLegal, answer};
 ghost use Rattle.ck_journal.specs.Fronts.{IsFront};
 ghost use Rattle.ck_journal.specs.Histories.{start, ◌◁◌, entry_count};
@@ -129,10 +129,11 @@ impl<K: HistoryId> Front<K> {
         }
     }
 
-    /// Whether it is no longer than another front, which it then begins.
+    /// Whether it is no longer than another front, which it then begins. Else the other begins it.
     pub fn begins(&self, other: &Front<K>) -> bool
         ensures shorter { IsTrue result ↔ (entry_count self.now ≤ entry_count other.now) }
         ensures front { IsTrue result → IsFront self.now other.now }
+        ensures longer { result ≡ false → IsFront other.now self.now }
     {
         let mut both = self.seen.again();
         both.learn(&other.seen);

@@ -210,32 +210,45 @@ impl NewLedgers {
     }
 }
 
-/// Counts a call in the book and in the caller's part, where the count is not yet full.
-fn enter<L: Ledger>(book: &mut Book<L>, share: &mut Share<L>)
+/// Shows that the book has as many calls as the caller's part, and counts so many more in both.
+fn enter<L: Ledger>(book: &mut Book<L>, share: &mut Share<L>, calls: u64)
     requires { (L.parts ≡ 1) × (share.old.parts ≡ 1) }
     ensures parts { share.new.parts ≡ 1 }
-    ensures share { share.new.amount ≡ share.old.amount + 1 }
-    ensures book { book.new.total ≡ book.old.total + 1 }
+    ensures share { share.new.amount ≡ share.old.amount + calls }
+    ensures book { book.new.total ≡ book.old.total + calls }
     ensures same { share.old.amount ≡ book.old.total }
 {
     book.audit(share);
-    book.add(share, 1);
-}
-
-/// Shows that the book has as many calls as the caller's part.
-fn compare<L: Ledger>(book: &mut Book<L>, share: &mut Share<L>)
-    requires { (L.parts ≡ 1) × (share.old.parts ≡ 1) }
-    ensures parts { share.new.parts ≡ 1 }
-    ensures share { share.new.amount ≡ share.old.amount }
-    ensures book { book.new.total ≡ book.old.total }
-    ensures same { share.old.amount ≡ book.old.total }
-{
-    book.audit(share);
+    book.add(share, calls);
 }
 
 impl<K: TokenId> CallBooks<K> {
     ghost use Rattle.std.specs.Prelude.{◌≡◌, ◌≤◌, ◌+◌, ◌-◌, ◌<◌, ◌^◌, slice_index, slice_set};
     ghost use Rattle.ck_callers.specs.Accounts.{next_call};
+
+    /// Shows that the book of a caller has as many calls as its share, and counts so many more.
+    fn enter(&mut self, share: &mut CallerShare<K>, calls: u64)
+        requires { parts_of share.old ≡ 1 }
+        ensures parts { parts_of share.new ≡ 1 }
+        ensures caller { caller_of share.new ≡ caller_of share.old }
+        ensures range { (1 ≤ caller_of share.old) × (caller_of share.old ≤ 8) }
+        ensures amount { amount_of share.new ≡ amount_of share.old + calls }
+        ensures same { amount_of share.old ≡ slice_index self.old (caller_of share.old - 1) }
+        ensures books { self.new
+            ≡ slice_set self.old (caller_of share.old - 1) (amount_of share.old + calls) }
+        ensures none { calls ≡ 0 → self.new ≡ self.old }
+    {
+        match share {
+            CallerShare::One(share) => enter(&mut self.one, share, calls),
+            CallerShare::Two(share) => enter(&mut self.two, share, calls),
+            CallerShare::Three(share) => enter(&mut self.three, share, calls),
+            CallerShare::Four(share) => enter(&mut self.four, share, calls),
+            CallerShare::Five(share) => enter(&mut self.five, share, calls),
+            CallerShare::Six(share) => enter(&mut self.six, share, calls),
+            CallerShare::Seven(share) => enter(&mut self.seven, share, calls),
+            CallerShare::Eight(share) => enter(&mut self.eight, share, calls),
+        }
+    }
 
     /// Shows that the books have as many calls of the caller as its account. It changes nothing.
     pub fn compare(&mut self, account: &mut Account<K>)
@@ -244,16 +257,7 @@ impl<K: TokenId> CallBooks<K> {
         ensures books { self.new ≡ self.old }
         ensures account { account.new ≡ account.old }
     {
-        match &mut account.share {
-            CallerShare::One(share) => compare(&mut self.one, share),
-            CallerShare::Two(share) => compare(&mut self.two, share),
-            CallerShare::Three(share) => compare(&mut self.three, share),
-            CallerShare::Four(share) => compare(&mut self.four, share),
-            CallerShare::Five(share) => compare(&mut self.five, share),
-            CallerShare::Six(share) => compare(&mut self.six, share),
-            CallerShare::Seven(share) => compare(&mut self.seven, share),
-            CallerShare::Eight(share) => compare(&mut self.eight, share),
-        }
+        self.enter(&mut account.share, 0);
     }
 
     /// Counts a call of the caller.
@@ -264,16 +268,7 @@ impl<K: TokenId> CallBooks<K> {
             ≡ slice_set self.old (account.old.number - 1) (account.old.count + 1) }
         ensures account { account.new ≡ next_call account.old }
     {
-        match &mut account.share {
-            CallerShare::One(share) => enter(&mut self.one, share),
-            CallerShare::Two(share) => enter(&mut self.two, share),
-            CallerShare::Three(share) => enter(&mut self.three, share),
-            CallerShare::Four(share) => enter(&mut self.four, share),
-            CallerShare::Five(share) => enter(&mut self.five, share),
-            CallerShare::Six(share) => enter(&mut self.six, share),
-            CallerShare::Seven(share) => enter(&mut self.seven, share),
-            CallerShare::Eight(share) => enter(&mut self.eight, share),
-        }
+        self.enter(&mut account.share, 1);
         account.count += 1;
     }
 }

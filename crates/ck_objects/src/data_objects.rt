@@ -51,7 +51,7 @@ impl Data {
     ghost use Rattle.ck_objects.specs.declared.attributes.Attribute.TheVariants as attribute;
     ghost use Rattle.ck_objects.specs.Records.{data_items, with_given, placement_of, blank_data};
     ghost use Rattle.ck_objects.specs.Records.{keeps, changed_data};
-    ghost use Rattle.ck_objects.specs.Records.{created_items};
+    ghost use Rattle.ck_objects.specs.Records.{created_items, is_set};
     ghost use Rattle.ck_objects.specs.Templates.{created_error, class_of};
     ghost use Rattle.ck_objects.specs.declared.attributes.Class.TheVariants as class;
     ghost use Rattle.ck_objects.specs.Fields.{field_bytes, flag_field};
@@ -131,6 +131,13 @@ impl Data {
             Attribute::Destroyable => Some(Field::Flag(self.destroyable)),
             _ => None,
         }
+    }
+
+    /// Whether the object has the flag and it is true.
+    pub(crate) fn is_set(&self, flag: Attribute) -> bool
+        ensures { result ≡ is_set (data_items self.now) flag }
+    {
+        matches!(self.field(flag), Some(Field::Flag(true)))
     }
 
     /// CKA_TOKEN and CKA_PRIVATE of the object.

@@ -84,7 +84,7 @@ impl Key {
     ghost use Rattle.ck_objects.specs.Records.{key_items, placement_of, is_revealable, blank_key};
     ghost use Rattle.ck_objects.specs.Records.{with_given, KeepsKey, created_items};
     ghost use Rattle.ck_objects.specs.Records.{generated_items};
-    ghost use Rattle.ck_objects.specs.Records.{changed_key};
+    ghost use Rattle.ck_objects.specs.Records.{changed_key, is_set};
     ghost use Rattle.ck_objects.specs.Fields.{field_bytes, flag_field};
     ghost use Rattle.ck_objects.specs.declared.attributes.Class.TheVariants as class;
 
@@ -238,6 +238,13 @@ impl Key {
             Attribute::KeyState => Some(Field::Number(self.state.number())),
             Attribute::Application | Attribute::ObjectId => None,
         }
+    }
+
+    /// Whether the key has the flag and it is true.
+    pub(crate) fn is_set(&self, flag: Attribute) -> bool
+        ensures { result ≡ is_set (key_items self.now) flag }
+    {
+        matches!(self.field(flag), Some(Field::Flag(true)))
     }
 
     /// CKA_TOKEN and CKA_PRIVATE of the key.

@@ -282,7 +282,10 @@ impl Record {
     pub fn is_set(&self, flag: Attribute) -> bool
         ensures { result ≡ is_set self.now flag }
     {
-        matches!(self.field_of(flag), Some(Field::Flag(true)))
+        match &self.object {
+            Object::Data(data) => data.is_set(flag),
+            Object::Key(key) => key.is_set(flag),
+        }
     }
 
     /// The value of an attribute as C_GetAttributeValue reads it (PKCS #11 Base 3.0, Object
@@ -314,16 +317,6 @@ impl Record {
     {
         if let Object::Key(key) = &mut self.object {
             key.state = state;
-        }
-    }
-
-    fn field_of(&self, attribute: Attribute) -> Option<Field>
-        ensures value { option_map field_bytes result ≡ value_at self.now (type_of attribute) }
-        ensures flag { flag_field result ≡ flag_at self.now attribute }
-    {
-        match &self.object {
-            Object::Data(data) => data.field(attribute),
-            Object::Key(key) => key.field(attribute),
         }
     }
 

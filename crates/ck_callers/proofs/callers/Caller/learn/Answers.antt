@@ -7,17 +7,17 @@ use Rattle.ck_callers.proofs.callers.Caller.learn.Goals as goal
 pub invariant_of-self : goal.invariant_of-self
 invariant_of-self g c =
     let front : IsFront c.self.inside.seen.history c.news.inside.known.history =
-    subst (λ h. IsFront h c.news.inside.known.history) c.front-3.ensures
-    (subst (IsFront c.front-3.result.now) c.front-4.ensures (c.begins-2.ensures.front c.if-begins-2.true)) in (
+    subst (λ h. IsFront h c.news.inside.known.history) c.front.ensures
+    (subst (IsFront c.front.result.now) c.front-2.ensures (c.begins.ensures.front c.if-begins.true)) in (
       subst (λ (k : KnownState). IsFront c.self.inside.last k.history) (sym c.duplicate.ensures)
           (front_trans c.self.inside.last c.self.inside.seen.history c.news.inside.known.history c.self.invariant.0
           front),
       c.self.invariant.1,
     )
 
-pub returns-then-begins-2-clause-own : goal.returns-then-begins-2-clause-own
-returns-then-begins-2-clause-own g c =
+pub returns-then-begins-clause-own : goal.returns-then-begins-clause-own
+returns-then-begins-clause-own g c =
     let front : IsFront c.self.inside.seen.history c.news.inside.known.history =
-    subst (λ h. IsFront h c.news.inside.known.history) c.front-3.ensures
-    (subst (IsFront c.front-3.result.now) c.front-4.ensures (c.begins-2.ensures.front c.if-begins-2.true)) in
+    subst (λ h. IsFront h c.news.inside.known.history) c.front.ensures
+    (subst (IsFront c.front.result.now) c.front-2.ensures (c.begins.ensures.front c.if-begins.true)) in
     rw (← c.self.view_is, c.duplicate.ensures) front

@@ -23,3 +23,14 @@ returns-clause-front g c t =
     c.learn.ensures.2 in
     shorter_begins _ c.self.inside.seen.log c.other.inside.seen.log c.learn.new.self.log _ _ p
     c.learn.ensures.3 c.self.view_is c.other.view_is len
+
+pub returns-clause-longer : goal.returns-clause-longer
+returns-clause-longer g c f =
+    let le : c.other.inside.count ≤ c.self.inside.count = grind (arith, nat_tests) in
+    let len : length c.other.inside.seen.log ≤ length c.self.inside.seen.log = omega
+    (arith, c.self.invariant.0, c.other.invariant.0) in
+    let p : IsPrefix c.self.inside.seen.log c.learn.new.self.log =
+    subst (λ (l : List Entry). IsPrefix l c.learn.new.self.log) (ap (λ s. s.log) c.again-both.ensures)
+    c.learn.ensures.2 in
+    shorter_begins _ c.other.inside.seen.log c.self.inside.seen.log c.learn.new.self.log _ _ c.learn.ensures.3 p
+    c.other.view_is c.self.view_is len
