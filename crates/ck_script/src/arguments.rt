@@ -120,15 +120,6 @@ fn bytes_in(alloc: Global, text: &[u8]) -> Result<Bytes, LineError>
     }
 }
 
-/// A PIN by its bytes, of which its length and its digest are taken.
-fn pin_in(alloc: Global, text: &[u8]) -> Result<Pin, LineError>
-    ensures pin { IfOk result (λ pin. pin_in text.now ≡ Some pin) }
-    ensures bad { IfErr result (λ e. (e ≡ LineError.Memory) ⊎ (pin_in text.now ≡ None)) }
-{
-    let bytes = bytes_in(alloc, text)?;
-    Ok(Pin::of(bytes.as_slice()))
-}
-
 /// The room for a value in bytes; `?` stands for none, which asks for the value's length.
 fn room_in(text: &[u8]) -> Result<Option<u64>, BadLine>
     ensures { result_ok result ≡ room_in text.now }
@@ -139,92 +130,9 @@ fn room_in(text: &[u8]) -> Result<Option<u64>, BadLine>
     Ok(Some(number_in(text)?))
 }
 
-/// A mechanism: `type`, or `type:bytes` with its parameter.
-fn mechanism_in(alloc: Global, text: &[u8]) -> Result<Mechanism, LineError>
-    ensures mechanism { IfOk result (λ mechanism. mechanism_in text.now ≡ Some mechanism) }
-    ensures bad { IfErr result (λ e. (e ≡ LineError.Memory) ⊎ (mechanism_in text.now ≡ None)) }
-{
-    let mut parts = Parts::new(text, COLON);
-    let (kind, parameter) = match (parts.next(), parts.next(), parts.next()) {
-        (Some(kind), None, _) => (kind, None),
-        (Some(kind), Some(parameter), None) => (kind, Some(parameter)),
-        _ => return Err(LineError::Bad(BadLine::Mechanism)),
-    };
-    let kind = code_number_in(kind)?;
-    let parameter = match parameter {
-        Some(bytes) => bytes_in(alloc, bytes)?,
-        None => Sequence::new(alloc),
-    };
-    Ok(Mechanism { kind, parameter })
-}
-
-/// One item of a template: `type=bytes`.
-fn item_in(alloc: Global, text: &[u8]) -> Result<Item, LineError>
-    ensures item { IfOk result (λ item. item_in text.now ≡ Some item) }
-    ensures bad { IfErr result (λ e. (e ≡ LineError.Memory) ⊎ (item_in text.now ≡ None)) }
-{
-    let (kind, value) = Parts::new(text, EQUALS_SIGN).two().ok_or(BadLine::Item)?;
-    let kind = code_number_in(kind)?;
-    let value = AttributeValue::from_vec(bytes_in(alloc, value)?.into_vec());
-    Ok(Item { kind, value })
-}
-
-/// One query of an attribute: `type:room`.
-fn query_in(text: &[u8]) -> Result<AttributeQuery, BadLine>
-    ensures { result_ok result ≡ query_in text.now }
-{
-    let (kind, room) = Parts::new(text, COLON).two().ok_or(BadLine::Query)?;
-    let kind = code_number_in(kind)?;
-    let room = room_in(room)?;
-    Ok(AttributeQuery { kind, room })
-}
-
-/// A value that stands between the commas of an argument.
-pub(crate) trait Listed: Sized {
-    // What one part between commas means.
-    ghost part_in: { List ℕ → Option Self };
-
-    fn part_in(alloc: Global, text: &[u8]) -> Result<Self, LineError>
-        ensures part { IfOk result (λ part. part_in text.now ≡ Some part) }
-        ensures bad { IfErr result (λ e. (e ≡ LineError.Memory) ⊎ (part_in text.now ≡ None)) };
-}
-
-impl Listed for Item {
-    ghost part_in = { item_in };
-
-    fn part_in(alloc: Global, text: &[u8]) -> Result<Item, LineError> {
-        item_in(alloc, text)
-    }
-}
-
-impl Listed for AttributeQuery {
-    ghost part_in = { query_in };
-
-    fn part_in(_alloc: Global, text: &[u8]) -> Result<AttributeQuery, LineError> {
-        Ok(query_in(text)?)
-    }
-}
-
-/// The values between commas; `-` stands for none.
-fn list_in<T: Listed + Drop>(alloc: Global, text: &[u8]) -> Result<Sequence<T>, LineError>
-    ensures list { IfOk result (λ list. list_in T.part_in text.now ≡ Some list) }
-    ensures bad { IfErr result (λ e. (e ≡ LineError.Memory) ⊎ (list_in T.part_in text.now ≡ None)) }
-{
-    if is_dash(text) {
-        return Ok(Sequence::new(alloc));
-    }
-    let mut items = Vec::new(alloc);
-    let mut parts = Parts::new(text, COMMA);
-    while let Some(part) = parts.next() {
-        let item = T::part_in(alloc, part)?;
-        items.push(item)?;
-    }
-    Ok(Sequence::from_vec(items))
-}
-
-/// The value of one argument.
+/// The value of one argument, or of one part between the commas of an argument.
 pub(crate) trait Argument: Sized {
-    // What the text of the argument means.
+    // What its text means.
     ghost value_in: { List ℕ → Option Self };
 
     fn value_in(alloc: Global, text: &[u8]) -> Result<Self, LineError>
@@ -260,11 +168,13 @@ impl Argument for CodeNumber {
     }
 }
 
+/// A PIN by its bytes, of which its length and its digest are taken.
 impl Argument for Pin {
     ghost value_in = { pin_in };
 
     fn value_in(alloc: Global, text: &[u8]) -> Result<Pin, LineError> {
-        pin_in(alloc, text)
+        let bytes = bytes_in(alloc, text)?;
+        Ok(Pin::of(bytes.as_slice()))
     }
 }
 
@@ -284,12 +194,65 @@ impl Argument for Option<u64> {
     }
 }
 
+/// A mechanism: `type`, or `type:bytes` with its parameter.
 impl Argument for Mechanism {
     ghost value_in = { mechanism_in };
 
     fn value_in(alloc: Global, text: &[u8]) -> Result<Mechanism, LineError> {
-        mechanism_in(alloc, text)
+        let mut parts = Parts::new(text, COLON);
+        let (kind, parameter) = match (parts.next(), parts.next(), parts.next()) {
+            (Some(kind), None, _) => (kind, None),
+            (Some(kind), Some(parameter), None) => (kind, Some(parameter)),
+            _ => return Err(LineError::Bad(BadLine::Mechanism)),
+        };
+        let kind = code_number_in(kind)?;
+        let parameter = match parameter {
+            Some(bytes) => bytes_in(alloc, bytes)?,
+            None => Sequence::new(alloc),
+        };
+        Ok(Mechanism { kind, parameter })
     }
+}
+
+/// One item of a template: `type=bytes`.
+impl Argument for Item {
+    ghost value_in = { item_in };
+
+    fn value_in(alloc: Global, text: &[u8]) -> Result<Item, LineError> {
+        let (kind, value) = Parts::new(text, EQUALS_SIGN).two().ok_or(BadLine::Item)?;
+        let kind = code_number_in(kind)?;
+        let value = AttributeValue::from_vec(bytes_in(alloc, value)?.into_vec());
+        Ok(Item { kind, value })
+    }
+}
+
+/// One query of an attribute: `type:room`.
+impl Argument for AttributeQuery {
+    ghost value_in = { query_in };
+
+    fn value_in(_alloc: Global, text: &[u8]) -> Result<AttributeQuery, LineError> {
+        let (kind, room) = Parts::new(text, COLON).two().ok_or(BadLine::Query)?;
+        let kind = code_number_in(kind)?;
+        let room = room_in(room)?;
+        Ok(AttributeQuery { kind, room })
+    }
+}
+
+/// The values between commas; `-` stands for none.
+fn list_in<T: Argument + Drop>(alloc: Global, text: &[u8]) -> Result<Sequence<T>, LineError>
+    ensures list { IfOk result (λ list. list_in T.value_in text.now ≡ Some list) }
+    ensures bad { IfErr result (λ e. (e ≡ LineError.Memory) ⊎ (list_in T.value_in text.now ≡ None)) }
+{
+    if is_dash(text) {
+        return Ok(Sequence::new(alloc));
+    }
+    let mut items = Vec::new(alloc);
+    let mut parts = Parts::new(text, COMMA);
+    while let Some(part) = parts.next() {
+        let item = T::value_in(alloc, part)?;
+        items.push(item)?;
+    }
+    Ok(Sequence::from_vec(items))
 }
 
 impl Argument for Template {

@@ -67,7 +67,7 @@ impl From<NumberError> for BadLine {
 }
 
 /// Why a line wasn't read.
-#[derive(Clone, Copy, Debug, PartialEq, Eq, Error)]
+#[derive(Clone, Copy, Debug, Error)]
 pub enum LineError {
     #[error("out of memory")]
     Memory,

@@ -67,9 +67,8 @@ fn words_meaning(alloc: Global, mut words: Parts) -> Result<Line, LineError>
     ensures line { IfOk result (λ line. words_meaning words.entry ≡ Some line) }
     ensures bad { IfErr result (λ e. (e ≡ LineError.Memory) ⊎ (words_meaning words.entry ≡ None)) }
 {
-    let (Some(caller), Some(name)) = (words.next(), words.next()) else {
-        return Err(LineError::Bad(BadLine::NoCall));
-    };
+    let caller = words.next().ok_or(BadLine::NoCall)?;
+    let name = words.next().ok_or(BadLine::NoCall)?;
     let caller = caller_in(caller).ok_or(BadLine::UnknownCaller)?;
     let call = call_in(alloc, name, words)?;
     Ok(Line::Called { caller, call })

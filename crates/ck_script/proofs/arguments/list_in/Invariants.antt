@@ -6,8 +6,8 @@ use Rattle.ck_script.proofs.arguments.list_in.Given as goal
 
 abbrev pub invariant-loop-part : goal.invariant-loop-part
 invariant-loop-part g l =
-    option_map (λ rest. l.items.items ++ rest) (each g.T.Listed.part_in l.parts)
-    ≡ each g.T.Listed.part_in (parts_of comma l.text)
+    option_map (λ rest. l.items.items ++ rest) (each g.T.Argument.value_in l.parts)
+    ≡ each g.T.Argument.value_in (parts_of comma l.text)
 
 abbrev pub decreases-loop-part : goal.decreases-loop-part
 decreases-loop-part g l = length l.parts
