@@ -1,5 +1,8 @@
 //! The sections of a script, whose calls are made of a token alone, or by its one caller under the
 //! lock.
+ghost use Rattle.std.specs.Prelude.{◌≡◌};
+ghost use Rattle.ck_journal.specs.Histories.{start, start_of};
+
 use crate::errors::BenchError;
 use crate::sections::Section;
 use ck_audit::{Verdict, audit_token};
@@ -96,6 +99,18 @@ fn audit<R: CpuClock + Print>(
     Ok(())
 }
 
+/// Plays the sections on a token, whose journal is audited then.
+fn play_and_audit<R: CpuClock + Print>(
+    rt: &R,
+    alloc: Global,
+    token: &mut Token,
+    sections: &[Section],
+    is_timed: bool,
+) -> Result<(), BenchError> {
+    play(rt, alloc, token, sections, is_timed)?;
+    audit(rt, alloc, token, is_timed)
+}
+
 /// Plays the sections on a new token, whose journal is audited then.
 pub(crate) fn play_alone<R: CpuClock + Print>(
     rt: &R,
@@ -104,8 +119,7 @@ pub(crate) fn play_alone<R: CpuClock + Print>(
     is_timed: bool,
 ) -> Result<(), BenchError> {
     let mut token = Token::new(alloc, Limits::largest());
-    play(rt, alloc, &mut token, sections, is_timed)?;
-    audit(rt, alloc, &token, is_timed)
+    play_and_audit(rt, alloc, &mut token, sections, is_timed)
 }
 
 /// What the one caller of a shared token does.
@@ -134,6 +148,21 @@ impl<'a, R: Wait + CpuClock + Print> CallerWork<R> for SectionPlay<'a> {
     }
 }
 
+/// Does the work of the one caller of a token that is shared.
+fn play_shared<R: CpuClock + Print + Threads + Wait + Copy + Drop + Send + Sync>(
+    rt: R,
+    alloc: Global,
+    token: &mut Token,
+    work: &SectionPlay,
+) -> Result<(), BenchError>
+    requires { token.old.history ≡ start (start_of token.old.history) }
+{
+    for done in share(rt, alloc, token, 1, work)? {
+        done?;
+    }
+    Ok(())
+}
+
 /// Plays the sections by one caller of a shared token.
 pub(crate) fn play_locked<R: CpuClock + Print + Threads + Wait + Copy + Drop + Send + Sync>(
     rt: R,
@@ -142,9 +171,5 @@ pub(crate) fn play_locked<R: CpuClock + Print + Threads + Wait + Copy + Drop + S
     is_timed: bool,
 ) -> Result<(), BenchError> {
     let mut token = Token::new(alloc, Limits::largest());
-    let work = SectionPlay { sections, is_timed };
-    for done in share(rt, alloc, &mut token, 1, &work)? {
-        done?;
-    }
-    Ok(())
+    play_shared(rt, alloc, &mut token, &SectionPlay { sections, is_timed })
 }

@@ -1,5 +1,5 @@
 //! What callers of a shared token do at once, each in a thread of its own.
-ghost use Rattle.std.specs.Prelude.{◌≡◌, ◌≤◌, IfOk, length};
+ghost use Rattle.std.specs.Prelude.{◌≡◌, ◌≤◌, OnOk, length};
 ghost use Rattle.ck_journal.specs.Histories.{start, start_of};
 
 use crate::errors::BenchError;
@@ -219,22 +219,38 @@ impl<'a, R: Wait + Clock> CallerWork<R> for Tasks<'a> {
     }
 }
 
-/// An initialized token whose journal is cut.
-fn initialized(alloc: Global) -> Result<Token, BenchError>
-    ensures { IfOk result (λ token. token.history ≡ start (start_of token.history)) }
+/// Initializes a token, and cuts its journal.
+fn initialize(alloc: Global, token: &mut Token) -> Result<(), BenchError>
+    ensures { OnOk result (token.new.history ≡ start (start_of token.new.history)) }
 {
-    let mut token = Token::new(alloc, Limits::largest());
     let pin = Pin::of(b"1234");
     token.call(alloc, 1, Call::InitToken { pin })?;
     match token.cut(alloc) {
-        Ok(_) => Ok(token),
+        Ok(_) => Ok(()),
         Err(Uncut::Memory) => Err(BenchError::Memory),
         Err(Uncut::Session) => Err(BenchError::Answered),
     }
 }
 
-/// Callers do these tasks on a token of their own, each in a thread. Gives the nanoseconds of the
-/// slowest.
+/// Callers do these tasks on a token that they initialize and share, each in a thread. Gives the
+/// nanoseconds of the slowest.
+fn time_on<R: Clock + Threads + Wait + Copy + Drop + Send + Sync>(
+    rt: R,
+    alloc: Global,
+    token: &mut Token,
+    tasks: &[Task],
+) -> Result<u128, BenchError>
+    requires { (1 ≤ length tasks.now) × (length tasks.now ≤ 8) }
+{
+    initialize(alloc, token)?;
+    let mut slowest = 0;
+    for time in share(rt, alloc, token, tasks.len() as u32, &Tasks::new(tasks))? {
+        slowest = time?.max(slowest);
+    }
+    Ok(slowest)
+}
+
+/// The same on a new token.
 fn time_of<R: Clock + Threads + Wait + Copy + Drop + Send + Sync>(
     rt: R,
     alloc: Global,
@@ -242,19 +258,8 @@ fn time_of<R: Clock + Threads + Wait + Copy + Drop + Send + Sync>(
 ) -> Result<u128, BenchError>
     requires { (1 ≤ length tasks.now) × (length tasks.now ≤ 8) }
 {
-    let mut token = initialized(alloc)?;
-    let times = share(
-        rt,
-        alloc,
-        &mut token,
-        tasks.len() as u32,
-        &Tasks::new(tasks),
-    )?;
-    let mut slowest = 0;
-    for time in times {
-        slowest = time?.max(slowest);
-    }
-    Ok(slowest)
+    let mut token = Token::new(alloc, Limits::largest());
+    time_on(rt, alloc, &mut token, tasks)
 }
 
 /// Writes what callers take, by the clock where that is asked for: one asks so often, all of four
