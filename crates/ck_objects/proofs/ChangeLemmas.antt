@@ -2,7 +2,7 @@
 use Rattle.std.proofs.Common.{◌≡◌, ℕ, Bool, true, false, cond, not, ◌&&◌, ◌||◌, List, [], ◌∷◌}
 use Rattle.std.proofs.Common.{Option, Some, None, refl, ap, ◌∙◌}
 use Rattle.std.specs.Prelude.{◌==◌, find, option_and_then, option_map, unwrap_or}
-use Rattle.std.proofs.lemmas.Bool.{eqb-true}
+use Rattle.std.proofs.lemmas.Bool.{not-false, eqb-true}
 use Rattle.ck_types.specs.Numbers.{same_bytes}
 use Rattle.ck_objects.specs.Attributes.{type_of, form_of, permission, flag_bytes}
 use Rattle.ck_types.specs.Checks.{error_if, first_error}
@@ -24,7 +24,7 @@ use Rattle.ck_objects.specs.declared.items.Item.{Item}
 use Rattle.ck_objects.specs.declared.key_states.KeyState.{KeyState}
 use Rattle.ck_objects.specs.declared.object_flags.Protections.{Protections}
 use Rattle.ck_types.proofs.CheckLemmas.{or_else-none, error_if-none}
-use Rattle.ck_objects.proofs.GivenLemmas.{no-value, no-value-refused, template-passes, form_holds}
+use Rattle.ck_objects.proofs.GivenLemmas.{no-value, no-value-refused, template-passes}
 
 -- ---- the value of a type
 
@@ -148,7 +148,7 @@ sensitive-given : (given was : Option (List ℕ)) → not (flag_in_value given t
     → flag_in_value (option_map (unwrap_or given) was) false ≡ true
 sensitive-given given None g e = cc
 sensitive-given None (Some value) g e = e
-sensitive-given (Some other) (Some value) g e = form_holds (same_bytes other (flag_bytes true)) g
+sensitive-given (Some other) (Some value) g e = not-false (same_bytes other (flag_bytes true)) g
 
 extractable-given : (given was : Option (List ℕ)) → flag_in_value given false ≡ false
     → flag_in_value was false ≡ false

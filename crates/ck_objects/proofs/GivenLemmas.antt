@@ -4,7 +4,7 @@ use Rattle.std.proofs.Common.{not, ◌||◌, refl, inl, inr, sym, subst, ap, ◌
 use Rattle.std.specs.Prelude.{◌==◌, find, option_and_then, option_map, unwrap_or, is_none, length}
 use Rattle.std.specs.Int.{w64, from_le_bytes}
 use Rattle.std.specs.Cmp.Lexicographic.{bytes_decides}
-use Rattle.std.proofs.lemmas.Bool.{eqb-true, or_cases, true≢false}
+use Rattle.std.proofs.lemmas.Bool.{not-false, eqb-true, or_cases, true≢false}
 use Rattle.ck_objects.specs.Attributes.{type_of, form_of, is_of_form, permission, attribute_of}
 use Rattle.ck_types.specs.Numbers.{same_bytes, number_bytes}
 use Rattle.ck_objects.specs.Attributes.{flag_bytes}
@@ -56,14 +56,10 @@ attribute_of-type_of attribute.Copyable = refl
 attribute_of-type_of attribute.Destroyable = refl
 attribute_of-type_of attribute.KeyState = refl
 
-pub form_holds : (fits : Bool) → not fits ≡ false → fits ≡ true
-form_holds true e = refl
-form_holds false e = cc
-
 -- a value with no fault in form is of its attribute's form
 is_of_form-value : (a : Attribute) (value : List ℕ) → value_error (Some a) value ≡ None
     → is_of_form (form_of a) value ≡ true
-is_of_form-value a value e = form_holds (is_of_form (form_of a) value) (error_if-none _ _ e)
+is_of_form-value a value e = not-false (is_of_form (form_of a) value) (error_if-none _ _ e)
 
 module _ (check : Item → Option RvError) (kind : ℕ) (value : List ℕ) where
   none-first : (test : Bool) (item : Item) (items : List Item)

@@ -5,7 +5,7 @@ use Rattle.std.specs.Prelude.{◌==◌, option_and_then, option_map, unwrap_or, 
 use Rattle.std.specs.List.{flat_map}
 use Rattle.std.specs.Int.{w64, from_le_bytes}
 use Rattle.std.specs.Cmp.Lexicographic.{bytes_decides}
-use Rattle.std.proofs.lemmas.Bool.{eqb-true}
+use Rattle.std.proofs.lemmas.Bool.{not-false, eqb-true}
 use Rattle.ck_objects.specs.Attributes.{Column, type_of, column_of, permission, attributes}
 use Rattle.ck_types.specs.Numbers.{same_bytes, number_bytes}
 use Rattle.ck_objects.specs.Attributes.{flag_bytes}
@@ -34,7 +34,7 @@ use Rattle.ck_types.proofs.CheckLemmas.{or_else-none, error_if-none}
 use Rattle.ck_objects.proofs.FlagLemmas.{same_bytes-flag_bytes}
 use Rattle.ck_objects.proofs.GivenLemmas.{no-value, key_type-kept, key_type-given, form-created}
 use Rattle.ck_objects.proofs.GivenLemmas.{permitted-created, other-default, data-class-given}
-use Rattle.ck_objects.proofs.GivenLemmas.{class-created, data-created, form_holds}
+use Rattle.ck_objects.proofs.GivenLemmas.{class-created, data-created}
 
 -- ---- what a key keeps
 
@@ -217,10 +217,10 @@ generation-passes template random fine =
     record {
       form = a.0;
       key_class = (bytes_decides (value_or template (type_of attribute.Class) (number_bytes 4))
-          (number_bytes 4)).0 (form_holds _ (error_if-none _ _ c.0));
+          (number_bytes 4)).0 (not-false _ (error_if-none _ _ c.0));
       permitted = d.0;
       given = error_if-none _ _ e.0;
-      length = eqb-true (length random) (given_length template) (form_holds _ (error_if-none _ _ g.0));
+      length = eqb-true (length random) (given_length template) (not-false _ (error_if-none _ _ g.0));
     }
 
 -- the length that its template gives is that of the random bytes

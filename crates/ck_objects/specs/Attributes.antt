@@ -1,6 +1,6 @@
 -- The attributes that the token knows: their types, the forms of their values, the templates that
 -- may give them and the values that an object has where its template gives none (PKCS #11 Base 3.0,
--- Common attributes; Current Mechanisms 3.0, Generic secret key)
+-- Objects; Current Mechanisms 3.0, Generic secret key)
 use Rattle.std.specs.Prelude.{ℕ, Bool, true, false, List, [], ◌∷◌, Option, Some, None}
 use Rattle.std.specs.Prelude.{◌==◌, ◌||◌, find, length, replicate, option_map}
 use Rattle.ck_types.specs.Numbers.{same_bytes, number_bytes}

@@ -6,7 +6,7 @@ use Rattle.std.specs.Option.{option_map_or}
 use Rattle.ck_types.specs.Numbers.{number_bytes, same_bytes}
 use Rattle.ck_objects.specs.Attributes.{flag_bytes}
 use Rattle.ck_objects.specs.Attributes.{Default, preset, computed, Column, type_of, column_of}
-use Rattle.ck_objects.specs.Attributes.{attribute_of, attributes}
+use Rattle.ck_objects.specs.Attributes.{attributes}
 use Rattle.std.specs.List.{flat_map, list_all}
 use Rattle.ck_types.specs.Checks.{error_if, first_of}
 use Rattle.ck_objects.specs.KeyStates.{state_number, key_states, is_destroyed}
@@ -206,10 +206,6 @@ generated_items template random =
     random) attributes
 
 -- ---- reading an attribute
-
--- the flag of this type that the items have
-abbrev pub flag_in : List Item → ℕ → Option Bool
-flag_in items kind = option_and_then (flag_at items) (attribute_of kind)
 
 -- the items have the flag, and it is true
 abbrev pub is_set : List Item → Attribute → Bool

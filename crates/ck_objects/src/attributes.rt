@@ -30,37 +30,37 @@ pub enum Purpose {
     Set,
 }
 
-/// An attribute that the token knows (PKCS #11 Base 3.0, Common attributes; Current Mechanisms 3.0,
-/// Generic secret key). `KeyState` is a vendor attribute of this token.
+/// An attribute that the token knows, with the number of its type (PKCS #11 Base 3.0, Objects;
+/// Current Mechanisms 3.0, Generic secret key). `KeyState` is a vendor attribute of this token.
 #[derive(Clone, Copy, Debug, PartialEq, Eq)]
 pub enum Attribute {
-    Class,
-    Token,
-    Private,
-    Label,
-    Application,
-    Value,
-    ObjectId,
-    KeyType,
-    Id,
-    Sensitive,
-    Encrypt,
-    Decrypt,
-    Wrap,
-    Unwrap,
-    Sign,
-    Verify,
-    Derive,
-    ValueLen,
-    Extractable,
-    Local,
-    NeverExtractable,
-    AlwaysSensitive,
-    KeyGenMechanism,
-    Modifiable,
-    Copyable,
-    Destroyable,
-    KeyState,
+    Class = 0x0,
+    Token = 0x1,
+    Private = 0x2,
+    Label = 0x3,
+    Application = 0x10,
+    Value = 0x11,
+    ObjectId = 0x12,
+    KeyType = 0x100,
+    Id = 0x102,
+    Sensitive = 0x103,
+    Encrypt = 0x104,
+    Decrypt = 0x105,
+    Wrap = 0x106,
+    Unwrap = 0x107,
+    Sign = 0x108,
+    Verify = 0x10a,
+    Derive = 0x10c,
+    ValueLen = 0x161,
+    Extractable = 0x162,
+    Local = 0x163,
+    NeverExtractable = 0x164,
+    AlwaysSensitive = 0x165,
+    KeyGenMechanism = 0x166,
+    Modifiable = 0x170,
+    Copyable = 0x171,
+    Destroyable = 0x172,
+    KeyState = 0x8000_0001,
 }
 
 impl Attribute {
@@ -102,35 +102,7 @@ impl Attribute {
     pub fn number(self) -> u64
         ensures { result ≡ type_of self }
     {
-        match self {
-            Attribute::Class => 0x0,
-            Attribute::Token => 0x1,
-            Attribute::Private => 0x2,
-            Attribute::Label => 0x3,
-            Attribute::Application => 0x10,
-            Attribute::Value => 0x11,
-            Attribute::ObjectId => 0x12,
-            Attribute::KeyType => 0x100,
-            Attribute::Id => 0x102,
-            Attribute::Sensitive => 0x103,
-            Attribute::Encrypt => 0x104,
-            Attribute::Decrypt => 0x105,
-            Attribute::Wrap => 0x106,
-            Attribute::Unwrap => 0x107,
-            Attribute::Sign => 0x108,
-            Attribute::Verify => 0x10a,
-            Attribute::Derive => 0x10c,
-            Attribute::ValueLen => 0x161,
-            Attribute::Extractable => 0x162,
-            Attribute::Local => 0x163,
-            Attribute::NeverExtractable => 0x164,
-            Attribute::AlwaysSensitive => 0x165,
-            Attribute::KeyGenMechanism => 0x166,
-            Attribute::Modifiable => 0x170,
-            Attribute::Copyable => 0x171,
-            Attribute::Destroyable => 0x172,
-            Attribute::KeyState => 0x8000_0001,
-        }
+        self as u64
     }
 
     /// The attribute of a type, or `None` where the token knows no such type.

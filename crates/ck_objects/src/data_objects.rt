@@ -7,8 +7,8 @@ use ck_types::NoMemory;
 use std::alloc::{AllocError, Global};
 
 /// A data object (PKCS #11 Base 3.0, Data objects). Its class is no field. What most calls read
-/// stands first: the label, and then the flags that are read before it. So a call among many objects
-/// asks for both at once, and for no memory beside them.
+/// stands first: the label, and then the flags that are read before it. So a call among many
+/// objects asks for both at once, and for no memory beside them.
 #[derive(Drop)]
 pub(crate) struct Data {
     label: AttributeValue,
@@ -100,8 +100,8 @@ impl Data {
         self.change(items);
     }
 
-    /// Gives the object the items' values of the attributes that a change may give. The items get what
-    /// the object had.
+    /// Gives the object the items' values of the attributes that a change may give. The items get
+    /// what the object had.
     pub(crate) fn change(&mut self, items: &mut [Item])
         ensures { self.new ≡ changed_data items.old self.old }
     {

@@ -2,7 +2,7 @@ use crate::attribute_values::AttributeValue;
 use ck_types::NoMemory;
 use std::alloc::Global;
 
-/// A value of an attribute as an object has it (PKCS #11 Base 3.0, Common attributes).
+/// A value of an attribute as an object has it (PKCS #11 Base 3.0, Objects).
 #[derive(Drop)]
 pub enum Field<'a> {
     Flag(bool),

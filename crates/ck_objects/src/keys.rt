@@ -11,12 +11,12 @@ use std::alloc::{AllocError, Global};
 /// How a key came to be: the attributes that no template gives. A copy has its source's.
 #[derive(Clone, Copy)]
 pub(crate) struct Origin {
-    pub(crate) local: bool,
-    pub(crate) never_extractable: bool,
-    pub(crate) always_sensitive: bool,
+    local: bool,
+    never_extractable: bool,
+    always_sensitive: bool,
     /// The mechanism that generated the key (CKA_KEY_GEN_MECHANISM), else
     /// CK_UNAVAILABLE_INFORMATION.
-    pub(crate) generation: u64,
+    generation: u64,
 }
 
 /// A generic secret key (PKCS #11 Current Mechanisms 3.0, Generic secret key objects). Its class,
@@ -24,25 +24,25 @@ pub(crate) struct Origin {
 /// a data object.
 #[derive(Drop)]
 pub(crate) struct Key {
-    pub(crate) label: AttributeValue,
-    pub(crate) token: bool,
-    pub(crate) private: bool,
-    pub(crate) modifiable: bool,
-    pub(crate) copyable: bool,
-    pub(crate) destroyable: bool,
-    pub(crate) sensitive: bool,
-    pub(crate) extractable: bool,
+    label: AttributeValue,
+    token: bool,
+    private: bool,
+    modifiable: bool,
+    copyable: bool,
+    destroyable: bool,
+    sensitive: bool,
+    extractable: bool,
     pub(crate) state: KeyState,
     pub(crate) value: AttributeValue,
-    pub(crate) id: AttributeValue,
-    pub(crate) encrypt: bool,
-    pub(crate) decrypt: bool,
-    pub(crate) wrap: bool,
-    pub(crate) unwrap: bool,
-    pub(crate) sign: bool,
-    pub(crate) verify: bool,
-    pub(crate) derive: bool,
-    pub(crate) origin: Origin,
+    id: AttributeValue,
+    encrypt: bool,
+    decrypt: bool,
+    wrap: bool,
+    unwrap: bool,
+    sign: bool,
+    verify: bool,
+    derive: bool,
+    origin: Origin,
 }
 
 impl Clone for Key {

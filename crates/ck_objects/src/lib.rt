@@ -14,7 +14,7 @@ mod records;
 mod templates;
 
 pub use attribute_values::AttributeValue;
-pub use attributes::{Attribute, Class, Purpose};
+pub use attributes::{Attribute, Class};
 pub use fields::Field;
 pub use items::Item;
 pub use key_states::KeyState;

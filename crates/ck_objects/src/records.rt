@@ -64,7 +64,7 @@ impl Record {
     ghost use Rattle.ck_objects.specs.Records.{protections_of, placement_of, is_revealable};
     ghost use Rattle.ck_objects.specs.Records.{is_hidden};
     ghost use Rattle.ck_objects.specs.Records.{copied_error, changed_error};
-    ghost use Rattle.ck_objects.specs.Records.{flag_in, is_set, has_item, matches};
+    ghost use Rattle.ck_objects.specs.Records.{is_set, has_item, matches};
     ghost use Rattle.ck_objects.specs.Fields.{field_bytes, flag_field};
 
     /// The object that a template of C_CreateObject makes, which passes `Template::check_creation`
@@ -208,7 +208,7 @@ impl Record {
     }
 
     /// The attributes of the object that a template may not weaken.
-    pub(crate) fn protections(&self) -> Protections
+    fn protections(&self) -> Protections
         ensures { result ≡ protections_of self.now }
     {
         Protections {
@@ -239,7 +239,7 @@ impl Record {
     }
 
     /// Whether the value may be revealed (CKA_VALUE; PKCS #11 Base 3.0, Secret key objects).
-    pub(crate) fn is_revealable(&self) -> bool
+    fn is_revealable(&self) -> bool
         ensures { result ≡ is_revealable self.now }
     {
         match &self.object {
@@ -259,7 +259,7 @@ impl Record {
     }
 
     /// Whether the attribute is a value that may not be revealed.
-    pub(crate) fn is_hidden(&self, kind: u64) -> bool
+    fn is_hidden(&self, kind: u64) -> bool
         ensures { result ≡ is_hidden self.now kind }
     {
         kind == Attribute::Value.number() && !self.is_revealable()
@@ -321,8 +321,7 @@ impl Record {
     }
 
     fn field(&self, kind: u64) -> Option<Field>
-        ensures value { option_map field_bytes result ≡ value_at self.now kind }
-        ensures flag { flag_field result ≡ flag_in self.now kind }
+        ensures { option_map field_bytes result ≡ value_at self.now kind }
     {
         match &self.object {
             Object::Data(data) => match Attribute::of(kind) {
