@@ -67,8 +67,8 @@ is_key_generator kind = option_map_or generates (algorithm_of kind) false
 
 -- ---- how long a tag is
 
--- a length in bytes, given as a number of 8 bytes, the least first, from 1 to the length of the hash
--- function's digest
+-- a length in bytes, given as a number of 8 bytes, the least first, from 1 to the length of the
+-- hash function's digest
 abbrev pub given_tag_length : Hash → List ℕ → Option ℕ
 given_tag_length h parameter =
     let n = from_le_bytes w64 parameter in

@@ -1,4 +1,5 @@
 ghost use Rattle.std.specs.Prelude.{◌≡◌, ⊤, ℕ, List, [], ◌++◌};
+ghost use Rattle.ck_types.specs.Digests.{digest_of};
 
 use crate::hashes::Hash;
 use crate::tags::Tag;
@@ -21,7 +22,7 @@ pub struct Running {
 
 impl Running {
     ghost use Rattle.ck_types.specs.declared.hashes.Hash.{Hash};
-    ghost use Rattle.ck_types.specs.Digests.{Holds, digest_of};
+    ghost use Rattle.ck_types.specs.Digests.{Holds};
 
     /// The digest of the empty message.
     pub fn new(hash: Hash) -> Running
@@ -91,8 +92,6 @@ impl Clone for Running {
         Ok(Running { hasher })
     }
 }
-
-ghost use Rattle.ck_types.specs.Digests.{digest_of};
 
 /// The digest of the message.
 pub(crate) fn digest(hash: Hash, message: &[u8]) -> Tag

@@ -1,5 +1,5 @@
-//! Return codes, mechanisms, users, PINs and limits of a PKCS #11 token; the digests (FIPS 180-4) and
-//! HMACs (FIPS 198-1) of messages that come in pieces, which take no memory.
+//! Return codes, mechanisms, users, PINs and limits of a PKCS #11 token; the digests (FIPS 180-4)
+//! and HMACs (FIPS 198-1) of messages that come in pieces, which take no memory.
 #![tactic(auto)]
 
 mod checks;

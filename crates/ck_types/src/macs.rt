@@ -1,5 +1,7 @@
 ghost use Rattle.std.specs.Prelude.{◌≡◌, ⊤, ◌≤◌, ℕ, List, [], ◌++◌, take};
+ghost use Rattle.ck_types.specs.Digests.{Holds};
 ghost use Rattle.ck_types.specs.Hashes.{block_length, digest_length};
+ghost use Rattle.ck_types.specs.Macs.{block_key, xor_each};
 ghost use Rattle.ck_types.specs.declared.hashes.Hash.{Hash};
 
 use crate::digests::{Running, digest};
@@ -94,9 +96,6 @@ impl Clone for Mac {
         })
     }
 }
-
-ghost use Rattle.ck_types.specs.Digests.{Holds};
-ghost use Rattle.ck_types.specs.Macs.{block_key, xor_each};
 
 /// The key as one block, followed by zeros: where it is longer than a block, its digest
 /// (FIPS 198-1, section 4).
