@@ -1,6 +1,6 @@
 -- What items with no fault in form give
 use Rattle.std.proofs.Common.{◌≡◌, ℕ, Bool, true, false, cond, List, [], ◌∷◌, Option, Some, None}
-use Rattle.std.proofs.Common.{not, ◌||◌, refl, inl, inr, sym, subst, ap, ◌∙◌}
+use Rattle.std.proofs.Common.{◌||◌, refl, inl, inr, sym, subst, ap, ◌∙◌}
 use Rattle.std.specs.Prelude.{◌==◌, find, option_and_then, option_map, unwrap_or, is_none, length}
 use Rattle.std.specs.Int.{w64, from_le_bytes}
 use Rattle.std.specs.Cmp.Lexicographic.{bytes_decides}

@@ -1,18 +1,20 @@
 ghost use Rattle.std.specs.Prelude.{◌≡◌, ◌≢◌, ◌==◌, ◌<◌, ◌&&◌, ℕ, [], None, IfOk, not, unwrap_or};
-ghost use Rattle.std.specs.Prelude.{length, position};
+ghost use Rattle.std.specs.Prelude.{false, is_none, length, position};
 ghost use Rattle.std.specs.Prelude.{option_map, Some, IfSome};
 ghost use Rattle.std.specs.Int.{w64, from_le_bytes};
 ghost use Rattle.std.specs.List.{list_any};
-ghost use Rattle.std.specs.Option.{option_copied};
+ghost use Rattle.std.specs.Option.{option_copied, option_map_or};
 ghost use Rattle.ck_types.specs.Numbers.{same_bytes};
 ghost use Rattle.ck_objects.specs.Attributes.{type_of, form_of, flag_bytes};
 ghost use Rattle.ck_types.specs.Numbers.{number_bytes};
 ghost use Rattle.ck_types.specs.Checks.{check_of, first_error};
 ghost use Rattle.ck_objects.specs.Templates.{value_at, value_or, flag_at, has_two_values};
-ghost use Rattle.ck_objects.specs.Templates.{has_conflict, class_of};
+ghost use Rattle.ck_objects.specs.Templates.{has_conflict, class_of, gives_other_class};
+ghost use Rattle.ck_objects.specs.Records.{is_key_class};
 ghost use Rattle.ck_objects.specs.Templates.{form_error, permission_error};
 ghost use Rattle.ck_objects.specs.KeyStates.{state_number};
 ghost use Rattle.ck_objects.specs.declared.attributes.Attribute.TheVariants as attribute;
+ghost use Rattle.ck_objects.specs.declared.attributes.Class.TheVariants as class;
 ghost use Rattle.ck_objects.specs.declared.items.Item.{Item};
 ghost use Rattle.ck_objects.specs.declared.forms.Form.TheVariants as form;
 
@@ -192,20 +194,26 @@ pub(crate) fn state_or(items: &[Item], other: KeyState) -> KeyState
     }
 }
 
+/// The class that the items give.
+pub(crate) fn given_class(items: &[Item]) -> Option<Class>
+    ensures class { unwrap_or result class.Data ≡ class_of items.now }
+    ensures missing { is_none result ≡ is_none (value_at items.now (type_of attribute.Class)) }
+    ensures other { option_map_or (λ c. not (is_key_class c)) result false
+        ≡ gives_other_class items.now }
+{
+    let value = value_at(items, Attribute::Class.number())?;
+    if is_number(value.as_slice(), SECRET_KEY) {
+        Some(Class::SecretKey)
+    } else {
+        Some(Class::Data)
+    }
+}
+
 /// The class of an object with these attributes.
 pub(crate) fn class_of(items: &[Item]) -> Class
     ensures { result ≡ class_of items.now }
 {
-    match value_at(items, Attribute::Class.number()) {
-        None => Class::Data,
-        Some(value) => {
-            if is_number(value.as_slice(), SECRET_KEY) {
-                Class::SecretKey
-            } else {
-                Class::Data
-            }
-        }
-    }
+    given_class(items).unwrap_or(Class::Data)
 }
 
 /// Whether items of the attribute's type have different values.

@@ -8,9 +8,9 @@ ghost use Rattle.ck_objects.specs.declared.attributes.Attribute.TheVariants as a
 ghost use Rattle.ck_types.specs.declared.errors.RvError.TheVariants as rv_error;
 
 use crate::attributes::{Attribute, Class, Purpose};
-use crate::forms::{SECRET_KEY, is_number};
 use crate::items::{
-    Item, check_forms, check_permissions, class_of, flag_or, has_conflict, number_at, value_at,
+    Item, check_forms, check_permissions, class_of, flag_or, given_class, has_conflict, number_at,
+    value_at,
 };
 use crate::object_flags::{Placement, Protections};
 use ck_types::{RvError, Sequence, error_if};
@@ -54,9 +54,7 @@ impl Template {
         let items = self.items.as_slice();
         check_forms(items)?;
         error_if(has_conflict(items), RvError::TemplateInconsistent)?;
-        let is_missing = value_at(items, Attribute::Class.number()).is_none();
-        error_if(is_missing, RvError::TemplateIncomplete)?;
-        let class = class_of(items);
+        let class = given_class(items).ok_or(RvError::TemplateIncomplete)?;
         check_permissions(class, Purpose::Create, items)?;
         check_new_object(class, items)
     }
@@ -168,10 +166,7 @@ fn check_new_key(items: &[Item]) -> Result<(), RvError>
 fn gives_other_class(items: &[Item]) -> bool
     ensures { result ≡ gives_other_class items.now }
 {
-    match value_at(items, Attribute::Class.number()) {
-        None => false,
-        Some(value) => !is_number(value.as_slice(), SECRET_KEY),
-    }
+    given_class(items) == Some(Class::Data)
 }
 
 /// The checks of the length that the items give a key, and of the random bytes.
