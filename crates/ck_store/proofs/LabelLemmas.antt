@@ -22,7 +22,7 @@ use Rattle.ck_objects.specs.Records.{with_given, with_state, state_item}
 use Rattle.ck_objects.specs.declared.attributes.Purpose.TheVariants as purpose
 use Rattle.ck_objects.specs.declared.key_states.KeyState.{KeyState}
 use Rattle.ck_store.specs.Index.{object_at, IsChanged, IsGiven, IsKeyOf}
-use Rattle.ck_store.specs.Labels.{label_mark, IsMarkOf, IsWanted, IsMarked, is_refused}
+use Rattle.ck_store.specs.Labels.{label_mark, IsMarkOf, IsWanted, IsMarked, has_other_label}
 use Rattle.ck_store.specs.Rows.{ObjectRow, has_number, is_match, is_private_row, matching_number}
 use Rattle.ck_store.specs.Rows.{with_attributes, with_key_state}
 use Rattle.ck_store.specs.declared.places.Place.{Place}
@@ -46,7 +46,7 @@ has-value : (value : List ℕ) (o : Option (List ℕ))
 has-value value None e = absurd (cc)
 has-value value (Some bytes) e = ap Some (sym (same_text value bytes (sym e)))
 
-refuses-equal : (mark : ℕ) → is_refused mark mark ≡ false
+refuses-equal : (mark : ℕ) → has_other_label mark mark ≡ false
 refuses-equal mark =
     ap (λ t. not (mark == 0) && not (mark == 0) && not t) (same_number mark) ∙ out (mark == 0)
   where
@@ -54,7 +54,7 @@ refuses-equal mark =
     out true = refl
     out false = refl
 
-refuses-none : (mark : ℕ) → is_refused mark 0 ≡ false
+refuses-none : (mark : ℕ) → has_other_label mark 0 ≡ false
 refuses-none mark = out (mark == 0) (mark == 0)
   where
     out : (s t : Bool) → (not s && false && not t) ≡ false
@@ -62,7 +62,7 @@ refuses-none mark = out (mark == 0) (mark == 0)
     out false t = refl
 
 pub refused-no_match : (view : View) (template : List Item) (row : ObjectRow) (mark wanted : ℕ)
-    → IsMarkOf row.attributes mark → IsWanted template wanted → is_refused mark wanted ≡ true
+    → IsMarkOf row.attributes mark → IsWanted template wanted → has_other_label mark wanted ≡ true
     → is_match view template row ≡ false
 refused-no_match view template row mark wanted marked is_wanted refused =
     false_from_ne_true (is_match view template row) (λ e.
@@ -71,7 +71,7 @@ refused-no_match view template row mark wanted marked is_wanted refused =
     matching : matches row.attributes template ≡ true → ⊥
     matching all = elim is_wanted [
       | inl zero_ ↦
-          let out = sym refused ∙ ap (is_refused mark) zero_ ∙ refuses-none mark in
+          let out = sym refused ∙ ap (has_other_label mark) zero_ ∙ refuses-none mark in
           absurd (cc)
       | inr asked ↦
           let has = all-has row.attributes template asked.0 asked.1 all in
@@ -81,10 +81,10 @@ refused-no_match view template row mark wanted marked is_wanted refused =
           (readable_value row.attributes kind)) false) (sym asked.2) ∙ has) in
           elim (marked asked.0.value value) [
             | inl zero_ ↦
-                let out : true ≡ false = sym refused ∙ ap (λ m. is_refused m wanted) zero_ in
+                let out : true ≡ false = sym refused ∙ ap (λ m. has_other_label m wanted) zero_ in
                 absurd (cc)
             | inr same ↦
-                let out = sym refused ∙ ap (λ m. is_refused m wanted) (same ∙ sym asked.3)
+                let out = sym refused ∙ ap (λ m. has_other_label m wanted) (same ∙ sym asked.3)
                 ∙ refuses-equal wanted in
                 absurd (cc)
           ]
@@ -92,7 +92,7 @@ refused-no_match view template row mark wanted marked is_wanted refused =
 
 pub refused-none : (objects : Slab ObjectRow) (marks : List ℕ) (p : Place) (view : View)
     (template : List Item) (wanted : ℕ) → IsMarked objects marks → IsWanted template wanted
-    → is_refused (get_or marks p.key 0) wanted ≡ true
+    → has_other_label (get_or marks p.key 0) wanted ≡ true
     → None ≡ matching_number view template (object_at objects p)
 refused-none objects marks p view template wanted marked is_wanted refused =
     by_case (object_at objects p) refl

@@ -1,7 +1,7 @@
 -- Objects in a slab, and the places that name them
-use Rattle.std.specs.Prelude.{◌≡◌, ◌⊎◌, ℕ, ◌<◌, ◌≤◌, Bool, true, false, ◌==◌, List, Option, Some, None}
+use Rattle.std.specs.Prelude.{◌≡◌, ◌⊎◌, ℕ, ◌<◌, ◌≤◌, Bool, true, false, ◌==◌, List, Option, Some}
 use Rattle.std.specs.Prelude.{is_some, filter_map, option_map, option_and_then, AllPairs, Contains}
-use Rattle.std.specs.Prelude.{if◌then◌else◌, ◌&&◌}
+use Rattle.std.specs.Prelude.{None, if◌then◌else◌, ◌&&◌}
 use Rattle.std.specs.Bool.{beq}
 use Rattle.slab.specs.Slab.{Slab, get}
 use Rattle.ck_objects.specs.Records.{is_set, with_given}
@@ -48,7 +48,8 @@ abbrev pub is_list_of : ℕ → Bool → SessionList → Bool
 is_list_of session private list = list.session == session && beq list.private private
 
 -- the place is in such a list of the session
-pub record IsListed (lists : List SessionList) (session : ℕ) (private : Bool) (p : Place) : Type 0 where
+pub record IsListed (lists : List SessionList) (session : ℕ) (private : Bool) (p : Place)
+    : Type 0 where
   pub list : SessionList
   pub among : Contains lists list
   pub own : list.session ≡ session

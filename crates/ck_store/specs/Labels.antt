@@ -26,8 +26,8 @@ IsWanted template mark = (mark ≡ 0)
     × (mark ≡ label_mark item.value))
 
 -- the label that is wanted is another one
-abbrev pub is_refused : ℕ → ℕ → Bool
-is_refused mark wanted = not (mark == 0) && not (wanted == 0) && not (mark == wanted)
+abbrev pub has_other_label : ℕ → ℕ → Bool
+has_other_label mark wanted = not (mark == 0) && not (wanted == 0) && not (mark == wanted)
 
 -- the marks are those of the objects' labels, or 0
 abbrev pub IsMarked : Slab ObjectRow → List ℕ → Type 0

@@ -64,8 +64,8 @@ pub(crate) fn end_listed(objects: &mut Slab<StoredObject>, lists: &[SessionList]
         → HasNone (is_ended_by ending) objects.new p }
 {
     for list in lists {
-        if ending.concerns(list.session(), list.is_private()) {
-            end_objects(objects, list.places(), ending);
+        if ending.concerns(list.session, list.private) {
+            end_objects(objects, list.places.as_slice(), ending);
         }
     }
 }

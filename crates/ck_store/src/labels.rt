@@ -1,13 +1,14 @@
-//! Marks of labels, by which a search passes over most objects and looks at none of their attributes.
+//! Marks of labels, by which a search passes over most objects and looks at none of their
+//! attributes.
 ghost use Rattle.std.specs.Prelude.{◌≡◌, ◌≢◌, ◌⊎◌, ℕ, get_or};
-ghost use Rattle.ck_store.specs.Labels.{label_mark, IsMarkOf, IsWanted, is_refused};
+ghost use Rattle.ck_store.specs.Labels.{label_mark, IsMarkOf, IsWanted, has_other_label};
 
 use ck_objects::{Attribute, Field, Record, Template};
 use ck_types::NoMemory;
 
-/// The mark of a label, a hash of 32 bits. It begins with the offset of the FNV-1 hash; for each byte
-/// it is multiplied by the prime of that hash, and the byte is added. Equal labels have equal marks,
-/// and others seldom do.
+/// The mark of a label, a hash of 32 bits. It begins with the offset of the FNV-1 hash; for each
+/// byte it is multiplied by the prime of that hash, and the byte is added. Equal labels have equal
+/// marks, and others seldom do.
 fn label_mark(label: &[u8]) -> u32
     ensures { result ≡ label_mark label.now }
 {
@@ -41,8 +42,8 @@ pub(crate) fn wanted_mark(template: &Template) -> u32
 }
 
 /// Whether the label of the object under the key isn't the one that is wanted.
-pub(crate) fn is_refused(marks: &[u32], key: usize, wanted: u32) -> bool
-    ensures { result ≡ is_refused (get_or marks.now key 0) wanted }
+pub(crate) fn has_other_label(marks: &[u32], key: usize, wanted: u32) -> bool
+    ensures { result ≡ has_other_label (get_or marks.now key 0) wanted }
 {
     match marks.get(key) {
         None => false,

@@ -10,7 +10,7 @@ ghost use Rattle.ck_store.specs.Index.{PlacesRise};
 ghost use Rattle.ck_store.specs.Index.{IsChanged, IsGiven, IsKeyOf, IsLeft, EndsAll};
 ghost use Rattle.ck_store.specs.declared.places.Place.{Place};
 
-use crate::labels::{is_refused, mark_of, wanted_mark};
+use crate::labels::{has_other_label, mark_of, wanted_mark};
 use crate::stored_objects::StoredObject;
 use ck_journal::View;
 use ck_objects::{KeyState, Template};
@@ -43,8 +43,8 @@ fn is_there(objects: &Slab<StoredObject>, place: Place) -> bool
     object_at(objects, place).is_some()
 }
 
-/// The place of a number as far from the first place as the number is from the first number, where
-/// the number stands there. It does where the index lacks no number between the two.
+/// The position that is as far from the first one as the number is from the index's first number,
+/// where the number stands there. It does where the index lacks no number between the two.
 fn guess_position(index: &[Place], number: u64) -> Option<usize>
     ensures { IfSome result (λ i. (i < length index.now)
         × ((get_or index.now i (place 0 0)).number ≡ number)) }
@@ -58,14 +58,14 @@ fn guess_position(index: &[Place], number: u64) -> Option<usize>
     }
 }
 
-/// The place of a number in an index whose numbers rise. In a large index a search takes long, since
-/// most places that it looks at are in no cache.
+/// The position of a number in an index whose numbers rise. In a large index a search takes long,
+/// since most places that it looks at are in no cache.
 fn position_of(index: &[Place], number: u64) -> Option<usize>
-    ensures within { IfSome result (λ place. place < length index.now) }
-    ensures place { PlacesRise index.now → result ≡ position (is_at number) index.now }
+    ensures within { IfSome result (λ i. i < length index.now) }
+    ensures position { PlacesRise index.now → result ≡ position (is_at number) index.now }
 {
-    if let Some(place) = guess_position(index, number) {
-        return Some(place);
+    if let Some(position) = guess_position(index, number) {
+        return Some(position);
     }
     index
         .binary_search_by_key(&number, |place| place.number)
@@ -122,7 +122,7 @@ fn match_at(
     ensures { IsMarked objects.now marks.now → IsWanted template.now.items wanted
         → result ≡ matching_number view template.now.items (object_at objects.now place) }
 {
-    if is_refused(marks, place.key, wanted) {
+    if has_other_label(marks, place.key, wanted) {
         return None;
     }
     let object = object_at(objects, place)?;

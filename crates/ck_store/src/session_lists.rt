@@ -14,10 +14,10 @@ use std::alloc::Global;
 /// others. A place stays in the list for a while after its object has ended.
 #[derive(Drop)]
 pub(crate) struct SessionList {
-    session: u64,
+    pub(crate) session: u64,
     /// Whether its objects are private.
-    private: bool,
-    places: Vec<Place>,
+    pub(crate) private: bool,
+    pub(crate) places: Vec<Place>,
 }
 
 impl SessionList {
@@ -33,29 +33,11 @@ impl SessionList {
         }
     }
 
-    pub(crate) fn session(&self) -> u64
-        ensures { result ≡ self.now.session }
-    {
-        self.session
-    }
-
-    pub(crate) fn is_private(&self) -> bool
-        ensures { result ≡ self.now.private }
-    {
-        self.private
-    }
-
     /// Whether it is the session's list of private objects, or of public ones.
     fn is_list_of(&self, session: u64, private: bool) -> bool
         ensures { result ≡ is_list_of session private self.now }
     {
         self.session == session && self.private == private
-    }
-
-    pub(crate) fn places(&self) -> &[Place]
-        ensures { result.now ≡ self.now.places.items }
-    {
-        self.places.as_slice()
     }
 
     /// Adds a place.
@@ -91,7 +73,7 @@ fn make_room(objects: &Slab<StoredObject>, places: &mut Vec<Place>) -> Result<()
 
 fn position_of(lists: &[SessionList], session: u64, private: bool) -> Option<usize>
     ensures within { IfSome result (λ i. i < length lists.now) }
-    ensures place { result ≡ position (is_list_of session private) lists.now }
+    ensures position { result ≡ position (is_list_of session private) lists.now }
 {
     lists
         .iter()

@@ -35,10 +35,8 @@ impl StoredObject {
     ghost use Rattle.ck_objects.specs.Templates.{class_of, template_error};
     ghost use Rattle.ck_objects.specs.declared.attributes.Purpose.TheVariants as purpose;
     ghost use Rattle.ck_journal.specs.Objects.{is_visible_with};
-    ghost use Rattle.ck_store.specs.Rows.{is_of_session, is_session_row, is_private_row};
-    ghost use Rattle.ck_store.specs.Rows.{is_private_session_row};
-    ghost use Rattle.ck_store.specs.Rows.{object_row, is_match, visible_handle, is_ended_by};
-    ghost use Rattle.ck_store.specs.Rows.{kept_of};
+    ghost use Rattle.ck_store.specs.Rows.{object_row, is_private_row, is_match, visible_handle};
+    ghost use Rattle.ck_store.specs.Rows.{is_ended_by, kept_of};
 
     /// An object that the session creates.
     pub(crate) fn new(number: u64, session: u64, attributes: Record) -> StoredObject
@@ -110,29 +108,10 @@ impl StoredObject {
         self.is_visible(view) && self.attributes.matches(template)
     }
 
-    /// Whether it is a session object of this session.
-    pub(crate) fn is_of_session(&self, session: u64) -> bool
-        ensures { result ≡ is_of_session session self.now }
-    {
-        self.session == Some(session)
-    }
-
-    pub(crate) fn is_session_object(&self) -> bool
-        ensures { result ≡ is_session_row self.now }
-    {
-        self.session.is_some()
-    }
-
     pub(crate) fn is_private(&self) -> bool
         ensures { result ≡ is_private_row self.now }
     {
         self.attributes.is_set(Attribute::Private)
-    }
-
-    pub(crate) fn is_private_session_object(&self) -> bool
-        ensures { result ≡ is_private_session_row self.now }
-    {
-        self.is_session_object() && self.is_private()
     }
 
     /// Whether it is a session object that ends.
@@ -140,9 +119,9 @@ impl StoredObject {
         ensures { result ≡ is_ended_by ending self.now }
     {
         match ending {
-            Ending::Session(session) => self.is_of_session(session),
-            Ending::AllSessions => self.is_session_object(),
-            Ending::Logout => self.is_private_session_object(),
+            Ending::Session(session) => self.session == Some(session),
+            Ending::AllSessions => self.session.is_some(),
+            Ending::Logout => self.session.is_some() && self.is_private(),
         }
     }
 

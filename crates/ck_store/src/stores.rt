@@ -309,7 +309,7 @@ impl Store {
         end_listed(&mut self.objects, self.lists.as_slice(), ending);
         end_newest(&mut self.objects, self.unlisted, ending);
         self.lists
-            .retain(|list| !ending.concerns(list.session(), list.is_private()));
+            .retain(|list| !ending.concerns(list.session, list.private));
         compact(&self.objects, &mut self.index);
     }
 }

@@ -21,7 +21,7 @@ loop-list-preserved c = elim c.if-concerns.branch [
             c.list-item.is c.loop-list.invariant.ended
             (λ t p there.
             subst (λ (o : Slab ObjectRow). HasNone (is_ended_by c.args.ending) o p) (sym w.objects-is)
-            (w.end_objects.ensures.ended p (rw w.places.ensures there)));
+            (w.end_objects.ensures.ended p (rw w.as_slice.ensures.value there)));
       }
   | else-concerns w ↦
       let left : IsLeft (is_ended_by c.args.ending) c.loop-list.objects c.if-concerns.objects =
@@ -36,8 +36,7 @@ loop-list-preserved c = elim c.if-concerns.branch [
             (λ t p there.
             let no_concern : concerns c.args.ending c.list-item.result.session
             c.list-item.result.private ≡ false =
-            rw (c.session.ensures, c.is_private.ensures) at
-            (sym c.concerns.ensures ∙ w.if-concerns.false) in
+            sym c.concerns.ensures ∙ w.if-concerns.false in
             absurd (cc));
       }
 ]

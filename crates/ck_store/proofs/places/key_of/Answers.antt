@@ -10,14 +10,14 @@ pub returns-in_err-place : goal.returns-in_err-place
 returns-in_err-place c = λ is_index.
     rw c.from_residual.ensures
     (IsKeyOf-no_place c.args.objects.now c.args.index.now is_index c.args.number
-    (c.in_err-place.ensures.place is_index.rises))
+    (c.in_err-place.ensures.position is_index.rises))
 
 pub returns-then-is_there-2 : goal.returns-then-is_there-2
 returns-then-is_there-2 c = λ is_index.
     IsKeyOf-there c.args.objects.now c.args.index.now is_index c.args.number c.in_ok-place.field-0
-    (c.in_ok-place.ensures.place is_index.rises) c.if-is_there-2.ensures
+    (c.in_ok-place.ensures.position is_index.rises) c.if-is_there-2.ensures
 
 pub returns-else-is_there-2 : goal.returns-else-is_there-2
 returns-else-is_there-2 c = λ is_index.
     IsKeyOf-ended c.args.objects.now c.args.index.now is_index c.args.number c.in_ok-place.field-0
-    (c.in_ok-place.ensures.place is_index.rises) c.if-is_there-2.ensures
+    (c.in_ok-place.ensures.position is_index.rises) c.if-is_there-2.ensures

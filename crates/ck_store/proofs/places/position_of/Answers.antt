@@ -5,13 +5,13 @@ use Rattle.ck_store.specs.Index.{place}
 use Rattle.ck_store.proofs.Searched.{place-searched, place-guessed}
 use Rattle.ck_store.proofs.places.position_of.Goals as goal
 
-pub returns-in-Some-clause-place : goal.returns-in-Some-clause-place
-returns-in-Some-clause-place c = λ rise.
-    place-guessed (λ (p : Place). p.number) c.args.index.now rise c.args.number c.in-Some.place
+pub returns-in-Some-clause-position : goal.returns-in-Some-clause-position
+returns-in-Some-clause-position c = λ rise.
+    place-guessed (λ (p : Place). p.number) c.args.index.now rise c.args.number c.in-Some.position
     (place 0 0) c.in-Some.ensures.0 c.in-Some.ensures.1
 
-pub returns-clause-place : goal.returns-clause-place
-returns-clause-place c = λ rise.
+pub returns-clause-position : goal.returns-clause-position
+returns-clause-position c = λ rise.
     let searched =
     c.binary_search_by_key.ensures.position (λ (p : Place). p.number)
     (answers_always _ _ _ (λ f a r g called. search rules)) in
