@@ -18,7 +18,8 @@ use Rattle.ck_journal.specs.Searches.{is_searching, found_objects, last_number}
 use Rattle.ck_journal.proofs.RisingLemmas.{found_objects-rise}
 use Rattle.ck_sessions.specs.Agreement.{SessionsState, SessionsAgree, session_row, session_at}
 use Rattle.ck_sessions.specs.Agreement.{search_of, search_left}
-use Rattle.ck_sessions.specs.Rows.{Search, SessionRow, is_session, is_rw_row, is_read_only_row, board_row}
+use Rattle.ck_sessions.specs.Rows.{SessionRow, is_session, is_rw_row, is_read_only_row, board_row}
+use Rattle.ck_sessions.specs.declared.searches.Search.{Search}
 
 list_any-map : (test : SessionRow → Bool) (row : ℕ → SessionRow) (ks : List ℕ) → list_any test (map row ks) ≡
     list_any (λ k. test (row k)) ks

@@ -21,7 +21,8 @@ use Rattle.ck_journal.proofs.SearchMoves.{matching_objects-left}
 use Rattle.ck_journal.proofs.SessionMoves.{session_rows, session_rows-changed, flags_of-below}
 use Rattle.ck_journal.proofs.SessionMoves.{flags_of-opened, flags_of-later}
 use Rattle.ck_sessions.specs.Agreement.{search_of, session_row}
-use Rattle.ck_sessions.specs.Rows.{Search, SessionRow, is_session, new_search, with_search, with_last}
+use Rattle.ck_sessions.specs.Rows.{SessionRow, is_session, new_search, with_search, with_last}
+use Rattle.ck_sessions.specs.declared.searches.Search.{Search}
 use Rattle.ck_sessions.specs.Rows.{with_last_found}
 use Rattle.ck_sessions.specs.SearchCalls.{SetsSearch}
 

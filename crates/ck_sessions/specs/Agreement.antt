@@ -5,9 +5,11 @@ use Rattle.ck_types.specs.declared.users.UserType.TheVariants as user
 use Rattle.ck_journal.specs.Histories.{History}
 use Rattle.ck_journal.specs.Pins.{present_pin, tries, is_initialized}
 use Rattle.ck_journal.specs.Searches.{is_searching, found_objects, last_number, remaining_objects}
-use Rattle.ck_journal.specs.Sessions.{openings, is_open, flags_of, open_sessions, login, user_logins}
-use Rattle.ck_sessions.specs.Rows.{Search, SessionRow}
+use Rattle.ck_journal.specs.Sessions.{openings, is_open, flags_of, open_sessions, login}
+use Rattle.ck_journal.specs.Sessions.{user_logins}
+use Rattle.ck_sessions.specs.Rows.{SessionRow}
 use Rattle.ck_sessions.specs.declared.credentials.Credential.{Credential}
+use Rattle.ck_sessions.specs.declared.searches.Search.{Search}
 
 -- the open sessions, for how many more there is room, how many have been opened, who is logged in,
 -- how many times the user has logged in, and the PINs and wrong tries of the security officer and

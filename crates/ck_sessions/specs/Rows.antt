@@ -2,12 +2,7 @@
 use Rattle.std.specs.Prelude.{ℕ, Bool, List, Option, ◌==◌, not, option_map}
 use Rattle.std.specs.Option.{option_map_or}
 use Rattle.ck_journal.specs.Sessions.{has_rw_flag}
-
--- a search: the numbers of the objects that it found when it started, and the number of the object
--- that it returned last, 0 where none
-pub record Search : Type 0 where
-  pub found : List ℕ
-  pub last : ℕ
+use Rattle.ck_sessions.specs.declared.searches.Search.{Search}
 
 -- a search that found the objects of these numbers, and has returned none
 abbrev pub new_search : List ℕ → Search

@@ -8,7 +8,8 @@ use Rattle.ck_journal.specs.Searches.{matching_objects, search_template}
 
 -- in this session, the call starts the search that finds these objects, or ends the search; it does
 -- nothing else
-pub record SetsSearch (h : History) (c : Call) (session : ℕ) (found : Option (List ℕ)) : Type 0 where
+pub record SetsSearch (h : History) (c : Call) (session : ℕ) (found : Option (List ℕ))
+    : Type 0 where
   pub starts : (s : ℕ) → starts_search (Some c) s ≡ (is_some found && session == s)
   pub ends : (s : ℕ) → ends_search (Some c) s ≡ (is_none found && session == s)
   pub finds : (numbers : List ℕ) → found ≡ Some numbers

@@ -93,7 +93,7 @@ impl Session {
     {
         match &self.search {
             None => 0,
-            Some(search) => search.last(),
+            Some(search) => search.last,
         }
     }
 
@@ -109,7 +109,7 @@ impl Session {
         ensures { self.new ≡ with_last_found number self.old }
     {
         if let Some(search) = &mut self.search {
-            search.set_last(number);
+            search.last = number;
         }
     }
 }

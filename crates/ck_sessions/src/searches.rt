@@ -1,9 +1,8 @@
 ghost use Rattle.std.specs.Prelude.{◌≡◌, filter, nat_lt};
 ghost use Rattle.std.specs.List.Sorted.{IsNonDecreasingBy};
-ghost use Rattle.ck_sessions.specs.Rows.{new_search, with_last};
+ghost use Rattle.ck_sessions.specs.Rows.{new_search};
 
 use ck_types::Sequence;
-use std::marker::Model;
 
 /// An active search for objects (PKCS #11 Base 3.0, Object management functions).
 #[derive(Drop)]
@@ -11,15 +10,7 @@ pub(crate) struct Search {
     /// The numbers of the objects that it found when it started, rising.
     found: Sequence<u64>,
     /// The number of the object that it returned last, 0 where none.
-    last: u64,
-}
-
-impl Model for Search {
-    ghost use Rattle.ck_sessions.specs.Rows.{Search};
-
-    ghost Value = { Search };
-
-    ghost view = { λ s. record { found = s.found; last = s.last } };
+    pub(crate) last: u64,
 }
 
 impl Search {
@@ -38,19 +29,5 @@ impl Search {
         let found = self.found.as_slice();
         let place = found.partition_point(|number| *number <= self.last);
         &found[place..]
-    }
-
-    /// The number of the object that it returned last, 0 where none.
-    pub(crate) fn last(&self) -> u64
-        ensures { result ≡ self.now.last }
-    {
-        self.last
-    }
-
-    /// Notes the number of the object that it returned last.
-    pub(crate) fn set_last(&mut self, number: u64)
-        ensures { self.new ≡ with_last number self.old }
-    {
-        self.last = number;
     }
 }

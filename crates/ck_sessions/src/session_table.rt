@@ -186,8 +186,7 @@ impl Sessions {
         }
     }
 
-    /// The base that is left where these objects are and so many have been created. It takes no
-    /// memory but that of the objects.
+    /// The base that the sessions leave, with these objects and this count of creations.
     pub fn base(&self, created: u64, objects: Sequence<KeptObject>) -> Base
         ensures { (h : History) → SessionsAgree h self.now
             → created ≡ creations h → objects ≡ kept_objects h → result ≡ base_of h }
@@ -326,7 +325,8 @@ impl Sessions {
         end_searches(self.rows.as_mut_slice());
     }
 
-    /// Sets the session's search: to a new one, which found the objects of these numbers, or to none.
+    /// Sets the session's search: to a new one, which found the objects of these numbers, or to
+    /// none.
     pub fn set_search(&mut self, session: u64, found: Option<Sequence<u64>>)
         ensures agree { (h : History) (e : Entry) (c : Call) → done e ≡ Some c
             → SetsSearch h c session found

@@ -6,8 +6,8 @@ use Rattle.ck_journal.proofs.RisingLemmas.{drop-filter}
 use Rattle.ck_sessions.proofs.searches.Search.remaining.Goals as goal
 
 pub returns : goal.returns
-returns c = rw (← c.self.view_is) (λ rises.
-    let last = c.self.inside.last in
+returns c = λ rises.
+    let last = c.args.self.now.last in
     let found = c.as_slice-found.result.now in
     let place = c.partition_point-place.result in
     let parted =
@@ -16,4 +16,4 @@ returns c = rw (← c.self.view_is) (λ rises.
     (λ a r q k. search rules) in
     let all = length-drop place found in
     take_all _ (drop place found) (omega arith) ∙ drop-filter last found place parted ∙ ap
-    (filter (λ n. nat_lt last n)) c.as_slice-found.ensures)
+    (filter (λ n. nat_lt last n)) c.as_slice-found.ensures
