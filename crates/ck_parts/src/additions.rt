@@ -1,5 +1,6 @@
-//! What a change adds. A compiled function clears the room of its values where it begins, so each of
-//! these is a function that stays one: other changes take no time for their values, which are large.
+//! What a change adds. A compiled function clears the room of its values where it begins, so each
+//! of these is a function that stays one: other changes take no time for their values, which are
+//! large.
 ghost use Rattle.std.specs.Prelude.{◌≡◌, ◌+◌, ◌<◌, ◌≤◌, ◌^◌, [], true, false, Some, None};
 ghost use Rattle.std.specs.Prelude.{unwrap_or};
 ghost use Rattle.ck_types.specs.Hashes.{digest_length};

@@ -61,7 +61,6 @@ impl From<AllocError> for Refused {
 }
 
 impl Decision {
-    ghost use Rattle.std.specs.Prelude.{◌≡◌};
     ghost use Rattle.ck_types.specs.declared.return_codes.Rv.TheVariants as rv;
     ghost use Rattle.ck_journal.specs.declared.replies.Body.TheVariants as body;
     ghost use Rattle.ck_parts.specs.declared.changes.Change.TheVariants as change;
