@@ -12,21 +12,21 @@ use Rattle.ck_callers.specs.declared.steps.Answered.{Answered}
 use Rattle.ck_callers.specs.declared.steps.Step.{Step}
 
 -- the caller of the script has made its calls, and none are left
-abbrev pub IsPlayed : {K T : Type 0} → Script K T Call Reply → Script K T Call Reply → Type 0
+abbrev pub IsPlayed : {K : Type 0} → Script K Call Reply → Script K Call Reply → Type 0
 IsPlayed old new =
     HasPlayed old.caller (vec_items old.steps) (vec_items new.replies) new.outcome new.caller
     × (vec_items new.steps ≡ [])
 
 -- the caller of the script has taken its steps, and none are left
-abbrev pub AreTaken : {K T : Type 0} → Ranges → Script K T Step Answered
-    → Script K T Step Answered → Type 0
+abbrev pub AreTaken : {K : Type 0} → Ranges → Script K Step Answered
+    → Script K Step Answered → Type 0
 AreTaken limits old new =
     HasTaken limits old.caller (vec_items old.steps) (vec_items new.replies) new.outcome new.caller
     × (vec_items new.steps ≡ [])
 
 -- the same of any script
-abbrev pub HasRun : {K T S A : Type 0} → (CallerState → S → A → CallerState → Type 0)
-    → (S → Type 0) → Script K T S A → Script K T S A → Type 0
+abbrev pub HasRun : {K S A : Type 0} → (CallerState → S → A → CallerState → Type 0)
+    → (S → Type 0) → Script K S A → Script K S A → Type 0
 HasRun Does MayFail old new =
     HasMade Does MayFail old.caller (vec_items old.steps) (vec_items new.replies) new.outcome new.caller
     × (vec_items new.steps ≡ [])

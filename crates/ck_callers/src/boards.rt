@@ -1,6 +1,5 @@
 ghost use Rattle.std.specs.Prelude.{◌≡◌};
 ghost use Rattle.ck_journal.specs.Boards.{board_of};
-ghost use Rattle.ck_journal.specs.Histories.{History};
 
 use crate::identity::TokenId;
 use crate::known_histories::KnownHistory;
@@ -9,30 +8,6 @@ use ck_journal::TokenBoard;
 use left_right::Absorb;
 use std::alloc::AllocError;
 use std::marker::Model;
-
-/// A board that tells which history it is of.
-pub trait ReadBoard<K: TokenId> {
-    ghost use Rattle.ck_journal.specs.Histories.{History};
-
-    ghost history: { Self → History };
-
-    /// The board itself, which answers C_GetSessionInfo and C_GetTokenInfo.
-    fn board(&self) -> &TokenBoard
-        ensures { result.now ≡ board_of K.limits (history self.now) };
-
-    /// The history that it is of, as callers know one.
-    fn known(&self) -> &KnownHistory<K>
-        ensures { result.now.history ≡ history self.now };
-}
-
-/// A board that there are two copies of, of which readers see one.
-pub trait WriteBoard<K: TokenId, O: Drop>: Absorb<O> + ReadBoard<K> {
-    /// The two copies, before the first entry.
-    fn pair(board: &TokenBoard, known: &KnownHistory<K>) -> (Self, Self)
-        requires { board.now ≡ board_of K.limits known.now.history }
-        ensures published { Self.history result.0 ≡ known.now.history }
-        ensures alike { Self.state result.0 ≡ Self.state result.1 };
-}
 
 /// One of the two copies of the board. Contracts see the history that it is of.
 #[derive(Drop)]
@@ -57,6 +32,17 @@ impl<K: TokenId> Model for BoardCopy<K> {
 }
 
 impl<K: TokenId> BoardCopy<K> {
+    /// The two copies, before the first entry.
+    pub(crate) fn pair(board: &TokenBoard, known: &KnownHistory<K>) -> (BoardCopy<K>, BoardCopy<K>)
+        requires { board.now ≡ board_of K.limits known.now.history }
+        ensures { result.0 ≡ known.now.history }
+    {
+        (
+            BoardCopy::new(board.duplicate(), known),
+            BoardCopy::new(board.duplicate(), known),
+        )
+    }
+
     pub(crate) fn new(board: TokenBoard, known: &KnownHistory<K>) -> BoardCopy<K>
         requires { board ≡ board_of K.limits known.now.history }
         ensures { result ≡ known.now.history }
@@ -75,16 +61,18 @@ impl<K: TokenId> BoardCopy<K> {
             known: self.known.duplicate(),
         }
     }
-}
 
-impl<K: TokenId> ReadBoard<K> for BoardCopy<K> {
-    ghost history = { λ b. b };
-
-    fn board(&self) -> &TokenBoard {
+    /// The board itself, which answers C_GetSessionInfo and C_GetTokenInfo.
+    pub(crate) fn board(&self) -> &TokenBoard
+        ensures { result.now ≡ board_of K.limits self.now }
+    {
         &self.board
     }
 
-    fn known(&self) -> &KnownHistory<K> {
+    /// The history that it is of, as callers know one.
+    pub fn known(&self) -> &KnownHistory<K>
+        ensures { result.now.history ≡ self.now }
+    {
         &self.known
     }
 }
@@ -111,14 +99,5 @@ impl<K: TokenId> Absorb<EntrySlot<K>> for BoardCopy<K> {
             *self = new.duplicate();
         }
         Ok(())
-    }
-}
-
-impl<K: TokenId> WriteBoard<K, EntrySlot<K>> for BoardCopy<K> {
-    fn pair(board: &TokenBoard, known: &KnownHistory<K>) -> (BoardCopy<K>, BoardCopy<K>) {
-        (
-            BoardCopy::new(board.duplicate(), known),
-            BoardCopy::new(board.duplicate(), known),
-        )
     }
 }

@@ -5,7 +5,7 @@ ghost use Rattle.ck_journal.specs.Fronts.{IsFront};
 ghost use Rattle.ck_callers.specs.Asks.{call_of, reply_of};
 
 use crate::asks::{Ask, Status, status_on};
-use crate::boards::ReadBoard;
+use crate::boards::BoardCopy;
 use crate::histories::Front;
 use crate::identity::TokenId;
 use crate::known_histories::KnownHistory;
@@ -16,14 +16,14 @@ use std::marker::Model;
 /// One of the callers of a shared token. Contracts see its number, how many of its calls were
 /// answered, the history of its last reply and the longest that it knows.
 #[derive(Drop)]
-pub struct Caller<K: TokenId, T: Drop> {
+pub struct Caller<K: TokenId> {
     account: Account<K>,
     last: Front<K>,
     seen: KnownHistory<K>,
-    reader: ReadHandle<T>,
+    reader: ReadHandle<BoardCopy<K>>,
 }
 
-impl<K: TokenId, T: Drop> Model for Caller<K, T> {
+impl<K: TokenId> Model for Caller<K> {
     ghost use Rattle.std.specs.Prelude.{◌≡◌};
     ghost use Rattle.std.specs.Coded.{codes};
     ghost use Rattle.ck_journal.specs.Callers.{call_count};
@@ -46,7 +46,7 @@ impl<K: TokenId, T: Drop> Model for Caller<K, T> {
         × (call_count c.account.number c.last ≡ c.account.count) };
 }
 
-impl<K: TokenId, T: Drop> Caller<K, T> {
+impl<K: TokenId> Caller<K> {
     ghost use Rattle.std.specs.Prelude.{◌≡◌, ◌⊎◌};
     ghost use Rattle.ck_journal.specs.Fronts.{IsFront};
     ghost use Rattle.ck_journal.specs.Answers.{IsLegal};
@@ -57,7 +57,11 @@ impl<K: TokenId, T: Drop> Caller<K, T> {
     ghost use Rattle.ck_callers.specs.Callers.{HasCalled, IsNextCall, IsSettled, new_caller};
 
     /// A caller that has made no call.
-    pub fn new(account: Account<K>, known: &KnownHistory<K>, reader: ReadHandle<T>) -> Caller<K, T>
+    pub fn new(
+        account: Account<K>,
+        known: &KnownHistory<K>,
+        reader: ReadHandle<BoardCopy<K>>,
+    ) -> Caller<K>
         requires count { account.count ≡ 0 }
         requires known { known.now.history ≡ start K.base }
         ensures { result ≡ new_caller K.base account }
@@ -161,8 +165,8 @@ impl<K: TokenId, T: Drop> Caller<K, T> {
 
 /// What a board answers, and the history after which that is the answer. This history is no shorter
 /// than what the caller knows and has all entries of the caller.
-fn look<K: TokenId, T: ReadBoard<K>>(
-    board: &T,
+fn look<K: TokenId>(
+    board: &BoardCopy<K>,
     account: &Account<K>,
     seen: &KnownHistory<K>,
     ask: Ask,
@@ -183,7 +187,7 @@ fn look<K: TokenId, T: ReadBoard<K>>(
     Some((status_on(board.board(), ask), newest.duplicate()))
 }
 
-impl<K: TokenId, T: ReadBoard<K> + Drop> Caller<K, T> {
+impl<K: TokenId> Caller<K> {
     ghost use Rattle.std.specs.Prelude.{◌≡◌, IfNone, IfSome, OnSome};
     ghost use Rattle.ck_journal.specs.Answers.{IsLegal, answer};
     ghost use Rattle.ck_journal.specs.Callers.{entries_by};

@@ -39,21 +39,21 @@ impl<K: TokenId> CallerCount<K> {
     }
 
     /// Whether each of the token's callers is one of these.
-    pub fn are_all<T: Drop>(&self, callers: &[Caller<K, T>]) -> bool
+    pub fn are_all(&self, callers: &[Caller<K>]) -> bool
         ensures { result ≡ are_all K.callers callers.now }
     {
         are_all(self.count, callers)
     }
 }
 
-fn has_caller<K: TokenId, T: Drop>(number: u32, callers: &[Caller<K, T>]) -> bool
+fn has_caller<K: TokenId>(number: u32, callers: &[Caller<K>]) -> bool
     ensures { result ≡ list_any (λ caller. caller.number == number) callers.now }
 {
     callers.iter().any(|caller| caller.number() == number)
 }
 
 /// Whether each of the numbers 1 to `most` is that of one of the callers.
-fn are_all<K: TokenId, T: Drop>(most: u32, callers: &[Caller<K, T>]) -> bool
+fn are_all<K: TokenId>(most: u32, callers: &[Caller<K>]) -> bool
     ensures { result ≡ are_all most callers.now }
 {
     most == 0 || (has_caller(most, callers) && are_all(most - 1, callers))

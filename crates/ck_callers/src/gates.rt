@@ -7,7 +7,7 @@ use std::alloc::Global;
 use std::sync::Wait;
 
 /// What answers callers, their calls and what they ask: a shared token, or what stands before one.
-pub trait Gate<K: TokenId, T: Drop> {
+pub trait Gate<K: TokenId> {
     ghost use Rattle.std.specs.Prelude.{◌≡◌, IfOk, OnErr, IfSome, IfNone, OnSome};
     ghost use Rattle.ck_journal.specs.Answers.{IsLegal, answer};
     ghost use Rattle.ck_journal.specs.Callers.{entries_by};
@@ -20,7 +20,7 @@ pub trait Gate<K: TokenId, T: Drop> {
         &self,
         rt: &W,
         alloc: Global,
-        caller: &mut Caller<K, T>,
+        caller: &mut Caller<K>,
         call: Call,
     ) -> Result<Reply, NoMemory>
         ensures called { IfOk result (λ reply.
@@ -29,7 +29,7 @@ pub trait Gate<K: TokenId, T: Drop> {
 
     /// What the token's state was when it had answered the calls that the caller then knows, or
     /// `None` where that can't be seen.
-    fn status(&self, caller: &mut Caller<K, T>, ask: Ask) -> Option<Status>
+    fn status(&self, caller: &mut Caller<K>, ask: Ask) -> Option<Status>
         ensures answer { IfSome result (λ status.
             reply_of status ≡ answer K.limits caller.new.seen (call_of ask)) }
         ensures legal { OnSome result (IsLegal K.limits caller.new.seen) }

@@ -21,7 +21,7 @@ mod steps;
 mod turns;
 
 pub use asks::{Ask, Status};
-pub use boards::{BoardCopy, ReadBoard, WriteBoard};
+pub use boards::BoardCopy;
 pub use callers::{Caller, News};
 pub use counts::CallerCount;
 pub use gates::Gate;
@@ -32,5 +32,5 @@ pub use ledgers::{Account, CallBooks, CallerLedger, NewLedgers};
 pub use openings::Opened;
 pub use runs::{run_scripts, run_steps};
 pub use scripts::Script;
-pub use slots::{EntrySlot, Slot};
+pub use slots::EntrySlot;
 pub use steps::{Answered, Step};

@@ -4,13 +4,13 @@ ghost use Rattle.ck_journal.specs.Histories.{start};
 ghost use Rattle.ck_callers.specs.Accounts.{AreNew};
 ghost use Rattle.ck_callers.specs.Callers.{new_caller};
 
-use crate::boards::{ReadBoard, WriteBoard};
+use crate::boards::BoardCopy;
 use crate::callers::Caller;
 use crate::histories::Head;
 use crate::identity::{NewIdentity, TokenId};
 use crate::known_histories::KnownHistory;
 use crate::ledgers::{Account, CallBooks};
-use crate::slots::Slot;
+use crate::slots::EntrySlot;
 use ck_journal::TokenBoard;
 use ck_types::NoMemory;
 use left_right::{Absorb, WriteHandle};
@@ -19,23 +19,26 @@ use std::sync::Wait;
 
 /// What a shared token has beside the token, and its callers, before the first call.
 #[derive(Drop)]
-pub struct Opened<K: TokenId, O: Slot<K>, T: Absorb<O> + ReadBoard<K> + Drop, R: Wait + Drop> {
+pub struct Opened<K: TokenId, R: Wait + Drop>
+where
+    BoardCopy<K>: Absorb<EntrySlot<K>>,
+{
     pub books: CallBooks<K>,
     /// The base alone.
     pub known: KnownHistory<K>,
     /// The length of the one history.
     pub head: Head<K>,
     /// The writer of the board's two copies.
-    pub writer: WriteHandle<T, O, R>,
-    pub callers: Vec<Caller<K, T>>,
+    pub writer: WriteHandle<BoardCopy<K>, EntrySlot<K>, R>,
+    pub callers: Vec<Caller<K>>,
 }
 
 /// The caller that has this account, with a reader of the board.
-fn caller_of<K: TokenId, O: Slot<K>, T: Absorb<O> + ReadBoard<K> + Drop, R: Wait + Drop>(
+fn caller_of<K: TokenId, R: Wait + Drop>(
     account: Account<K>,
     known: &KnownHistory<K>,
-    writer: &WriteHandle<T, O, R>,
-) -> Result<Caller<K, T>, NoMemory>
+    writer: &WriteHandle<BoardCopy<K>, EntrySlot<K>, R>,
+) -> Result<Caller<K>, NoMemory>
     requires count { account.count ≡ 0 }
     requires known { known.now.history ≡ start K.base }
     ensures { IfOk result (λ caller. caller ≡ new_caller K.base account) }
@@ -45,12 +48,12 @@ fn caller_of<K: TokenId, O: Slot<K>, T: Absorb<O> + ReadBoard<K> + Drop, R: Wait
 }
 
 /// The callers that have these accounts.
-fn callers_of<K: TokenId, O: Slot<K>, T: Absorb<O> + ReadBoard<K> + Drop, R: Wait + Drop>(
+fn callers_of<K: TokenId, R: Wait + Drop>(
     alloc: Global,
     accounts: Vec<Account<K>>,
     known: &KnownHistory<K>,
-    writer: &WriteHandle<T, O, R>,
-) -> Result<Vec<Caller<K, T>>, NoMemory>
+    writer: &WriteHandle<BoardCopy<K>, EntrySlot<K>, R>,
+) -> Result<Vec<Caller<K>>, NoMemory>
     requires counts { AreNew accounts.items }
     requires known { known.now.history ≡ start K.base }
     ensures { IfOk result (λ callers. callers.items ≡ map (new_caller K.base) accounts.items) }
@@ -62,7 +65,7 @@ fn callers_of<K: TokenId, O: Slot<K>, T: Absorb<O> + ReadBoard<K> + Drop, R: Wai
     Ok(callers)
 }
 
-impl<K: TokenId, O: Slot<K>, T: WriteBoard<K, O> + Drop, R: Wait + Drop> Opened<K, O, T, R> {
+impl<K: TokenId, R: Wait + Drop> Opened<K, R> {
     ghost use Rattle.std.specs.Prelude.{◌≡◌, ◌≤◌, ℕ, [], IfOk};
     ghost use Rattle.left_right.specs.Handles.{published, pending};
     ghost use Rattle.ck_journal.specs.Boards.{board_of};
@@ -77,7 +80,7 @@ impl<K: TokenId, O: Slot<K>, T: WriteBoard<K, O> + Drop, R: Wait + Drop> Opened<
         board: TokenBoard,
         callers: u32,
         identity: NewIdentity,
-    ) -> Result<Opened<K, O, T, R>, NoMemory>
+    ) -> Result<Opened<K, R>, NoMemory>
         requires board { board ≡ board_of K.limits (start K.base) }
         requires callers { (1 ≤ callers) × (callers ≤ 8) × (callers ≡ K.callers) }
         requires history { identity.history.seen.book ≡ K.book }
@@ -85,7 +88,7 @@ impl<K: TokenId, O: Slot<K>, T: WriteBoard<K, O> + Drop, R: Wait + Drop> Opened<
         ensures books { IfOk result (λ opened. opened.books ≡ no_calls) }
         ensures history { IfOk result (λ opened. opened.known.history ≡ start K.base) }
         ensures changed { IfOk result (λ opened. opened.known.changed ≡ start K.base) }
-        ensures published { IfOk result (λ opened. T.history (published opened.writer) ≡ start K.base) }
+        ensures published { IfOk result (λ opened. published opened.writer ≡ start K.base) }
         ensures pending { IfOk result (λ opened. pending opened.writer ≡ []) }
         ensures callers { IfOk result (λ opened. opened.callers.items ≡ new_callers K.base callers) }
     {
@@ -93,7 +96,7 @@ impl<K: TokenId, O: Slot<K>, T: WriteBoard<K, O> + Drop, R: Wait + Drop> Opened<
         let (head, front) = history.named::<K>();
         let (books, accounts) = ledgers.named::<K>(alloc, callers)?;
         let known = KnownHistory::new(&front);
-        let (shown, hidden) = T::pair(&board, &known);
+        let (shown, hidden) = BoardCopy::pair(&board, &known);
         let writer = WriteHandle::new(alloc, rt, shown, hidden, callers as usize)?;
         let callers = callers_of(alloc, accounts, &known, &writer)?;
         Ok(Opened {

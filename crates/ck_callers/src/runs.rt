@@ -16,11 +16,11 @@ use std::thread::Threads;
 use std::{mem, thread};
 
 /// Takes the steps in their order, up to the first that finds no memory.
-fn take_steps<K: TokenId, T: Drop, S: Turn<K, A>, A: Drop, G: Gate<K, T>, W: Wait>(
+fn take_steps<K: TokenId, S: Turn<K, A>, A: Drop, G: Gate<K>, W: Wait>(
     rt: &W,
     alloc: Global,
     gate: &G,
-    caller: &mut Caller<K, T>,
+    caller: &mut Caller<K>,
     steps: Vec<S>,
     replies: &mut Vec<A>,
 ) -> Result<(), NoMemory>
@@ -36,11 +36,11 @@ fn take_steps<K: TokenId, T: Drop, S: Turn<K, A>, A: Drop, G: Gate<K, T>, W: Wai
 }
 
 /// Takes the steps of a script.
-fn play<K: TokenId, T: Drop, S: Turn<K, A>, A: Drop, G: Gate<K, T>, W: Wait>(
+fn play<K: TokenId, S: Turn<K, A>, A: Drop, G: Gate<K>, W: Wait>(
     rt: &W,
     alloc: Global,
     gate: &G,
-    script: &mut Script<K, T, S, A>,
+    script: &mut Script<K, S, A>,
 )
     ensures { HasRun S.does S.may_fail script.old script.new }
 {
@@ -59,12 +59,11 @@ fn play<K: TokenId, T: Drop, S: Turn<K, A>, A: Drop, G: Gate<K, T>, W: Wait>(
 /// Plays all scripts, each in a thread of its own.
 fn run<
     K: TokenId + Send + Sync,
-    T: Drop + Send + Sync,
     S: Turn<K, A> + Send,
     A: Drop + Send,
-    G: Gate<K, T> + Sync,
+    G: Gate<K> + Sync,
     R: Threads + Wait + Sync,
->(rt: &R, alloc: Global, gate: &G, scripts: &mut [Script<K, T, S, A>])
+>(rt: &R, alloc: Global, gate: &G, scripts: &mut [Script<K, S, A>])
     ensures { (k : ℕ) (d : _) → k < length scripts.old
         → HasRun S.does S.may_fail
         (slice_index_or scripts.old k d) (slice_index_or scripts.new k d) }
@@ -75,7 +74,7 @@ fn run<
             rt,
             scripts,
             most,
-            &|_: usize, script: &mut Script<K, T, S, A>|
+            &|_: usize, script: &mut Script<K, S, A>|
                 ensures { HasRun S.does S.may_fail script.entry.now script.exit.now }
             { play(rt, alloc, gate, script) },
         );
@@ -84,12 +83,12 @@ fn run<
 
 /// Plays all scripts of calls, each in a thread of its own. Scripts for which no thread can be made
 /// are played one after the other. It takes no memory but what the calls take.
-pub fn run_scripts<
-    K: TokenId + Send + Sync,
-    T: Drop + Send + Sync,
-    G: Gate<K, T> + Sync,
-    R: Threads + Wait + Sync,
->(rt: &R, alloc: Global, gate: &G, scripts: &mut [Script<K, T>])
+pub fn run_scripts<K: TokenId + Send + Sync, G: Gate<K> + Sync, R: Threads + Wait + Sync>(
+    rt: &R,
+    alloc: Global,
+    gate: &G,
+    scripts: &mut [Script<K>],
+)
     ensures { (k : ℕ) (d : _) → k < length scripts.old
         → IsPlayed (slice_index_or scripts.old k d) (slice_index_or scripts.new k d) }
 {
@@ -97,12 +96,12 @@ pub fn run_scripts<
 }
 
 /// As `run_scripts`, for scripts of calls and questions. A question takes no memory.
-pub fn run_steps<
-    K: TokenId + Send + Sync,
-    T: Drop + Send + Sync,
-    G: Gate<K, T> + Sync,
-    R: Threads + Wait + Sync,
->(rt: &R, alloc: Global, gate: &G, scripts: &mut [Script<K, T, Step, Answered>])
+pub fn run_steps<K: TokenId + Send + Sync, G: Gate<K> + Sync, R: Threads + Wait + Sync>(
+    rt: &R,
+    alloc: Global,
+    gate: &G,
+    scripts: &mut [Script<K, Step, Answered>],
+)
     ensures { (k : ℕ) (d : _) → k < length scripts.old → AreTaken K.limits
         (slice_index_or scripts.old k d) (slice_index_or scripts.new k d) }
 {

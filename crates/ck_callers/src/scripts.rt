@@ -9,24 +9,24 @@ use std::alloc::Global;
 /// What a caller is to do, step by step, with room for the replies: calls alone where no other
 /// types are named.
 #[derive(Drop)]
-pub struct Script<K: TokenId, T: Drop, S: Drop = Call, A: Drop = Reply> {
-    pub caller: Caller<K, T>,
+pub struct Script<K: TokenId, S: Drop = Call, A: Drop = Reply> {
+    pub caller: Caller<K>,
     pub(crate) steps: Vec<S>,
     pub(crate) replies: Vec<A>,
     pub(crate) outcome: Result<(), NoMemory>,
     pub ghost room: { vec_len steps ≤ vec_capacity replies },
 }
 
-impl<K: TokenId, T: Drop, S: Drop, A: Drop> Script<K, T, S, A> {
+impl<K: TokenId, S: Drop, A: Drop> Script<K, S, A> {
     ghost use Rattle.std.specs.Prelude.{◌≡◌, [], Ok, IfOk, IfErr};
 
     /// A script that is still to be played. Where there is no room for the replies, the caller and
     /// the steps come back.
     pub fn new(
         alloc: Global,
-        caller: Caller<K, T>,
+        caller: Caller<K>,
         steps: Vec<S>,
-    ) -> Result<Script<K, T, S, A>, (Caller<K, T>, Vec<S>)>
+    ) -> Result<Script<K, S, A>, (Caller<K>, Vec<S>)>
         ensures caller { IfOk result (λ script. script.caller ≡ caller) }
         ensures steps { IfOk result (λ script. script.steps ≡ steps) }
         ensures replies { IfOk result (λ script. script.replies.items ≡ []) }
@@ -52,7 +52,7 @@ impl<K: TokenId, T: Drop, S: Drop, A: Drop> Script<K, T, S, A> {
     }
 
     /// The caller, and the replies to its steps.
-    pub fn into_parts(self) -> (Caller<K, T>, Vec<A>)
+    pub fn into_parts(self) -> (Caller<K>, Vec<A>)
         ensures { result ≡ (self.caller, self.replies) }
     {
         (self.caller, self.replies)

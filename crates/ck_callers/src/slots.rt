@@ -10,31 +10,25 @@ use std::alloc::Global;
 use std::sync::{Arc, Mutex};
 
 /// A place for the board after a call, which is made before the call is answered and filled once it
-/// is. It has two handles: one is appended to the board's operations.
-pub trait Slot<K: TokenId>: Drop {
-    /// The two handles of a slot that is not filled.
-    fn vacant(alloc: Global) -> Result<(Self, Self), NoMemory>;
-
-    /// Fills the slot with the board after a call and the history that it is of. It takes no memory.
-    fn fill(&self, board: TokenBoard, known: &KnownHistory<K>)
-        requires { board ≡ board_of K.limits known.now.history };
-}
-
-/// A slot whose two handles share a place for the board. Only who holds the token's lock uses a
-/// handle, so nobody waits for the lock of the place.
+/// is. It has two handles: one is appended to the board's operations. Only who holds the token's lock
+/// uses a handle, so nobody waits for the lock of the place.
 #[derive(Drop)]
 pub struct EntrySlot<K: TokenId> {
     pub(crate) place: Arc<Mutex<Option<BoardCopy<K>>>>,
 }
 
-impl<K: TokenId> Slot<K> for EntrySlot<K> {
-    fn vacant(alloc: Global) -> Result<(EntrySlot<K>, EntrySlot<K>), NoMemory> {
+impl<K: TokenId> EntrySlot<K> {
+    /// The two handles of a slot that is not filled.
+    pub fn vacant(alloc: Global) -> Result<(EntrySlot<K>, EntrySlot<K>), NoMemory> {
         let place = Arc::new(alloc, Mutex::new(None))?;
         let other = Arc::try_clone(&place)?;
         Ok((EntrySlot { place }, EntrySlot { place: other }))
     }
 
-    fn fill(&self, board: TokenBoard, known: &KnownHistory<K>) {
+    /// Fills the slot with the board after a call and the history that it is of. It takes no memory.
+    pub fn fill(&self, board: TokenBoard, known: &KnownHistory<K>)
+        requires { board ≡ board_of K.limits known.now.history }
+    {
         if let Some(mut place) = self.place.try_lock() {
             *place = Some(BoardCopy::new(board, known));
         }

@@ -29,12 +29,12 @@ impl<K: TokenId> Turn<K, Reply> for Call {
 
     ghost may_fail = { λ call. Unit {0} };
 
-    fn make<T: Drop, G: Gate<K, T>, W: Wait>(
+    fn make<G: Gate<K>, W: Wait>(
         self,
         rt: &W,
         alloc: Global,
         gate: &G,
-        caller: &mut Caller<K, T>,
+        caller: &mut Caller<K>,
     ) -> Result<Reply, NoMemory> {
         gate.call(rt, alloc, caller, self)
     }
@@ -47,12 +47,12 @@ impl<K: TokenId> Turn<K, Answered> for Step {
 
     ghost may_fail = { IsCall };
 
-    fn make<T: Drop, G: Gate<K, T>, W: Wait>(
+    fn make<G: Gate<K>, W: Wait>(
         self,
         rt: &W,
         alloc: Global,
         gate: &G,
-        caller: &mut Caller<K, T>,
+        caller: &mut Caller<K>,
     ) -> Result<Answered, NoMemory> {
         match self {
             Step::Call(call) => {

@@ -18,12 +18,12 @@ pub trait Turn<K: TokenId, A: Drop>: Drop {
     ghost may_fail: { Self → Type 0 };
 
     /// Takes the turn at the gate, as this caller.
-    fn make<T: Drop, G: Gate<K, T>, W: Wait>(
+    fn make<G: Gate<K>, W: Wait>(
         self,
         rt: &W,
         alloc: Global,
         gate: &G,
-        caller: &mut Caller<K, T>,
+        caller: &mut Caller<K>,
     ) -> Result<A, NoMemory>
         ensures made { IfOk result (λ answer. does caller.old self answer caller.new) }
         ensures memory { OnErr result (may_fail self) }
