@@ -1,30 +1,23 @@
 use crate::shared::SharedToken;
-use ck_callers::{Ask, Caller, Gate, ReadBoard, Slot, Status, TokenId};
+use ck_callers::{Ask, Caller, Gate, Status, TokenId};
 use ck_journal::{Call, JournaledToken, Reply};
 use ck_types::NoMemory;
-use left_right::Absorb;
 use std::alloc::Global;
 use std::sync::Wait;
 
 /// A shared token answers the calls of a run, each under its lock.
-impl<
-    K: TokenId,
-    G: JournaledToken,
-    O: Slot<K>,
-    T: Absorb<O> + ReadBoard<K> + Drop,
-    R: Wait + Drop,
-> Gate<K, T> for SharedToken<K, G, O, T, R> {
+impl<K: TokenId, G: JournaledToken, R: Wait + Drop> Gate<K> for SharedToken<K, G, R> {
     fn call<W: Wait>(
         &self,
         rt: &W,
         alloc: Global,
-        caller: &mut Caller<K, T>,
+        caller: &mut Caller<K>,
         call: Call,
     ) -> Result<Reply, NoMemory> {
         SharedToken::call(self, rt, alloc, caller, call)
     }
 
-    fn status(&self, caller: &mut Caller<K, T>, ask: Ask) -> Option<Status> {
+    fn status(&self, caller: &mut Caller<K>, ask: Ask) -> Option<Status> {
         caller.status(ask)
     }
 }

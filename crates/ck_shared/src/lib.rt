@@ -8,5 +8,5 @@ mod shared;
 mod sharing;
 
 pub use locked::Locked;
-pub use shared::{Ends, Shared, SharedCaller, SharedToken};
+pub use shared::{Ends, SharedToken};
 pub use sharing::{CallerWork, share};

@@ -5,7 +5,7 @@ ghost use Rattle.ck_journal.specs.Histories.{◌◁◌, entry_count};
 ghost use Rattle.ck_callers.specs.KnownHistories.{Covers};
 ghost use Rattle.ck_journal.specs.declared.calls.Entry.{Entry};
 
-use ck_callers::{CallBooks, Caller, Front, Head, KnownHistory, ReadBoard, Slot, TokenId};
+use ck_callers::{BoardCopy, CallBooks, Caller, EntrySlot, Front, Head, KnownHistory, TokenId};
 use ck_journal::{Call, JournaledToken, Reply};
 use ck_types::NoMemory;
 use left_right::{Absorb, WriteHandle};
@@ -16,27 +16,21 @@ use std::sync::Wait;
 /// What lies under the lock: the token, and what ties it to its callers and to the board. Contracts
 /// see the token.
 #[derive(Drop)]
-pub struct Locked<
-    K: TokenId,
-    G: JournaledToken,
-    O: Slot<K>,
-    T: Absorb<O> + ReadBoard<K> + Drop,
-    R: Wait + Drop,
-> {
+pub struct Locked<K: TokenId, G: JournaledToken, R: Wait + Drop>
+where
+    BoardCopy<K>: Absorb<EntrySlot<K>, State = ()>,
+{
     token: G,
     books: CallBooks<K>,
     known: KnownHistory<K>,
     head: Head<K>,
-    writer: WriteHandle<T, O, R>,
+    writer: WriteHandle<BoardCopy<K>, EntrySlot<K>, R>,
 }
 
-impl<
-    K: TokenId,
-    G: JournaledToken,
-    O: Slot<K>,
-    T: Absorb<O> + ReadBoard<K> + Drop,
-    R: Wait + Drop,
-> Model for Locked<K, G, O, T, R> {
+impl<K: TokenId, G: JournaledToken, R: Wait + Drop> Model for Locked<K, G, R>
+where
+    BoardCopy<K>: Absorb<EntrySlot<K>, State = ()>,
+{
     ghost use Rattle.std.specs.Prelude.{◌≡◌, []};
     ghost use Rattle.std.specs.Coded.{codes};
     ghost use Rattle.left_right.specs.Handles.{published, pending};
@@ -51,15 +45,15 @@ impl<
     ghost view = { λ l. G.state l.token };
 
     ghost invariant = { λ l. IsTied K.limits K.callers (G.state l.token) l.books l.known
-        (T.history (published l.writer)) × (pending l.writer ≡ []) };
+        (published l.writer) × (pending l.writer ≡ []) };
 }
 
 /// Makes a slot for a call that may change the board, one handle of which is then pending.
-fn add_slot<K: TokenId, O: Slot<K>, T: Absorb<O> + ReadBoard<K> + Drop, R: Wait + Drop>(
+fn add_slot<K: TokenId, R: Wait + Drop>(
     alloc: Global,
-    writer: &mut WriteHandle<T, O, R>,
+    writer: &mut WriteHandle<BoardCopy<K>, EntrySlot<K>, R>,
     leaves: bool,
-) -> Result<Option<O>, NoMemory>
+) -> Result<Option<EntrySlot<K>>, NoMemory>
     ensures published { published writer.new ≡ published writer.old }
     ensures unchanged { OnErr result (pending writer.new ≡ pending writer.old) }
     ensures none { IfOk result (λ slot. IfNone slot
@@ -68,7 +62,7 @@ fn add_slot<K: TokenId, O: Slot<K>, T: Absorb<O> + ReadBoard<K> + Drop, R: Wait 
     if leaves {
         return Ok(None);
     }
-    let (slot, pending) = O::vacant(alloc)?;
+    let (slot, pending) = EntrySlot::vacant(alloc)?;
     match writer.append(pending) {
         Ok(()) => Ok(Some(slot)),
         Err(_) => Err(NoMemory),
@@ -76,12 +70,12 @@ fn add_slot<K: TokenId, O: Slot<K>, T: Absorb<O> + ReadBoard<K> + Drop, R: Wait 
 }
 
 /// Publishes what is pending, until the board that is published is that of the known history.
-fn show<K: TokenId, O: Slot<K>, T: Absorb<O> + ReadBoard<K> + Drop, R: Wait + Drop, W: Wait>(
+fn show<K: TokenId, R: Wait + Drop, W: Wait>(
     rt: &W,
-    writer: &mut WriteHandle<T, O, R>,
+    writer: &mut WriteHandle<BoardCopy<K>, EntrySlot<K>, R>,
     known: &KnownHistory<K>,
 )
-    ensures board { Covers known.now (T.history (published writer.new)) }
+    ensures board { Covers known.now (published writer.new) }
     ensures pending { pending writer.new ≡ [] }
 {
     for _ in rt.forever() {
@@ -93,19 +87,18 @@ fn show<K: TokenId, O: Slot<K>, T: Absorb<O> + ReadBoard<K> + Drop, R: Wait + Dr
 }
 
 /// Shows the token's board by way of a slot. Where there is none, it is shown already.
-fn show_by<
-    K: TokenId,
-    G: JournaledToken,
-    O: Slot<K>,
-    T: Absorb<O> + ReadBoard<K> + Drop,
-    R: Wait + Drop,
-    W: Wait,
->(rt: &W, writer: &mut WriteHandle<T, O, R>, slot: Option<O>, token: &G, known: &KnownHistory<K>)
+fn show_by<K: TokenId, G: JournaledToken, R: Wait + Drop, W: Wait>(
+    rt: &W,
+    writer: &mut WriteHandle<BoardCopy<K>, EntrySlot<K>, R>,
+    slot: Option<EntrySlot<K>>,
+    token: &G,
+    known: &KnownHistory<K>,
+)
     requires limits { (G.state token.now).limits ≡ K.limits }
     requires history { known.now.history ≡ (G.state token.now).history }
-    requires shown { IfNone slot (Covers known.now (T.history (published writer.old))
+    requires shown { IfNone slot (Covers known.now (published writer.old)
         × (pending writer.old ≡ [])) }
-    ensures board { Covers known.now (T.history (published writer.new)) }
+    ensures board { Covers known.now (published writer.new) }
     ensures pending { pending writer.new ≡ [] }
 {
     if let Some(slot) = slot {
@@ -149,13 +142,7 @@ fn await_front<K: TokenId, W: Wait>(rt: &W, other: &Front<K>, front: &Front<K>)
     unreachable!()
 }
 
-impl<
-    K: TokenId,
-    G: JournaledToken,
-    O: Slot<K>,
-    T: Absorb<O> + ReadBoard<K> + Drop,
-    R: Wait + Drop,
-> Locked<K, G, O, T, R> {
+impl<K: TokenId, G: JournaledToken, R: Wait + Drop> Locked<K, G, R> {
     ghost use Rattle.std.specs.Prelude.{◌≡◌, [], IfOk, OnOk, OnErr};
     ghost use Rattle.left_right.specs.Handles.{published, pending};
     ghost use Rattle.ck_journal.specs.Callers.{AreCallers};
@@ -171,10 +158,10 @@ impl<
         books: CallBooks<K>,
         known: KnownHistory<K>,
         head: Head<K>,
-        writer: WriteHandle<T, O, R>,
-    ) -> Locked<K, G, O, T, R>
+        writer: WriteHandle<BoardCopy<K>, EntrySlot<K>, R>,
+    ) -> Locked<K, G, R>
         requires tied { IsTied K.limits K.callers (G.state token) books known
-            (T.history (published writer)) }
+            (published writer) }
         requires pending { pending writer ≡ [] }
         ensures { result ≡ G.state token }
     {
@@ -188,7 +175,7 @@ impl<
     }
 
     /// Takes a caller back. It may wait, until the history is as long as that of the caller.
-    pub(crate) fn settle<W: Wait>(&mut self, rt: &W, caller: Caller<K, T>)
+    pub(crate) fn settle<W: Wait>(&mut self, rt: &W, caller: Caller<K>)
         ensures same { self.new ≡ self.old }
         ensures settled { IsSettled self.old.history caller }
     {
@@ -215,7 +202,7 @@ impl<
         &mut self,
         rt: &W,
         alloc: Global,
-        caller: &mut Caller<K, T>,
+        caller: &mut Caller<K>,
         call: Call,
     ) -> Result<Reply, NoMemory>
         ensures answered { IfOk result (λ reply.

@@ -1,8 +1,5 @@
 use crate::locked::Locked;
-use ck_callers::{
-    BoardCopy, Caller, CallerCount, EntrySlot, NewIdentity, Opened, ReadBoard, Slot, TokenId,
-    WriteBoard,
-};
+use ck_callers::{BoardCopy, Caller, CallerCount, EntrySlot, NewIdentity, Opened, TokenId};
 use ck_journal::{Call, JournaledToken, Reply};
 use ck_types::{Limits, NoMemory};
 use left_right::Absorb;
@@ -10,51 +7,33 @@ use std::alloc::Global;
 use std::sync::{Mutex, Wait};
 
 /// A token behind a lock, which its callers share. `K` stands for the token's history, `G` is the
-/// token's type, `T` is the board that is read without the lock, `O` the slots by which it is changed,
-/// and `R` the runtime.
+/// token's type, and `R` the runtime.
 #[derive(Drop)]
-pub struct SharedToken<
-    K: TokenId,
-    G: JournaledToken,
-    O: Slot<K>,
-    T: Absorb<O> + ReadBoard<K> + Drop,
-    R: Wait + Drop,
-> {
-    lock: Mutex<Locked<K, G, O, T, R>>,
+pub struct SharedToken<K: TokenId, G: JournaledToken, R: Wait + Drop>
+where
+    BoardCopy<K>: Absorb<EntrySlot<K>, State = ()>,
+{
+    lock: Mutex<Locked<K, G, R>>,
     callers: CallerCount<K>,
 }
 
 /// The two ends of a token that is shared: what is shared, and what each caller has.
 #[derive(Drop)]
-pub struct Ends<
-    K: TokenId,
-    G: JournaledToken,
-    O: Slot<K>,
-    T: Absorb<O> + ReadBoard<K> + Drop,
-    R: Wait + Drop,
-> {
-    pub token: SharedToken<K, G, O, T, R>,
-    pub callers: Vec<Caller<K, T>>,
+pub struct Ends<K: TokenId, G: JournaledToken, R: Wait + Drop>
+where
+    BoardCopy<K>: Absorb<EntrySlot<K>, State = ()>,
+{
+    pub token: SharedToken<K, G, R>,
+    pub callers: Vec<Caller<K>>,
 }
 
-/// A shared token with the slots and the board of ck_callers.
-pub type Shared<K, G, R> = SharedToken<K, G, EntrySlot<K>, BoardCopy<K>, R>;
-
-/// A caller of such a token.
-pub type SharedCaller<K> = Caller<K, BoardCopy<K>>;
-
-impl<
-    K: TokenId,
-    G: JournaledToken,
-    O: Slot<K>,
-    T: WriteBoard<K, O> + Drop,
-    R: Wait + Drop,
-> SharedToken<K, G, O, T, R> {
-    ghost use Rattle.std.specs.Prelude.{◌≡◌, ◌≤◌, ℕ, IfOk, IfErr};
+impl<K: TokenId, G: JournaledToken, R: Wait + Drop> SharedToken<K, G, R> {
+    ghost use Rattle.std.specs.Prelude.{◌≡◌, ◌≤◌, ℕ, true, false, All, IfOk, OnOk, IfErr, OnErr};
     ghost use Rattle.ck_journal.specs.Bases.{empty_base};
+    ghost use Rattle.ck_journal.specs.Callers.{AreCallers};
     ghost use Rattle.ck_journal.specs.Histories.{start};
     ghost use Rattle.ck_callers.specs.Accounts.{name_of};
-    ghost use Rattle.ck_callers.specs.Callers.{new_callers};
+    ghost use Rattle.ck_callers.specs.Callers.{HasCalled, IsSettled, are_all, new_callers};
 
     /// Shares a token whose journal has no entry among the callers 1 to `callers`. Where there is
     /// no memory, the token comes back.
@@ -64,7 +43,7 @@ impl<
         token: G,
         callers: u32,
         identity: NewIdentity,
-    ) -> Result<Ends<K, G, O, T, R>, (G, NoMemory)>
+    ) -> Result<Ends<K, G, R>, (G, NoMemory)>
         requires history { (G.state token).history ≡ start K.base }
         requires limits { (G.state token).limits ≡ K.limits }
         requires callers { (1 ≤ callers) × (callers ≤ 8) × (callers ≡ K.callers) }
@@ -98,7 +77,7 @@ impl<
         limits: Limits,
         callers: u32,
         identity: NewIdentity,
-    ) -> Result<Ends<K, G, O, T, R>, NoMemory>
+    ) -> Result<Ends<K, G, R>, NoMemory>
         requires base { K.base ≡ empty_base }
         requires limits { limits ≡ K.limits }
         requires callers { (1 ≤ callers) × (callers ≤ 8) × (callers ≡ K.callers) }
@@ -109,25 +88,13 @@ impl<
         let token = G::new(alloc, limits);
         SharedToken::adopt(rt, alloc, token, callers, identity).map_err(|refused| refused.1)
     }
-}
-
-impl<
-    K: TokenId,
-    G: JournaledToken,
-    O: Slot<K>,
-    T: Absorb<O> + ReadBoard<K> + Drop,
-    R: Wait + Drop,
-> SharedToken<K, G, O, T, R> {
-    ghost use Rattle.std.specs.Prelude.{◌≡◌, true, false, All, IfOk, OnOk, IfErr, OnErr};
-    ghost use Rattle.ck_journal.specs.Callers.{AreCallers};
-    ghost use Rattle.ck_callers.specs.Callers.{HasCalled, IsSettled, are_all};
 
     /// One call of a caller, under the lock.
     pub fn call<W: Wait>(
         &self,
         rt: &W,
         alloc: Global,
-        caller: &mut Caller<K, T>,
+        caller: &mut Caller<K>,
         call: Call,
     ) -> Result<Reply, NoMemory>
         ensures called { IfOk result (λ reply.
@@ -143,8 +110,8 @@ impl<
     pub fn close<W: Wait>(
         self,
         rt: &W,
-        callers: Vec<Caller<K, T>>,
-    ) -> Result<G, (SharedToken<K, G, O, T, R>, Vec<Caller<K, T>>)>
+        callers: Vec<Caller<K>>,
+    ) -> Result<G, (SharedToken<K, G, R>, Vec<Caller<K>>)>
         ensures all { OnOk result (are_all K.callers callers.items ≡ true) }
         ensures missing { OnErr result (are_all K.callers callers.items ≡ false) }
         ensures back { IfErr result (λ refused. refused.1 ≡ callers) }
@@ -163,7 +130,7 @@ impl<
     }
 
     /// What lies under the lock, whatever has come of the callers.
-    pub(crate) fn into_locked(self) -> Locked<K, G, O, T, R> {
+    pub(crate) fn into_locked(self) -> Locked<K, G, R> {
         self.lock.into_inner()
     }
 }

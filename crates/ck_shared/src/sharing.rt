@@ -7,11 +7,10 @@ ghost use Rattle.ck_callers.specs.Accounts.{name_of};
 ghost use Rattle.ck_shared.specs.Outputs.{IsOfCaller};
 
 use crate::locked::Locked;
-use crate::shared::{Ends, Shared, SharedToken};
-use ck_callers::{Caller, Gate, NewIdentity, ReadBoard, Slot, TokenId};
+use crate::shared::{Ends, SharedToken};
+use ck_callers::{Caller, Gate, NewIdentity, TokenId};
 use ck_journal::JournaledToken;
 use ck_types::NoMemory;
-use left_right::Absorb;
 use std::alloc::Global;
 use std::marker::Brand;
 use std::sync::Wait;
@@ -29,12 +28,12 @@ pub trait CallerWork<R> {
     ghost tells: { Self → CallerState → Self.Output → Type 0 };
 
     /// What this caller does at the gate, which is the shared token.
-    fn act<K: TokenId, T: Drop, G: Gate<K, T>>(
+    fn act<K: TokenId, G: Gate<K>>(
         &self,
         rt: &R,
         alloc: Global,
         gate: &G,
-        caller: &mut Caller<K, T>,
+        caller: &mut Caller<K>,
     ) -> Self::Output
         ensures { tells self.now caller.new result };
 }
@@ -42,24 +41,23 @@ pub trait CallerWork<R> {
 /// All callers do their work, each in a thread of its own. They come back with what came of it.
 fn act_together<
     K: TokenId + Send + Sync,
-    T: Drop + Send + Sync,
-    G: Gate<K, T> + Sync,
+    G: Gate<K> + Sync,
     S: CallerWork<R> + Sync,
     R: Threads + Wait + Sync,
 >(
     rt: &R,
     alloc: Global,
     gate: &G,
-    callers: Vec<Caller<K, T>>,
+    callers: Vec<Caller<K>>,
     work: &S,
-) -> Result<Vec<(S::Output, Caller<K, T>)>, NoMemory>
+) -> Result<Vec<(S::Output, Caller<K>)>, NoMemory>
     ensures len { IfOk result (λ done. vec_len done ≡ vec_len callers) }
     ensures told { IfOk result (λ done. All (λ d. S.tells work.now d.1 d.0) done.items) }
 {
     let done = thread::map_vec(
         rt,
         callers,
-        &|mut caller: Caller<K, T>|
+        &|mut caller: Caller<K>|
             ensures { S.tells work.entry.now result.1 result.0 }
         {
             let output = work.act(rt, alloc, gate, &mut caller);
@@ -70,18 +68,11 @@ fn act_together<
 }
 
 /// Takes all callers back, and keeps what came of their work.
-fn settle_all<
-    K: TokenId,
-    G: JournaledToken,
-    O: Slot<K>,
-    T: Absorb<O> + ReadBoard<K> + Drop,
-    S: CallerWork<R>,
-    R: Wait + Drop,
->(
+fn settle_all<K: TokenId, G: JournaledToken, S: CallerWork<R>, R: Wait + Drop>(
     rt: &R,
-    locked: &mut Locked<K, G, O, T, R>,
+    locked: &mut Locked<K, G, R>,
     work: &S,
-    done: Vec<(S::Output, Caller<K, T>)>,
+    done: Vec<(S::Output, Caller<K>)>,
     outputs: &mut Vec<S::Output>,
 )
     requires none { outputs.old.items ≡ [] }
@@ -101,15 +92,13 @@ fn settle_all<
 fn work_on<
     K: TokenId + Send + Sync,
     G: JournaledToken + Send,
-    O: Slot<K> + Send,
-    T: Absorb<O> + ReadBoard<K> + Drop + Send + Sync,
     S: CallerWork<R> + Sync,
     R: Threads + Wait + Drop + Send + Sync,
 >(
     rt: &R,
     alloc: Global,
-    shared: SharedToken<K, G, O, T, R>,
-    callers: Vec<Caller<K, T>>,
+    shared: SharedToken<K, G, R>,
+    callers: Vec<Caller<K>>,
     work: &S,
 ) -> (G, Result<Vec<S::Output>, NoMemory>)
     ensures limits { (G.state result.0).limits ≡ K.limits }
@@ -161,7 +150,7 @@ fn share_as<
 {
     let limits = token.limits();
     let own = mem::replace(token, G::new(alloc, limits));
-    match Shared::<K, G, R>::adopt(rt, alloc, own, callers, identity) {
+    match SharedToken::<K, G, R>::adopt(rt, alloc, own, callers, identity) {
         Ok(
             Ends {
                 token: shared,

@@ -36,10 +36,9 @@ show_by-requires-clause-shown g c =
     if_none c.in_ok-slot.slot c.in_ok-slot.ensures.none (λ kept. (
       covered_on (entry_by c.number-number.result c.args.call c.in-Ok.reply) c.leaves_board-leaves.result
           c.self.inside.known c.follow.new.self h c.extend.new.front
-          (g.T.ReadBoard.history (published c.self.inside.writer))
-          (g.T.ReadBoard.history (published c.add_slot.new.writer)) kept.0
+          (published c.self.inside.writer) (published c.add_slot.new.writer) kept.0
           c.follow.ensures.changed c.follow.ensures.history (c.extend.ensures.0 ∙ entered)
-          c.self.invariant.0.history (ap g.T.ReadBoard.history c.in_ok-slot.ensures.published)
+          c.self.invariant.0.history c.in_ok-slot.ensures.published
           c.self.invariant.0.published,
       kept.1 ∙ c.self.invariant.1,
     ))
