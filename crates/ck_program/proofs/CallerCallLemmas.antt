@@ -62,7 +62,7 @@ all_answered (Ok u) n m is made = made
 all_answered (Err e) n m is made = cc is
 
 -- a script that was played from its first call on
-pub played_all : {K T : Type 0} (calls : List (ℕ × Call)) (old new : Script K T Call Reply)
+pub played_all : {K : Type 0} (calls : List (ℕ × Call)) (old new : Script K Call Reply)
     → IsUnplayed calls old → IsPlayed old new → IsPlayedAll calls new
 played_all calls old new unplayed played done =
     let p = played.0 in

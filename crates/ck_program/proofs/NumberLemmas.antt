@@ -27,8 +27,8 @@ one_moved f g moved longer a left rest b all before next pushed same =
     ∙ ap (λ xs. map f moved ++ map g xs) (sym next) ∙ before
 
 -- scripts keep the numbers of their callers where each does
-pub same_numbers : {K T : Type 0} (old new : List (Script K T Call Reply)) → length new ≡ length old
-    → ((k : ℕ) (d : Script K T Call Reply) → k < length old
+pub same_numbers : {K : Type 0} (old new : List (Script K Call Reply)) → length new ≡ length old
+    → ((k : ℕ) (d : Script K Call Reply) → k < length old
     → (slice_index_or new k d).caller.number ≡ (slice_index_or old k d).caller.number)
     → script_numbers new ≡ script_numbers old
 same_numbers [] [] same each = refl

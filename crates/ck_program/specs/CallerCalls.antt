@@ -27,7 +27,7 @@ abbrev pub numbers : List CallerState → List ℕ
 numbers callers = map (λ c. c.number) callers
 
 -- those of the scripts' callers
-abbrev pub script_numbers : {K T : Type 0} → List (Script K T Call Reply) → List ℕ
+abbrev pub script_numbers : {K : Type 0} → List (Script K Call Reply) → List ℕ
 script_numbers scripts = map (λ s. s.caller.number) scripts
 
 -- ---- of one caller
@@ -41,10 +41,10 @@ abbrev pub HasMadeAll : List (ℕ × Call) → CallerState → Type 0
 HasMadeAll calls c = HasEntriesOf calls c.number c.last × IsFront (start empty_base) c.seen
 
 -- the script is of its caller's calls, none of which is made
-abbrev pub IsUnplayed : {K T : Type 0} → List (ℕ × Call) → Script K T Call Reply → Type 0
+abbrev pub IsUnplayed : {K : Type 0} → List (ℕ × Call) → Script K Call Reply → Type 0
 IsUnplayed calls s =
     (vec_items s.steps ≡ calls_by s.caller.number calls) × IsNewCaller s.caller
 
 -- the script was played: where that ended well, its caller has made all of its calls
-abbrev pub IsPlayedAll : {K T : Type 0} → List (ℕ × Call) → Script K T Call Reply → Type 0
+abbrev pub IsPlayedAll : {K : Type 0} → List (ℕ × Call) → Script K Call Reply → Type 0
 IsPlayedAll calls s = s.outcome ≡ Ok tt → HasMadeAll calls s.caller

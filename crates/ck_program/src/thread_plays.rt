@@ -16,7 +16,7 @@ use crate::options::Callers;
 use ck_audit::{Verdict, audit_token};
 use ck_callers::{Caller, NewIdentity, Script, TokenId, run_scripts};
 use ck_journal::{Call, JournaledToken};
-use ck_shared::{Ends, Shared, SharedCaller};
+use ck_shared::{Ends, SharedToken};
 use ck_types::{Limits, NoMemory};
 use std::alloc::Global;
 use std::marker::Brand;
@@ -50,11 +50,11 @@ fn calls_by(alloc: Global, calls: &[(u32, Call)], number: u32) -> Result<Vec<Cal
 }
 
 /// A script of the caller's calls.
-fn script_of<K: TokenId, T: Drop>(
+fn script_of<K: TokenId>(
     alloc: Global,
-    caller: Caller<K, T>,
+    caller: Caller<K>,
     calls: &[(u32, Call)],
-) -> Result<Script<K, T>, NoMemory>
+) -> Result<Script<K>, NoMemory>
     requires { IsNewCaller caller }
     ensures unplayed { IfOk result (IsUnplayed calls.now) }
     ensures number { IfOk result (λ script. script.caller.number ≡ caller.number) }
@@ -67,11 +67,11 @@ fn script_of<K: TokenId, T: Drop>(
 }
 
 /// For each caller a script of its calls.
-fn scripts_of<K: TokenId, T: Drop>(
+fn scripts_of<K: TokenId>(
     alloc: Global,
-    callers: Vec<Caller<K, T>>,
+    callers: Vec<Caller<K>>,
     calls: &[(u32, Call)],
-) -> Result<Vec<Script<K, T>>, NoMemory>
+) -> Result<Vec<Script<K>>, NoMemory>
     requires { All IsNewCaller callers.items }
     ensures unplayed { IfOk result (λ scripts. All (IsUnplayed calls.now) scripts.items) }
     ensures numbers { IfOk result (λ scripts.
@@ -86,7 +86,7 @@ fn scripts_of<K: TokenId, T: Drop>(
 }
 
 /// The caller of a script that was played to its end.
-fn caller_of<K: TokenId, T: Drop>(script: Script<K, T>) -> Result<Caller<K, T>, NoMemory>
+fn caller_of<K: TokenId>(script: Script<K>) -> Result<Caller<K>, NoMemory>
     ensures made { (calls : List (ℕ × Call)) → IsPlayedAll calls script
         → IfOk result (HasMadeAll calls) }
     ensures number { IfOk result (λ caller. caller.number ≡ script.caller.number) }
@@ -96,10 +96,10 @@ fn caller_of<K: TokenId, T: Drop>(script: Script<K, T>) -> Result<Caller<K, T>, 
 }
 
 /// The callers of scripts that were played to their ends.
-fn callers_of<K: TokenId, T: Drop>(
+fn callers_of<K: TokenId>(
     alloc: Global,
-    scripts: Vec<Script<K, T>>,
-) -> Result<Vec<Caller<K, T>>, NoMemory>
+    scripts: Vec<Script<K>>,
+) -> Result<Vec<Caller<K>>, NoMemory>
     ensures made { (calls : List (ℕ × Call)) → All (IsPlayedAll calls) scripts.items
         → IfOk result (λ callers. All (HasMadeAll calls) callers.items) }
     ensures numbers { IfOk result (λ callers.
@@ -121,10 +121,10 @@ fn play_scripts<
 >(
     rt: R,
     alloc: Global,
-    token: &Shared<K, G, R>,
-    callers: Vec<SharedCaller<K>>,
+    token: &SharedToken<K, G, R>,
+    callers: Vec<Caller<K>>,
     calls: &[(u32, Call)],
-) -> Result<Vec<SharedCaller<K>>, NoMemory>
+) -> Result<Vec<Caller<K>>, NoMemory>
     requires { All IsNewCaller callers.items }
     ensures made { IfOk result (λ callers. All (HasMadeAll calls.now) callers.items) }
     ensures numbers { IfOk result (λ back. numbers back.items ≡ numbers callers.items) }
@@ -158,7 +158,9 @@ fn play_shared<
     ensures all { IfOk result (λ token. (number : ℕ) → 1 ≤ number → number ≤ callers
         → HasEntriesOf calls.now number (G.state token).history) }
 {
-    let Ends { token, callers } = Shared::<K, G, R>::open(rt, alloc, limits, callers, identity)?;
+    let Ends { token, callers } = SharedToken::<K, G, R>::open(
+        rt, alloc, limits, callers, identity,
+    )?;
     let callers = play_scripts(rt, alloc, &token, callers, calls)?;
     match token.close(&rt, callers) {
         Ok(token) => Ok(token),
