@@ -2,11 +2,11 @@
 """Refuses each growth of memory in turn, of the programs that play cases, scripts and the races of a shared token.
 
 Each case of the files in crates/ck_cases/data but of many_objects.cases, which has too many growths, or of the files
-that are named, is played once for each growth of memory, which is refused. What finds no memory, a call, a run or a
-cut, the program of cases makes again after a look at the journal: so the case passes, or the program itself is out of
-memory. The calls of a case are also played as a script: all replies are written, or whole lines at their front, and
-then the program says that it is out of memory. Where anything else comes, it is printed, and the status is 1. Bad lines
-are left out: they make no call, and without memory one may have another reason. Changed journals aren't audited.
+that are named, is played once for each growth of memory, which is refused. What finds no memory, a call, a cut or an
+audit, the program of cases makes again after a look at the journal: so the case passes, or the program itself is out
+of memory. The calls of a case are also played as a script: all replies are written, or whole lines at their front,
+and then the program says that it is out of memory. Where anything else comes, it is printed, and the status is 1. Bad
+lines are left out: they make no call, and without memory one may have another reason.
 
 The calls of each race in crates/ck_races/data are made one after the other, by callers of a shared token. Where one
 finds no memory, its caller knows and sees what it did before, and the next call of another caller adds one entry; then
@@ -99,7 +99,7 @@ def calls_in(case):
 
 def is_case_right(ended, name, plain):
     """The case passes, or the program itself is out of memory."""
-    if ended.output == plain.output or ended.output == f"{name}: 1 passed, 1 made again\n".encode():
+    if ended.output in (plain.output, plain.output[:-1] + b", 1 made again\n"):
         return ended.status == 0
     without_memory = (b"", f"{name}: out of memory\n".encode(), f"{name}, the race of line 1: out of memory\n".encode())
     return ended.status == 1 and ended.output in without_memory
@@ -113,14 +113,15 @@ def is_script_right(ended, plain):
     return is_front and ended.status == 3 and ended.errors == b"ck_run: out of memory\n"
 
 
-def check_case(library, command, name, lines):
-    """How many growths the case makes, after how many something was made again, and what was wrong."""
+def check_case(library, command, name, lines, passed):
+    """How many growths the case makes, after how many something was made again, and what was wrong. Without a refused
+    growth so many pass: the lines of a case, or one race."""
     with tempfile.NamedTemporaryFile("w", suffix=".cases", encoding="utf-8", newline="\n") as file:
         file.write("\n".join(lines) + "\n")
         file.flush()
         words = [*command, file.name]
         plain = play(library, words, b"", 0)
-        if plain.output != f"{file.name}: 1 passed\n".encode():
+        if plain.output != f"{file.name}: {passed} passed\n".encode():
             return 0, 0, [f"{name}: {plain.output}"]
         retries = 0
         faults = []
@@ -154,12 +155,12 @@ def main(paths, races):
         for path in paths:
             for number, lines in cases_in(path):
                 name = f"{os.path.basename(path)}, line {number}"
-                checks.append(pool.submit(check_case, library, [CASES], name, lines))
+                checks.append(pool.submit(check_case, library, [CASES], name, lines, len(lines) - 1))
                 if lines[0] == LARGEST:
                     checks.append(pool.submit(check_script, library, name, lines))
         for number, lines in races:
             name = f"{os.path.basename(RACES_DATA)}, line {number}"
-            checks.append(pool.submit(check_case, library, [RACES, "alone"], name, lines))
+            checks.append(pool.submit(check_case, library, [RACES, "alone"], name, lines, 1))
         results = [check.result() for check in checks]
     faults = [fault for _, _, of_case in results for fault in of_case]
     print("\n".join(faults))

@@ -1,7 +1,7 @@
-//! The cases of a file. A line `limits SESSIONS OPENINGS CREATIONS LOGINS`, or `limits largest`,
-//! begins a case on a new token, and so does the first step of the file. Each other line is a step:
-//! what is done, an arrow, and what comes of it. Empty lines and lines that begin with `#` are
-//! skipped.
+//! The lines of a file of cases. A line `limits SESSIONS OPENINGS CREATIONS LOGINS`, or `limits
+//! largest`, begins a case on a new token; in front of the first such line the token has the largest
+//! limits. Each other line is what is done, an arrow, and what comes of it. Empty lines and lines
+//! that begin with `#` are skipped.
 //!
 //! - `1 OpenSession 6 -> 0 1`: a line of a script and its reply.
 //! - `1 OpenSession E -> bad script: ..`: a line that is none of a script's, and why.
@@ -10,63 +10,38 @@
 //! - `audit 1 9 9 9 -> entry 3 is wrong`: the journal is audited as one of a token of these limits,
 //!   and its first reply that isn't such a token's is that of this entry; or `-> legal`.
 use crate::case_errors::CaseError;
-use ck_journal::Call;
-use ck_script::{BadLine, Line, LineError};
-use ck_types::{Limits, NoMemory};
+use crate::retries::RetryingToken;
+use ck_audit::Verdict;
+use ck_journal::Journal;
+use ck_script::{Line, LineError, reply_line};
+use ck_token::Uncut;
+use ck_types::Limits;
 use std::alloc::Global;
+use std::fmt;
 
-/// What is done to the token.
-#[derive(Drop)]
-pub(crate) enum Action {
-    Call { caller: u32, call: Call },
-    /// Nothing: the line is bad.
-    BadLine(BadLine),
-    Cut,
-    /// An audit under these limits.
-    Audit(Limits),
+/// How many lines with an arrow passed, and how often something was done again that had found no
+/// memory.
+#[derive(Clone, Copy)]
+pub(crate) struct Passed {
+    lines: u64,
+    retries: u64,
 }
 
-/// A step of a case, with the number of its line.
-#[derive(Drop)]
-pub(crate) struct Step<'a> {
-    pub(crate) number: u64,
-    pub(crate) action: Action,
-    /// What comes of it, as a text.
-    pub(crate) outcome: &'a str,
-}
-
-impl<'a> Step<'a> {
-    /// The call with its caller, where the step makes one.
-    pub(crate) fn call(&self) -> Option<(u32, &Call)> {
-        match &self.action {
-            Action::Call { caller, call } => Some((*caller, call)),
-            Action::BadLine(_) | Action::Cut | Action::Audit(_) => None,
+impl fmt::Display for Passed {
+    fn fmt<W: fmt::Write>(&self, f: &mut fmt::Formatter<W>) -> fmt::Result {
+        write!(f, "{} passed", self.lines)?;
+        if self.retries > 0 {
+            write!(f, ", {} made again", self.retries)?;
         }
-    }
-
-    pub(crate) fn is_cut(&self) -> bool {
-        matches!(self.action, Action::Cut)
+        Ok(())
     }
 }
 
-/// Steps on one token, which has these limits.
-#[derive(Drop)]
-pub(crate) struct Case<'a> {
-    pub(crate) limits: Limits,
-    pub(crate) steps: Vec<Step<'a>>,
-}
-
-impl<'a> Case<'a> {
-    fn new(alloc: Global, limits: Limits) -> Case<'a> {
-        Case {
-            limits,
-            steps: Vec::new(alloc),
-        }
-    }
-}
-
-/// The limits of four numbers.
+/// The limits of four numbers, or of the word `largest`.
 fn limits_of(text: &str) -> Option<Limits> {
+    if text == "largest" {
+        return Some(Limits::largest());
+    }
     let mut words = text.split(' ');
     let mut numbers = [0; 4];
     for number in numbers.iter_mut() {
@@ -79,96 +54,96 @@ fn limits_of(text: &str) -> Option<Limits> {
     Limits::of(sessions, openings, creations, logins)
 }
 
-/// The limits that the line of this number gives by four numbers, or by the word `largest`.
-fn limits_in(number: u64, text: &str) -> Result<Limits, CaseError> {
-    if text == "largest" {
-        return Ok(Limits::largest());
+/// How many entries a cut takes out, or why the journal isn't cut.
+fn cut_text(alloc: Global, cut: Result<Journal, Uncut>) -> Result<String, CaseError> {
+    match cut {
+        Ok(journal) => Ok(format!(in alloc; "entries {}", journal.len())?),
+        Err(refused) => Ok(format!(in alloc; "{refused}")?),
     }
-    limits_of(text).ok_or(CaseError::NoCase(number))
 }
 
-/// What the line of this number says before its arrow.
-fn action_in(alloc: Global, number: u64, text: &str) -> Result<Action, CaseError> {
-    if text == "cut" {
-        return Ok(Action::Cut);
+fn verdict_text(alloc: Global, verdict: Verdict) -> Result<String, CaseError> {
+    match verdict {
+        Verdict::Legal => Ok(String::from_str(alloc, "legal")?),
+        Verdict::Wrong(number) => Ok(format!(in alloc; "entry {number} is wrong")?),
     }
-    if let Some(limits) = text.strip_prefix("audit ") {
-        return Ok(Action::Audit(limits_in(number, limits)?));
-    }
+}
+
+/// What comes of a script's line, which is the line of this number up to its arrow.
+fn reply_text(
+    alloc: Global,
+    token: &mut RetryingToken,
+    number: u64,
+    text: &str,
+) -> Result<String, CaseError> {
     match Line::parse(alloc, text.as_bytes()) {
-        Ok(Line::Called { caller, call }) => Ok(Action::Call { caller, call }),
-        Ok(Line::Skipped) => Err(CaseError::NoCase(number)),
-        Err(LineError::Bad(reason)) => Ok(Action::BadLine(reason)),
+        Ok(Line::Called { caller, call }) => {
+            let reply = token.call(alloc, caller, &call)?;
+            Ok(reply_line(alloc, &reply)?)
+        }
+        Ok(Line::Skipped) => Err(CaseError::NoLine(number)),
+        Err(LineError::Bad(reason)) => Ok(format!(in alloc; "bad script: {reason}")?),
         Err(LineError::Memory) => Err(CaseError::Memory),
     }
 }
 
-/// The step that the line of this number says.
-fn step_in<'a>(alloc: Global, number: u64, line: &'a str) -> Result<Step<'a>, CaseError> {
-    let (text, outcome) = line.split_once(" -> ").ok_or(CaseError::NoCase(number))?;
-    let action = action_in(alloc, number, text)?;
-    Ok(Step {
-        number,
-        action,
-        outcome,
+/// What comes of the line of this number, whose text up to its arrow this is.
+fn outcome_of(
+    alloc: Global,
+    token: &mut RetryingToken,
+    number: u64,
+    text: &str,
+) -> Result<String, CaseError> {
+    if text == "cut" {
+        return cut_text(alloc, token.cut(alloc)?);
+    }
+    if let Some(limits) = text.strip_prefix("audit ") {
+        let limits = limits_of(limits).ok_or(CaseError::NoLine(number))?;
+        return verdict_text(alloc, token.audit(alloc, limits)?);
+    }
+    reply_text(alloc, token, number, text)
+}
+
+/// Plays the line of this number, and says whether it has an arrow.
+fn play_line(
+    alloc: Global,
+    token: &mut RetryingToken,
+    number: u64,
+    line: &str,
+) -> Result<bool, CaseError> {
+    if line.is_empty() || line.starts_with('#') {
+        return Ok(false);
+    }
+    if let Some(limits) = line.strip_prefix("limits ") {
+        token.start(alloc, limits_of(limits).ok_or(CaseError::NoLine(number))?);
+        return Ok(false);
+    }
+    let (text, outcome) = line.split_once(" -> ").ok_or(CaseError::NoLine(number))?;
+    let came = outcome_of(alloc, token, number, text)?;
+    if came.as_str() == outcome {
+        return Ok(true);
+    }
+    Err(CaseError::Differs(number, came))
+}
+
+/// Plays the lines of a file.
+fn play_lines(alloc: Global, token: &mut RetryingToken, text: &str) -> Result<Passed, CaseError> {
+    let mut number = 0u64;
+    let mut lines = 0u64;
+    for line in text.lines() {
+        number = number.saturating_add(1);
+        if play_line(alloc, token, number, line)? {
+            lines = lines.saturating_add(1);
+        }
+    }
+    Ok(Passed {
+        lines,
+        retries: token.retries(),
     })
 }
 
-/// Where there is no case yet, begins one of the largest limits.
-fn begin_first(alloc: Global, cases: &mut Vec<Case>) -> Result<(), NoMemory> {
-    if cases.is_empty() {
-        cases.push(Case::new(alloc, Limits::largest()))?;
-    }
-    Ok(())
-}
-
-/// Adds a step to the newest case.
-fn add_step<'a>(cases: &mut [Case<'a>], step: Step<'a>) -> Result<(), NoMemory> {
-    if let Some(case) = cases.last_mut() {
-        case.steps.push(step)?;
-    }
-    Ok(())
-}
-
-/// Begins a case with the limits that the line of this number gives.
-fn begin_case(
-    alloc: Global,
-    cases: &mut Vec<Case>,
-    number: u64,
-    text: &str,
-) -> Result<(), CaseError> {
-    let limits = limits_in(number, text)?;
-    cases.push(Case::new(alloc, limits))?;
-    Ok(())
-}
-
-/// Adds what the line of this number says to the cases.
-fn add_line<'a>(
-    alloc: Global,
-    cases: &mut Vec<Case<'a>>,
-    number: u64,
-    line: &'a str,
-) -> Result<(), CaseError> {
-    if line.is_empty() || line.starts_with('#') {
-        return Ok(());
-    }
-    match line.strip_prefix("limits ") {
-        Some(limits) => begin_case(alloc, cases, number, limits),
-        None => {
-            let step = step_in(alloc, number, line)?;
-            begin_first(alloc, cases)?;
-            Ok(add_step(cases.as_mut_slice(), step)?)
-        }
-    }
-}
-
-/// The cases of a file.
-pub(crate) fn cases_in<'a>(alloc: Global, text: &'a str) -> Result<Vec<Case<'a>>, CaseError> {
-    let mut cases = Vec::new(alloc);
-    let mut number = 0u64;
-    for line in text.lines() {
-        number = number.saturating_add(1);
-        add_line(alloc, &mut cases, number, line)?;
-    }
-    Ok(cases)
+/// Plays the lines of a file on tokens of their own.
+pub(crate) fn play_text(alloc: Global, text: &str) -> Result<Passed, CaseError> {
+    let mut token = RetryingToken::new(alloc);
+    play_lines(alloc, &mut token, text)
 }

@@ -1,27 +1,20 @@
 //! Plays files of cases, whose lines are calls with the replies that they must have, and writes a
-//! line for each file: how many cases passed, or the first reply that differs. A call that finds no
-//! memory is made again, and the line says how many were. With the word `--changes` before the
-//! names each of the first replies of a journal is changed too, and an audit must find that.
+//! line for each file: how many lines passed, or the first one of which something else comes. What
+//! finds no memory is done again, and the line says how often that was.
 #![tactic(auto)]
 
 mod case_errors;
 mod cases;
-mod changed_journals;
-mod replays;
 mod retries;
 
-use replays::play_text;
+use cases::play_text;
 use std::env::Env;
 use std::fs::Files;
 use std::process::ExitCode;
 use std::{env, fs, io};
 
-/// Plays the file of this name, and says whether its cases pass.
-fn play_file<R: Files + Print + AllocGlobal>(
-    rt: &R,
-    name: &str,
-    changes: bool,
-) -> io::Result<bool> {
+/// Plays the file of this name, and says whether its lines pass.
+fn play_file<R: Files + Print + AllocGlobal>(rt: &R, name: &str) -> io::Result<bool> {
     let text = match fs::read_to_string(rt, name) {
         Ok(text) => text,
         Err(error) => {
@@ -29,7 +22,7 @@ fn play_file<R: Files + Print + AllocGlobal>(
             return Ok(false);
         }
     };
-    match play_text(rt.alloc(), text.as_str(), changes) {
+    match play_text(rt.alloc(), text.as_str()) {
         Ok(passed) => {
             println!(rt; "{name}: {passed}")?;
             Ok(true)
@@ -41,16 +34,11 @@ fn play_file<R: Files + Print + AllocGlobal>(
     }
 }
 
-/// Plays the files that the arguments name, and says whether all of their cases pass.
+/// Plays the files that the arguments name, and says whether all of their lines pass.
 fn play_files<R: Env + Files + Print + AllocGlobal>(rt: &R) -> io::Result<bool> {
     let mut all_pass = true;
-    let mut changes = false;
-    for word in env::args(rt)?.skip(1) {
-        if word.as_str() == "--changes" {
-            changes = true;
-        } else {
-            all_pass = play_file(rt, word.as_str(), changes)? && all_pass;
-        }
+    for name in env::args(rt)?.skip(1) {
+        all_pass = play_file(rt, name.as_str())? && all_pass;
     }
     Ok(all_pass)
 }
