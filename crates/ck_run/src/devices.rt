@@ -3,7 +3,7 @@ use ck_program::{MemorySink, MemorySource, PlayFault, play_with};
 use ck_token::Token;
 use ck_types::Limits;
 use std::alloc::Global;
-use std::test::Fail;
+use std::process::Abort;
 
 /// How devices in memory move bytes, and which of their reads and writes fail: 0 is none.
 #[derive(Clone, Copy)]
@@ -39,21 +39,41 @@ impl Devices {
 }
 
 /// How playing ends: as the program's text without a bad line's reason, or as `played`.
-fn end_text(alloc: Global, played: Result<(), PlayFault>) -> Result<String, Fail> {
+fn end_text(played: Result<(), PlayFault>) -> &'static str {
     match played {
-        Ok(()) => Ok(String::from_str(alloc, "played")?),
-        Err(PlayFault::Line(number, _)) => Ok(format!(in alloc; "line {number}")?),
-        Err(fault) => Ok(format!(in alloc; "{fault}")?),
+        Ok(()) => "played",
+        Err(PlayFault::Line(1, _)) => "line 1",
+        Err(PlayFault::Line(2, _)) => "line 2",
+        Err(PlayFault::Line(3, _)) => "line 3",
+        Err(PlayFault::Line(4, _)) => "line 4",
+        Err(PlayFault::Line(_, _)) => "a later line",
+        Err(PlayFault::Read) => "read fault",
+        Err(PlayFault::Write) => "write fault",
+        Err(PlayFault::Memory) => "out of memory",
+        Err(PlayFault::Turns) => "reader does not end",
     }
 }
 
-/// What is written while a script is played, and at its end how that ends.
-pub(crate) fn transcript(alloc: Global, script: &[u8], devices: Devices) -> Result<String, Fail> {
-    let mut reader = devices.reader(script);
-    let mut writer = devices.writer(alloc);
+/// Plays a script, and says how that ends.
+fn play(alloc: Global, script: &[u8], devices: Devices, writer: &mut MemorySink) -> &'static str {
     let limits = Limits::largest();
-    let result = play_with::<Token, _, _>(alloc, limits, &mut reader, &mut writer, devices.turns);
-    let mut text = String::from_utf8_lossy(alloc, writer.as_slice())?;
-    text.push_str(end_text(alloc, result)?.as_str())?;
-    Ok(text)
+    let mut reader = devices.reader(script);
+    end_text(play_with::<Token, _, _>(alloc, limits, &mut reader, writer, devices.turns))
+}
+
+/// Plays a script: these replies are written, and playing ends so.
+pub(crate) fn check_play(
+    rt: &impl Abort,
+    alloc: Global,
+    script: &[u8],
+    devices: Devices,
+    replies: &[u8],
+    end: &str,
+) {
+    let mut writer = devices.writer(alloc);
+    let ended = play(alloc, script, devices, &mut writer);
+    assert!(rt;
+        writer.as_slice() == replies && ended == end,
+        "{script:?}: {ended}"
+    );
 }

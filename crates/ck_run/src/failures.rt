@@ -1,140 +1,76 @@
 //! Scripts that are cut, and readers and writers that fail.
-use crate::devices::{Devices, transcript};
-use std::alloc::Global;
-use std::process::Abort;
-use std::test::Fail;
+use crate::devices::{Devices, check_play};
 
-/// A script, each line of which is bad where it is cut.
-const SCRIPT: &str = "1 InitToken 31\n1 OpenSession 6\n1 CloseSession 7\n";
+/// Three lines of 16 bytes, each of which is bad where it is cut.
+const SCRIPT: &[u8] = b"1 OpenSession 6\n1 SignFinal 7 ?\n1 OpenSession 4\n";
 
-/// The replies to its lines.
-const REPLIES: &str = "a2\ne1\nb3\n";
+/// The replies to its lines, each of three bytes.
+const REPLIES: &[u8] = b"e1\nb3\ne1\n";
 
-/// How many bytes each of the replies has.
-const REPLY_LENGTH: usize = 3;
-
-/// So many bytes of the replies, and what stands behind them.
-fn bytes_and(alloc: Global, bytes: usize, end: &str) -> Result<String, Fail> {
-    let mut front = Vec::from_slice(alloc, REPLIES.as_bytes())?;
-    front.truncate(bytes);
-    let front = String::from_utf8_lossy(alloc, front.as_slice())?;
-    Ok(format!(in alloc; "{front}{end}")?)
+/// The first bytes, so many of them.
+fn front(bytes: &'static [u8], count: usize) -> &'static [u8] {
+    bytes.split_at(count.min(bytes.len())).0
 }
 
-/// The replies to so many lines, and what stands behind them.
-fn replies_and(alloc: Global, lines: usize, end: &str) -> Result<String, Fail> {
-    bytes_and(alloc, lines.saturating_mul(REPLY_LENGTH), end)
-}
-
-fn assert_transcript(
-    rt: &impl Abort,
-    alloc: Global,
-    script: &[u8],
-    devices: Devices,
-    want: &str,
-) -> Result<(), Fail> {
-    let text = transcript(alloc, script, devices)?;
-    assert!(rt; text.as_str() == want, "{text} in place of {want}");
-    Ok(())
-}
-
-/// The first bytes of the script, so many of them, and the others.
-fn parts_of_script(count: usize) -> (&'static [u8], &'static [u8]) {
-    SCRIPT.as_bytes().split_at(count.min(SCRIPT.len()))
-}
-
-fn line_ends(part: &[u8]) -> usize {
-    part.iter().filter(|byte| **byte == b'\n').count()
-}
-
-/// The transcript of the script where it is cut between these parts.
-fn transcript_of_cut(alloc: Global, front: &[u8], rest: &[u8]) -> Result<String, Fail> {
-    let lines = line_ends(front);
-    let open_line = lines.saturating_add(1);
-    match (front, rest) {
-        (_, [b'\n', ..]) => replies_and(alloc, open_line, "played"),
-        ([] | [.., b'\n'], _) => replies_and(alloc, lines, "played"),
-        _ => {
-            let end = format!(in alloc; "line {open_line}")?;
-            replies_and(alloc, lines, end.as_str())
-        }
+/// How many lines are answered where the script is cut behind so many bytes, and how playing ends.
+fn end_of_cut(count: usize) -> (usize, &'static str) {
+    match (count / 16, count % 16) {
+        (lines, 0) => (lines, "played"),
+        (lines, 15) => (lines + 1, "played"),
+        (0, _) => (0, "line 1"),
+        (1, _) => (1, "line 2"),
+        (lines, _) => (lines, "line 3"),
     }
 }
 
-fn check_cut(rt: &impl Abort, alloc: Global, count: usize) -> Result<(), Fail> {
-    let (front, rest) = parts_of_script(count);
-    let want = transcript_of_cut(alloc, front, rest)?;
-    assert_transcript(rt, alloc, front, Devices::of(9), want.as_str())
-}
-
 #[test]
-fn a_script_may_be_cut_at_every_byte(rt: HostRuntime) -> Result<(), Fail> {
+fn a_script_may_be_cut_at_every_byte(rt: HostRuntime) {
     for count in 0..=SCRIPT.len() {
-        check_cut(&rt, rt.alloc(), count)?;
+        let (lines, end) = end_of_cut(count);
+        let devices = Devices::of(9);
+        check_play(
+            &rt,
+            rt.alloc(),
+            front(SCRIPT, count),
+            devices,
+            front(REPLIES, lines.saturating_mul(3)),
+            end,
+        );
     }
-    Ok(())
 }
 
-/// So many bytes of the script are read, one by one, and the next read fails or isn't made.
-fn check_reads(rt: &impl Abort, alloc: Global, count: usize) -> Result<(), Fail> {
-    let reads = count as u64;
-    let lines = line_ends(parts_of_script(count).0);
-    let failing = Devices {
-        read_fails_at: reads.saturating_add(1),
-        ..Devices::of(1)
-    };
-    let want = replies_and(alloc, lines, "read fault")?;
-    assert_transcript(rt, alloc, SCRIPT.as_bytes(), failing, want.as_str())?;
-    let ending = Devices {
-        turns: reads,
-        ..Devices::of(1)
-    };
-    let want = replies_and(alloc, lines, "reader does not end")?;
-    assert_transcript(rt, alloc, SCRIPT.as_bytes(), ending, want.as_str())
-}
-
+/// Bytes are read one by one, and a read fails or isn't made.
 #[test]
-fn lines_are_answered_before_the_next_read(rt: HostRuntime) -> Result<(), Fail> {
+fn lines_are_answered_before_the_next_read(rt: HostRuntime) {
     for count in 0..=SCRIPT.len() {
-        check_reads(&rt, rt.alloc(), count)?;
+        let replies = front(REPLIES, (count / 16).saturating_mul(3));
+        let mut failing = Devices::of(1);
+        failing.read_fails_at = (count as u64).saturating_add(1);
+        check_play(&rt, rt.alloc(), SCRIPT, failing, replies, "read fault");
+        let mut ending = Devices::of(1);
+        ending.turns = count as u64;
+        check_play(
+            &rt,
+            rt.alloc(),
+            SCRIPT,
+            ending,
+            replies,
+            "reader does not end",
+        );
     }
-    Ok(())
 }
 
+/// Bytes are written one by one, and a write fails or takes none.
 #[test]
-fn finding_the_end_takes_a_read(rt: HostRuntime) -> Result<(), Fail> {
-    let three_reads = Devices {
-        turns: 3,
-        ..Devices::of(1)
-    };
-    assert_transcript(&rt, rt.alloc(), b"#x\n", three_reads, "reader does not end")?;
-    let four_reads = Devices {
-        turns: 4,
-        ..Devices::of(1)
-    };
-    assert_transcript(&rt, rt.alloc(), b"#x\n", four_reads, "played")
-}
-
-/// So many bytes of the replies are written, one by one, and the next write fails or takes none.
-fn check_writes(rt: &impl Abort, alloc: Global, count: usize) -> Result<(), Fail> {
-    let next = (count as u64).saturating_add(1);
-    let want = bytes_and(alloc, count, "write fault")?;
-    let failing = Devices {
-        write_fails_at: next,
-        ..Devices::of(1)
-    };
-    assert_transcript(rt, alloc, SCRIPT.as_bytes(), failing, want.as_str())?;
-    let stopping = Devices {
-        write_stops_at: next,
-        ..Devices::of(1)
-    };
-    assert_transcript(rt, alloc, SCRIPT.as_bytes(), stopping, want.as_str())
-}
-
-#[test]
-fn a_writer_that_fails_has_a_beginning_of_the_replies(rt: HostRuntime) -> Result<(), Fail> {
+fn a_writer_that_fails_has_a_beginning_of_the_replies(rt: HostRuntime) {
     for count in 0..REPLIES.len() {
-        check_writes(&rt, rt.alloc(), count)?;
+        let next = (count as u64).saturating_add(1);
+        let replies = front(REPLIES, count);
+        let mut failing = Devices::of(1);
+        failing.write_fails_at = next;
+        check_play(&rt, rt.alloc(), SCRIPT, failing, replies, "write fault");
+        let mut stopping = Devices::of(1);
+        stopping.write_stops_at = next;
+        check_play(&rt, rt.alloc(), SCRIPT, stopping, replies, "write fault");
     }
-    Ok(())
 }

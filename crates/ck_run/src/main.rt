@@ -3,6 +3,8 @@
 #![tactic(auto)]
 
 #[cfg(test)]
+mod codes;
+#[cfg(test)]
 mod devices;
 #[cfg(test)]
 mod failures;
@@ -14,8 +16,6 @@ mod plays;
 mod programs;
 #[cfg(test)]
 mod token;
-#[cfg(test)]
-mod words;
 
 use ck_program::{ArgumentFault, Options, ReadSource, WriteSink, options_of, run};
 use ck_token::Token;

@@ -1,5 +1,5 @@
-//! Scripts and their transcripts.
-use crate::devices::{Devices, transcript};
+//! Scripts, the replies to them, and how playing ends.
+use crate::devices::{Devices, check_play};
 use ck_program::{PlayFault, play_with};
 use ck_script::{BadLine, LONGEST_LINE};
 use ck_token::Token;
@@ -8,82 +8,92 @@ use std::alloc::Global;
 use std::process::Abort;
 use std::test::Fail;
 
-/// Scripts, and behind the arrow their transcripts. A `/` stands for each line's end.
-#[rattlefmt::skip]
-const PLAYS: &str = "\
-# x -> played
- -> played
-//# x/ -> played
-//# x/Nope -> line 4
-/Nope/# x/Nope/ -> line 2
-1 InitToken 31323334 -> 0/played
-1 InitToken 31323334/ -> 0/played
-1 InitToken 31323334//# x/1 Nope -> 0/line 4
-1 InitToken 31323334//# x/1 Nope/1 InitToken 31/ -> 0/line 4
-1 InitTok -> line 1
-1 InitToken  -> line 1
-1 InitToken 31 -> a2/played
-1 InitToken 313 -> line 1
-1 InitToken 3132 -> a2/played
-1 InitToken 31/2 InitToken 31323334/ -> a2/0/played
-1 InitToken 31323334/1 OpenSession 6/1 CreateObject 1 0=00 -> 0/0 1/13/played
-1 InitToken 31323334/1 OpenSession 6/1 CreateObject 1 0=0000000000000000,3=61 -> 0/0 1/0 1/played
-1 InitToken 31323334/1 OpenSession 6/1 CreateObject 1 0=0000000000000000,3=6 -> 0/0 1/line 3
-";
+/// A script, the replies to it, and how playing ends.
+type Play = (&'static str, &'static str, &'static str);
 
-fn assert_transcript(rt: &impl Abort, alloc: Global, script: &str, want: &str) -> Result<(), Fail> {
-    let lines = script.replace(alloc, '/', "\n")?;
-    let want = want.replace(alloc, '/', "\n")?;
+#[rattlefmt::skip]
+const PLAYS: [Play; 17] = [
+    ("# x", "", "played"),
+    ("", "", "played"),
+    ("\n\n# x\n", "", "played"),
+    ("\n\n# x\nNope", "", "line 4"),
+    ("\nNope\n# x\nNope\n", "", "line 2"),
+    ("1 InitToken 31323334", "0\n", "played"),
+    ("1 InitToken 31323334\n", "0\n", "played"),
+    ("1 InitToken 31323334\n\n# x\n1 Nope", "0\n", "line 4"),
+    ("1 InitToken 31323334\n\n# x\n1 Nope\n1 InitToken 31\n", "0\n", "line 4"),
+    ("1 InitTok", "", "line 1"),
+    ("1 InitToken ", "", "line 1"),
+    ("1 InitToken 31", "a2\n", "played"),
+    ("1 InitToken 313", "", "line 1"),
+    ("1 InitToken 31\n2 InitToken 31323334\n", "a2\n0\n", "played"),
+    ("1 InitToken 31323334\n1 OpenSession 6\n1 CreateObject 1 0=00", "0\n0 1\n13\n", "played"),
+    ("1 InitToken 31323334\n1 OpenSession 6\n1 CreateObject 1 3=61", "0\n0 1\nd0\n", "played"),
+    ("1 InitToken 31323334\n1 OpenSession 6\n1 CreateObject 1 3=6", "0\n0 1\n", "line 3"),
+];
+
+fn check_plays(rt: &impl Abort, alloc: Global, plays: &[Play], devices: Devices) {
+    for (script, replies, end) in plays {
+        check_play(
+            rt,
+            alloc,
+            script.as_bytes(),
+            devices,
+            replies.as_bytes(),
+            end,
+        );
+    }
+}
+
+#[test]
+fn scripts_are_played(rt: HostRuntime) {
     for piece in [1, 3, 1_000] {
-        let text = transcript(alloc, lines.as_bytes(), Devices::of(piece))?;
-        assert_eq!(rt;
-            text.as_str(),
-            want.as_str(),
-            "{script}, {piece} bytes a read"
+        check_plays(&rt, rt.alloc(), PLAYS.as_slice(), Devices::of(piece));
+    }
+}
+
+/// How many bytes `a` a piece of a message has, and the replies where it is the whole message: the
+/// digest of a million (FIPS 180-2, appendix B.3), and of the most that a piece may have.
+const MESSAGES: [(usize, &str); 3] = [
+    (
+        1_000_000,
+        "0\n0 1\n0\n0\n0 cdc76e5c9914fb9281a1c7e284d73e67f1809a48a497200e046d39ccc7112cd0\n",
+    ),
+    (
+        0x10_0000,
+        "0\n0 1\n0\n0\n0 9bc1b2a288b26af7257a36277ae3816a7d4f16e89c1e7e77d0a5c48bad62b360\n",
+    ),
+    (0x10_0001, "0\n0 1\n0\n21\n91\n"),
+];
+
+/// A script that digests a message of so many bytes `a`, which is one piece.
+fn digest_script(alloc: Global, count: usize) -> Result<String, Fail> {
+    let piece = "61".repeat(alloc, count)?;
+    Ok(format!(in alloc;
+        "1 InitToken 31323334\n1 OpenSession 6\n1 DigestInit 1 250\n\
+        1 DigestUpdate 1 {piece}\n1 DigestFinal 1 32"
+    )?)
+}
+
+fn check_messages(rt: &impl Abort, alloc: Global, rows: &[(usize, &str)]) -> Result<(), Fail> {
+    for (count, replies) in rows {
+        let script = digest_script(alloc, *count)?;
+        let devices = Devices::of(LONGEST_LINE);
+        check_play(
+            rt,
+            alloc,
+            script.as_bytes(),
+            devices,
+            replies.as_bytes(),
+            "played",
         );
     }
     Ok(())
 }
 
-fn check_play(rt: &impl Abort, alloc: Global, row: &str) -> Result<(), Fail> {
-    let Some((script, want)) = row.split_once(" -> ") else {
-        return Err(Fail::new("a row has no transcript"));
-    };
-    assert_transcript(rt, alloc, script, want)
-}
-
-fn check_plays(rt: &impl Abort, alloc: Global, rows: &str) -> Result<(), Fail> {
-    for row in rows.lines() {
-        check_play(rt, alloc, row)?;
-    }
-    Ok(())
-}
-
 #[test]
-fn scripts_have_their_transcripts(rt: HostRuntime) -> Result<(), Fail> {
-    check_plays(&rt, rt.alloc(), PLAYS)
-}
-
-/// What stands behind a line that is as long as one may be, and the transcript of both.
-const BEHIND_LONGEST_LINE: [(&[u8], &str); 3] = [
-    (b"", "played"),
-    (b"\n", "played"),
-    (b"#", "line 1"),
-];
-
-fn check_longest_line(rt: &impl Abort, alloc: Global, rows: &[(&[u8], &str)]) -> Result<(), Fail> {
-    for (behind, want) in rows {
-        let mut script = vec![in alloc; b'#'; LONGEST_LINE]?;
-        script.extend_from_slice(behind)?;
-        let text = transcript(alloc, script.as_slice(), Devices::of(1_000_000))?;
-        assert!(rt; text.as_str() == *want, "{behind:?}");
-    }
-    Ok(())
-}
-
-#[test]
-fn the_longest_line_is_played(rt: HostRuntime) -> Result<(), Fail> {
-    check_longest_line(&rt, rt.alloc(), BEHIND_LONGEST_LINE.as_slice())
+fn long_messages(rt: HostRuntime) -> Result<(), Fail> {
+    check_messages(&rt, rt.alloc(), MESSAGES.as_slice())
 }
 
 /// How many reads of 65,536 bytes give a longest line.
