@@ -1,5 +1,5 @@
 -- What the board of a token answers, and which calls leave it
-use Rattle.std.proofs.Common.{◌≡◌, ℕ, Bool, true, false, not, cond, Some, None, IsTrue, refl}
+use Rattle.std.proofs.Common.{◌≡◌, ℕ, Bool, true, false, not, cond, Some, None, refl}
 use Rattle.std.proofs.Common.{sym, ap, ◌∙◌, subst}
 use Rattle.std.proofs.lemmas.List.{length-map}
 use Rattle.std.specs.Prelude.{◌==◌, map, filter, find, length}
@@ -145,7 +145,3 @@ module _ (h : History) (e : Entry) (l : (effects_of (Some e.call)).sessions ≡ 
 -- a call that may change neither sessions, the login nor PINs leaves the board
 pub leaves : (c : Call) → (effects_of (Some c)).sessions ≡ false → LeavesBoard c
 leaves c l limits h e same = board-stays h e (subst (λ x. (effects_of (Some x)).sessions ≡ false) (sym same) l) limits
-
-pub not_true : (t : Bool) → IsTrue (not t) → t ≡ false
-not_true true e = cc
-not_true false e = refl

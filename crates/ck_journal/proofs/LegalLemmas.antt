@@ -40,7 +40,7 @@ use Rattle.ck_journal.specs.Answers.{init_pin_error, set_pin_error, known_login_
 use Rattle.ck_journal.specs.Answers.{logged_in_error, read_only_error, logins_error, object_error}
 use Rattle.ck_journal.specs.Answers.{prohibited_error, placement_error, read_only_session_error}
 use Rattle.ck_journal.specs.Answers.{creations_error, too_small, ok, bytes_reply, call_error}
-use Rattle.ck_journal.specs.Answers.{allowed_reply, answer, IsLegal, is_so, is_so_state, tag_in}
+use Rattle.ck_journal.specs.Answers.{allowed_reply, answer, IsLegal, is_so_state, tag_in}
 use Rattle.ck_journal.specs.Answers.{parameter_error}
 use Rattle.ck_journal.specs.Bases.{base_tries, IsSound}
 use Rattle.ck_journal.specs.Histories.{History, start, ◌◁◌, start_of, done, wrong_try, is_ok, is_wrong_pin}
@@ -49,7 +49,7 @@ use Rattle.ck_journal.specs.Objects.{named_attributes, session_of, view_of, name
 use Rattle.ck_journal.specs.Operations.{message_in}
 use Rattle.ck_journal.specs.Pins.{about, is_about, is_user, is_locked, is_initialized, is_pin}
 use Rattle.ck_journal.specs.Pins.{pin_owner, present_pin, resets, tries}
-use Rattle.ck_journal.specs.Queries.{is_sensitive, is_missing, lacks_room}
+use Rattle.ck_journal.specs.Queries.{asks_hidden, is_missing, lacks_room}
 use Rattle.ck_journal.specs.Searches.{starts_search, ends_search, is_searching}
 use Rattle.ck_journal.specs.Sessions.{opens, openings, closes, is_open, open_sessions, has_rw_flag}
 use Rattle.ck_journal.specs.Sessions.{is_read_write, login, logs_user_in, user_logins, state_of}
@@ -156,7 +156,8 @@ module _ (limits : Ranges) where
       (later-passes
       (error_if (nat_le limits.sessions (length (open_sessions h))) rv_error.SessionCount) _
       (later-passes
-      (error_if (not (has_rw_flag flags) && is_so (login h)) rv_error.SessionReadWriteSoExists) _
+      (error_if (not (has_rw_flag flags) && is_user user.So (login h))
+      rv_error.SessionReadWriteSoExists) _
       (later-passes (error_if (not (bit_and flags 6 == flags)) rv_error.ArgumentsBad) _
       (later-passes (error_if (bit_and flags 4 == 0) rv_error.SessionParallelNotSupported) _
       (later-passes (error_if (not (is_initialized h)) rv_error.TokenNotRecognized) _ p))))))
@@ -383,7 +384,7 @@ bytes-other (Some room) bytes = cases (nat_lt room (length bytes))
 allowed-other : (limits : Ranges) (h : History) (c : Call)
     → is_wrong_pin (allowed_reply limits h c).rv ≡ false
 allowed-other limits h (call.GetAttributeValue session object queries) =
-    queries-other (list_any (is_sensitive (named_attributes h object)) queries)
+    queries-other (list_any (asks_hidden (named_attributes h object)) queries)
     (list_any (is_missing (named_attributes h object)) queries)
     (list_any (lacks_room (named_attributes h object)) queries)
 allowed-other limits h (call.Digest session bytes room) =

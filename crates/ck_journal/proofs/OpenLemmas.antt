@@ -6,13 +6,14 @@ use Rattle.std.proofs.lemmas.List.Sums.{length-filter, count_by-le-length}
 use Rattle.ck_types.specs.Checks.{error_if}
 use Rattle.ck_types.specs.TokenLimits.{Ranges}
 use Rattle.ck_types.specs.declared.errors.RvError.TheVariants as rv_error
+use Rattle.ck_types.specs.declared.users.UserType.TheVariants as user
 use Rattle.ck_types.proofs.CheckLemmas.{or_else-none}
 use Rattle.ck_journal.specs.declared.calls.Call.{Call}
 use Rattle.ck_journal.specs.declared.calls.Call.TheVariants as call
 use Rattle.ck_journal.specs.declared.calls.Entry.{Entry}
-use Rattle.ck_journal.specs.Answers.{IsLegal, open_session_error, is_so}
+use Rattle.ck_journal.specs.Answers.{IsLegal, open_session_error}
 use Rattle.ck_journal.specs.Histories.{History, start, ◌◁◌, done}
-use Rattle.ck_journal.specs.Pins.{is_initialized}
+use Rattle.ck_journal.specs.Pins.{is_initialized, is_user}
 use Rattle.ck_journal.specs.Sessions.{opens, openings, closes, is_open, open_sessions, has_rw_flag, login}
 use Rattle.ck_journal.proofs.LegalLemmas.{later-passes, count-free, passed-done}
 use Rattle.ck_journal.proofs.Selections.{selected-none, filter-selected}
@@ -33,7 +34,8 @@ module _ (limits : Ranges) where
       count-free limits.sessions (length (open_sessions h)) rv_error.SessionCount
       (or_else-none (error_if (nat_le limits.sessions (length (open_sessions h))) rv_error.SessionCount) _
       (later-passes
-      (error_if (not (has_rw_flag flags) && is_so (login h)) rv_error.SessionReadWriteSoExists) _
+      (error_if (not (has_rw_flag flags) && is_user user.So (login h))
+      rv_error.SessionReadWriteSoExists) _
       (later-passes (error_if (not (bit_and flags 6 == flags)) rv_error.ArgumentsBad) _
       (later-passes (error_if (bit_and flags 4 == 0) rv_error.SessionParallelNotSupported) _
       (later-passes (error_if (not (is_initialized h)) rv_error.TokenNotRecognized) _ p))))).0

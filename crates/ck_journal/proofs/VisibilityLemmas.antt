@@ -3,7 +3,7 @@ use Rattle.std.proofs.Common.{◌≡◌, ℕ, Bool, true, false, not, ◌||◌}
 use Rattle.std.proofs.Common.{List, Option, Some, None, sym, ◌∙◌, subst}
 use Rattle.std.specs.Prelude.{◌==◌}
 use Rattle.std.proofs.lemmas.Bool.{and_parts}
-use Rattle.std.proofs.lemmas.Option.{same_Some}
+use Rattle.std.proofs.lemmas.Option.{none-some, same_Some}
 use Rattle.ck_objects.specs.Records.{is_set}
 use Rattle.ck_types.specs.TokenLimits.{Ranges}
 use Rattle.ck_objects.specs.declared.attributes.Attribute.TheVariants as attribute
@@ -107,9 +107,6 @@ call-names limits h (call.VerifyInit session mechanism key) p handle e =
     subst (λ k. (n : ℕ) × (object_named h k ≡ Some n)) (same_Some key handle e)
     (init-named kind.Verify h session mechanism key p)
 call-names limits h other _ handle e = absurd (none-some handle e)
-  where
-    none-some : (handle : ℕ) → None ≡ Some handle → ⊥
-    none-some handle e = cc
 
 pub private-named : PrivateObjectsAreNamedByTheUser
 private-named limits e h good handle names =

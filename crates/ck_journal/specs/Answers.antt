@@ -46,7 +46,7 @@ use Rattle.ck_journal.specs.Objects.{object_at, attributes_named, named_attribut
 use Rattle.ck_journal.specs.Operations.{is_active, is_updated, is_long_piece, key_in}
 use Rattle.ck_journal.specs.Operations.{computation_in, message_in}
 use Rattle.ck_journal.specs.Pins.{is_initialized, is_pin, pin_owner, present_pin, user_pin}
-use Rattle.ck_journal.specs.Pins.{tries, is_locked}
+use Rattle.ck_journal.specs.Pins.{tries, is_locked, is_user}
 use Rattle.ck_journal.specs.Queries.{queries_reply}
 use Rattle.ck_journal.specs.Searches.{is_searching, search_rest}
 use Rattle.ck_journal.specs.Sessions.{openings, is_open, flags_of, open_sessions, has_rw_flag}
@@ -70,10 +70,6 @@ unless (Some code) reply = refusal code
 abbrev pub is_so_state : SessionState → Bool
 is_so_state state.RwSo = true
 is_so_state other = false
-
-abbrev pub is_so : Option UserType → Bool
-is_so (Some user.So) = true
-is_so other = false
 
 abbrev pub session_error : History → ℕ → Option RvError
 session_error h session = error_if (not (is_open h session)) rv_error.SessionHandleInvalid
@@ -118,7 +114,8 @@ open_session_error limits h flags = first_of (
     error_if (not (is_initialized h)) rv_error.TokenNotRecognized
     ∷ error_if (bit_and flags 4 == 0) rv_error.SessionParallelNotSupported
     ∷ error_if (not (bit_and flags 6 == flags)) rv_error.ArgumentsBad
-    ∷ error_if (not (has_rw_flag flags) && is_so (login h)) rv_error.SessionReadWriteSoExists
+    ∷ error_if (not (has_rw_flag flags) && is_user user.So (login h))
+    rv_error.SessionReadWriteSoExists
     ∷ error_if (nat_le limits.sessions (length (open_sessions h))) rv_error.SessionCount
     ∷ error_if (nat_le limits.openings (openings h)) rv_error.DeviceMemory
     ∷ [])
@@ -450,7 +447,8 @@ new_handle h attributes = handle_with (view_of h) attributes (suc (creations h))
 abbrev pub flags_of_token : History → TokenFlags
 flags_of_token h =
     record {
-      0 = token_flags (is_initialized h) (is_some (user_pin h)) (tries user.User h) (tries user.So h);
+      0 = token_flags (is_initialized h) (is_some (user_pin h)) (tries user.User h)
+          (tries user.So h);
     }
 
 abbrev pub too_small : ℕ → Reply

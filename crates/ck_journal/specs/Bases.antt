@@ -1,6 +1,6 @@
 -- What a history starts from
-use Rattle.std.specs.Prelude.{◌≡◌, ℕ, ◌<◌, ◌≤◌, ◌^◌, true, false, List, [], Option, None, ◌==◌, find}
-use Rattle.std.specs.Prelude.{option_map, is_some}
+use Rattle.std.specs.Prelude.{◌≡◌, ℕ, ◌<◌, ◌≤◌, ◌^◌, true, false, List, [], Option, None, ◌==◌}
+use Rattle.std.specs.Prelude.{find, option_map, is_some}
 use Rattle.std.specs.List.{All, AllPairs}
 use Rattle.ck_objects.specs.Records.{is_set}
 use Rattle.ck_objects.specs.declared.attributes.Attribute.TheVariants as attribute
@@ -39,8 +39,8 @@ base_tries user.User b = b.user_tries
 abbrev pub IsCreated : ℕ → KeptObject → Type 0
 IsCreated creations kept = (1 ≤ kept.number) × (kept.number ≤ creations)
 
--- a key with these attributes is sensitive where it is said to have been always, and isn't
--- extractable where it is said to have been never
+-- a key with these attributes is sensitive where CKA_ALWAYS_SENSITIVE is true, and isn't
+-- extractable where CKA_NEVER_EXTRACTABLE is true
 pub record IsProtected (attributes : List Item) : Type 0 where
   pub sensitive : is_set attributes attribute.AlwaysSensitive ≡ true
       → is_set attributes attribute.Sensitive ≡ true
@@ -49,8 +49,8 @@ pub record IsProtected (attributes : List Item) : Type 0 where
 
 -- a base that the calls of a token can leave: the security officer has a PIN exactly where the
 -- token is initialized, no user has made more than three wrong tries, the counts are in range, and
--- the objects are token objects whose numbers rise from 1 to the count of creations, each as
--- sensitive and as little extractable as it is said to have been
+-- the objects are token objects whose numbers rise from 1 to the count of creations, and each is
+-- protected (IsProtected)
 pub record IsSound (b : Base) : Type 0 where
   pub so_pin : is_some b.so ≡ b.initialized
   pub so_tries : b.so_tries ≤ 3

@@ -1,7 +1,8 @@
 -- Objects, their attributes and handles, and when they end (PKCS #11 Base 3.0, Object management
 -- functions)
-use Rattle.std.specs.Prelude.{ℕ, suc, ◌+◌, ◌*◌, ◌^◌, Bool, true, false, List, [], Option, Some, None}
-use Rattle.std.specs.Prelude.{◌==◌, ◌&&◌, ◌||◌, not, find, option_and_then, unwrap_or, if◌then◌else◌}
+use Rattle.std.specs.Prelude.{ℕ, suc, ◌+◌, ◌*◌, ◌^◌, Bool, true, false, List, [], Option, Some}
+use Rattle.std.specs.Prelude.{None, ◌==◌, ◌&&◌, ◌||◌, not, find, option_and_then, unwrap_or}
+use Rattle.std.specs.Prelude.{if◌then◌else◌}
 use Rattle.std.specs.Option.{option_map_or}
 use Rattle.ck_objects.specs.KeyStates.{state_of_number}
 use Rattle.ck_objects.specs.Records.{created_items, generated_items, with_given, with_state, is_set}

@@ -1,6 +1,7 @@
 -- PINs, wrong tries and the token's initialization (PKCS #11 Base 3.0, Slot and token management
 -- functions)
-use Rattle.std.specs.Prelude.{ℕ, suc, Bool, true, false, Option, Some, None, ◌==◌, ◌||◌, ◌&&◌, if◌then◌else◌}
+use Rattle.std.specs.Prelude.{ℕ, suc, Bool, true, false, Option, Some, None, ◌==◌, ◌||◌, ◌&&◌}
+use Rattle.std.specs.Prelude.{if◌then◌else◌}
 use Rattle.ck_types.specs.Numbers.{same_bytes}
 use Rattle.ck_types.specs.Users.{user_of, same_user}
 use Rattle.ck_types.specs.declared.pins.Pin.{Pin}

@@ -1,6 +1,6 @@
 -- What C_GetAttributeValue answers (PKCS #11 Base 3.0, Object management functions)
-use Rattle.std.specs.Prelude.{ℕ, Bool, false, List, Option, Some, None, nat_lt, is_none, length, map}
-use Rattle.std.specs.Prelude.{if◌then◌else◌}
+use Rattle.std.specs.Prelude.{ℕ, Bool, false, List, Option, Some, None, nat_lt, is_none, length}
+use Rattle.std.specs.Prelude.{map, if◌then◌else◌}
 use Rattle.std.specs.List.{list_any}
 use Rattle.ck_objects.specs.Records.{readable_value, is_hidden}
 use Rattle.ck_objects.specs.Templates.{value_at}
@@ -26,8 +26,8 @@ abbrev pub query_answer : List Item → AttributeQuery → Answer
 query_answer attributes query = value_answer (readable_value attributes query.kind) query.room
 
 -- the attribute is a value that may not be revealed
-abbrev pub is_sensitive : List Item → AttributeQuery → Bool
-is_sensitive attributes query = is_hidden attributes query.kind
+abbrev pub asks_hidden : List Item → AttributeQuery → Bool
+asks_hidden attributes query = is_hidden attributes query.kind
 
 -- the object doesn't have the attribute
 abbrev pub is_missing : List Item → AttributeQuery → Bool
@@ -45,7 +45,7 @@ lacks_room attributes query = is_longer (readable_value attributes query.kind) q
 -- little room
 abbrev pub queries_code : List Item → List AttributeQuery → Rv
 queries_code attributes queries =
-    if list_any (is_sensitive attributes) queries then rv.Error rv_error.AttributeSensitive
+    if list_any (asks_hidden attributes) queries then rv.Error rv_error.AttributeSensitive
     else if list_any (is_missing attributes) queries then rv.Error rv_error.AttributeTypeInvalid
     else if list_any (lacks_room attributes) queries then rv.Error rv_error.BufferTooSmall
     else rv.Ok

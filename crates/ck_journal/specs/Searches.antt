@@ -1,6 +1,6 @@
 -- Searches for objects (PKCS #11 Base 3.0, Object management functions)
-use Rattle.std.specs.Prelude.{ℕ, ◌^◌, ◌%◌, Bool, true, false, List, [], ◌∷◌, Option, Some, ◌==◌, ◌&&◌}
-use Rattle.std.specs.Prelude.{nat_lt, filter, map, if◌then◌else◌}
+use Rattle.std.specs.Prelude.{ℕ, ◌^◌, ◌%◌, Bool, true, false, List, [], ◌∷◌, Option, Some, ◌==◌}
+use Rattle.std.specs.Prelude.{◌&&◌, nat_lt, filter, map, if◌then◌else◌}
 use Rattle.ck_objects.specs.Records.{matches}
 use Rattle.ck_objects.specs.declared.items.Item.{Item}
 use Rattle.ck_journal.specs.declared.replies.Body.{Body}
@@ -9,7 +9,8 @@ use Rattle.ck_journal.specs.declared.calls.Call.{Call}
 use Rattle.ck_journal.specs.declared.calls.Call.TheVariants as call
 use Rattle.ck_journal.specs.declared.calls.Entry.{Entry}
 use Rattle.ck_journal.specs.Histories.{History, start, ◌◁◌, done}
-use Rattle.ck_journal.specs.Objects.{creations, object_at, view_of, is_some_with, is_visible_with, is_visible}
+use Rattle.ck_journal.specs.Objects.{creations, object_at, view_of, is_some_with, is_visible_with}
+use Rattle.ck_journal.specs.Objects.{is_visible}
 use Rattle.ck_journal.specs.Sessions.{numbers, ends_operations}
 use Rattle.ck_journal.specs.declared.views.View.{View}
 

@@ -1,6 +1,6 @@
 -- Sessions, the login and session states (PKCS #11 Base 3.0, Session management functions)
-use Rattle.std.specs.Prelude.{ℕ, zero, suc, Bool, true, false, List, [], ◌∷◌, ◌++◌, Option, Some, None}
-use Rattle.std.specs.Prelude.{◌==◌, ◌&&◌, not, filter, length, bit_and, if◌then◌else◌}
+use Rattle.std.specs.Prelude.{ℕ, zero, suc, Bool, true, false, List, [], ◌∷◌, ◌++◌, Option, Some}
+use Rattle.std.specs.Prelude.{None, ◌==◌, ◌&&◌, not, filter, length, bit_and, if◌then◌else◌}
 use Rattle.ck_types.specs.Users.{user_of, session_state}
 use Rattle.ck_types.specs.declared.users.SessionState.{SessionState}
 use Rattle.ck_types.specs.declared.users.UserType.{UserType}
@@ -83,6 +83,7 @@ abbrev pub login : History → Option UserType
 login (start b) = None
 login (e ◁ h) = if length (open_sessions (e ◁ h)) == 0 then None else login_after (done e) (login h)
 
+-- the call logs the normal user in (CKU_USER is 1)
 abbrev pub logs_user_in : Option Call → Bool
 logs_user_in (Some (call.Login session user pin)) = user == 1
 logs_user_in other = false

@@ -11,7 +11,7 @@ use std::marker::Model;
 /// A place for each session that a token may have open.
 const PLACES: usize = MOST_SESSIONS as usize;
 
-/// Who is logged in, and what of the PINs the calls that read a token's state answer.
+/// Who is logged in, and what C_GetTokenInfo says of the PINs.
 #[derive(Clone, Copy, Debug, PartialEq, Eq)]
 pub struct LoginStatus {
     pub login: Option<UserType>,
@@ -78,7 +78,7 @@ fn count_read_write(rows: &[(u64, u64)]) -> u64
 }
 
 impl TokenBoard {
-    ghost use Rattle.std.specs.Prelude.{◌≡◌, ◌<◌, ◌++◌, ◌∷◌, [], length};
+    ghost use Rattle.std.specs.Prelude.{◌<◌, ◌++◌, ◌∷◌, []};
     ghost use Rattle.ck_types.specs.TokenLimits.{Ranges};
     ghost use Rattle.ck_journal.specs.Answers.{answer};
     ghost use Rattle.ck_journal.specs.Boards.{board_of};

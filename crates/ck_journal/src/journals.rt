@@ -35,8 +35,7 @@ impl Model for Journal {
 }
 
 impl Journal {
-    ghost use Rattle.std.specs.Prelude.{◌≡◌, ◌+◌, ◌<◌, ◌≤◌, ◌↔◌, IsTrue, IsOk, OnOk};
-    ghost use Rattle.std.specs.Option.{option_copied};
+    ghost use Rattle.std.specs.Prelude.{◌+◌, ◌<◌, ◌≤◌, ◌↔◌, IsTrue, IsOk, OnOk};
     ghost use Rattle.ck_journal.specs.Bases.{empty_base, IsSound};
     ghost use Rattle.ck_journal.specs.Histories.{start, ◌◁◌, start_of, entry_at, entry_count};
     ghost use Rattle.ck_journal.specs.Fronts.{history_of, newest_entry};

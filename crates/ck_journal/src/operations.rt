@@ -12,12 +12,11 @@ pub enum OperationKind {
 }
 
 impl OperationKind {
-    ghost use Rattle.std.specs.Prelude.{◌≡◌};
     ghost use Rattle.ck_journal.specs.Operations.{kind_flag, names_kind};
 
     /// The flag by which C_SessionCancel names operations of the kind (CKF_DIGEST, CKF_SIGN,
     /// CKF_VERIFY; PKCS #11 Base 3.0, Session management functions).
-    pub fn flag(self) -> u64
+    fn flag(self) -> u64
         ensures { result ≡ kind_flag self }
     {
         match self {

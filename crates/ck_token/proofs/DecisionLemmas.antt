@@ -30,7 +30,7 @@ use Rattle.ck_journal.specs.Answers.{ok, too_small, bytes_reply, unless, answer,
 use Rattle.ck_journal.specs.Answers.{call_error, session_error, object_error, operation_error}
 use Rattle.ck_journal.specs.Answers.{present_key_error, key_state_error, may_serve, message_error}
 use Rattle.ck_journal.specs.Answers.{final_error, piece_error, verify_error, verify_final_error, tag_in}
-use Rattle.ck_journal.specs.Queries.{is_sensitive, is_missing, lacks_room}
+use Rattle.ck_journal.specs.Queries.{asks_hidden, is_missing, lacks_room}
 use Rattle.ck_journal.specs.Replies.{has_list}
 use Rattle.ck_journal.specs.Histories.{History}
 use Rattle.ck_journal.specs.Objects.{attributes_named, named_attributes, object_at}
@@ -116,7 +116,7 @@ by_room h c k session of stays (Some room) bytes = cases (nat_lt room (length by
 pub allowed-effect : (limits : Ranges) (h : History) (c : Call)
     → change_of h c (allowed_reply limits h c).body ≡ effect h c (allowed_reply limits h c)
 allowed-effect limits h (call.GetAttributeValue session object queries) =
-    by_code (list_any (is_sensitive (named_attributes h object)) queries)
+    by_code (list_any (asks_hidden (named_attributes h object)) queries)
     (list_any (is_missing (named_attributes h object)) queries)
     (list_any (lacks_room (named_attributes h object)) queries) _
   where

@@ -13,7 +13,7 @@ use Rattle.ck_types.specs.declared.errors.RvError.TheVariants as rv_error
 use Rattle.ck_types.specs.declared.return_codes.Rv.{Rv}
 use Rattle.ck_types.specs.declared.return_codes.Rv.TheVariants as rv
 use Rattle.ck_objects.specs.declared.items.Item.{Item}
-use Rattle.ck_journal.specs.Queries.{queries_code, is_sensitive, is_missing, lacks_room, is_longer}
+use Rattle.ck_journal.specs.Queries.{queries_code, asks_hidden, is_missing, lacks_room, is_longer}
 use Rattle.ck_journal.specs.declared.calls.AttributeQuery.{AttributeQuery}
 use Rattle.ck_token.specs.QueryCodes.{graver}
 
@@ -48,14 +48,14 @@ code-append : (items : List Item) (queries : List AttributeQuery) (query : Attri
     → queries_code items (queries ++ (query ∷ []))
     ≡ graver (queries_code items queries) (queries_code items (query ∷ []))
 code-append items queries query =
-    rw (list_any-append (is_sensitive items) queries (query ∷ []))
+    rw (list_any-append (asks_hidden items) queries (query ∷ []))
     (rw (list_any-append (is_missing items) queries (query ∷ []))
     (rw (list_any-append (lacks_room items) queries (query ∷ []))
     (cases
-    (list_any (is_sensitive items) queries)
+    (list_any (asks_hidden items) queries)
     (list_any (is_missing items) queries)
     (list_any (lacks_room items) queries)
-    (list_any (is_sensitive items) (query ∷ []))
+    (list_any (asks_hidden items) (query ∷ []))
     (list_any (is_missing items) (query ∷ []))
     (list_any (lacks_room items) (query ∷ [])))))
   where
