@@ -47,9 +47,9 @@ impl Model for Token {
     ghost invariant = { λ t. TokenAgrees t.limits t.journal.history t.parts };
 }
 
-/// Drops what a call leaves that finds no memory. A compiled function clears its slots where it
-/// begins, and a function that is inlined where it is called: so other calls take no time for this
-/// one's.
+/// Drops what a call leaves that finds no memory. A compiled function clears the room of its values
+/// where it begins, so this is done by a function that stays one: other calls take no time for its
+/// values.
 #[inline(always)]
 fn out_of_memory<T: Drop>(left: T) -> NoMemory {
     drop_apart(left);
@@ -95,7 +95,7 @@ fn prepare(
 }
 
 impl Token {
-    ghost use Rattle.std.specs.Prelude.{◌≡◌, ◌<◌, ◌≤◌, ◌+◌, true, false, IfOk, IsOk, OnOk, OnErr};
+    ghost use Rattle.std.specs.Prelude.{◌+◌, true, OnErr};
     ghost use Rattle.ck_journal.specs.Answers.{IsLegal, answer};
     ghost use Rattle.ck_journal.specs.Bases.{empty_base, IsSound};
     ghost use Rattle.ck_journal.specs.Boards.{board_of};

@@ -50,8 +50,7 @@ fn transition(key: &Record, number: u64) -> Result<KeyState, RvError>
 
 /// Creating, copying, reading, changing and destroying objects.
 impl Token {
-    ghost use Rattle.std.specs.Prelude.{◌≡◌, ◌+◌, ◌<◌, ◌^◌, ℕ, IfOk, IfErr, Some, None};
-    ghost use Rattle.ck_types.specs.Checks.{check_of};
+    ghost use Rattle.std.specs.Prelude.{◌+◌, ◌<◌, ◌^◌, ℕ};
     ghost use Rattle.ck_journal.specs.Answers.{ok, read_only_session_error, placement_error};
     ghost use Rattle.ck_journal.specs.Answers.{creations_error, new_handle};
     ghost use Rattle.ck_journal.specs.Objects.{creations};

@@ -28,8 +28,8 @@ fn finish(kind: OperationKind, session: u64, ends: bool) -> Change
     }
 }
 
-/// Gives the length alone, where it is asked for and where the room is too small. The operation
-/// stays.
+/// Gives the length alone, where it is asked for and where the room is too small; else `None`. The
+/// operation stays.
 fn give_length(kind: OperationKind, session: u64, len: u64, room: Option<u64>) -> Option<Decision>
     ensures { (bytes : List ℕ) → length bytes ≡ len → MatchOption result
         (bytes_reply room bytes ≡ ok (body.Bytes bytes))
@@ -120,17 +120,16 @@ fn check_usage(kind: OperationKind, key: &Record) -> Result<(), RvError>
 
 /// Digests, signatures and their checks: messages as a whole and in pieces.
 impl Token {
-    ghost use Rattle.std.specs.Prelude.{◌≡◌, true, false, Some, None, IfOk, IfErr, is_some};
-    ghost use Rattle.ck_types.specs.Checks.{check_of};
-    ghost use Rattle.ck_journal.specs.Answers.{operation_error, key_error, usage_error};
+    ghost use Rattle.std.specs.Prelude.{false, Some, None, IfErr, is_some};
+    ghost use Rattle.ck_journal.specs.Answers.{operation_error, key_error};
     ghost use Rattle.ck_journal.specs.Answers.{present_key_error, message_error};
     ghost use Rattle.ck_journal.specs.Answers.{final_error, verify_error, verify_final_error};
-    ghost use Rattle.ck_journal.specs.Answers.{update_error, hmac_init_error, tag_in, bytes_reply};
+    ghost use Rattle.ck_journal.specs.Answers.{update_error, hmac_init_error, tag_in};
     ghost use Rattle.ck_journal.specs.Objects.{object_named};
     ghost use Rattle.ck_journal.specs.Operations.{message_in, is_updated};
     ghost use Rattle.ck_journal.specs.declared.calls.Call.TheVariants as call;
     ghost use Rattle.ck_operations.specs.Agreement.{OperationAgrees, active_operation};
-    ghost use Rattle.ck_parts.specs.Changes.{finish_change, end_if_too_long, start_hmac};
+    ghost use Rattle.ck_parts.specs.Changes.{end_if_too_long, start_hmac};
     ghost use Rattle.ck_token.specs.Decisions.{IsDecision, IsDecided};
 
     // ---- starts

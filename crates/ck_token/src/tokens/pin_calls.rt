@@ -57,7 +57,7 @@ fn check_pin(user: UserType, credential: Credential, pin: Pin) -> Result<(), Ref
 
 /// CKR_USER_ALREADY_LOGGED_IN where the user is logged in, CKR_USER_ANOTHER_ALREADY_LOGGED_IN where
 /// another one is.
-fn check_nobody_in(user: UserType, login: Option<UserType>) -> Result<(), RvError>
+fn check_not_logged_in(user: UserType, login: Option<UserType>) -> Result<(), RvError>
     ensures { result ≡ check_of (logged_in_error user login) }
 {
     match login {
@@ -69,11 +69,9 @@ fn check_nobody_in(user: UserType, login: Option<UserType>) -> Result<(), RvErro
 
 /// Initializing the token, setting PINs, and logging in and out.
 impl Token {
-    ghost use Rattle.std.specs.Prelude.{◌≡◌, Some};
-    ghost use Rattle.ck_types.specs.Checks.{check_of};
     ghost use Rattle.ck_journal.specs.Answers.{user_login_error, read_only_error, logins_error};
     ghost use Rattle.ck_journal.specs.declared.calls.Call.TheVariants as call;
-    ghost use Rattle.ck_token.specs.Decisions.{IsDecision, IsCheckAbout};
+    ghost use Rattle.ck_token.specs.Decisions.{IsDecision};
 
     pub(super) fn init_token(&self, pin: Pin) -> Result<Decision, Refused>
         ensures { IsDecision self.now.limits self.now.history (call.InitToken pin) result }
@@ -130,13 +128,13 @@ impl Token {
         ensures { IsCheckAbout (Some user)
             (user_login_error self.now.limits self.now.history user pin) result }
     {
-        check_nobody_in(user, self.logged_in())?;
+        check_not_logged_in(user, self.logged_in())?;
         self.check_read_write(user)?;
         let credential = self.credential(user);
         error_if(credential.pin.is_none(), RvError::UserPinNotInitialized)?;
         check_lock(credential)?;
         check_pin(user, credential, pin)?;
-        self.check_logins(user)?;
+        self.check_login_count(user)?;
         Ok(())
     }
 
@@ -151,7 +149,7 @@ impl Token {
     }
 
     /// CKR_DEVICE_MEMORY where the user has logged in as often as the token allows.
-    fn check_logins(&self, user: UserType) -> Result<(), RvError>
+    fn check_login_count(&self, user: UserType) -> Result<(), RvError>
         ensures { result ≡ check_of (logins_error self.now.limits user self.now.history) }
     {
         match user {

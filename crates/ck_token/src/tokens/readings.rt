@@ -18,7 +18,7 @@ fn is_user_in(login: Option<UserType>) -> bool
 
 /// What is read of the history.
 impl Token {
-    ghost use Rattle.std.specs.Prelude.{◌≡◌, ◌<◌, ◌^◌, ℕ, true, false, not, Some, None, IfOk};
+    ghost use Rattle.std.specs.Prelude.{◌<◌, ◌^◌, ℕ, true, false, not, Some, None, IfOk};
     ghost use Rattle.std.specs.Prelude.{IfErr, length};
     ghost use Rattle.std.specs.List.{list_any};
     ghost use Rattle.ck_types.specs.declared.errors.RvError.TheVariants as rv_error;

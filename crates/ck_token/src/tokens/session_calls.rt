@@ -1,30 +1,17 @@
-ghost use Rattle.std.specs.Prelude.{◌≡◌, IfOk};
-ghost use Rattle.ck_types.specs.Mechanisms.{mechanism_types};
-ghost use Rattle.ck_journal.specs.declared.replies.Body.TheVariants as body;
+ghost use Rattle.std.specs.Prelude.{◌≡◌};
 
 use super::Token;
-use ck_journal::{Body, RW_SESSION, SERIAL_SESSION, is_read_write};
+use ck_journal::{Body, READ_WRITE, SERIAL_SESSION, is_read_write};
 use ck_parts::{Change, Decision, Refused};
-use ck_types::{NoMemory, Rv, RvError, Sequence, TokenFlags, UserType, error_if, mechanism_types};
+use ck_types::{Rv, RvError, Sequence, TokenFlags, UserType, error_if, mechanism_types};
 use std::alloc::Global;
-
-/// All flags that a session may be opened with.
-const SESSION_FLAGS: u64 = RW_SESSION | SERIAL_SESSION;
 
 /// All flags by which operations are cancelled: CKF_DIGEST, CKF_SIGN and CKF_VERIFY.
 const CANCEL_FLAGS: u64 = 0x2c00;
 
-fn mechanism_list(alloc: Global) -> Result<Body, NoMemory>
-    ensures { IfOk result (λ list. list ≡ body.Mechanisms mechanism_types) }
-{
-    let types = Vec::from_slice(alloc, mechanism_types().as_slice())?;
-    Ok(Body::Mechanisms(Sequence::from_vec(types)))
-}
-
 /// Opening and closing sessions, cancelling their operations, and what is read of them and of the
 /// token.
 impl Token {
-    ghost use Rattle.std.specs.Prelude.{◌≡◌};
     ghost use Rattle.ck_journal.specs.Answers.{allowed_reply};
     ghost use Rattle.ck_journal.specs.declared.calls.Call.TheVariants as call;
     ghost use Rattle.ck_token.specs.Decisions.{IsDecision, reply_of};
@@ -38,7 +25,7 @@ impl Token {
             flags & SERIAL_SESSION == 0,
             RvError::SessionParallelNotSupported,
         )?;
-        error_if(flags & SESSION_FLAGS != flags, RvError::ArgumentsBad)?;
+        error_if(flags & READ_WRITE != flags, RvError::ArgumentsBad)?;
         error_if(
             !is_read_write(flags) && self.logged_in() == Some(UserType::So),
             RvError::SessionReadWriteSoExists,
@@ -105,6 +92,7 @@ impl Token {
     pub(super) fn get_mechanism_list(&self, alloc: Global) -> Result<Decision, Refused>
         ensures { IsDecision self.now.limits self.now.history call.GetMechanismList result }
     {
-        Ok(Decision::of_body(mechanism_list(alloc)?))
+        let types = Vec::from_slice(alloc, mechanism_types().as_slice())?;
+        Ok(Decision::of_body(Body::Mechanisms(Sequence::from_vec(types))))
     }
 }
