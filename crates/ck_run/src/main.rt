@@ -3,17 +3,15 @@
 #![tactic(auto)]
 
 #[cfg(test)]
-mod codes;
-#[cfg(test)]
 mod devices;
 #[cfg(test)]
 mod failures;
 #[cfg(test)]
-mod faults;
-#[cfg(test)]
 mod plays;
 #[cfg(test)]
 mod programs;
+#[cfg(test)]
+mod texts;
 #[cfg(test)]
 mod token;
 

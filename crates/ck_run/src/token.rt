@@ -1,28 +1,27 @@
-//! What the cases of ck_cases don't show of a token: an empty journal and room for entries, a run and
-//! what a stopped one is printed as; and that a long template is checked in time.
+//! What the cases of ck_cases don't show: of a token an empty journal, room for entries and a run,
+//! and that a long template is checked in time.
 use ck_journal::Call;
 use ck_objects::{AttributeValue, Item, Template};
-use ck_token::{Stopped, Token, run};
+use ck_token::{Token, run};
 use ck_types::{Limits, NoMemory, RvError, Sequence};
 use std::alloc::Global;
 use std::process::Abort;
 use std::test::Fail;
 
-#[test]
-fn stopped_runs_are_printed(rt: HostRuntime) -> Result<(), Fail> {
-    let stopped = Stopped { answered: 3 };
-    let text = format!(in rt.alloc(); "{stopped}")?;
-    assert!(rt; text.as_str() == "out of memory after 3 calls");
-    Ok(())
+/// A call of each of three callers.
+fn three_calls(alloc: Global) -> Result<Vec<(u32, Call)>, NoMemory> {
+    let mut calls = Vec::new(alloc);
+    for caller in 1..=3 {
+        calls.push((caller, Call::GetTokenInfo))?;
+    }
+    Ok(calls)
 }
 
 fn check_run(rt: &impl Abort, alloc: Global, token: &mut Token) -> Result<(), Fail> {
     token.reserve(3)?;
     assert!(rt; token.spare() >= 3 && token.journal().is_empty());
-    let (first, last) = (Call::GetTokenInfo, Call::CloseAllSessions);
-    let calls = vec![in alloc; (1, first), (2, Call::GetTokenInfo), (1, last)]?;
-    assert!(rt; run(token, alloc, calls).is_ok());
-    assert_eq!(rt; token.journal().len(), 3);
+    run(token, alloc, three_calls(alloc)?)?;
+    assert!(rt; token.journal().len() == 3);
     Ok(())
 }
 

@@ -1,0 +1,120 @@
+//! The texts of return codes, of faults and of a stopped run.
+use ck_program::PlayFault;
+use ck_script::BadLine;
+use ck_token::Stopped;
+use ck_types::Rv;
+use std::alloc::Global;
+use std::fmt::Display;
+use std::process::Abort;
+use std::test::Fail;
+
+/// Each return code, and its name.
+#[rattlefmt::skip]
+const CODES: [(u64, &str); 40] = [
+    (0x0, "CKR_OK"),
+    (0x2, "CKR_HOST_MEMORY"),
+    (0x7, "CKR_ARGUMENTS_BAD"),
+    (0x10, "CKR_ATTRIBUTE_READ_ONLY"),
+    (0x11, "CKR_ATTRIBUTE_SENSITIVE"),
+    (0x12, "CKR_ATTRIBUTE_TYPE_INVALID"),
+    (0x13, "CKR_ATTRIBUTE_VALUE_INVALID"),
+    (0x1b, "CKR_ACTION_PROHIBITED"),
+    (0x21, "CKR_DATA_LEN_RANGE"),
+    (0x31, "CKR_DEVICE_MEMORY"),
+    (0x60, "CKR_KEY_HANDLE_INVALID"),
+    (0x62, "CKR_KEY_SIZE_RANGE"),
+    (0x63, "CKR_KEY_TYPE_INCONSISTENT"),
+    (0x68, "CKR_KEY_FUNCTION_NOT_PERMITTED"),
+    (0x70, "CKR_MECHANISM_INVALID"),
+    (0x71, "CKR_MECHANISM_PARAM_INVALID"),
+    (0x82, "CKR_OBJECT_HANDLE_INVALID"),
+    (0x90, "CKR_OPERATION_ACTIVE"),
+    (0x91, "CKR_OPERATION_NOT_INITIALIZED"),
+    (0xa0, "CKR_PIN_INCORRECT"),
+    (0xa2, "CKR_PIN_LEN_RANGE"),
+    (0xa4, "CKR_PIN_LOCKED"),
+    (0xb1, "CKR_SESSION_COUNT"),
+    (0xb3, "CKR_SESSION_HANDLE_INVALID"),
+    (0xb4, "CKR_SESSION_PARALLEL_NOT_SUPPORTED"),
+    (0xb5, "CKR_SESSION_READ_ONLY"),
+    (0xb6, "CKR_SESSION_EXISTS"),
+    (0xb7, "CKR_SESSION_READ_ONLY_EXISTS"),
+    (0xb8, "CKR_SESSION_READ_WRITE_SO_EXISTS"),
+    (0xc0, "CKR_SIGNATURE_INVALID"),
+    (0xc1, "CKR_SIGNATURE_LEN_RANGE"),
+    (0xd0, "CKR_TEMPLATE_INCOMPLETE"),
+    (0xd1, "CKR_TEMPLATE_INCONSISTENT"),
+    (0xe1, "CKR_TOKEN_NOT_RECOGNIZED"),
+    (0x100, "CKR_USER_ALREADY_LOGGED_IN"),
+    (0x101, "CKR_USER_NOT_LOGGED_IN"),
+    (0x102, "CKR_USER_PIN_NOT_INITIALIZED"),
+    (0x103, "CKR_USER_TYPE_INVALID"),
+    (0x104, "CKR_USER_ANOTHER_ALREADY_LOGGED_IN"),
+    (0x150, "CKR_BUFFER_TOO_SMALL"),
+];
+
+const FAULTS: [(&PlayFault, &str); 6] = [
+    (
+        &PlayFault::Line(u64::MAX, BadLine::NoCall),
+        "line 18446744073709551615: bad script: a line is a caller, a call and its arguments",
+    ),
+    (
+        &PlayFault::Line(3, BadLine::CallerAbove(2)),
+        "line 3: bad script: the caller is a number from 1 to 2",
+    ),
+    (&PlayFault::Read, "read fault"),
+    (&PlayFault::Write, "write fault"),
+    (&PlayFault::Memory, "out of memory"),
+    (&PlayFault::Turns, "reader does not end"),
+];
+
+fn check_text(
+    rt: &impl Abort,
+    alloc: Global,
+    shown: &impl Display,
+    want: &str,
+) -> Result<(), Fail> {
+    let text = format!(in alloc; "{shown}")?;
+    assert!(rt; text.as_str() == want, "{text} in place of {want}");
+    Ok(())
+}
+
+fn check_codes(rt: &impl Abort, alloc: Global, codes: &[(u64, &str)]) -> Result<(), Fail> {
+    for (number, name) in codes {
+        let code = Rv::of(*number).ok_or("a number is no code")?;
+        check_text(rt, alloc, &code, name)?;
+    }
+    Ok(())
+}
+
+#[test]
+fn return_codes_have_their_names(rt: HostRuntime) -> Result<(), Fail> {
+    check_codes(&rt, rt.alloc(), CODES.as_slice())
+}
+
+#[test]
+fn other_numbers_are_no_codes(rt: HostRuntime) {
+    assert!(rt; Rv::of(0x1).is_none() && Rv::of(0x5).is_none() && Rv::of(0x151).is_none());
+}
+
+fn check_faults(rt: &impl Abort, alloc: Global, rows: &[(&PlayFault, &str)]) -> Result<(), Fail> {
+    for (fault, want) in rows {
+        check_text(rt, alloc, *fault, want)?;
+    }
+    Ok(())
+}
+
+#[test]
+fn faults_have_their_texts(rt: HostRuntime) -> Result<(), Fail> {
+    check_faults(&rt, rt.alloc(), FAULTS.as_slice())
+}
+
+#[test]
+fn a_stopped_run_says_what_was_answered(rt: HostRuntime) -> Result<(), Fail> {
+    check_text(
+        &rt,
+        rt.alloc(),
+        &Stopped { answered: 3 },
+        "out of memory after 3 calls",
+    )
+}
