@@ -30,14 +30,13 @@ impl Target for Token {
 
 /// A caller of a shared token.
 #[derive(Drop)]
-struct CallerTarget<'a, 'c, K: TokenId, T: Drop, G, R> {
+struct CallerTarget<'a, 'c, K: TokenId, G, R> {
     rt: &'a R,
     gate: &'a G,
-    caller: &'c mut Caller<K, T>,
+    caller: &'c mut Caller<K>,
 }
 
-impl<'a, 'c, K: TokenId, T: Drop, G: Gate<K, T>, R: Wait> Target
-    for CallerTarget<'a, 'c, K, T, G, R> {
+impl<'a, 'c, K: TokenId, G: Gate<K>, R: Wait> Target for CallerTarget<'a, 'c, K, G, R> {
     fn call(&mut self, alloc: Global, call: Call) -> Result<Reply, NoMemory> {
         self.gate.call(self.rt, alloc, self.caller, call)
     }
@@ -136,12 +135,12 @@ impl<'a, R: Wait + CpuClock + Print> CallerWork<R> for SectionPlay<'a> {
 
     ghost tells = { λ work caller done. ⊤ };
 
-    fn act<K: TokenId, T: Drop, G: Gate<K, T>>(
+    fn act<K: TokenId, G: Gate<K>>(
         &self,
         rt: &R,
         alloc: Global,
         gate: &G,
-        caller: &mut Caller<K, T>,
+        caller: &mut Caller<K>,
     ) -> Result<(), BenchError> {
         let mut target = CallerTarget { rt, gate, caller };
         play(rt, alloc, &mut target, self.sections, self.is_timed)

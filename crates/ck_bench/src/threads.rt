@@ -35,11 +35,11 @@ struct Tasks<'a> {
 }
 
 /// Makes a call, which must be answered CKR_OK, and gives its body.
-fn answered<K: TokenId, T: Drop, G: Gate<K, T>, R: Wait>(
+fn answered<K: TokenId, G: Gate<K>, R: Wait>(
     rt: &R,
     alloc: Global,
     gate: &G,
-    caller: &mut Caller<K, T>,
+    caller: &mut Caller<K>,
     call: Call,
 ) -> Result<Body, BenchError> {
     let Reply { rv, body } = gate.call(rt, alloc, caller, call)?;
@@ -50,11 +50,11 @@ fn answered<K: TokenId, T: Drop, G: Gate<K, T>, R: Wait>(
 }
 
 /// Makes a call that gives a handle.
-fn handle_of<K: TokenId, T: Drop, G: Gate<K, T>, R: Wait>(
+fn handle_of<K: TokenId, G: Gate<K>, R: Wait>(
     rt: &R,
     alloc: Global,
     gate: &G,
-    caller: &mut Caller<K, T>,
+    caller: &mut Caller<K>,
     call: Call,
 ) -> Result<u64, BenchError> {
     match answered(rt, alloc, gate, caller, call)? {
@@ -79,9 +79,9 @@ fn is_open(status: Option<Status>) -> bool {
 }
 
 /// Asks so often for the state of a session, which must be open.
-fn ask<K: TokenId, T: Drop, G: Gate<K, T>>(
+fn ask<K: TokenId, G: Gate<K>>(
     gate: &G,
-    caller: &mut Caller<K, T>,
+    caller: &mut Caller<K>,
     session: u64,
     count: u64,
 ) -> Result<(), BenchError> {
@@ -123,11 +123,11 @@ fn reading(alloc: Global, session: u64, object: u64) -> Result<Call, NoMemory> {
 }
 
 /// Creates an object, reads its label and destroys it.
-fn change<K: TokenId, T: Drop, G: Gate<K, T>, R: Wait>(
+fn change<K: TokenId, G: Gate<K>, R: Wait>(
     rt: &R,
     alloc: Global,
     gate: &G,
-    caller: &mut Caller<K, T>,
+    caller: &mut Caller<K>,
     session: u64,
 ) -> Result<(), BenchError> {
     let object = handle_of(rt, alloc, gate, caller, creation(alloc, session)?)?;
@@ -151,12 +151,12 @@ impl<'a> Tasks<'a> {
     }
 
     /// Creates objects, reads their labels and destroys them until another caller is done.
-    fn change_until_done<K: TokenId, T: Drop, G: Gate<K, T>, R: Wait>(
+    fn change_until_done<K: TokenId, G: Gate<K>, R: Wait>(
         &self,
         rt: &R,
         alloc: Global,
         gate: &G,
-        caller: &mut Caller<K, T>,
+        caller: &mut Caller<K>,
         session: u64,
     ) -> Result<(), BenchError> {
         // Each loop must be seen to end.
@@ -170,12 +170,12 @@ impl<'a> Tasks<'a> {
     }
 
     /// Does the task of a caller.
-    fn do_task<K: TokenId, T: Drop, G: Gate<K, T>, R: Wait>(
+    fn do_task<K: TokenId, G: Gate<K>, R: Wait>(
         &self,
         rt: &R,
         alloc: Global,
         gate: &G,
-        caller: &mut Caller<K, T>,
+        caller: &mut Caller<K>,
         session: u64,
     ) -> Result<(), BenchError> {
         let place = (caller.number() as usize).saturating_sub(1);
@@ -202,12 +202,12 @@ impl<'a, R: Wait + Clock> CallerWork<R> for Tasks<'a> {
     ghost tells = { λ work caller time. ⊤ };
 
     /// Opens a session, and does the caller's task in it.
-    fn act<K: TokenId, T: Drop, G: Gate<K, T>>(
+    fn act<K: TokenId, G: Gate<K>>(
         &self,
         rt: &R,
         alloc: Global,
         gate: &G,
-        caller: &mut Caller<K, T>,
+        caller: &mut Caller<K>,
     ) -> Result<u128, BenchError> {
         let opening = Call::OpenSession { flags: READ_WRITE };
         let session = handle_of(rt, alloc, gate, caller, opening)?;

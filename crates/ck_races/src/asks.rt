@@ -5,9 +5,9 @@ use crate::errors::RaceError;
 use crate::shared_plays::{Play, play_shared};
 use crate::tokens::token_after;
 use ck_audit::are_same_replies;
-use ck_callers::{Answered, Ask, BoardCopy, News, Script, Status, Step, TokenId, run_steps};
+use ck_callers::{Answered, Ask, Caller, News, Script, Status, Step, TokenId, run_steps};
 use ck_journal::{Body, Call, READ_WRITE, Reply};
-use ck_shared::{Shared, SharedCaller};
+use ck_shared::SharedToken;
 use ck_token::Token;
 use ck_types::{NoMemory, Pin, Rv, RvError, SessionState, TokenFlags, mechanism_types};
 use std::alloc::Global;
@@ -26,7 +26,7 @@ const FIRST_CALLS: u64 = 5;
 /// How often all of it is run.
 pub(crate) const RUNS: u32 = 100;
 
-type AskingScript<K> = Script<K, BoardCopy<K>, Step, Answered>;
+type AskingScript<K> = Script<K, Step, Answered>;
 
 fn expect(holds: bool) -> Result<(), RaceError> {
     if holds {
@@ -37,7 +37,7 @@ fn expect(holds: bool) -> Result<(), RaceError> {
 
 /// An ask is answered so.
 fn check_status<K: TokenId>(
-    caller: &mut SharedCaller<K>,
+    caller: &mut Caller<K>,
     ask: Ask,
     rv: Rv,
     body: Body,
@@ -49,10 +49,7 @@ fn check_status<K: TokenId>(
 }
 
 /// Session 1 is a read/write session in this state.
-fn check_session<K: TokenId>(
-    caller: &mut SharedCaller<K>,
-    state: SessionState,
-) -> Result<(), RaceError> {
+fn check_session<K: TokenId>(caller: &mut Caller<K>, state: SessionState) -> Result<(), RaceError> {
     let body = Body::Session {
         state,
         flags: READ_WRITE,
@@ -61,7 +58,7 @@ fn check_session<K: TokenId>(
 }
 
 /// A new token has no PINs and no sessions, and all mechanisms.
-fn check_new<K: TokenId>(caller: &mut SharedCaller<K>) -> Result<(), RaceError> {
+fn check_new<K: TokenId>(caller: &mut Caller<K>) -> Result<(), RaceError> {
     let body = Body::Token {
         flags: TokenFlags::LOGIN_REQUIRED,
         limit: 64,
@@ -99,8 +96,8 @@ fn first_calls(alloc: Global) -> Result<Vec<Call>, RaceError> {
 fn make_calls<K: TokenId, R: Wait + Drop>(
     rt: &R,
     alloc: Global,
-    token: &Shared<K, Token, R>,
-    caller: &mut SharedCaller<K>,
+    token: &SharedToken<K, Token, R>,
+    caller: &mut Caller<K>,
     calls: Vec<Call>,
 ) -> Result<(), RaceError> {
     for call in calls {
@@ -111,7 +108,7 @@ fn make_calls<K: TokenId, R: Wait + Drop>(
 }
 
 /// One session is open, and nobody is logged in.
-fn check_open<K: TokenId>(caller: &mut SharedCaller<K>) -> Result<(), RaceError> {
+fn check_open<K: TokenId>(caller: &mut Caller<K>) -> Result<(), RaceError> {
     let body = Body::Token {
         flags: TokenFlags::LOGIN_REQUIRED
             | TokenFlags::TOKEN_INITIALIZED
@@ -128,8 +125,8 @@ fn check_open<K: TokenId>(caller: &mut SharedCaller<K>) -> Result<(), RaceError>
 fn make_first_calls<K: TokenId, R: Wait + Drop>(
     rt: &R,
     alloc: Global,
-    token: &Shared<K, Token, R>,
-    caller: &mut SharedCaller<K>,
+    token: &SharedToken<K, Token, R>,
+    caller: &mut Caller<K>,
 ) -> Result<News<K>, RaceError> {
     make_calls(rt, alloc, token, caller, first_calls(alloc)?)?;
     expect(caller.count() == FIRST_CALLS && caller.seen() == FIRST_CALLS)?;
@@ -138,10 +135,7 @@ fn make_first_calls<K: TokenId, R: Wait + Drop>(
 }
 
 /// A caller learns what another knows, and has made no call.
-fn check_learnt<K: TokenId>(
-    caller: &mut SharedCaller<K>,
-    first: &News<K>,
-) -> Result<(), RaceError> {
+fn check_learnt<K: TokenId>(caller: &mut Caller<K>, first: &News<K>) -> Result<(), RaceError> {
     caller.learn(first);
     expect(caller.count() == 0 && caller.seen() == FIRST_CALLS && first.seen() == FIRST_CALLS)
 }
@@ -150,8 +144,8 @@ fn check_learnt<K: TokenId>(
 fn prepare<K: TokenId, R: Wait + Drop>(
     rt: &R,
     alloc: Global,
-    token: &Shared<K, Token, R>,
-    callers: &mut [SharedCaller<K>],
+    token: &SharedToken<K, Token, R>,
+    callers: &mut [Caller<K>],
 ) -> Result<News<K>, RaceError> {
     check_new(callers.last_mut().ok_or(RaceError::Asked)?)?;
     let one = callers.first_mut().ok_or(RaceError::Asked)?;
@@ -199,17 +193,14 @@ fn steps_of(alloc: Global, caller: u32) -> Result<Vec<Step>, NoMemory> {
     Ok(steps)
 }
 
-fn script_of<K: TokenId>(
-    alloc: Global,
-    caller: SharedCaller<K>,
-) -> Result<AskingScript<K>, NoMemory> {
+fn script_of<K: TokenId>(alloc: Global, caller: Caller<K>) -> Result<AskingScript<K>, NoMemory> {
     let steps = steps_of(alloc, caller.number())?;
     Script::new(alloc, caller, steps).ok().ok_or(NoMemory)
 }
 
 fn scripts_of<K: TokenId>(
     alloc: Global,
-    callers: Vec<SharedCaller<K>>,
+    callers: Vec<Caller<K>>,
 ) -> Result<Vec<AskingScript<K>>, NoMemory> {
     let mut scripts = Vec::with_capacity(alloc, callers.len())?;
     for caller in callers {
@@ -253,7 +244,7 @@ fn check_scripts<K: TokenId>(scripts: &[AskingScript<K>]) -> Result<(), RaceErro
 fn callers_of<K: TokenId>(
     alloc: Global,
     scripts: Vec<AskingScript<K>>,
-) -> Result<Vec<SharedCaller<K>>, NoMemory> {
+) -> Result<Vec<Caller<K>>, NoMemory> {
     let mut callers = Vec::with_capacity(alloc, scripts.len())?;
     for script in scripts {
         callers.push(script.into_parts().0)?;
@@ -265,9 +256,9 @@ fn callers_of<K: TokenId>(
 fn play<K: TokenId + Send + Sync, R: Threads + Wait + Drop + Send + Sync>(
     rt: &R,
     alloc: Global,
-    token: &Shared<K, Token, R>,
-    callers: Vec<SharedCaller<K>>,
-) -> Result<Vec<SharedCaller<K>>, RaceError> {
+    token: &SharedToken<K, Token, R>,
+    callers: Vec<Caller<K>>,
+) -> Result<Vec<Caller<K>>, RaceError> {
     let mut scripts = scripts_of(alloc, callers)?;
     run_steps(rt, alloc, token, scripts.as_mut_slice());
     check_scripts(scripts.as_slice())?;
@@ -275,10 +266,7 @@ fn play<K: TokenId + Send + Sync, R: Threads + Wait + Drop + Send + Sync>(
 }
 
 /// The last caller sees that the user has logged in, and loses nothing by what is older.
-fn check_after<K: TokenId>(
-    callers: &mut [SharedCaller<K>],
-    first: &News<K>,
-) -> Result<(), RaceError> {
+fn check_after<K: TokenId>(callers: &mut [Caller<K>], first: &News<K>) -> Result<(), RaceError> {
     let caller = callers.last_mut().ok_or(RaceError::Asked)?;
     check_session(caller, SessionState::RwUser)?;
     let seen = caller.seen();
@@ -290,9 +278,9 @@ fn check_after<K: TokenId>(
 pub(crate) fn ask<K: TokenId + Send + Sync, R: Threads + Wait + Drop + Send + Sync>(
     rt: &R,
     alloc: Global,
-    token: &Shared<K, Token, R>,
-    mut callers: Vec<SharedCaller<K>>,
-) -> Result<Vec<SharedCaller<K>>, RaceError> {
+    token: &SharedToken<K, Token, R>,
+    mut callers: Vec<Caller<K>>,
+) -> Result<Vec<Caller<K>>, RaceError> {
     let first = prepare(rt, alloc, token, callers.as_mut_slice())?;
     let mut callers = play(rt, alloc, token, callers)?;
     check_after(callers.as_mut_slice(), &first)?;

@@ -20,11 +20,11 @@ const SELDOM_IN: u64 = 256;
 
 /// A caller at a gate, with the handles that it knows, its draws and all replies that it got.
 #[derive(Drop)]
-struct DrawingCaller<'a, 'c, K: TokenId, T: Drop, G, R> {
+struct DrawingCaller<'a, 'c, K: TokenId, G, R> {
     rt: &'a R,
     alloc: Global,
     gate: &'a G,
-    caller: &'c mut Caller<K, T>,
+    caller: &'c mut Caller<K>,
     places: &'a [Place; PLACES],
     replies: Vec<Reply>,
     draws: Xoshiro256PlusPlus,
@@ -50,7 +50,7 @@ fn keep_handle(place: &Place, word: &str, reply: &Reply) {
     }
 }
 
-impl<'a, 'c, K: TokenId, T: Drop, G: Gate<K, T>, R: Wait> DrawingCaller<'a, 'c, K, T, G, R> {
+impl<'a, 'c, K: TokenId, G: Gate<K>, R: Wait> DrawingCaller<'a, 'c, K, G, R> {
     /// Makes one call of a row with the handles of a place, and keeps its reply.
     fn make_call(&mut self, place: &Place, step: &str) -> Result<(), RaceError> {
         let (text, word) = step.split_once(" > ").unwrap_or((step, ""));
@@ -108,12 +108,12 @@ impl<R: Wait> CallerWork<R> for DrawnCalls {
     ghost tells = { λ work caller replies. ⊤ };
 
     /// The draws follow from the caller's number.
-    fn act<K: TokenId, T: Drop, G: Gate<K, T>>(
+    fn act<K: TokenId, G: Gate<K>>(
         &self,
         rt: &R,
         alloc: Global,
         gate: &G,
-        caller: &mut Caller<K, T>,
+        caller: &mut Caller<K>,
     ) -> Result<CallerReplies, RaceError> {
         let number = caller.number();
         let mut drawing_caller = DrawingCaller {

@@ -4,9 +4,9 @@ use crate::races::{Race, Step, compare};
 use crate::shared_plays::{Play, play_shared};
 use crate::tokens::token_of;
 use ck_audit::are_same_replies;
-use ck_callers::{Ask, Status, TokenId};
+use ck_callers::{Ask, Caller, Status, TokenId};
 use ck_journal::{Call, Reply};
-use ck_shared::{Shared, SharedCaller};
+use ck_shared::SharedToken;
 use ck_token::Token;
 use std::alloc::Global;
 use std::sync::Wait;
@@ -22,7 +22,7 @@ struct View {
 }
 
 /// What a caller sees. It asks before it counts what it knows.
-fn view_of<K: TokenId>(caller: &mut SharedCaller<K>) -> View {
+fn view_of<K: TokenId>(caller: &mut Caller<K>) -> View {
     View {
         session: caller.status(Ask::Session(1)),
         token: caller.status(Ask::Token),
@@ -39,7 +39,7 @@ fn are_same(one: &Option<Status>, other: &Option<Status>) -> bool {
 }
 
 /// Whether a caller sees what it saw.
-fn sees<K: TokenId>(caller: &mut SharedCaller<K>, before: &View) -> bool {
+fn sees<K: TokenId>(caller: &mut Caller<K>, before: &View) -> bool {
     let after = view_of(caller);
     after.seen == before.seen
         && after.count == before.count
@@ -50,7 +50,7 @@ fn sees<K: TokenId>(caller: &mut SharedCaller<K>, before: &View) -> bool {
 /// Whether an answered call added an entry to so many, or a caller that wasn't answered sees what
 /// it saw.
 fn is_as_wanted<K: TokenId>(
-    caller: &mut SharedCaller<K>,
+    caller: &mut Caller<K>,
     before: &View,
     is_answered: bool,
     entries: u64,
@@ -66,8 +66,8 @@ fn is_as_wanted<K: TokenId>(
 fn make_call<K: TokenId, R: Wait + Drop>(
     rt: &R,
     alloc: Global,
-    token: &Shared<K, Token, R>,
-    caller: &mut SharedCaller<K>,
+    token: &SharedToken<K, Token, R>,
+    caller: &mut Caller<K>,
     call: Call,
     entries: u64,
     line: u64,
@@ -85,16 +85,13 @@ fn make_call<K: TokenId, R: Wait + Drop>(
 struct Retrying<'a, K: TokenId, R: Wait + Drop> {
     rt: &'a R,
     alloc: Global,
-    token: &'a Shared<K, Token, R>,
-    callers: &'a mut [SharedCaller<K>],
+    token: &'a SharedToken<K, Token, R>,
+    callers: &'a mut [Caller<K>],
     answered: u64,
 }
 
 /// The caller of this number: they stand in the order of their numbers, from 1.
-fn caller_of<K: TokenId>(
-    callers: &mut [SharedCaller<K>],
-    number: u32,
-) -> Option<&mut SharedCaller<K>> {
+fn caller_of<K: TokenId>(callers: &mut [Caller<K>], number: u32) -> Option<&mut Caller<K>> {
     callers.get_mut((number as usize).checked_sub(1)?)
 }
 
@@ -140,8 +137,8 @@ impl<'a, K: TokenId, R: Wait + Drop> Retrying<'a, K, R> {
 pub(crate) fn make_race<K: TokenId, R: Wait + Drop>(
     rt: &R,
     alloc: Global,
-    token: &Shared<K, Token, R>,
-    callers: &mut [SharedCaller<K>],
+    token: &SharedToken<K, Token, R>,
+    callers: &mut [Caller<K>],
     race: &Race,
 ) -> Result<(), RaceError> {
     let mut retrying = Retrying {

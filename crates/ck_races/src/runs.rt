@@ -21,12 +21,12 @@ struct Run<'a> {
 
 impl<'a> Run<'a> {
     /// Makes a step when the turn of its caller has come.
-    fn make<K: TokenId, T: Drop, G: Gate<K, T>, R: Wait>(
+    fn make<K: TokenId, G: Gate<K>, R: Wait>(
         &self,
         rt: &R,
         alloc: Global,
         gate: &G,
-        caller: &mut Caller<K, T>,
+        caller: &mut Caller<K>,
         step: &Step,
     ) -> Result<Reply, NoMemory> {
         let call = step.call.clone()?;
@@ -46,12 +46,12 @@ impl<'a, R: Wait> CallerWork<R> for Run<'a> {
     ghost tells = { λ work caller replies. ⊤ };
 
     /// Makes the steps of the caller.
-    fn act<K: TokenId, T: Drop, G: Gate<K, T>>(
+    fn act<K: TokenId, G: Gate<K>>(
         &self,
         rt: &R,
         alloc: Global,
         gate: &G,
-        caller: &mut Caller<K, T>,
+        caller: &mut Caller<K>,
     ) -> Result<CallerReplies, RaceError> {
         let number = caller.number();
         let mut replies = Vec::new(alloc);

@@ -8,8 +8,8 @@ use crate::errors::RaceError;
 use crate::journals::check_audit;
 use crate::races::Race;
 use crate::retries::make_race;
-use ck_callers::{NewIdentity, TokenId};
-use ck_shared::{Ends, Shared, SharedCaller};
+use ck_callers::{Caller, NewIdentity, TokenId};
+use ck_shared::{Ends, SharedToken};
 use ck_token::Token;
 use std::alloc::Global;
 use std::marker::Brand;
@@ -29,10 +29,10 @@ pub(crate) enum Play<'a> {
 fn play_by<K: TokenId + Send + Sync, R: Threads + Wait + Drop + Send + Sync>(
     rt: &R,
     alloc: Global,
-    token: &Shared<K, Token, R>,
-    mut callers: Vec<SharedCaller<K>>,
+    token: &SharedToken<K, Token, R>,
+    mut callers: Vec<Caller<K>>,
     play: &Play,
-) -> Result<Vec<SharedCaller<K>>, RaceError> {
+) -> Result<Vec<Caller<K>>, RaceError> {
     match play {
         Play::Asks => ask(rt, alloc, token, callers),
         Play::Steps(race) => {
@@ -43,7 +43,7 @@ fn play_by<K: TokenId + Send + Sync, R: Threads + Wait + Drop + Send + Sync>(
 }
 
 /// How many calls of the callers were answered.
-fn answered_calls<K: TokenId>(callers: &[SharedCaller<K>]) -> u64 {
+fn answered_calls<K: TokenId>(callers: &[Caller<K>]) -> u64 {
     callers
         .iter()
         .fold(0, |sum, caller| sum.saturating_add(caller.count()))
@@ -72,7 +72,7 @@ fn play_as<K: TokenId + Send + Sync, R: Threads + Wait + Copy + Drop + Send + Sy
     requires book { identity.history.seen.book ≡ K.book }
     requires ledgers { (n : ℕ) → K.ledger n ≡ name_of identity.ledgers n }
 {
-    let ends = Shared::<K, Token, R>::adopt(rt, alloc, token, 8, identity);
+    let ends = SharedToken::<K, Token, R>::adopt(rt, alloc, token, 8, identity);
     let Ok(Ends { token, callers }) = ends else {
         return Err(RaceError::Memory);
     };

@@ -21,12 +21,12 @@ impl<R: Wait> CallerWork<R> for ThreeSessions {
 
     ghost tells = { λ work caller count. count ≡ caller.count };
 
-    fn act<K: TokenId, T: Drop, G: Gate<K, T>>(
+    fn act<K: TokenId, G: Gate<K>>(
         &self,
         rt: &R,
         alloc: Global,
         gate: &G,
-        caller: &mut Caller<K, T>,
+        caller: &mut Caller<K>,
     ) -> u64 {
         for _ in 0..3u32 {
             let call = Call::OpenSession { flags: READ_WRITE };
