@@ -1,28 +1,21 @@
 use crate::locked::Locked;
-use ck_callers::{BoardCopy, Caller, CallerCount, EntrySlot, NewIdentity, Opened, TokenId};
+use ck_callers::{Caller, CallerCount, NewIdentity, Opened, TokenId};
 use ck_journal::{Call, JournaledToken, Reply};
 use ck_types::{Limits, NoMemory};
-use left_right::Absorb;
 use std::alloc::Global;
 use std::sync::{Mutex, Wait};
 
 /// A token behind a lock, which its callers share. `K` stands for the token's history, `G` is the
 /// token's type, and `R` the runtime.
 #[derive(Drop)]
-pub struct SharedToken<K: TokenId, G: JournaledToken, R: Wait + Drop>
-where
-    BoardCopy<K>: Absorb<EntrySlot<K>, State = ()>,
-{
+pub struct SharedToken<K: TokenId, G: JournaledToken, R: Wait + Drop> {
     lock: Mutex<Locked<K, G, R>>,
     callers: CallerCount<K>,
 }
 
 /// The two ends of a token that is shared: what is shared, and what each caller has.
 #[derive(Drop)]
-pub struct Ends<K: TokenId, G: JournaledToken, R: Wait + Drop>
-where
-    BoardCopy<K>: Absorb<EntrySlot<K>, State = ()>,
-{
+pub struct Ends<K: TokenId, G: JournaledToken, R: Wait + Drop> {
     pub token: SharedToken<K, G, R>,
     pub callers: Vec<Caller<K>>,
 }
