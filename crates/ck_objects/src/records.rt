@@ -48,7 +48,6 @@ impl Clone for Record {
 
 impl Record {
     ghost use Rattle.std.specs.Prelude.{option_map};
-    ghost use Rattle.ck_objects.specs.Attributes.{type_of};
     ghost use Rattle.ck_types.specs.Checks.{check_of};
     ghost use Rattle.std.specs.Prelude.{Some, true};
     ghost use Rattle.std.specs.Result.{result_err};
@@ -60,12 +59,12 @@ impl Record {
     ghost use Rattle.ck_objects.specs.Records.{readable_value, read_error, state_in, key_value};
     ghost use Rattle.ck_objects.specs.Records.{with_state};
     ghost use Rattle.ck_objects.specs.Records.{created_items, with_given};
-    ghost use Rattle.ck_objects.specs.Templates.{class_of, flag_at};
+    ghost use Rattle.ck_objects.specs.Templates.{class_of};
     ghost use Rattle.ck_objects.specs.Records.{protections_of, placement_of, is_revealable};
     ghost use Rattle.ck_objects.specs.Records.{is_hidden};
     ghost use Rattle.ck_objects.specs.Records.{copied_error, changed_error};
     ghost use Rattle.ck_objects.specs.Records.{is_set, has_item, matches};
-    ghost use Rattle.ck_objects.specs.Fields.{field_bytes, flag_field};
+    ghost use Rattle.ck_objects.specs.Fields.{field_bytes};
 
     /// The object that a template of C_CreateObject makes, which passes `Template::check_creation`
     /// (PKCS #11 Base 3.0, Object management functions).
