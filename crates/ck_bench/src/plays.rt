@@ -133,7 +133,7 @@ impl<'a, R: Wait + CpuClock + Print> CallerWork<R> for SectionPlay<'a> {
 
     type Output = Result<(), BenchError>;
 
-    ghost tells = { λ work caller done. ⊤ };
+    ghost holds = { λ work caller done. ⊤ };
 
     fn act<K: TokenId, G: Gate<K>>(
         &self,

@@ -199,7 +199,7 @@ impl<'a, R: Wait + Clock> CallerWork<R> for Tasks<'a> {
     /// The nanoseconds of the caller's task.
     type Output = Result<u128, BenchError>;
 
-    ghost tells = { λ work caller time. ⊤ };
+    ghost holds = { λ work caller time. ⊤ };
 
     /// Opens a session, and does the caller's task in it.
     fn act<K: TokenId, G: Gate<K>>(

@@ -105,7 +105,7 @@ impl<R: Wait> CallerWork<R> for DrawnCalls {
 
     type Output = Result<CallerReplies, RaceError>;
 
-    ghost tells = { λ work caller replies. ⊤ };
+    ghost holds = { λ work caller replies. ⊤ };
 
     /// The draws follow from the caller's number.
     fn act<K: TokenId, G: Gate<K>>(

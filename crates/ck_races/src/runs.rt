@@ -43,7 +43,7 @@ impl<'a, R: Wait> CallerWork<R> for Run<'a> {
     /// The caller's number and its replies.
     type Output = Result<CallerReplies, RaceError>;
 
-    ghost tells = { λ work caller replies. ⊤ };
+    ghost holds = { λ work caller replies. ⊤ };
 
     /// Makes the steps of the caller.
     fn act<K: TokenId, G: Gate<K>>(

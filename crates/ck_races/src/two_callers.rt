@@ -19,7 +19,7 @@ impl<R: Wait> CallerWork<R> for ThreeSessions {
     /// How many calls of the caller were answered.
     type Output = u64;
 
-    ghost tells = { λ work caller count. count ≡ caller.count };
+    ghost holds = { λ work caller count. count ≡ caller.count };
 
     fn act<K: TokenId, G: Gate<K>>(
         &self,

@@ -6,4 +6,4 @@ use Rattle.ck_callers.specs.Callers.{CallerState, IsSettled}
 -- other entries of it than those of its calls
 abbrev pub IsOfCaller : {Output : Type 0} → (CallerState → Output → Type 0) → History → Output
     → Type 0
-IsOfCaller tells h output = (caller : CallerState) × IsSettled h caller × tells caller output
+IsOfCaller holds h output = (caller : CallerState) × IsSettled h caller × holds caller output

@@ -24,8 +24,8 @@ pub trait CallerWork<R> {
     /// What comes of it.
     type Output: Send + Drop;
 
-    // what is said by what comes of it: of the work and of the caller in the end
-    ghost tells: { Self → CallerState → Self.Output → Type 0 };
+    // what holds of what comes of it: of the work, the caller in the end and the output
+    ghost holds: { Self → CallerState → Self.Output → Type 0 };
 
     /// What this caller does at the gate, which is the shared token.
     fn act<K: TokenId, G: Gate<K>>(
@@ -35,7 +35,7 @@ pub trait CallerWork<R> {
         gate: &G,
         caller: &mut Caller<K>,
     ) -> Self::Output
-        ensures { tells self.now caller.new result };
+        ensures { holds self.now caller.new result };
 }
 
 /// All callers do their work, each in a thread of its own. They come back with what came of it.
@@ -52,13 +52,13 @@ fn act_together<
     work: &S,
 ) -> Result<Vec<(S::Output, Caller<K>)>, NoMemory>
     ensures len { IfOk result (λ done. vec_len done ≡ vec_len callers) }
-    ensures told { IfOk result (λ done. All (λ d. S.tells work.now d.1 d.0) done.items) }
+    ensures outputs { IfOk result (λ done. All (λ d. S.holds work.now d.1 d.0) done.items) }
 {
     let done = thread::map_vec(
         rt,
         callers,
         &|mut caller: Caller<K>|
-            ensures { S.tells work.entry.now result.1 result.0 }
+            ensures { S.holds work.entry.now result.1 result.0 }
         {
             let output = work.act(rt, alloc, gate, &mut caller);
             (output, caller)
@@ -77,9 +77,9 @@ fn settle_all<K: TokenId, G: JournaledToken, S: CallerWork<R>, R: Wait + Drop>(
 )
     requires none { outputs.old.items ≡ [] }
     requires room { vec_len done ≤ vec_capacity outputs.old }
-    requires told { All (λ d. S.tells work.now d.1 d.0) done.items }
+    requires outputs { All (λ d. S.holds work.now d.1 d.0) done.items }
     ensures same { locked.new ≡ locked.old }
-    ensures told { All (IsOfCaller (S.tells work.now) locked.old.history) outputs.new.items }
+    ensures outputs { All (IsOfCaller (S.holds work.now) locked.old.history) outputs.new.items }
     ensures len { vec_len outputs.new ≡ vec_len done }
 {
     for (output, caller) in done {
@@ -104,9 +104,9 @@ fn work_on<
     ensures limits { (G.state result.0).limits ≡ K.limits }
     ensures callers { AreCallers K.callers (G.state result.0).history }
     ensures base { IsFront (start K.base) (G.state result.0).history }
-    ensures outputs { IfOk result.1 (λ outputs. vec_len outputs ≡ vec_len callers) }
-    ensures told { IfOk result.1 (λ outputs.
-        All (IsOfCaller (S.tells work.now) (G.state result.0).history) outputs.items) }
+    ensures count { IfOk result.1 (λ outputs. vec_len outputs ≡ vec_len callers) }
+    ensures outputs { IfOk result.1 (λ outputs.
+        All (IsOfCaller (S.holds work.now) (G.state result.0).history) outputs.items) }
 {
     let Ok(mut outputs) = Vec::with_capacity(alloc, callers.len()) else {
         return (shared.into_locked().into_token(), Err(NoMemory));
@@ -144,9 +144,9 @@ fn share_as<
     ensures limits { (G.state token.new).limits ≡ (G.state token.old).limits }
     ensures front { IsFront (G.state token.old).history (G.state token.new).history }
     ensures callers { AreCallers callers (G.state token.new).history }
-    ensures outputs { IfOk result (λ outputs. vec_len outputs ≡ callers) }
-    ensures told { IfOk result (λ outputs.
-        All (IsOfCaller (S.tells work.now) (G.state token.new).history) outputs.items) }
+    ensures count { IfOk result (λ outputs. vec_len outputs ≡ callers) }
+    ensures outputs { IfOk result (λ outputs.
+        All (IsOfCaller (S.holds work.now) (G.state token.new).history) outputs.items) }
 {
     let limits = token.limits();
     let own = mem::replace(token, G::new(alloc, limits));
@@ -181,9 +181,9 @@ pub fn share<
     ensures limits { (G.state token.new).limits ≡ (G.state token.old).limits }
     ensures front { IsFront (G.state token.old).history (G.state token.new).history }
     ensures callers { AreCallers callers (G.state token.new).history }
-    ensures outputs { IfOk result (λ outputs. vec_len outputs ≡ callers) }
-    ensures told { IfOk result (λ outputs.
-        All (IsOfCaller (S.tells work.now) (G.state token.new).history) outputs.items) }
+    ensures count { IfOk result (λ outputs. vec_len outputs ≡ callers) }
+    ensures outputs { IfOk result (λ outputs.
+        All (IsOfCaller (S.holds work.now) (G.state token.new).history) outputs.items) }
 {
     share_as::<Brand, G, S, R>(rt, alloc, token, callers, NewIdentity::new(), work)
 }

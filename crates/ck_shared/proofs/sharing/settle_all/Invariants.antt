@@ -9,7 +9,7 @@ abbrev pub invariant-loop-output : goal.invariant-loop-output
 invariant-loop-output g l =
     (goal.iterator-loop-output g).can_next l.output-iterator × (goal.iterator-loop-output g).is_finite l.output-iterator
     × (l.locked ≡ l.fn.locked)
-    × All (IsOfCaller (g.S.CallerWork.tells l.work) l.fn.locked.history) (vec_items l.outputs)
-    × All (λ d. g.S.CallerWork.tells l.work d.1 d.0) (into_iter_items l.output-iterator)
+    × All (IsOfCaller (g.S.CallerWork.holds l.work) l.fn.locked.history) (vec_items l.outputs)
+    × All (λ d. g.S.CallerWork.holds l.work d.1 d.0) (into_iter_items l.output-iterator)
     × (vec_len l.outputs + length (into_iter_items l.output-iterator) ≡ vec_len l.fn.done)
     × (vec_len l.fn.done ≤ vec_capacity l.outputs)

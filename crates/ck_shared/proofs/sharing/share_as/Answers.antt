@@ -4,10 +4,10 @@ use Rattle.ck_shared.proofs.CallerNumbers.{length-new_callers}
 use Rattle.ck_shared.proofs.sharing.share_as.Goals as goal
 
 -- as many as the callers that the token was opened with
-pub returns-in-Ok-clause-outputs : goal.returns-in-Ok-clause-outputs
-returns-in-Ok-clause-outputs g c =
+pub returns-in-Ok-clause-count : goal.returns-in-Ok-clause-count
+returns-in-Ok-clause-count g c =
     let opened = c.in-Ok.field-0.callers in
     let count : vec_len opened ≡ c.args.callers =
     opened.ok.0 ∙ ap length c.in-Ok.ensures.callers ∙ length-new_callers g.K.HistoryId.base c.args.callers in
     subst (λ (n : ℕ). IfOk c.work_on-own.result.1 (λ outputs. vec_len outputs ≡ n)) count
-    c.work_on-own.ensures.outputs
+    c.work_on-own.ensures.count
