@@ -3,7 +3,7 @@ use Rattle.std.proofs.Common.{◌≡◌, ℕ, Bool, true, false, cond, not, List
 use Rattle.std.proofs.Common.{sym, ap, ◌∙◌, subst}
 use Rattle.std.specs.Prelude.{◌==◌, ◌&&◌, ◌||◌, is_none, option_and_then, option_map}
 use Rattle.std.specs.Option.{option_map_or}
-use Rattle.std.proofs.lemmas.Bool.{eqb-true, false≢true}
+use Rattle.std.proofs.lemmas.Bool.{eqb-true, false≢true, not-false}
 use Rattle.ck_types.specs.Checks.{error_if}
 use Rattle.ck_objects.specs.KeyStates.{may_sign, may_verify}
 use Rattle.ck_types.specs.Mechanisms.{hmac_hash, tag_length}
@@ -15,7 +15,6 @@ use Rattle.ck_objects.specs.declared.items.Item.{Item}
 use Rattle.ck_objects.specs.declared.key_states.KeyState.{KeyState}
 use Rattle.ck_types.specs.declared.mechanisms.Mechanism.{Mechanism}
 use Rattle.ck_types.proofs.CheckLemmas.{or_else-none, error_if-none}
-use Rattle.ck_objects.proofs.GivenLemmas.{form_holds}
 use Rattle.ck_journal.specs.declared.calls.Call.{Call}
 use Rattle.ck_journal.specs.declared.calls.Call.TheVariants as call
 use Rattle.ck_journal.specs.declared.calls.Entry.{Entry}
@@ -199,14 +198,14 @@ serving-key : (limits : Ranges) (k : OperationKind) → (k ≡ kind.Digest → �
     → IsLegal limits h → (s : ℕ) → operation_error k h s ≡ None
     → present_key_error k h (key_in k h s) ≡ None → HasKey k (may_serve k) h s
 serving-key limits k keyed h legal s active present =
-    let is_so = form_holds (is_active k h s)
+    let is_so = not-false (is_active k h s)
     (error_if-none _ rv_error.OperationNotInitialized
     (last-passes (error_if (not (is_active k h s)) rv_error.OperationNotInitialized)
     (later-passes (session_error h s) _ active))) in
     let key = active-key limits k keyed h legal s is_so in
     let there = object-found (object_at h key.0) (key_state_error k) rv_error.KeyHandleInvalid
     (ap (present_key_error k h) (sym key.1) ∙ present) in
-    let serves = form_holds (option_map_or (may_serve k) (state_in there.0) false)
+    let serves = not-false (option_map_or (may_serve k) (state_in there.0) false)
     (error_if-none _ rv_error.KeyFunctionNotPermitted there.2) in
     let state = some_state (state_in there.0) serves in
     record {
