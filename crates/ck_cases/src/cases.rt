@@ -12,8 +12,8 @@
 use crate::case_errors::CaseError;
 use crate::retries::RetryingToken;
 use ck_audit::Verdict;
-use ck_journal::Journal;
-use ck_script::{Line, LineError, reply_line};
+use ck_journal::{Call, Journal};
+use ck_script::{BadLine, Line, LineError, reply_line};
 use ck_token::Uncut;
 use ck_types::Limits;
 use std::alloc::Global;
@@ -55,11 +55,15 @@ fn limits_of(text: &str) -> Option<Limits> {
 }
 
 /// How many entries a cut takes out, or why the journal isn't cut.
-fn cut_text(alloc: Global, cut: Result<Journal, Uncut>) -> Result<String, CaseError> {
+fn cut_text(alloc: Global, cut: &Result<Journal, Uncut>) -> Result<String, CaseError> {
     match cut {
         Ok(journal) => Ok(format!(in alloc; "entries {}", journal.len())?),
         Err(refused) => Ok(format!(in alloc; "{refused}")?),
     }
+}
+
+fn bad_text(alloc: Global, reason: &BadLine) -> Result<String, CaseError> {
+    Ok(format!(in alloc; "bad script: {reason}")?)
 }
 
 fn verdict_text(alloc: Global, verdict: Verdict) -> Result<String, CaseError> {
@@ -69,20 +73,28 @@ fn verdict_text(alloc: Global, verdict: Verdict) -> Result<String, CaseError> {
     }
 }
 
-/// What comes of a script's line, which is the line of this number up to its arrow.
+/// Makes a call, and gives the reply's text.
 fn reply_text(
+    alloc: Global,
+    token: &mut RetryingToken,
+    caller: u32,
+    call: &Call,
+) -> Result<String, CaseError> {
+    let reply = token.call(alloc, caller, call)?;
+    Ok(reply_line(alloc, &reply)?)
+}
+
+/// What comes of a script's line, which is the line of this number up to its arrow.
+fn script_text(
     alloc: Global,
     token: &mut RetryingToken,
     number: u64,
     text: &str,
 ) -> Result<String, CaseError> {
-    match Line::parse(alloc, text.as_bytes()) {
-        Ok(Line::Called { caller, call }) => {
-            let reply = token.call(alloc, caller, &call)?;
-            Ok(reply_line(alloc, &reply)?)
-        }
+    match &Line::parse(alloc, text.as_bytes()) {
+        Ok(Line::Called { caller, call }) => reply_text(alloc, token, *caller, call),
         Ok(Line::Skipped) => Err(CaseError::NoLine(number)),
-        Err(LineError::Bad(reason)) => Ok(format!(in alloc; "bad script: {reason}")?),
+        Err(LineError::Bad(reason)) => bad_text(alloc, reason),
         Err(LineError::Memory) => Err(CaseError::Memory),
     }
 }
@@ -95,13 +107,13 @@ fn outcome_of(
     text: &str,
 ) -> Result<String, CaseError> {
     if text == "cut" {
-        return cut_text(alloc, token.cut(alloc)?);
+        return cut_text(alloc, &token.cut(alloc)?);
     }
     if let Some(limits) = text.strip_prefix("audit ") {
         let limits = limits_of(limits).ok_or(CaseError::NoLine(number))?;
         return verdict_text(alloc, token.audit(alloc, limits)?);
     }
-    reply_text(alloc, token, number, text)
+    script_text(alloc, token, number, text)
 }
 
 /// Plays the line of this number, and says whether it has an arrow.
