@@ -39,7 +39,7 @@ fn a_script_may_be_cut_at_every_byte(rt: HostRuntime) {
     }
 }
 
-/// Bytes are read one by one, and a read fails or isn't made.
+/// Bytes are read one by one, and a read fails or isn't made. The last read finds the end.
 #[test]
 fn lines_are_answered_before_the_next_read(rt: HostRuntime) {
     for count in 0..=SCRIPT.len() {
@@ -58,6 +58,9 @@ fn lines_are_answered_before_the_next_read(rt: HostRuntime) {
             "reader does not end",
         );
     }
+    let mut one_more = Devices::of(1);
+    one_more.turns = 49;
+    check_play(&rt, rt.alloc(), SCRIPT, one_more, REPLIES, "played");
 }
 
 /// Bytes are written one by one, and a write fails or takes none.
