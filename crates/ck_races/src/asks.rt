@@ -1,30 +1,49 @@
-//! Of eight callers two make calls. One asks for the state of a session, without the lock, while
-//! the other logs in; then both call and ask at once. The last caller makes no call: it asks before
-//! the first one and after the last.
+//! Of three callers of a token one logs in. Meanwhile another, which has learnt of the calls before,
+//! asks for the state of a session, without the lock. The last makes no call: it asks before the
+//! first call and after the last.
+ghost use Rattle.std.specs.Prelude.{◌≡◌, ℕ};
+ghost use Rattle.ck_journal.specs.Histories.{start, start_of};
+ghost use Rattle.ck_callers.specs.Accounts.{name_of};
+
 use crate::errors::RaceError;
-use crate::shared_plays::{Play, play_shared};
+use crate::mix::{Place, call_of};
 use crate::tokens::token_after;
-use ck_audit::are_same_replies;
-use ck_callers::{Answered, Ask, Caller, News, Script, Status, Step, TokenId, run_steps};
-use ck_journal::{Body, Call, READ_WRITE, Reply};
-use ck_shared::SharedToken;
+use ck_callers::{
+    Answered, Ask, Caller, NewIdentity, News, Script, Status, Step, TokenId, run_steps,
+};
+use ck_journal::{Call, JournaledToken};
+use ck_script::reply_line;
+use ck_shared::{Ends, SharedToken};
 use ck_token::Token;
-use ck_types::{NoMemory, Pin, Rv, RvError, SessionState, TokenFlags, mechanism_types};
+use ck_types::{NoMemory, Pin, Rv, mechanism_types};
 use std::alloc::Global;
+use std::marker::Brand;
 use std::sync::Wait;
 use std::thread::Threads;
 
-/// How often each of the two callers asks for the state of the session.
+/// How often each caller asks for the state of the session.
 const ASKS: u32 = 1_000;
 
-/// How often each then calls.
-const CALLS: u32 = 20;
+/// What the first caller calls before another logs in: session 1 is then open, and nobody is logged
+/// in.
+const FIRST_CALLS: [&str; 5] = [
+    "InitToken 31323334",
+    "OpenSession 6",
+    "Login 1 0 31323334",
+    "InitPIN 1 75736572",
+    "Logout 1",
+];
 
-/// How many calls prepare the token.
-const FIRST_CALLS: u64 = 5;
+/// How many entries the first calls have, and how many there are with the login.
+const FIRST: u64 = 5;
 
-/// How often all of it is run.
+const ALL: u64 = 6;
+
+/// How often all of it is run: on new tokens, and on tokens whose journal was cut.
 pub(crate) const RUNS: u32 = 100;
+
+/// What is said where what comes isn't what must come.
+const FAULT: &str = "asks are not answered as they must be";
 
 type AskingScript<K> = Script<K, Step, Answered>;
 
@@ -32,170 +51,184 @@ fn expect(holds: bool) -> Result<(), RaceError> {
     if holds {
         return Ok(());
     }
-    Err(RaceError::Asked)
+    Err(RaceError::Wrong(FAULT))
 }
 
-/// An ask is answered so.
-fn check_status<K: TokenId>(
+/// Whether an ask is answered so, or with all mechanisms where no text is wanted.
+fn is_answer(alloc: Global, status: &Option<Status>, wanted: &str) -> Result<bool, NoMemory> {
+    match status {
+        Some(Status::Reply(reply)) => Ok(reply_line(alloc, reply)?.as_str() == wanted),
+        Some(Status::Mechanisms(types)) => Ok(wanted.is_empty() && *types == mechanism_types()),
+        None => Ok(false),
+    }
+}
+
+fn check_ask<K: TokenId>(
+    alloc: Global,
     caller: &mut Caller<K>,
     ask: Ask,
-    rv: Rv,
-    body: Body,
+    wanted: &str,
 ) -> Result<(), RaceError> {
-    match caller.status(ask) {
-        Some(Status::Reply(reply)) => expect(are_same_replies(&reply, &Reply { rv, body })),
-        _ => Err(RaceError::Asked),
-    }
+    let status = caller.status(ask);
+    expect(is_answer(alloc, &status, wanted)?)
 }
 
-/// Session 1 is a read/write session in this state.
-fn check_session<K: TokenId>(caller: &mut Caller<K>, state: SessionState) -> Result<(), RaceError> {
-    let body = Body::Session {
-        state,
-        flags: READ_WRITE,
-    };
-    check_status(caller, Ask::Session(1), Rv::Ok, body)
-}
-
-/// A new token has no PINs and no sessions, and all mechanisms.
-fn check_new<K: TokenId>(caller: &mut Caller<K>) -> Result<(), RaceError> {
-    let body = Body::Token {
-        flags: TokenFlags::LOGIN_REQUIRED,
-        limit: 64,
-        sessions: 0,
-        rw_sessions: 0,
-    };
-    check_status(caller, Ask::Token, Rv::Ok, body)?;
-    let rv = Rv::Error(RvError::SessionHandleInvalid);
-    check_status(caller, Ask::Session(1), rv, Body::Empty)?;
-    match caller.status(Ask::Mechanisms) {
-        Some(Status::Mechanisms(types)) => expect(types == mechanism_types()),
-        _ => Err(RaceError::Asked),
-    }
-}
-
-fn log_in(user: u64, pin: &[u8]) -> Call {
-    let (session, pin) = (1, Pin::of(pin));
-    Call::Login { session, user, pin }
-}
-
-/// After the first calls the user has a PIN, session 1 is open, and nobody is logged in.
-fn first_calls(alloc: Global) -> Result<Vec<Call>, RaceError> {
-    let (session, officer_pin, pin) = (1, Pin::of(b"1234"), Pin::of(b"user"));
-    let calls = vec![in alloc;
-        Call::InitToken { pin: officer_pin },
-        Call::OpenSession { flags: READ_WRITE },
-        log_in(0, b"1234"),
-        Call::InitPin { session, pin },
-        Call::Logout { session },
-    ]?;
-    Ok(calls)
-}
-
-/// Makes calls, each of which is answered OK.
-fn make_calls<K: TokenId, R: Wait + Drop>(
-    rt: &R,
+/// Before the first call the token is in this state, it has no sessions, and it has all mechanisms.
+fn check_before<K: TokenId>(
     alloc: Global,
-    token: &SharedToken<K, Token, R>,
     caller: &mut Caller<K>,
-    calls: Vec<Call>,
+    state: &str,
 ) -> Result<(), RaceError> {
-    for call in calls {
-        let reply = token.call(rt, alloc, caller, call)?;
-        expect(reply.rv == Rv::Ok)?;
-    }
-    Ok(())
+    check_ask(alloc, caller, Ask::Token, state)?;
+    check_ask(alloc, caller, Ask::Session(1), "b3")?;
+    check_ask(alloc, caller, Ask::Mechanisms, "")
 }
 
-/// One session is open, and nobody is logged in.
-fn check_open<K: TokenId>(caller: &mut Caller<K>) -> Result<(), RaceError> {
-    let body = Body::Token {
-        flags: TokenFlags::LOGIN_REQUIRED
-            | TokenFlags::TOKEN_INITIALIZED
-            | TokenFlags::USER_PIN_INITIALIZED,
-        limit: 64,
-        sessions: 1,
-        rw_sessions: 1,
-    };
-    check_status(caller, Ask::Token, Rv::Ok, body)?;
-    check_session(caller, SessionState::RwPublic)
-}
-
-/// Makes the first calls. Says what the caller then knows.
-fn make_first_calls<K: TokenId, R: Wait + Drop>(
+/// A caller makes the call of a line.
+fn make_call<K: TokenId, G: JournaledToken, R: Wait + Drop>(
     rt: &R,
     alloc: Global,
-    token: &SharedToken<K, Token, R>,
+    token: &SharedToken<K, G, R>,
     caller: &mut Caller<K>,
-) -> Result<News<K>, RaceError> {
-    make_calls(rt, alloc, token, caller, first_calls(alloc)?)?;
-    expect(caller.count() == FIRST_CALLS && caller.seen() == FIRST_CALLS)?;
-    check_open(caller)?;
-    Ok(caller.news())
+    line: &str,
+) -> Result<(), RaceError> {
+    let call = call_of(alloc, &Place::new(), line)?;
+    let reply = token.call(rt, alloc, caller, call)?;
+    expect(reply.rv == Rv::Ok)
 }
 
-/// A caller learns what another knows, and has made no call.
-fn check_learnt<K: TokenId>(caller: &mut Caller<K>, first: &News<K>) -> Result<(), RaceError> {
-    caller.learn(first);
-    expect(caller.count() == 0 && caller.seen() == FIRST_CALLS && first.seen() == FIRST_CALLS)
-}
-
-/// The last caller asks a new token. Then the first prepares it, and the second learns that.
-fn prepare<K: TokenId, R: Wait + Drop>(
+/// A caller makes the first calls.
+fn make_first_calls<K: TokenId, G: JournaledToken, R: Wait + Drop>(
     rt: &R,
     alloc: Global,
-    token: &SharedToken<K, Token, R>,
-    callers: &mut [Caller<K>],
+    token: &SharedToken<K, G, R>,
+    caller: &mut Caller<K>,
+) -> Result<(), RaceError> {
+    for line in FIRST_CALLS {
+        make_call(rt, alloc, token, caller, line)?;
+    }
+    expect(caller.seen() == FIRST && caller.count() == FIRST)?;
+    check_ask(alloc, caller, Ask::Token, "0 40c 64 1 1")
+}
+
+/// What is answered of session 1 after so many entries: behind the first calls the user logs in.
+fn state_after(entries: u64) -> &'static str {
+    if entries == FIRST { "0 2 6" } else { "0 3 6" }
+}
+
+/// All steps of a script were taken. With each answer comes how many entries the caller knows: it
+/// is that of their state, and what is known stays.
+fn check_script<K: TokenId>(alloc: Global, script: &AskingScript<K>) -> Result<(), RaceError> {
+    script.outcome()?;
+    let mut known = FIRST;
+    for answer in script.replies() {
+        if let Answered::Status(status, seen) = answer {
+            expect(known <= *seen && is_answer(alloc, status, state_after(*seen))?)?;
+            known = *seen;
+        }
+    }
+    Ok(())
+}
+
+/// A caller that makes no call learns. It then knows so many entries, and sees their state.
+fn check_learnt<K: TokenId>(
+    alloc: Global,
+    caller: &mut Caller<K>,
+    news: &News<K>,
+    entries: u64,
+) -> Result<(), RaceError> {
+    caller.learn(news);
+    expect(caller.seen() == entries && caller.count() == 0)?;
+    check_ask(alloc, caller, Ask::Session(1), state_after(entries))
+}
+
+fn caller_at<K: TokenId>(
+    scripts: &mut [AskingScript<K>],
+    place: usize,
+) -> Result<&mut Caller<K>, RaceError> {
+    match scripts.get_mut(place) {
+        Some(script) => Ok(&mut script.caller),
+        None => Err(RaceError::Wrong(FAULT)),
+    }
+}
+
+/// The last caller asks before the first call. Then the first makes the first calls.
+fn prepare<K: TokenId, G: JournaledToken, R: Wait + Drop>(
+    rt: &R,
+    alloc: Global,
+    token: &SharedToken<K, G, R>,
+    scripts: &mut [AskingScript<K>],
+    state: &str,
 ) -> Result<News<K>, RaceError> {
-    check_new(callers.last_mut().ok_or(RaceError::Asked)?)?;
-    let one = callers.first_mut().ok_or(RaceError::Asked)?;
-    let first = make_first_calls(rt, alloc, token, one)?;
-    check_learnt(callers.get_mut(1).ok_or(RaceError::Asked)?, &first)?;
-    Ok(first)
+    check_before(alloc, caller_at(scripts, 2)?, state)?;
+    let first = caller_at(scripts, 0)?;
+    make_first_calls(rt, alloc, token, first)?;
+    Ok(first.news())
 }
 
-/// How often the caller of this number asks for the session.
-fn asks_of(caller: u32) -> u32 {
-    if caller > 2 { 0 } else { ASKS }
+/// The answers to a caller are right. It sees that the user is logged in, and what is older takes
+/// nothing from it.
+fn check_after<K: TokenId>(
+    alloc: Global,
+    script: &mut AskingScript<K>,
+    older: &News<K>,
+) -> Result<(), RaceError> {
+    check_script(alloc, script)?;
+    let caller = &mut script.caller;
+    check_ask(alloc, caller, Ask::Session(1), state_after(ALL))?;
+    caller.learn(older);
+    expect(caller.seen() == ALL)
 }
 
-/// How often it calls, but for the login.
-fn calls_of(caller: u32) -> u32 {
-    if caller > 2 { 0 } else { CALLS }
-}
-
-/// Asks for the session, so often.
-fn add_asks(steps: &mut Vec<Step>, count: u32) -> Result<(), NoMemory> {
-    for _ in 0..count {
-        steps.push(Step::Ask(Ask::Session(1)))?;
+fn check_all_after<K: TokenId>(
+    alloc: Global,
+    scripts: &mut [AskingScript<K>],
+    older: &News<K>,
+) -> Result<(), RaceError> {
+    for script in scripts {
+        check_after(alloc, script, older)?;
     }
     Ok(())
 }
 
-/// Calls, each with an ask behind it, so often.
-fn add_calls(steps: &mut Vec<Step>, count: u32) -> Result<(), NoMemory> {
-    for _ in 0..count {
-        steps.push(Step::Call(Call::GetTokenInfo))?;
-        steps.push(Step::Ask(Ask::Token))?;
-    }
-    Ok(())
+/// The second caller learns of the first calls, all scripts are played, and it learns of the login.
+fn play_scripts<
+    K: TokenId + Send + Sync,
+    G: JournaledToken + Send,
+    R: Threads + Wait + Drop + Send + Sync,
+>(
+    rt: &R,
+    alloc: Global,
+    token: &SharedToken<K, G, R>,
+    scripts: &mut [AskingScript<K>],
+    older: &News<K>,
+) -> Result<(), RaceError> {
+    check_learnt(alloc, caller_at(scripts, 1)?, older, FIRST)?;
+    run_steps(rt, alloc, token, scripts);
+    let newest = caller_at(scripts, 0)?.news();
+    check_learnt(alloc, caller_at(scripts, 1)?, &newest, ALL)
 }
 
-/// The first caller logs in. It and the second ask again and again, and then call, and ask after
-/// each call. The others do nothing.
+/// The first caller logs in. It and the second then ask again and again.
 fn steps_of(alloc: Global, caller: u32) -> Result<Vec<Step>, NoMemory> {
     let mut steps = Vec::new(alloc);
     if caller == 1 {
-        steps.push(Step::Call(log_in(1, b"user")))?;
+        let (session, user, pin) = (1, 1, Pin::of(b"user"));
+        steps.push(Step::Call(Call::Login { session, user, pin }))?;
     }
-    add_asks(&mut steps, asks_of(caller))?;
-    add_calls(&mut steps, calls_of(caller))?;
+    let asks = if caller < 3 { ASKS } else { 0 };
+    for _ in 0..asks {
+        steps.push(Step::Ask(Ask::Session(1)))?;
+    }
     Ok(steps)
 }
 
 fn script_of<K: TokenId>(alloc: Global, caller: Caller<K>) -> Result<AskingScript<K>, NoMemory> {
     let steps = steps_of(alloc, caller.number())?;
-    Script::new(alloc, caller, steps).ok().ok_or(NoMemory)
+    match Script::new(alloc, caller, steps) {
+        Ok(script) => Ok(script),
+        Err(_) => Err(NoMemory),
+    }
 }
 
 fn scripts_of<K: TokenId>(
@@ -209,38 +242,6 @@ fn scripts_of<K: TokenId>(
     Ok(scripts)
 }
 
-/// Each step is answered OK, and what is known stays. The first caller asks for the session once it
-/// has logged in, the second before it calls. So where either knows more than the first calls, the
-/// login is among it: exactly then the user is logged in.
-fn check_answers(answers: &[Answered], wanted: u32) -> Result<(), RaceError> {
-    let (mut known, mut asks) = (0, 0u32);
-    for answer in answers {
-        let (Answered::Reply(reply, seen) | Answered::Status(Some(Status::Reply(reply)), seen)) =
-            answer
-        else {
-            return Err(RaceError::Asked);
-        };
-        expect(reply.rv == Rv::Ok && *seen >= known)?;
-        known = *seen;
-        if let Body::Session { state, flags } = &reply.body {
-            let has_login = *state == SessionState::RwUser;
-            let is_open = has_login || *state == SessionState::RwPublic;
-            expect(is_open && *flags == READ_WRITE && has_login == (known > FIRST_CALLS))?;
-            asks = asks.saturating_add(1);
-        }
-    }
-    expect(asks == wanted)
-}
-
-/// All steps were taken, and all answers are right.
-fn check_scripts<K: TokenId>(scripts: &[AskingScript<K>]) -> Result<(), RaceError> {
-    for script in scripts {
-        script.outcome()?;
-        check_answers(script.replies(), asks_of(script.caller.number()))?;
-    }
-    Ok(())
-}
-
 fn callers_of<K: TokenId>(
     alloc: Global,
     scripts: Vec<AskingScript<K>>,
@@ -252,50 +253,79 @@ fn callers_of<K: TokenId>(
     Ok(callers)
 }
 
-/// The callers take their steps, each in a thread of its own.
-fn play<K: TokenId + Send + Sync, R: Threads + Wait + Drop + Send + Sync>(
+/// The callers call and ask: before the first call the token is in this state.
+fn play<K: TokenId + Send + Sync, G: JournaledToken + Send, R: Threads + Wait + Drop + Send + Sync>(
+    rt: &R,
+    alloc: Global,
+    token: &SharedToken<K, G, R>,
+    scripts: &mut [AskingScript<K>],
+    state: &str,
+) -> Result<(), RaceError> {
+    let older = prepare(rt, alloc, token, scripts, state)?;
+    play_scripts(rt, alloc, token, scripts, &older)?;
+    check_all_after(alloc, scripts, &older)
+}
+
+/// All that the callers do. They come back.
+fn ask<K: TokenId + Send + Sync, R: Threads + Wait + Drop + Send + Sync>(
     rt: &R,
     alloc: Global,
     token: &SharedToken<K, Token, R>,
     callers: Vec<Caller<K>>,
+    state: &str,
 ) -> Result<Vec<Caller<K>>, RaceError> {
     let mut scripts = scripts_of(alloc, callers)?;
-    run_steps(rt, alloc, token, scripts.as_mut_slice());
-    check_scripts(scripts.as_slice())?;
+    play(rt, alloc, token, scripts.as_mut_slice(), state)?;
     Ok(callers_of(alloc, scripts)?)
 }
 
-/// The last caller sees that the user has logged in, and loses nothing by what is older.
-fn check_after<K: TokenId>(callers: &mut [Caller<K>], first: &News<K>) -> Result<(), RaceError> {
-    let caller = callers.last_mut().ok_or(RaceError::Asked)?;
-    check_session(caller, SessionState::RwUser)?;
-    let seen = caller.seen();
-    caller.learn(first);
-    expect(caller.count() == 0 && caller.seen() == seen && seen > first.seen())
-}
-
-/// All that the callers do. They come back.
-pub(crate) fn ask<K: TokenId + Send + Sync, R: Threads + Wait + Drop + Send + Sync>(
-    rt: &R,
+/// Shares the token among three callers, of which `K` stands for the history, and takes it back.
+fn ask_as<K: TokenId + Send + Sync, R: Threads + Wait + Copy + Drop + Send + Sync>(
+    rt: R,
     alloc: Global,
-    token: &SharedToken<K, Token, R>,
-    mut callers: Vec<Caller<K>>,
-) -> Result<Vec<Caller<K>>, RaceError> {
-    let first = prepare(rt, alloc, token, callers.as_mut_slice())?;
-    let mut callers = play(rt, alloc, token, callers)?;
-    check_after(callers.as_mut_slice(), &first)?;
-    Ok(callers)
+    token: Token,
+    identity: NewIdentity,
+    is_cut: bool,
+) -> Result<(), RaceError>
+    requires history { token.history ≡ start K.base }
+    requires limits { token.limits ≡ K.limits }
+    requires callers { K.callers ≡ 3 }
+    requires book { identity.history.seen.book ≡ K.book }
+    requires ledgers { (n : ℕ) → K.ledger n ≡ name_of identity.ledgers n }
+{
+    let ends = SharedToken::<K, Token, R>::adopt(rt, alloc, token, 3, identity);
+    let Ok(Ends { token, callers }) = ends else {
+        return Err(NoMemory.into());
+    };
+    let state = if is_cut { "0 404 64 0 0" } else { "0 4 64 0 0" };
+    let callers = ask(&rt, alloc, &token, callers, state)?;
+    match token.close(&rt, callers) {
+        Ok(token) => expect(token.journal().len() == ALL),
+        Err(_) => Err(RaceError::Wrong(FAULT)),
+    }
 }
 
-/// Runs it so often, each time on a new token.
+/// Three callers call and ask, on a new token or on one whose journal was cut.
+fn run_asks_on<R: Threads + Wait + Copy + Drop + Send + Sync>(
+    rt: R,
+    alloc: Global,
+    token: Token,
+    is_cut: bool,
+) -> Result<(), RaceError>
+    requires { token.history ≡ start (start_of token.history) }
+{
+    ask_as::<Brand, R>(rt, alloc, token, NewIdentity::new(), is_cut)
+}
+
+/// Runs it so often, on new tokens and on tokens whose journal was cut.
 pub(crate) fn run_asks<R: Threads + Wait + Copy + Drop + Send + Sync>(
     rt: R,
     alloc: Global,
 ) -> Result<(), RaceError> {
     for _ in 0..RUNS {
-        let token = token_after(alloc, &[])?;
-        let answered = play_shared(rt, alloc, token, &Play::Asks)?;
-        expect(answered == FIRST_CALLS + 1 + 2 * u64::from(CALLS))?;
+        run_asks_on(rt, alloc, token_after(alloc, &[])?, false)?;
+        let cut = token_after(alloc, ["1 InitToken 31323334 -> 0"].as_slice())?;
+        run_asks_on(rt, alloc, cut, true)?;
     }
     Ok(())
 }

@@ -1,13 +1,15 @@
-//! The races of a file are played, and what came is written.
+//! The races of a file are played.
 use crate::errors::RaceError;
-use crate::plays::check_race;
 use crate::races::{Race, races_in};
 use crate::retries::retry_race;
-use std::alloc::Global;
+use crate::runs::run_race;
+use ck_token::Token;
+use ck_types::Limits;
+use std::alloc::{AllocError, Global};
+use std::fs;
 use std::fs::Files;
 use std::sync::Wait;
 use std::thread::Threads;
-use std::{fs, io};
 
 /// Plays a race, and says how often a call was made again that had found no memory.
 fn play_race<R: Threads + Wait + Copy + Drop + Send + Sync>(
@@ -17,68 +19,53 @@ fn play_race<R: Threads + Wait + Copy + Drop + Send + Sync>(
     is_alone: bool,
 ) -> Result<u64, RaceError> {
     if is_alone {
-        return retry_race(rt, alloc, race);
+        let mut token = Token::new(alloc, Limits::largest());
+        return retry_race(rt, alloc, &mut token, race);
     }
-    check_race(rt, alloc, race)?;
+    run_race(rt, alloc, race)?;
     Ok(0)
 }
 
-/// Writes that all races passed, and how many calls were made again.
-fn write_passed<R: Print>(rt: &R, name: &str, passed: usize, retries: u64) -> io::Result<()> {
-    if retries == 0 {
-        println!(rt; "{name}: {passed} passed")
-    } else {
-        println!(rt; "{name}: {passed} passed, {retries} made again")
-    }
-}
-
-/// Plays races, and says whether they pass.
-fn play_races<R: Print + AllocGlobal + Threads + Wait + Copy + Drop + Send + Sync>(
+/// Plays races, and says the same of all of them.
+fn play_races<R: Threads + Wait + Copy + Drop + Send + Sync>(
     rt: R,
-    name: &str,
+    alloc: Global,
     races: &[Race],
     is_alone: bool,
-) -> io::Result<bool> {
+) -> Result<u64, RaceError> {
     let mut retries = 0u64;
     for race in races {
-        match play_race(rt, rt.alloc(), race, is_alone) {
-            Ok(count) => retries = retries.saturating_add(count),
-            Err(error) => {
-                println!(rt; "{name}, the race of line {}: {error}", race.line)?;
-                return Ok(false);
-            }
-        }
+        retries = retries.saturating_add(play_race(rt, alloc, race, is_alone)?);
     }
-    write_passed(&rt, name, races.len(), retries)?;
-    Ok(true)
+    Ok(retries)
 }
 
-/// Plays the races of a text, and says whether they pass.
-fn play_text<R: Print + AllocGlobal + Threads + Wait + Copy + Drop + Send + Sync>(
-    rt: R,
+/// Adds a line: so many races of the file passed, and so many calls were made again.
+fn add_passed(
+    text: &mut String,
     name: &str,
-    text: &str,
-    is_alone: bool,
-) -> io::Result<bool> {
-    match races_in(rt.alloc(), text) {
-        Ok(races) => play_races(rt, name, races.as_slice(), is_alone),
-        Err(error) => {
-            println!(rt; "{name}: {error}")?;
-            Ok(false)
-        }
+    passed: usize,
+    retries: u64,
+) -> Result<(), AllocError> {
+    if retries == 0 {
+        write!(text, "{name}: {passed} passed\n")
+    } else {
+        write!(text, "{name}: {passed} passed, {retries} made again\n")
     }
 }
 
-/// Plays the races of the file of this name, and says whether they pass: in threads, or the steps
-/// of each one after the other.
-pub(crate) fn play_file<
-    R: Files + Print + AllocGlobal + Threads + Wait + Copy + Drop + Send + Sync,
->(rt: R, name: &str, is_alone: bool) -> io::Result<bool> {
-    match fs::read_to_string(&rt, name) {
-        Ok(text) => play_text(rt, name, text.as_str(), is_alone),
-        Err(error) => {
-            println!(rt; "{name}: {error}")?;
-            Ok(false)
-        }
-    }
+/// Plays the races of the file of this name: in threads, or the steps of each one after the other.
+/// Adds a line where they pass.
+pub(crate) fn play_file<R: Files + AllocGlobal + Threads + Wait + Copy + Drop + Send + Sync>(
+    rt: R,
+    text: &mut String,
+    name: &str,
+    is_alone: bool,
+) -> Result<(), RaceError> {
+    let alloc = rt.alloc();
+    let lines = fs::read_to_string(&rt, name)?;
+    let races = races_in(alloc, lines.as_str())?;
+    let retries = play_races(rt, alloc, races.as_slice(), is_alone)?;
+    add_passed(text, name, races.len(), retries)?;
+    Ok(())
 }

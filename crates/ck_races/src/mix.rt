@@ -2,6 +2,7 @@
 use crate::errors::RaceError;
 use ck_journal::Call;
 use ck_script::{Line, LineError};
+use ck_types::NoMemory;
 use std::alloc::{AllocError, Global};
 use std::sync::atomic::{AtomicU64, Ordering};
 
@@ -100,21 +101,10 @@ impl Place {
 }
 
 /// Adds a space and a word, or the number of the handle that the word stands for.
-fn push_word(
-    alloc: Global,
-    line: &mut String,
-    place: &Place,
-    word: &str,
-) -> Result<(), AllocError> {
+fn push_word(line: &mut String, place: &Place, word: &str) -> Result<(), AllocError> {
     match place.handle(word) {
-        Some(handle) => {
-            let number = handle.load(Ordering::SeqCst);
-            line.push_str(format!(in alloc; " {number}")?.as_str())
-        }
-        None => {
-            line.push(' ')?;
-            line.push_str(word)
-        }
+        Some(handle) => write!(line, " {}", handle.load(Ordering::SeqCst)),
+        None => write!(line, " {word}"),
     }
 }
 
@@ -122,7 +112,7 @@ fn push_word(
 fn line_of(alloc: Global, place: &Place, text: &str) -> Result<String, AllocError> {
     let mut line = format!(in alloc; "1")?;
     for word in text.split(' ') {
-        push_word(alloc, &mut line, place, word)?;
+        push_word(&mut line, place, word)?;
     }
     Ok(line)
 }
@@ -132,7 +122,9 @@ pub(crate) fn call_of(alloc: Global, place: &Place, text: &str) -> Result<Call, 
     let line = line_of(alloc, place, text)?;
     match Line::parse(alloc, line.as_bytes()) {
         Ok(Line::Called { call, .. }) => Ok(call),
-        Err(LineError::Memory) => Err(RaceError::Memory),
-        Ok(Line::Skipped) | Err(LineError::Bad(_)) => Err(RaceError::BadRow),
+        Err(LineError::Memory) => Err(NoMemory.into()),
+        Ok(Line::Skipped) | Err(LineError::Bad(_)) => Err(RaceError::Wrong(
+            "a row of calls is bad",
+        )),
     }
 }

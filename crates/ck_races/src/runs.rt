@@ -1,16 +1,22 @@
-//! One run of a race on a shared token.
+//! Runs of a race by callers in threads, with all calls in order and with the first ones alone.
 use crate::errors::RaceError;
 use crate::journals::{CallerReplies, check_token};
-use crate::orders::Turns;
+use crate::orders::{Turns, reorder};
 use crate::races::{Race, Step};
-use crate::tokens::token_of;
+use crate::tokens::prepare;
 use ck_callers::{Caller, Gate, TokenId};
 use ck_journal::Reply;
 use ck_shared::{CallerWork, share};
-use ck_types::NoMemory;
+use ck_token::Token;
+use ck_types::{Limits, NoMemory};
+use rand_core::SeedableRng;
+use rand_xoshiro::Xoshiro256PlusPlus;
 use std::alloc::Global;
 use std::sync::Wait;
 use std::thread::Threads;
+
+/// How often a race is run with all its calls in order, and how often with the first ones alone.
+const RUNS: u64 = 100;
 
 /// Steps, the first of which are made in an order of their callers.
 #[derive(Drop)]
@@ -62,22 +68,55 @@ impl<'a, R: Wait> CallerWork<R> for Run<'a> {
     }
 }
 
-/// One run of the race by eight callers on a token of its own, the first calls in this order of
-/// their callers. What comes of it is checked, and what is made afterwards.
-pub(crate) fn run_race<R: Threads + Wait + Copy + Drop + Send + Sync>(
+/// Eight callers make the steps of a race on a token, the first calls in this order of their
+/// callers. What comes of it is checked, and what is made afterwards.
+fn run_on<R: Threads + Wait + Copy + Drop + Send + Sync>(
+    rt: R,
+    alloc: Global,
+    token: &mut Token,
+    race: &Race,
+    order: &[u32],
+) -> Result<(), RaceError> {
+    prepare(alloc, token, race.earlier.as_slice())?;
+    let run = Run {
+        steps: race.steps.as_slice(),
+        turns: Turns::new(order),
+    };
+    let all = share(rt, alloc, token, 8, &run)?;
+    if run.turns.is_late() {
+        return Err(RaceError::Wrong("a call's turn didn't come"));
+    }
+    check_token(alloc, token, all, race, order)
+}
+
+/// One run of a race on a token of its own.
+fn run_once<R: Threads + Wait + Copy + Drop + Send + Sync>(
     rt: R,
     alloc: Global,
     race: &Race,
     order: &[u32],
 ) -> Result<(), RaceError> {
-    let mut token = token_of(alloc, race)?;
-    let run = Run {
-        steps: race.steps.as_slice(),
-        turns: Turns::new(order),
-    };
-    let all = share(rt, alloc, &mut token, 8, &run)?;
-    if run.turns.is_late() {
-        return Err(RaceError::Late);
+    let mut token = Token::new(alloc, Limits::largest());
+    run_on(rt, alloc, &mut token, race, order)
+}
+
+/// Runs a race again and again: with all steps in an order of their callers, first its own and then
+/// drawn, and with the first steps alone in order.
+pub(crate) fn run_race<R: Threads + Wait + Copy + Drop + Send + Sync>(
+    rt: R,
+    alloc: Global,
+    race: &Race,
+) -> Result<(), RaceError> {
+    let callers = race.steps.iter().map(|step| step.caller);
+    let mut order: Vec<u32> = callers.collect(alloc)?;
+    let mut draws = Xoshiro256PlusPlus::seed_from_u64(race.line);
+    for _ in 0..RUNS {
+        run_once(rt, alloc, race, order.as_slice())?;
+        let first = order.as_slice().get(..race.first).unwrap_or(&[]);
+        run_once(rt, alloc, race, first)?;
+        if let Some(together) = order.as_mut_slice().get_mut(race.first..) {
+            reorder(&mut draws, together);
+        }
     }
-    check_token(alloc, &mut token, all, race, order)
+    Ok(())
 }

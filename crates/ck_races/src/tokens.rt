@@ -3,11 +3,15 @@ ghost use Rattle.std.specs.Prelude.{◌≡◌, IfOk, OnOk};
 ghost use Rattle.ck_journal.specs.Histories.{start, start_of};
 
 use crate::errors::RaceError;
-use crate::mix::{Place, call_of};
-use crate::races::{Race, Step, compare};
+use crate::races::{Step, compare, step_in};
 use ck_token::{Token, Uncut};
-use ck_types::Limits;
+use ck_types::{Limits, NoMemory};
 use std::alloc::Global;
+
+fn make_step(alloc: Global, token: &mut Token, step: &Step) -> Result<(), RaceError> {
+    let reply = token.call(alloc, step.caller, step.call.clone()?)?;
+    compare(alloc, step, &reply)
+}
 
 /// Makes steps one after the other.
 pub(crate) fn make_steps(
@@ -16,16 +20,7 @@ pub(crate) fn make_steps(
     steps: &[Step],
 ) -> Result<(), RaceError> {
     for step in steps {
-        let reply = token.call(alloc, step.caller, step.call.clone()?)?;
-        compare(alloc, step, &reply)?;
-    }
-    Ok(())
-}
-
-/// Makes the calls of these lines.
-fn make_calls(alloc: Global, token: &mut Token, lines: &[&str]) -> Result<(), RaceError> {
-    for line in lines {
-        token.call(alloc, 1, call_of(alloc, &Place::new(), line)?)?;
+        make_step(alloc, token, step)?;
     }
     Ok(())
 }
@@ -36,27 +31,42 @@ fn cut(alloc: Global, token: &mut Token) -> Result<(), RaceError>
 {
     match token.cut(alloc) {
         Ok(_) => Ok(()),
-        Err(Uncut::Memory) => Err(RaceError::Memory),
-        Err(Uncut::Session) => Err(RaceError::OpenAtCut),
+        Err(Uncut::Memory) => Err(NoMemory.into()),
+        Err(Uncut::Session) => Err(RaceError::Wrong("a session is open at a cut")),
     }
 }
 
-/// The token of a race: its earlier steps are made, and its journal is cut.
-pub(crate) fn token_of(alloc: Global, race: &Race) -> Result<Token, RaceError>
-    ensures { IfOk result (λ token. token.history ≡ start (start_of token.history)) }
+/// Makes steps, and cuts the journal.
+pub(crate) fn prepare(alloc: Global, token: &mut Token, steps: &[Step]) -> Result<(), RaceError>
+    ensures { OnOk result (token.new.history ≡ start (start_of token.new.history)) }
 {
-    let mut token = Token::new(alloc, race.limits);
-    make_steps(alloc, &mut token, race.earlier.as_slice())?;
-    cut(alloc, &mut token)?;
-    Ok(token)
+    make_steps(alloc, token, steps)?;
+    cut(alloc, token)
 }
 
-/// A new token that has answered the calls of these lines, and whose journal is cut.
+/// Makes the step of a line.
+fn make_line(alloc: Global, token: &mut Token, number: u64, line: &str) -> Result<(), RaceError> {
+    let step = step_in(alloc, number, line)?;
+    make_step(alloc, token, &step)
+}
+
+/// Makes the steps of lines, and cuts the journal.
+pub(crate) fn prepare_by(alloc: Global, token: &mut Token, lines: &[&str]) -> Result<(), RaceError>
+    ensures { OnOk result (token.new.history ≡ start (start_of token.new.history)) }
+{
+    let mut number = 0u64;
+    for line in lines {
+        number = number.saturating_add(1);
+        make_line(alloc, token, number, line)?;
+    }
+    cut(alloc, token)
+}
+
+/// A new token on which the steps of these lines were made, and whose journal is cut.
 pub(crate) fn token_after(alloc: Global, lines: &[&str]) -> Result<Token, RaceError>
     ensures { IfOk result (λ token. token.history ≡ start (start_of token.history)) }
 {
     let mut token = Token::new(alloc, Limits::largest());
-    make_calls(alloc, &mut token, lines)?;
-    cut(alloc, &mut token)?;
+    prepare_by(alloc, &mut token, lines)?;
     Ok(token)
 }

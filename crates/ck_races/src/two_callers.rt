@@ -1,11 +1,13 @@
 //! Two callers share a token, each in a thread of its own. docs/threads.md goes through it.
 use crate::errors::RaceError;
-use crate::tokens::token_after;
+use crate::tokens::prepare_by;
 use ck_callers::{Caller, Gate, TokenId};
 use ck_journal::{Call, READ_WRITE};
 use ck_shared::{CallerWork, share};
-use ck_types::Rv;
+use ck_token::Token;
+use ck_types::{Limits, Rv};
 use std::alloc::Global;
+use std::fmt;
 use std::sync::Wait;
 use std::thread::Threads;
 
@@ -40,18 +42,27 @@ impl<R: Wait> CallerWork<R> for ThreeSessions {
 /// were answered, and how many entries the journal has.
 #[derive(Clone, Copy)]
 pub(crate) struct Counts {
-    pub(crate) sessions: usize,
-    pub(crate) calls: u64,
-    pub(crate) entries: u64,
+    sessions: usize,
+    calls: u64,
+    entries: u64,
 }
 
-/// Shares a token between two callers.
-pub(crate) fn counts_of_two<R: Threads + Wait + Copy + Drop + Send + Sync>(
+impl fmt::Display for Counts {
+    fn fmt<W: fmt::Write>(&self, f: &mut fmt::Formatter<W>) -> fmt::Result {
+        let (sessions, calls) = (self.sessions, self.calls);
+        write!(f, "{sessions} sessions were opened by {calls} calls\n")?;
+        write!(f, "the journal has {} entries", self.entries)
+    }
+}
+
+/// Initializes a token, and shares it between two callers.
+fn share_between_two<R: Threads + Wait + Copy + Drop + Send + Sync>(
     rt: R,
     alloc: Global,
+    token: &mut Token,
 ) -> Result<Counts, RaceError> {
-    let mut token = token_after(alloc, ["InitToken 31323334"].as_slice())?;
-    let counts = share(rt, alloc, &mut token, 2, &ThreeSessions)?;
+    prepare_by(alloc, token, ["1 InitToken 31323334 -> 0"].as_slice())?;
+    let counts = share(rt, alloc, token, 2, &ThreeSessions)?;
     let entries = token.journal().entries().iter();
     Ok(Counts {
         sessions: entries.filter(|entry| entry.reply.rv == Rv::Ok).count(),
@@ -60,4 +71,13 @@ pub(crate) fn counts_of_two<R: Threads + Wait + Copy + Drop + Send + Sync>(
             .fold(0, |sum, count| sum.saturating_add(*count)),
         entries: token.journal().len(),
     })
+}
+
+/// What two callers come to that share a new token.
+pub(crate) fn counts_of_two<R: Threads + Wait + Copy + Drop + Send + Sync>(
+    rt: R,
+    alloc: Global,
+) -> Result<Counts, RaceError> {
+    let mut token = Token::new(alloc, Limits::largest());
+    share_between_two(rt, alloc, &mut token)
 }
