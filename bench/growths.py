@@ -8,9 +8,9 @@ of memory. The calls of a case are also played as a script: all replies are writ
 and then the program says that it is out of memory. Where anything else comes, it is printed, and the status is 1. Bad
 lines are left out: they make no call, and without memory one may have another reason.
 
-The calls of each race in crates/ck_races/data are made one after the other, by callers of a shared token. Where one
-finds no memory, its caller knows and sees what it did before, and the next call of another caller adds one entry; then
-it is made again. With the argument `shared` these alone are played.
+The calls of each race in crates/ck_races/data are made one after the other, by a caller of a shared token. Where one
+finds no memory, the caller knows what it did before, and the call is made again. In the end the journal has an entry
+for each call. With the argument `shared` these alone are played.
 
 The programs are crates/ck_cases/out/ck_cases, crates/ck_run/out/ck_run and crates/ck_races/out/ck_races, built by
 `rt run` in their folders. This needs Linux with the GNU C library, and a C compiler, `cc`, for growths.c beside this
@@ -101,7 +101,7 @@ def is_case_right(ended, name, plain):
     """The case passes, or the program itself is out of memory."""
     if ended.output in (plain.output, plain.output[:-1] + b", 1 made again\n"):
         return ended.status == 0
-    without_memory = (b"", f"{name}: out of memory\n".encode(), f"{name}, the race of line 1: out of memory\n".encode())
+    without_memory = (b"", f"{name}: out of memory\n".encode(), b"out of memory\n")
     return ended.status == 1 and ended.output in without_memory
 
 
