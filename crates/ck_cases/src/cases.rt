@@ -1,5 +1,5 @@
 //! The lines of a file of cases. A line `limits SESSIONS OPENINGS CREATIONS LOGINS`, or `limits
-//! largest`, begins a case on a new token; in front of the first such line the token has the largest
+//! largest`, begins a case on a new token; before the first such line the token has the largest
 //! limits. Each other line is what is done, an arrow, and what comes of it. Empty lines and lines
 //! that begin with `#` are skipped.
 //!
