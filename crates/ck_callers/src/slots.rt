@@ -10,8 +10,8 @@ use std::alloc::Global;
 use std::sync::{Arc, Mutex};
 
 /// A place for the board after a call, which is made before the call is answered and filled once it
-/// is. It has two handles: one is appended to the board's operations. Only who holds the token's lock
-/// uses a handle, so nobody waits for the lock of the place.
+/// is. It has two handles: one is appended to the board's operations. Only who holds the token's
+/// lock uses a handle, so nobody waits for the lock of the place.
 #[derive(Drop)]
 pub struct EntrySlot<K: TokenId> {
     pub(crate) place: Arc<Mutex<Option<BoardCopy<K>>>>,
@@ -25,7 +25,7 @@ impl<K: TokenId> EntrySlot<K> {
         Ok((EntrySlot { place }, EntrySlot { place: other }))
     }
 
-    /// Fills the slot with the board after a call and the history that it is of. It takes no memory.
+    /// Fills the slot with the board after a call and the history that it is of, without memory.
     pub fn fill(&self, board: TokenBoard, known: &KnownHistory<K>)
         requires { board ≡ board_of K.limits known.now.history }
     {
