@@ -21,7 +21,7 @@ use std::marker::Brand;
 use std::sync::Wait;
 use std::thread::Threads;
 
-/// How often each caller asks for the state of the session.
+/// How often each of two callers asks for the state of the session.
 const ASKS: u32 = 1_000;
 
 /// What the first caller calls before another logs in: session 1 is then open, and nobody is logged
@@ -34,9 +34,9 @@ const FIRST_CALLS: [&str; 5] = [
     "Logout 1",
 ];
 
-/// How many entries the first calls have, and how many there are with the login.
+/// How many entries the first calls have.
 const FIRST: u64 = 5;
-
+/// How many there are with the login.
 const ALL: u64 = 6;
 
 /// How often all of it is run: on new tokens, and on tokens whose journal was cut.
