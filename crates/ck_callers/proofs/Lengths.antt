@@ -22,11 +22,6 @@ module _ (b : Base) where
         subst (λ x. IsFront x h) is (subst (IsFront (history_of b one)) also
         (front_of_prefix b one two (prefix_shorter one two all p q len)))
 
-    pub as_long_same : length one ≡ length two → g ≡ h
-    as_long_same len =
-        let whole : one ≡ two = prefix_whole one two (prefix_shorter one two all p q (omega arith)) (omega arith) in
-        sym is ∙ ap (history_of b) whole ∙ also
-
   -- an entry was added to all that was seen, which was as long as the one front
   module _ (one two seen log : List Entry) (e : Entry) (g h : History) (p : IsPrefix one seen)
       (q : IsPrefix two seen) (is : history_of b one ≡ g) (also : history_of b two ≡ h)

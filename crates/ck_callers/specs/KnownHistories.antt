@@ -14,7 +14,8 @@ pub record KnownState : Type 0 where
 -- the board of the history is that of each of its fronts from this one on
 abbrev pub KeepsBoard : Ranges → History → History → Type 0
 KeepsBoard limits changed history =
-    (h : History) → IsFront changed h → IsFront h history → board_of limits h ≡ board_of limits history
+    (h : History) → IsFront changed h → IsFront h history
+    → board_of limits h ≡ board_of limits history
 
 -- what was shown is a front of the known history that has all entries which changed the board
 abbrev pub Covers : KnownState → History → Type 0

@@ -28,5 +28,6 @@ AreTaken limits old new =
 abbrev pub HasRun : {K S A : Type 0} → (CallerState → S → A → CallerState → Type 0)
     → (S → Type 0) → Script K S A → Script K S A → Type 0
 HasRun Does MayFail old new =
-    HasMade Does MayFail old.caller (vec_items old.steps) (vec_items new.replies) new.outcome new.caller
+    HasMade Does MayFail old.caller (vec_items old.steps)
+    (vec_items new.replies) new.outcome new.caller
     × (vec_items new.steps ≡ [])

@@ -73,7 +73,8 @@ AreAnswersIn limits caller h [] (a ∷ answers) = ⊥
 AreAnswersIn limits caller h (s ∷ steps) (a ∷ answers) =
     IsAnswerIn limits caller h s a × AreAnswersIn limits caller h steps answers
 
--- from one number to another: each reply rises, a status doesn't fall, and stays where there is none
+-- from one number to another: each reply rises, a status doesn't fall, and the number stays where
+-- there is none
 abbrev pub Rises : ℕ → List Answered → ℕ → Type 0
 Rises n [] last = n ≡ last
 Rises n (answered.Reply reply m ∷ answers) last = (n < m) × Rises m answers last
@@ -83,7 +84,8 @@ Rises n (answered.Status None m ∷ answers) last = (n ≡ m) × Rises m answers
 -- the caller has taken the steps in their order, all of them or those before the first call that
 -- found no memory: each answer stands in the history that the caller then knows
 pub record HasTaken (limits : Ranges) (old : CallerState) (steps : List Step)
-    (answers : List Answered) (outcome : Result (Unit {0}) NoMemory) (new : CallerState) : Type 0 where
+    (answers : List Answered) (outcome : Result (Unit {0}) NoMemory) (new : CallerState)
+    : Type 0 where
   pub calls : HasPlayed old (calls_of steps) (replies_of answers) outcome new
   pub numbers : Rises (entry_count old.seen) answers (entry_count new.seen)
   pub places : AreAnswersIn limits old.number new.seen steps answers

@@ -132,8 +132,8 @@ impl<K: TokenId> Caller<K> {
         }
     }
 
-    /// Takes up the reply to a call of it: the books count the call, and it knows the history that
-    /// ends with the call's entry.
+    /// Notes an answered call of the caller: the books count the call, and the caller knows the
+    /// history that ends with the call's entry.
     pub fn follow(&mut self, books: &mut CallBooks<K>, known: &KnownHistory<K>)
         requires { (call : Call) × (reply : Reply)
             × IsNextCall self.old books.old call reply known.now.history }

@@ -28,8 +28,8 @@ impl NewIdentity {
     ghost use Rattle.std.specs.Prelude.{◌≡◌, []};
     ghost use Rattle.ck_callers.specs.Rules.{head_of};
 
-    /// An identity that no other has: which names its book and its ledgers get is left open, so that
-    /// a type may take them over.
+    /// An identity that no other has: which names its book and its ledgers get is left open, so
+    /// that a type may take them over.
     pub fn new() -> NewIdentity
         ensures entries { result.history.seen.log ≡ [] }
         ensures head { result.history.head ≡ head_of result.history.seen.book }

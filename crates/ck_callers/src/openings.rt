@@ -90,7 +90,8 @@ impl<K: TokenId, R: Wait + Drop> Opened<K, R> {
         ensures changed { IfOk result (λ opened. opened.known.changed ≡ start K.base) }
         ensures published { IfOk result (λ opened. published opened.writer ≡ start K.base) }
         ensures pending { IfOk result (λ opened. pending opened.writer ≡ []) }
-        ensures callers { IfOk result (λ opened. opened.callers.items ≡ new_callers K.base callers) }
+        ensures callers { IfOk result (λ opened.
+            opened.callers.items ≡ new_callers K.base callers) }
     {
         let NewIdentity { history, ledgers } = identity;
         let (head, front) = history.named::<K>();

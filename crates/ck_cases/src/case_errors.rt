@@ -12,7 +12,7 @@ pub(crate) enum CaseError {
     /// What came of the line.
     #[error("line {0}: came {1}")]
     Differs(u64, String),
-    /// What found no memory isn't in the journal.
+    /// What found no memory left the journal with another length.
     #[error("out of memory, and the journal has {came} entries in place of {entries}")]
     Entered { entries: u64, came: u64 },
 }

@@ -23,7 +23,7 @@ impl RetryingToken {
         }
     }
 
-    /// Begins with a new token of these limits. What was made again before counts on.
+    /// Begins with a new token of these limits. The count of retries goes on.
     pub(crate) fn start(&mut self, alloc: Global, limits: Limits) {
         self.token = Token::new(alloc, limits);
     }

@@ -1,5 +1,6 @@
 -- The calls of each caller of a script, and what comes of them
-use Rattle.std.specs.Prelude.{◌≡◌, ◌==◌, ℕ, List, [], ◌∷◌, Ok, length, map, if◌then◌else◌, vec_items}
+use Rattle.std.specs.Prelude.{◌≡◌, ◌==◌, ℕ, List, [], ◌∷◌, Ok, length, map, if◌then◌else◌}
+use Rattle.std.specs.Prelude.{vec_items}
 use Rattle.ck_journal.specs.Bases.{empty_base}
 use Rattle.ck_journal.specs.Callers.{entries_by}
 use Rattle.ck_journal.specs.Fronts.{IsFront}

@@ -1,6 +1,6 @@
 -- What the program is asked to do by its words
-use Rattle.std.specs.Prelude.{⊤, ◌≡◌, ◌⊎◌, ◌-◌, ◌&&◌, ℕ, List, [], ◌∷◌, Option, Some, None, Result, Ok}
-use Rattle.std.specs.Prelude.{Err, if◌then◌else◌, nat_le, codes}
+use Rattle.std.specs.Prelude.{⊤, ◌≡◌, ◌⊎◌, ◌-◌, ◌&&◌, ℕ, List, [], ◌∷◌, Option, Some, None}
+use Rattle.std.specs.Prelude.{Result, Ok, Err, if◌then◌else◌, nat_le, codes}
 use Rattle.clap.specs.Words.{App, Rule, Text, IsAmong, fault_of, first_of, matches_of, new_app}
 use Rattle.clap.specs.Words.{new_rule, with_rule}
 use Rattle.clap.specs.declared.error.kind.ErrorKind.{ErrorKind}
@@ -40,8 +40,8 @@ AreRefused words = (k : ErrorKind) × IsAmong k (fault_of program words) × (k �
 abbrev pub callers_text : List Text → Option Text
 callers_text words = first_of (codes "callers") (matches_of program words)
 
--- without a value the script is played line by line, with a number of callers by so many in threads,
--- and any other value is bad
+-- without a value the script is played line by line, with a number of callers by so many in
+-- threads, and any other value is bad
 abbrev pub IsChosenBy : Option Text → Result Options ArgumentFault → Type 0
 IsChosenBy None (Ok option.InTurn) = ⊤
 IsChosenBy (Some text) (Ok (option.InThreads callers)) = callers_in text ≡ Some callers.count

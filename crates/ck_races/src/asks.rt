@@ -1,6 +1,6 @@
-//! Of three callers of a token one logs in. Meanwhile another, which has learnt of the calls before,
-//! asks for the state of a session, without the lock. The last makes no call: it asks before the
-//! first call and after the last.
+//! Of three callers of a token one logs in. Meanwhile another, which has learnt of the calls
+//! before, asks for the state of a session, without the lock. The last makes no call: it asks
+//! before the first call and after the last.
 ghost use Rattle.std.specs.Prelude.{◌≡◌, ℕ};
 ghost use Rattle.ck_journal.specs.Histories.{start, start_of};
 ghost use Rattle.ck_callers.specs.Accounts.{name_of};
@@ -267,10 +267,10 @@ fn play<K: TokenId + Send + Sync, G: JournaledToken + Send, R: Threads + Wait + 
 }
 
 /// All that the callers do. They come back.
-fn ask<K: TokenId + Send + Sync, R: Threads + Wait + Drop + Send + Sync>(
+fn ask<K: TokenId + Send + Sync, G: JournaledToken + Send, R: Threads + Wait + Drop + Send + Sync>(
     rt: &R,
     alloc: Global,
-    token: &SharedToken<K, Token, R>,
+    token: &SharedToken<K, G, R>,
     callers: Vec<Caller<K>>,
     state: &str,
 ) -> Result<Vec<Caller<K>>, RaceError> {
@@ -280,20 +280,18 @@ fn ask<K: TokenId + Send + Sync, R: Threads + Wait + Drop + Send + Sync>(
 }
 
 /// Shares the token among three callers, of which `K` stands for the history, and takes it back.
-fn ask_as<K: TokenId + Send + Sync, R: Threads + Wait + Copy + Drop + Send + Sync>(
-    rt: R,
-    alloc: Global,
-    token: Token,
-    identity: NewIdentity,
-    is_cut: bool,
-) -> Result<(), RaceError>
-    requires history { token.history ≡ start K.base }
-    requires limits { token.limits ≡ K.limits }
+fn ask_as<
+    K: TokenId + Send + Sync,
+    G: JournaledToken + Send,
+    R: Threads + Wait + Copy + Drop + Send + Sync,
+>(rt: R, alloc: Global, token: G, identity: NewIdentity, is_cut: bool) -> Result<(), RaceError>
+    requires history { (G.state token).history ≡ start K.base }
+    requires limits { (G.state token).limits ≡ K.limits }
     requires callers { K.callers ≡ 3 }
     requires book { identity.history.seen.book ≡ K.book }
     requires ledgers { (n : ℕ) → K.ledger n ≡ name_of identity.ledgers n }
 {
-    let ends = SharedToken::<K, Token, R>::adopt(rt, alloc, token, 3, identity);
+    let ends = SharedToken::<K, G, R>::adopt(rt, alloc, token, 3, identity);
     let Ok(Ends { token, callers }) = ends else {
         return Err(NoMemory.into());
     };
@@ -314,7 +312,7 @@ fn run_asks_on<R: Threads + Wait + Copy + Drop + Send + Sync>(
 ) -> Result<(), RaceError>
     requires { token.history ≡ start (start_of token.history) }
 {
-    ask_as::<Brand, R>(rt, alloc, token, NewIdentity::new(), is_cut)
+    ask_as::<Brand, Token, R>(rt, alloc, token, NewIdentity::new(), is_cut)
 }
 
 /// Runs it so often, on new tokens and on tokens whose journal was cut.

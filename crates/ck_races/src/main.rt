@@ -1,10 +1,10 @@
 //! What callers of a shared token do to one another. Files of races are played: lists of calls that
-//! callers make, with the replies that they get. Each race is played by threads of its callers, with
-//! all calls in a set order and with the first ones alone. Then two callers open sessions, a caller
-//! asks while another logs in, and eight callers make drawn calls at once. What is written is the
-//! same in every order of the calls, or what is wrong first. Behind the word `alone` only the steps
-//! of each race are made, one after the other on a shared token, again where there was no memory,
-//! and the line of a file says how many were.
+//! callers make, with the replies that they get. Each race is played by threads of its callers,
+//! with all calls in a set order and with the first ones alone. Then two callers open sessions, a
+//! caller asks while another logs in, and eight callers make drawn calls at once. What is written
+//! is the same in every order of the calls, or what is wrong first. Behind the word `alone` only
+//! the steps of each race are made, one after the other on a shared token, again where there was no
+//! memory, and the line of a file says how many were.
 #![tactic(auto)]
 
 mod asks;

@@ -241,7 +241,8 @@ impl Argument for AttributeQuery {
 /// The values between commas; `-` stands for none.
 fn list_in<T: Argument + Drop>(alloc: Global, text: &[u8]) -> Result<Sequence<T>, LineError>
     ensures list { IfOk result (λ list. list_in T.value_in text.now ≡ Some list) }
-    ensures bad { IfErr result (λ e. (e ≡ LineError.Memory) ⊎ (list_in T.value_in text.now ≡ None)) }
+    ensures bad { IfErr result (λ e. (e ≡ LineError.Memory)
+        ⊎ (list_in T.value_in text.now ≡ None)) }
 {
     if is_dash(text) {
         return Ok(Sequence::new(alloc));

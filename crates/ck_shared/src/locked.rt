@@ -196,8 +196,8 @@ impl<K: TokenId, G: JournaledToken, R: Wait + Drop> Locked<K, G, R> {
         self.token
     }
 
-    /// One call of a caller. Where there is no memory for it, nothing has changed. Where the call may
-    /// change the board or finds no memory, it may wait for those who still read an older copy.
+    /// One call of a caller. Where there is no memory for it, nothing has changed. Where the call
+    /// may change the board or finds no memory, it may wait for those who still read an older copy.
     pub fn step<W: Wait>(
         &mut self,
         rt: &W,

@@ -110,7 +110,8 @@ impl<K: TokenId, G: JournaledToken, R: Wait + Drop> SharedToken<K, G, R> {
         ensures back { IfErr result (λ refused. refused.1 ≡ callers) }
         ensures limits { IfOk result (λ token. (G.state token).limits ≡ K.limits) }
         ensures callers { IfOk result (λ token. AreCallers K.callers (G.state token).history) }
-        ensures settled { IfOk result (λ token. All (IsSettled (G.state token).history) callers.items) }
+        ensures settled { IfOk result (λ token.
+            All (IsSettled (G.state token).history) callers.items) }
     {
         if !self.callers.are_all(callers.as_slice()) {
             return Err((self, callers));
