@@ -1,5 +1,6 @@
-/* Refuses one growth of memory of the program that it is loaded into before the C library: the one whose number,
- * from 1, stands in REFUSED_GROWTH. At the end it writes to the file descriptor 3 how many growths there were. */
+/* Refuses one growth of memory of the program that it is loaded into before the C library: the one
+ * whose number, from 1, stands in REFUSED_GROWTH. At the end it writes to the file descriptor 3 how
+ * many growths there were. */
 #include <errno.h>
 #include <stdio.h>
 #include <stdlib.h>

@@ -1,20 +1,23 @@
 #!/usr/bin/env python3
-"""Refuses each growth of memory in turn, of the programs that play cases, scripts and the races of a shared token.
+"""Refuses each growth of memory in turn, of the programs that play cases, scripts and the races of
+a shared token.
 
-Each case of the files in crates/ck_cases/data but of many_objects.cases, which has too many growths, or of the files
-that are named, is played once for each growth of memory, which is refused. What finds no memory, a call, a cut or an
-audit, the program of cases makes again after a look at the journal: so the case passes, or the program itself is out
-of memory. The calls of a case are also played as a script: all replies are written, or whole lines at their front,
-and then the program says that it is out of memory. Where anything else comes, it is printed, and the status is 1. Bad
-lines are left out: they make no call, and without memory one may have another reason.
+Each case of the files in crates/ck_cases/data but of many_objects.cases, which has too many
+growths, or of the files that are named, is played once for each growth of memory, which is refused.
+What finds no memory, a call, a cut or an audit, the program of cases makes again after a look at
+the journal: so the case passes, or the program itself is out of memory. The calls of a case are
+also played as a script: all replies are written, or whole lines at their front, and then the
+program says that it is out of memory. Where anything else comes, it is printed, and the status is
+1. Bad lines are left out: they make no call, and without memory one may have another reason.
 
-The calls of each race in crates/ck_races/data are made one after the other, by a caller of a shared token. Where one
-finds no memory, the caller knows what it did before, and the call is made again. In the end the journal has an entry
-for each call. With the argument `shared` these alone are played.
+The calls of each race in crates/ck_races/data are made one after the other, by a caller of a shared
+token. Where one finds no memory, the caller knows what it did before, and the call is made again.
+In the end the journal has an entry for each call. With the argument `shared` these alone are
+played.
 
-The programs are crates/ck_cases/out/ck_cases, crates/ck_run/out/ck_run and crates/ck_races/out/ck_races, built by
-`rt run` in their folders. This needs Linux with the GNU C library, and a C compiler, `cc`, for growths.c beside this
-file.
+The programs are crates/ck_cases/out/ck_cases, crates/ck_run/out/ck_run and
+crates/ck_races/out/ck_races, built by `rt run` in their folders. This needs Linux with the GNU C
+library, and a C compiler, `cc`, for growths.c beside this file.
 """
 import collections
 import concurrent.futures
@@ -41,7 +44,8 @@ Ended = collections.namedtuple("Ended", "status output errors growths")
 def build(folder):
     """The library that refuses a growth."""
     library = os.path.join(folder, "growths.so")
-    subprocess.run(["cc", "-O2", "-shared", "-fPIC", "-o", library, os.path.join(HERE, "growths.c")], check=True)
+    source = os.path.join(HERE, "growths.c")
+    subprocess.run(["cc", "-O2", "-shared", "-fPIC", "-o", library, source], check=True)
     return library
 
 
@@ -60,11 +64,13 @@ def play(library, words, text, growth):
         texts.append(file.read())
         file.close()
     files[0].close()
-    return Ended(os.WEXITSTATUS(status) if os.WIFEXITED(status) else -1, texts[0], texts[1], int(texts[2] or 0))
+    code = os.WEXITSTATUS(status) if os.WIFEXITED(status) else -1
+    return Ended(code, texts[0], texts[1], int(texts[2] or 0))
 
 
 def cases_in(path):
-    """The cases of a file without bad lines: of each its lines, the limits first, and the number of the first."""
+    """The cases of a file without bad lines: of each its lines, the limits first, and the number of
+    the first."""
     cases = []
     with open(path, encoding="utf-8", newline="\n") as file:
         for number, line in enumerate(file, 1):
@@ -114,8 +120,8 @@ def is_script_right(ended, plain):
 
 
 def check_case(library, command, name, lines, passed):
-    """How many growths the case makes, after how many something was made again, and what was wrong. Without a refused
-    growth so many pass: the lines of a case, or one race."""
+    """How many growths the case makes, after how many something was made again, and what was wrong.
+    Without a refused growth so many pass: the lines of a case, or one race."""
     with tempfile.NamedTemporaryFile("w", suffix=".cases", encoding="utf-8", newline="\n") as file:
         file.write("\n".join(lines) + "\n")
         file.flush()
@@ -149,13 +155,15 @@ def check_script(library, name, lines):
 
 
 def main(paths, races):
-    with tempfile.TemporaryDirectory() as folder, concurrent.futures.ThreadPoolExecutor(os.cpu_count()) as pool:
+    pool = concurrent.futures.ThreadPoolExecutor(os.cpu_count())
+    with tempfile.TemporaryDirectory() as folder, pool:
         library = build(folder)
         checks = []
         for path in paths:
             for number, lines in cases_in(path):
                 name = f"{os.path.basename(path)}, line {number}"
-                checks.append(pool.submit(check_case, library, [CASES], name, lines, len(lines) - 1))
+                case = (library, [CASES], name, lines, len(lines) - 1)
+                checks.append(pool.submit(check_case, *case))
                 if lines[0] == LARGEST:
                     checks.append(pool.submit(check_script, library, name, lines))
         for number, lines in races:

@@ -75,14 +75,14 @@ def first_calls():
     yield f"1 CreateObject 1 {KEY}"
 
 
-# How often a label is read, and then changed, in a crowd: often enough that the growth of the journal takes its part of
-# the time, among few objects as among many.
+# How often a label is read, and then changed, in a crowd: often enough that the growth of the
+# journal takes its part of the time, among few objects as among many.
 LABEL_ROUNDS = 100_000
 
 
 def crowd_sections(objects):
-    """The sections of `crowd`: of each its name, its rounds, and the calls of session 1 in a round. The objects of
-    session 2 have the numbers from 3."""
+    """The sections of `crowd`: of each its name, its rounds, and the calls of session 1 in a round.
+    The objects of session 2 have the numbers from 3."""
     def spread(number):
         return 3 + number * 7919 % objects
 
@@ -96,7 +96,8 @@ def crowd_sections(objects):
         ("get label", LABEL_ROUNDS, lambda n: [f"GetAttributeValue 1 {spread(n)} 3:8"]),
         ("change", LABEL_ROUNDS, lambda n: [f"SetAttributeValue 1 {spread(n)} 3={label(n)}"]),
         ("destroy", 1_000, lambda n: [f"DestroyObject 1 {objects + 3 + n}"]),
-        ("open and close (both together)", 1_000, lambda n: ["OpenSession 6", f"CloseSession {3 + n}"]),
+        ("open and close (both together)", 1_000,
+         lambda n: ["OpenSession 6", f"CloseSession {3 + n}"]),
         ("login and logout (both together)", 1_000, lambda n: ["Login 1 1 31323334", "Logout 1"]),
         (SEARCH, 20, search),
         ("destroy all, each", objects, lambda n: [f"DestroyObject 1 {3 + n}"]),
@@ -115,12 +116,14 @@ def crowd(objects):
             yield from (f"1 {call}" for call in calls(number))
 
 
-# The sections of `single_calls`: of each its name, for how many calls, or groups of them, its figure is, and the calls of
-# a round, by the next session and the next object. Each has 1,000 rounds.
+# The sections of `single_calls`: of each its name, for how many calls, or groups of them, its
+# figure is, and the calls of a round, by the next session and the next object. Each has 1,000
+# rounds.
 SINGLE_CALLS = [
     ("session info", 1_000, lambda session, object: ["GetSessionInfo 1"]),
     ("token info", 1_000, lambda session, object: ["GetTokenInfo"]),
-    ("open and close, each", 2_000, lambda session, object: ["OpenSession 6", f"CloseSession {session}"]),
+    ("open and close, each", 2_000,
+     lambda session, object: ["OpenSession 6", f"CloseSession {session}"]),
     ("get label", 1_000, lambda session, object: ["GetAttributeValue 1 1 3:8"]),
     (
         "create, get label and destroy (the three together)",

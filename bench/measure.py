@@ -1,18 +1,19 @@
 #!/usr/bin/env python3
-"""Plays scripts of 1,000, 10,000 and 100,000 lines with the built program, and prints what a line takes. Then plays
-searches among 1,000, 10,000 and 50,000 objects, data objects and keys, and prints what an object takes in one search.
-Last it prints what calls among many objects take, single calls, and calls and asks of a shared token, beside what is
-wanted of them where something is.
+"""Plays scripts of 1,000, 10,000 and 100,000 lines with the built program, and prints what a line
+takes. Then plays searches among 1,000, 10,000 and 50,000 objects, data objects and keys, and prints
+what an object takes in one search. Last it prints what calls among many objects take, single calls,
+and calls and asks of a shared token, beside what is wanted of them where something is.
 
-The program is crates/ck_run/out/ck_run, or the path that is given; it is built by `rt run` in crates/ck_run. Times are
-processor time, the best of several runs, and memory is the peak (by GNU time); those of an empty script are taken off
-both. Off the time of searches is taken that of a script that only makes their objects. The last figures are those of
-crates/ck_bench/out/ck_bench, the best of several runs, each of a process of its own; what callers do in threads is by
-the clock, and wants four processors without other work. With the argument `figures` the last figures alone are
+The program is crates/ck_run/out/ck_run, or the path that is given; it is built by `rt run` in
+crates/ck_run. Times are processor time, the best of several runs, and memory is the peak (by GNU
+time); those of an empty script are taken off both. Off the time of searches is taken that of a
+script that only makes their objects. The last figures are those of crates/ck_bench/out/ck_bench,
+the best of several runs, each of a process of its own; what callers do in threads is by the clock,
+and wants four processors without other work. With the argument `figures` the last figures alone are
 printed.
 
-A line, or an object in a search, may take at most 3 times as much time among the most as among the fewest. Where one
-takes more, or one of the last figures isn't as wanted, the status is 1.
+A line, or an object in a search, may take at most 3 times as much time among the most as among the
+fewest. Where one takes more, or one of the last figures isn't as wanted, the status is 1.
 """
 import os
 import re
@@ -20,7 +21,8 @@ import subprocess
 import sys
 import tempfile
 
-from make_script import ROUNDS, SEARCH, SEARCHES, SINGLE_CALLS, crowd_sections, script, searched_numbers
+from make_script import ROUNDS, SEARCH, SEARCHES, SINGLE_CALLS
+from make_script import crowd_sections, script, searched_numbers
 
 SIZES = [1_000, 10_000, 100_000]
 OBJECT_COUNTS = [1_000, 10_000, 50_000]
@@ -34,8 +36,8 @@ FIGURES_PROGRAM = os.path.join(CRATES, "ck_bench", "out", "ck_bench")
 # How often the program of the last figures is run.
 FIGURE_RUNS = 5
 
-# What is wanted of calls among 1,000 objects and among 100,000: the most nanoseconds, and the most times as many among
-# the latter.
+# What is wanted of calls among 1,000 objects and among 100,000: the most nanoseconds, and the most
+# times as many among the latter.
 CALLS_AMONG = [
     ("create", 1_000, 2),
     ("get label", 1_000, 2),
@@ -52,8 +54,8 @@ SEARCH_AMONG = {1_000: 12, 50_000: 30}
 # How many more nanoseconds a call may take by the lock than of a token alone.
 CALLS_BY_LOCK = {"session info": 150, "open and close, each": 400}
 
-# How often a caller of a shared token asks without the lock. It changes the token a hundredth as often, each time by
-# three calls.
+# How often a caller of a shared token asks without the lock. It changes the token a hundredth as
+# often, each time by three calls.
 ASKS = 4_000_000
 CALLS_OF_CHANGE = 3
 
@@ -63,7 +65,8 @@ def play(words, text):
     with tempfile.TemporaryFile() as source, tempfile.TemporaryFile() as output:
         source.write(text.encode())
         source.seek(0)
-        files = [(os.POSIX_SPAWN_DUP2, source.fileno(), 0), (os.POSIX_SPAWN_DUP2, output.fileno(), 1)]
+        ends = [(source, 0), (output, 1)]
+        files = [(os.POSIX_SPAWN_DUP2, file.fileno(), to) for file, to in ends]
         child = os.posix_spawn(words[0], words, {}, file_actions=files)
         _, status, usage = os.wait4(child, 0)
         if status != 0:
@@ -84,7 +87,8 @@ def best_time(program, text, size):
 
 
 def is_within(what, times, sizes):
-    """Prints how much more the most take than the fewest, each, and whether that is within the bound."""
+    """Prints how much more the most take than the fewest, each, and whether that is within the
+    bound."""
     growth = times[-1] / times[0]
     print(f"{what}: {growth:.2f} times as much time each at {sizes[-1]} as at {sizes[0]}")
     if growth <= MOST_GROWTH:
@@ -107,7 +111,8 @@ def measure(program, kind, start_time, start_memory):
         check_replies(program, text, kind, size)
         times.append((best_time(program, text, size) - start_time) / size)
         bytes_a_line = (peak_memory(program, text) - start_memory) * 1024 / size
-        print(f"{kind}, {size} lines: {times[-1] * 1e6:.3f} us a line, {bytes_a_line:.0f} bytes a line at the peak")
+        print(f"{kind}, {size} lines: {times[-1] * 1e6:.3f} us a line, "
+              f"{bytes_a_line:.0f} bytes a line at the peak")
     return is_within(f"{kind}, lines", times, SIZES)
 
 
@@ -131,7 +136,8 @@ def measure_searches(program, searches, creations, what):
 
 
 def measured(text, *way):
-    """Of each section of a script the fewest nanoseconds of its calls, over all runs, and those of an audit of an entry."""
+    """Of each section of a script the fewest nanoseconds of its calls, over all runs, and those of
+    an audit of an entry."""
     best = {}
     for _ in range(FIGURE_RUNS):
         entries = 1
@@ -156,8 +162,10 @@ def is_as_wanted(text, wanted, is_met):
 
 def is_call_met(few, many, what, most, most_growth):
     growth = many / few
-    text = f"{what}: {few:.0f} ns among 1,000 objects, {many:.0f} among 100,000, {growth:.2f} times as many"
-    return is_as_wanted(text, f"at most {most:,} and {most_growth} times", many <= most and growth <= most_growth)
+    text = (f"{what}: {few:.0f} ns among 1,000 objects, {many:.0f} among 100,000, "
+            f"{growth:.2f} times as many")
+    is_met = many <= most and growth <= most_growth
+    return is_as_wanted(text, f"at most {most:,} and {most_growth} times", is_met)
 
 
 def check_crowd(program, text):
@@ -183,7 +191,8 @@ def met_among_objects(program):
         yield is_call_met(times[1_000][what], times[100_000][what], what, most, most_growth)
     for objects, most in SEARCH_AMONG.items():
         each = times[objects][SEARCH] / objects
-        yield is_as_wanted(f"{SEARCH} among {objects:,} objects: {each:.1f} ns each", f"at most {most}", each <= most)
+        text = f"{SEARCH} among {objects:,} objects: {each:.1f} ns each"
+        yield is_as_wanted(text, f"at most {most}", each <= most)
 
 
 def met_by_lock():
@@ -206,10 +215,13 @@ def met_in_threads():
     each = alone / ASKS
     yield is_as_wanted(f"status: {each:.0f} ns", "at most 25", each <= 25)
     share = int(400 * alone / four)
-    yield is_as_wanted(f"status by four callers: {share} percent of the asks of one", "at least 300", share >= 300)
+    text = f"status by four callers: {share} percent of the asks of one"
+    yield is_as_wanted(text, "at least 300", share >= 300)
     beside = int(100 * alone / best["asks beside changes"])
-    yield is_as_wanted(f"status beside changes: {beside} percent of the asks alone", "at least 90", beside >= 90)
-    calls = int(4 * CALLS_OF_CHANGE * (ASKS // 100) * 1_000_000_000 / best["changes of four callers"])
+    text = f"status beside changes: {beside} percent of the asks alone"
+    yield is_as_wanted(text, "at least 90", beside >= 90)
+    time = best["changes of four callers"]
+    calls = int(4 * CALLS_OF_CHANGE * (ASKS // 100) * 1_000_000_000 / time)
     text = f"create, get label and destroy by four callers: {calls:,} calls a second"
     yield is_as_wanted(text, "at least 700,000", calls >= 700_000)
 
