@@ -1,9 +1,2 @@
 pub mod CallerCallLemmas
-pub mod CallerScriptLemmas
-pub mod LineLemmas
 pub mod NumberLemmas
-pub mod PlayLemmas
-pub mod PlayerLemmas
-pub mod ReadingLemmas
-pub mod ReplyLemmas
-pub mod WriteLemmas

@@ -1,12 +1,4 @@
-pub use Rattle.ck_script.specs.Lines
-pub use Rattle.ck_journal.specs.TokenStates
 pub mod CallerCalls
-pub mod CallerScripts
-pub mod Devices
-pub mod Faults
-pub mod MemoryDevices
 pub mod Options
-pub mod Players
-pub mod Plays
 pub mod Programs
-pub mod Readings
+pub mod ThreadPlays

@@ -1,15 +1,15 @@
 -- What the program does by its options with its reader and its writer
 use Rattle.std.specs.Prelude.{◌≡◌, ◌^◌, ◌-◌, ℕ, List, Result, Ok, Err, string_bytes}
 use Rattle.ck_types.specs.TokenLimits.{Ranges}
-use Rattle.ck_program.specs.CallerScripts.{IsPlayedInThreads}
-use Rattle.ck_program.specs.Devices.{Reading, Writing, wrote}
-use Rattle.ck_program.specs.Players.{WriteFailed}
-use Rattle.ck_program.specs.Plays.{IsPlayed}
-use Rattle.ck_program.specs.declared.faults.PlayFault.{PlayFault}
-use Rattle.ck_program.specs.declared.faults.PlayFault.TheVariants as fault
+use Rattle.ck_plays.specs.Devices.{Reading, Writing, wrote}
+use Rattle.ck_plays.specs.Players.{WriteFailed}
+use Rattle.ck_plays.specs.Plays.{IsPlayed}
+use Rattle.ck_plays.specs.declared.faults.PlayFault.{PlayFault}
+use Rattle.ck_plays.specs.declared.faults.PlayFault.TheVariants as fault
+use Rattle.ck_plays.specs.declared.plays.TheConstants.{TURNS}
+use Rattle.ck_program.specs.ThreadPlays.{IsPlayedInThreads}
 use Rattle.ck_program.specs.declared.options.Options.{Options}
 use Rattle.ck_program.specs.declared.options.Options.TheVariants as option
-use Rattle.ck_program.specs.declared.plays.TheConstants.{TURNS}
 
 abbrev pub largest_limits : Ranges
 largest_limits = record {

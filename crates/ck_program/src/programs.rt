@@ -1,19 +1,15 @@
 //! The program over any options, reader and writer.
 ghost use Rattle.std.specs.Prelude.{◌≡◌, ◌⊎◌, ◌↔◌, Ok, Err};
-ghost use Rattle.ck_program.specs.CallerScripts.{IsPlayedInThreads};
-ghost use Rattle.ck_program.specs.Devices.{Reading, Writing};
-ghost use Rattle.ck_program.specs.Faults.{status_of};
+ghost use Rattle.ck_plays.specs.Devices.{Reading, Writing};
+ghost use Rattle.ck_plays.specs.Faults.{status_of};
+ghost use Rattle.ck_plays.specs.declared.faults.PlayFault.{PlayFault};
 ghost use Rattle.ck_program.specs.Programs.{IsDone};
-ghost use Rattle.ck_program.specs.declared.faults.PlayFault.{PlayFault};
+ghost use Rattle.ck_program.specs.ThreadPlays.{IsPlayedInThreads};
 
-use crate::caller_scripts::read_calls;
-use crate::devices::{Sink, Source};
-use crate::faults::PlayFault;
 use crate::options::{ArgumentFault, Callers, Options};
-use crate::players::write_all;
-use crate::plays::{TURNS, play};
 use crate::thread_plays::play_calls;
 use ck_journal::JournaledToken;
+use ck_plays::{PlayFault, Sink, Source, TURNS, play, read_calls, write_all};
 use ck_types::Limits;
 use std::alloc::Global;
 use std::sync::Wait;

@@ -10,7 +10,7 @@ ghost use Rattle.ck_journal.specs.declared.calls.Call.{Call};
 ghost use Rattle.ck_callers.specs.Accounts.{name_of};
 ghost use Rattle.ck_program.specs.CallerCalls.{calls_by, IsNewCaller, HasMadeAll, HasEntriesOf};
 ghost use Rattle.ck_program.specs.CallerCalls.{IsUnplayed, IsPlayedAll, numbers, script_numbers};
-ghost use Rattle.ck_program.specs.CallerScripts.{IsSummary, summary_text};
+ghost use Rattle.ck_program.specs.ThreadPlays.{IsSummary, summary_text};
 
 use crate::options::Callers;
 use ck_audit::{Verdict, audit_token};

@@ -1,5 +1,5 @@
 //! Devices in memory, and what is written to them while a script is played.
-use ck_program::{MemorySink, MemorySource, PlayFault, play_with};
+use ck_plays::{MemorySink, MemorySource, PlayFault, play_with};
 use ck_token::Token;
 use ck_types::Limits;
 use std::alloc::Global;

@@ -15,7 +15,8 @@ mod texts;
 #[cfg(test)]
 mod token;
 
-use ck_program::{ArgumentFault, Options, ReadSource, WriteSink, options_of, run};
+use ck_plays::{ReadSource, WriteSink};
+use ck_program::{ArgumentFault, Options, options_of, run};
 use ck_token::Token;
 use std::alloc::Global;
 use std::env::Env;

@@ -1,6 +1,6 @@
 //! Scripts, the replies to them, and how playing ends.
 use crate::devices::{Devices, check_play};
-use ck_program::{PlayFault, play_with};
+use ck_plays::{PlayFault, play_with};
 use ck_script::{BadLine, LONGEST_LINE};
 use ck_token::Token;
 use ck_types::Limits;

@@ -1,6 +1,7 @@
 //! The program over devices that move single bytes: what it writes, and its status.
 use crate::devices::Devices;
-use ck_program::{MemorySink, options_of, run};
+use ck_plays::MemorySink;
+use ck_program::{options_of, run};
 use ck_token::Token;
 use std::alloc::Global;
 use std::process::Abort;

@@ -1,5 +1,5 @@
 //! The texts of return codes, of faults and of a stopped run.
-use ck_program::PlayFault;
+use ck_plays::PlayFault;
 use ck_script::BadLine;
 use ck_token::Stopped;
 use ck_types::Rv;

@@ -1,0 +1,7 @@
+pub mod CallerScriptLemmas
+pub mod LineLemmas
+pub mod PlayLemmas
+pub mod PlayerLemmas
+pub mod ReadingLemmas
+pub mod ReplyLemmas
+pub mod WriteLemmas

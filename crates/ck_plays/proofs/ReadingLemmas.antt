@@ -1,0 +1,186 @@
+-- What was read, after one more read, and scripts that are read whole
+use Rattle.std.proofs.Common.{◌≡◌, ◌<◌, ◌+◌, ℕ, suc, Bool, true, false, List, [], ◌++◌, Ok, Err}
+use Rattle.std.proofs.Common.{append_assoc, refl, sym, ap, ◌∙◌, subst, arith}
+use Rattle.std.proofs.lemmas.List.{append-nil}
+use Rattle.std.specs.Prelude.{◌==◌, if◌then◌else◌, Result}
+use Rattle.std.specs.Result.{is_err, is_ok}
+use Rattle.ck_plays.specs.Devices.{Reading, end_read, failed_read, read_on}
+use Rattle.ck_plays.specs.Plays.{after_reads}
+use Rattle.ck_plays.specs.Readings.{IsReadWhole, IsUnread, HasReadSoFar}
+use Rattle.ck_plays.specs.declared.faults.PlayFault.{PlayFault}
+use Rattle.ck_plays.specs.declared.faults.PlayFault.TheVariants as fault
+
+-- the same reading with the same bytes and as many reads
+pub same_reading : (A : Reading → Type 0) (r : Reading) (earlier : List ℕ) (xs ys : List ℕ)
+    (m n ends failures : ℕ)
+    → xs ≡ ys → m ≡ n
+    → A (record {
+      script = r.script;
+      bytes = xs;
+      earlier = earlier;
+      reads = m;
+      ends = ends;
+      failures = failures;
+    })
+    → A (record {
+      script = r.script;
+      bytes = ys;
+      earlier = earlier;
+      reads = n;
+      ends = ends;
+      failures = failures;
+    })
+same_reading A r earlier xs ys m n ends failures e f h =
+    subst (λ (k : ℕ). A (record {
+      script = r.script;
+      bytes = ys;
+      earlier = earlier;
+      reads = k;
+      ends = ends;
+      failures = failures;
+    })) f
+    (subst (λ (bytes : List ℕ). A (record {
+      script = r.script;
+      bytes = bytes;
+      earlier = earlier;
+      reads = m;
+      ends = ends;
+      failures = failures;
+    })) e h)
+
+pub one_more : (m n : ℕ) → suc (m + n) ≡ m + suc n
+one_more m n = omega arith
+
+-- what was read, after the read that found the end
+pub at_end : (read : Reading) (script earlier : List ℕ) (reads count : ℕ) (bytes : List ℕ)
+    (A B : Reading → Type 0)
+    → count ≡ 0 → A (after_reads read script earlier reads read.ends read.failures)
+    → ((r : Reading) → A r → B (if count == 0 then end_read r else read_on r bytes))
+    → B (after_reads read script script (suc reads) (suc read.ends) read.failures)
+at_end read script earlier reads count bytes A B none h more =
+    same_reading B read (read.bytes ++ script) (read.bytes ++ script) (read.bytes ++ script)
+    (suc (read.reads + reads)) (read.reads + suc reads) (suc read.ends) read.failures
+    refl (one_more read.reads reads)
+    (let r : Reading = after_reads read script earlier reads read.ends read.failures in
+    subst (λ (n : ℕ). B (if n == 0 then end_read r else read_on r bytes)) none (more r h))
+
+-- what was read, after a read of further bytes
+pub further : (read : Reading) (script earlier : List ℕ) (reads count : ℕ) (bytes : List ℕ)
+    (A B : Reading → Type 0)
+    → (count == 0) ≡ false → A (after_reads read script earlier reads read.ends read.failures)
+    → ((r : Reading) → A r → B (if count == 0 then end_read r else read_on r bytes))
+    → B (after_reads read (script ++ bytes) script (suc reads) read.ends read.failures)
+further read script earlier reads count bytes A B some h more =
+    same_reading B read (read.bytes ++ script) (read.bytes ++ script ++ bytes)
+    (read.bytes ++ (script ++ bytes)) (suc (read.reads + reads))
+    (read.reads + suc reads) read.ends read.failures
+    (append_assoc read.bytes script bytes) (one_more read.reads reads)
+    (let r : Reading = after_reads read script earlier reads read.ends read.failures in
+    subst (λ (b : Bool). B (if b then end_read r else read_on r bytes)) some (more r h))
+
+-- ---- reading a script whole
+
+pub read-nothing : (read : Reading) (A : Reading → Type 0) (bytes : List ℕ) → bytes ≡ []
+    → A read → HasReadSoFar read A bytes 0
+read-nothing read A bytes none h = record {
+  earlier = read.earlier;
+  reader = same_reading A read read.earlier read.bytes (read.bytes ++ bytes) read.reads
+      (read.reads + 0) read.ends read.failures
+      (sym (ap (λ (xs : List ℕ). read.bytes ++ xs) none ∙ append-nil read.bytes)) (omega arith) h;
+}
+
+-- there was no memory for the first read
+pub read-unmade : (turns : ℕ) (read : Reading) (A : Reading → Type 0) → A read
+    → IsUnread turns read A fault.Memory
+read-unmade turns read A h = (
+  [],
+  record {
+    script = [];
+    earlier = read.earlier;
+    ended = false;
+    reads = 0;
+    reader = (read-nothing read A [] refl h).reader;
+    within = omega arith;
+    outcome = refl;
+  },
+)
+
+pub read-more : (read : Reading) (A B : Reading → Type 0) (bytes next : List ℕ)
+    (reads after count : ℕ) (piece : List ℕ)
+    → (count == 0) ≡ false → HasReadSoFar read A bytes reads
+    → ((r : Reading) → A r → B (if count == 0 then end_read r else read_on r piece))
+    → next ≡ bytes ++ piece → after ≡ suc reads → HasReadSoFar read B next after
+read-more read A B bytes next reads after count piece some h more e f =
+    subst (HasReadSoFar read B next) (sym f) (record {
+      earlier = bytes;
+      reader = subst (λ (xs : List ℕ).
+          B (after_reads read xs bytes (suc reads) read.ends read.failures)) (sym e)
+          (further read bytes h.earlier reads count piece A B some h.reader more);
+    })
+
+pub read-failed : (turns : ℕ) (read : Reading) (A B : Reading → Type 0) (bytes : List ℕ)
+    (reads : ℕ) (f : PlayFault)
+    → f ≡ fault.Read → reads < turns → HasReadSoFar read A bytes reads
+    → ((r : Reading) → A r → B (failed_read r)) → IsReadWhole turns read B bytes (Err f)
+read-failed turns read A B bytes reads f e lt h more =
+    subst (λ (g : PlayFault). IsReadWhole turns read B bytes (Err g)) (sym e) (record {
+      script = bytes;
+      earlier = bytes;
+      ended = false;
+      reads = suc reads;
+      reader =
+          same_reading B read (read.bytes ++ bytes) (read.bytes ++ bytes) (read.bytes ++ bytes)
+          (suc (read.reads + reads)) (read.reads + suc reads) read.ends (suc read.failures)
+          refl (one_more read.reads reads) (more _ h.reader);
+      within = omega arith;
+      outcome = refl;
+    })
+
+pub read-unkept : (turns : ℕ) (read : Reading) (A B : Reading → Type 0) (bytes kept : List ℕ)
+    (reads count : ℕ) (piece : List ℕ)
+    → (count == 0) ≡ false → reads < turns → HasReadSoFar read A bytes reads
+    → ((r : Reading) → A r → B (if count == 0 then end_read r else read_on r piece))
+    → IsReadWhole turns read B kept (Err fault.Memory)
+read-unkept turns read A B bytes kept reads count piece some lt h more = record {
+  script = bytes ++ piece;
+  earlier = bytes;
+  ended = false;
+  reads = suc reads;
+  reader = further read bytes h.earlier reads count piece A B some h.reader more;
+  within = omega arith;
+  outcome = refl;
+}
+
+pub read-ended : (turns : ℕ) (read : Reading) (A B : Reading → Type 0) (bytes : List ℕ)
+    (reads count : ℕ) (piece : List ℕ)
+    → count ≡ 0 → reads < turns → HasReadSoFar read A bytes reads
+    → ((r : Reading) → A r → B (if count == 0 then end_read r else read_on r piece))
+    → IsReadWhole turns read B bytes (Ok tt)
+read-ended turns read A B bytes reads count piece none lt h more = record {
+  script = bytes;
+  earlier = bytes;
+  ended = true;
+  reads = suc reads;
+  reader = at_end read bytes h.earlier reads count piece A B none h.reader more;
+  within = omega arith;
+  outcome = (refl, refl);
+}
+
+pub read-out : (turns : ℕ) (read : Reading) (A : Reading → Type 0) (bytes : List ℕ) (reads : ℕ)
+    → reads ≡ turns → HasReadSoFar read A bytes reads
+    → IsReadWhole turns read A bytes (Err fault.Turns)
+read-out turns read A bytes reads e h = record {
+  script = bytes;
+  earlier = h.earlier;
+  ended = false;
+  reads = reads;
+  reader = h.reader;
+  within = e;
+  outcome = refl;
+}
+
+-- what was kept, where that failed not
+pub kept : {A E : Type 0} (r : Result A E) (xs ys zs : List ℕ) → is_err r ≡ false
+    → xs ≡ (if is_ok r then ys else zs) → xs ≡ ys
+kept (Ok a) xs ys zs e h = h
+kept (Err x) xs ys zs e h = cc

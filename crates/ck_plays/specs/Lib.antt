@@ -1,0 +1,9 @@
+pub use Rattle.ck_script.specs.Lines
+pub use Rattle.ck_journal.specs.TokenStates
+pub mod CallerScripts
+pub mod Devices
+pub mod Faults
+pub mod MemoryDevices
+pub mod Players
+pub mod Plays
+pub mod Readings

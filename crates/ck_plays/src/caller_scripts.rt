@@ -1,0 +1,91 @@
+//! The calls of a script that is read whole, each of one of so many callers.
+ghost use Rattle.std.specs.Prelude.{◌≡◌, ◌++◌, false, [], ◌∷◌, Some, IfOk, OnOk, IfErr};
+ghost use Rattle.ck_script.specs.Lines.{lines_in, meaning};
+ghost use Rattle.ck_plays.specs.Devices.{Reading};
+ghost use Rattle.ck_plays.specs.Plays.{with_call};
+ghost use Rattle.ck_plays.specs.CallerScripts.{is_bad_for, AreCallsOf, IsRefusedFor};
+ghost use Rattle.ck_plays.specs.CallerScripts.{IsRefusedLine};
+ghost use Rattle.ck_plays.specs.CallerScripts.{HasGoodScript, HasNoCalls};
+
+use crate::devices::Source;
+use crate::faults::PlayFault;
+use crate::readings::read_script;
+use ck_journal::Call;
+use ck_script::{BadLine, Line, LineError, cut_line};
+use std::alloc::Global;
+
+/// Adds the call of the line of this number, where its caller is one of 1 to `callers`.
+fn add_call(
+    calls: &mut Vec<(u32, Call)>,
+    caller: u32,
+    call: Call,
+    number: u64,
+    callers: u32,
+) -> Result<(), PlayFault>
+    ensures good { OnOk result (is_bad_for callers (Some (Line.Called caller call)) ≡ false) }
+    ensures added { OnOk result (calls.new.items ≡ calls.old.items ++ (caller, call) ∷ []) }
+    ensures err { IfErr result (IsRefusedLine callers (Some (Line.Called caller call)) number) }
+{
+    if caller < 1 || callers < caller {
+        return Err(PlayFault::Line(number, BadLine::CallerAbove(callers)));
+    }
+    match calls.push((caller, call)) {
+        Ok(()) => Ok(()),
+        Err(_) => Err(PlayFault::Memory),
+    }
+}
+
+/// Adds the call of a line of this number, if it has one.
+fn add_line(
+    calls: &mut Vec<(u32, Call)>,
+    alloc: Global,
+    line: &[u8],
+    number: u64,
+    callers: u32,
+) -> Result<(), PlayFault>
+    ensures good { OnOk result (is_bad_for callers (meaning line.now) ≡ false) }
+    ensures added { OnOk result (calls.new.items
+        ≡ calls.old.items ++ with_call (meaning line.now) []) }
+    ensures err { IfErr result (IsRefusedLine callers (meaning line.now) number) }
+{
+    match Line::parse(alloc, line) {
+        Ok(Line::Skipped) => Ok(()),
+        Ok(Line::Called { caller, call }) => add_call(calls, caller, call, number, callers),
+        Err(LineError::Bad(reason)) => Err(PlayFault::Line(number, reason)),
+        Err(LineError::Memory) => Err(PlayFault::Memory),
+    }
+}
+
+/// The calls of a script's lines, each with its caller, which is one of 1 to `callers`.
+fn calls_of(alloc: Global, script: &[u8], callers: u32) -> Result<Vec<(u32, Call)>, PlayFault>
+    ensures ok { IfOk result (λ calls. AreCallsOf callers (lines_in script.now) calls.items) }
+    ensures err { IfErr result (IsRefusedFor callers (lines_in script.now)) }
+{
+    let mut calls = Vec::new(alloc);
+    let mut rest = script;
+    let mut number = 1u64;
+    'lines: while let Some((line, more)) = cut_line(rest) {
+        add_line(&mut calls, alloc, line, number, callers)?;
+        number = number.saturating_add(1);
+        rest = more;
+    }
+    add_line(&mut calls, alloc, rest, number, callers)?;
+    Ok(calls)
+}
+
+/// Reads a script whole, in at most so many reads as `turns`, and gives the calls of its lines,
+/// each with its caller, which is one of 1 to `callers`.
+pub fn read_calls<R: Source>(
+    alloc: Global,
+    reader: &mut R,
+    callers: u32,
+    turns: u64,
+) -> Result<Vec<(u32, Call)>, PlayFault>
+    ensures ok { IfOk result (λ calls. (read : Reading) → R.is_read reader.old read
+        → HasGoodScript callers turns read (R.is_read reader.new) calls.items) }
+    ensures err { IfErr result (λ fault. (read : Reading) → R.is_read reader.old read
+        → HasNoCalls callers turns read (R.is_read reader.new) fault) }
+{
+    let script = read_script(alloc, reader, turns)?;
+    calls_of(alloc, script.as_slice(), callers)
+}

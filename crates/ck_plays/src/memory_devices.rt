@@ -1,0 +1,185 @@
+//! A source and a sink in memory, which fail where they are asked to.
+ghost use Rattle.std.specs.Prelude.{◌≡◌, ◌≤◌, ◌<◌, [], length, take};
+
+use crate::devices::{Sink, Source};
+use std::alloc::Global;
+use std::io;
+
+/// Copies so many bytes at most to the buffer's front, and says how many.
+fn copy_front(from: &[u8], to: &mut [u8], most: usize) -> usize
+    requires some { 0 < most }
+    ensures bound { (result ≤ length to.new) × (result ≤ length from.now) }
+    ensures most { result ≤ most }
+    ensures copied { take result to.new ≡ take result from.now }
+    ensures end { result ≡ 0 → 0 < length to.old → from.now ≡ [] }
+{
+    let count = from.len().min(to.len()).min(most);
+    to[..count].copy_from_slice(&from[..count]);
+    count
+}
+
+/// A script in memory. Numbers of reads are counted from 1.
+#[derive(Drop)]
+pub struct MemorySource<'a> {
+    script: &'a [u8],
+    rest: &'a [u8],
+    piece: usize,
+    fails_at: u64,
+    reads: u64,
+    ends: u64,
+    failures: u64,
+}
+
+impl<'a> MemorySource<'a> {
+    ghost use Rattle.std.specs.Prelude.{◌≡◌, ℕ, List, []};
+    ghost use Rattle.ck_plays.specs.Devices.{Reading, IsCount};
+
+    /// A source that gives at most `piece` bytes a read, and one at least where some are left. The
+    /// read of number `fails_at` fails; 0 is none.
+    pub fn new(script: &'a [u8], piece: usize, fails_at: u64) -> MemorySource<'a>
+        ensures reading { (earlier : List ℕ) → ⟦<MemorySource<'a> as Source>⟧.is_read result
+            (record {
+              script = script.now;
+              bytes = [];
+              earlier = earlier;
+              reads = 0;
+              ends = 0;
+              failures = 0;
+            }) }
+        ensures piece { result.piece ≡ piece }
+        ensures fails_at { result.fails_at ≡ fails_at }
+    {
+        MemorySource {
+            script,
+            rest: script,
+            piece,
+            fails_at,
+            reads: 0,
+            ends: 0,
+            failures: 0,
+        }
+    }
+
+    /// How many reads were made.
+    pub fn reads(&self) -> u64
+        ensures { (r : Reading) → ⟦<MemorySource<'a> as Source>⟧.is_read self.now r
+            → IsCount result r.reads }
+    {
+        self.reads
+    }
+}
+
+impl<'a> Source for MemorySource<'a> {
+    ghost use Rattle.std.specs.Prelude.{◌≡◌, ◌≤◌, ◌↔◌, length, max, IfOk, IsErr};
+    ghost use Rattle.ck_plays.specs.Devices.{Reading, after_read};
+    ghost use Rattle.ck_plays.specs.MemoryDevices.{IsReadOf};
+
+    ghost is_read = { λ s r. IsReadOf s.script.now s.rest.now s.reads s.ends s.failures r };
+
+    fn read(&mut self, buffer: &mut [u8]) -> io::Result<usize>
+        ensures bound { IfOk result (λ count. count ≤ length buffer.new) }
+        ensures reading { (r : Reading) → ⟦<MemorySource<'a> as Source>⟧.is_read self.old r
+            → ⟦<MemorySource<'a> as Source>⟧.is_read self.new (after_read r result buffer.new) }
+        ensures piece { IfOk result (λ count. count ≤ max self.new.piece 1) }
+        ensures failing { IsErr result ↔ (self.new.reads ≡ self.new.fails_at) }
+        ensures set { (self.new.piece ≡ self.old.piece)
+            × (self.new.fails_at ≡ self.old.fails_at) }
+    {
+        self.reads = self.reads.saturating_add(1);
+        if self.reads == self.fails_at {
+            self.failures = self.failures.saturating_add(1);
+            return Err(io::Error::from(io::ErrorKind::Other));
+        }
+        let count = copy_front(self.rest, buffer, self.piece.max(1));
+        self.rest = &self.rest[count..];
+        if count == 0 && !buffer.is_empty() {
+            self.ends = self.ends.saturating_add(1);
+        }
+        Ok(count)
+    }
+}
+
+/// Replies in memory. Numbers of writes are counted from 1.
+#[derive(Drop)]
+pub struct MemorySink {
+    bytes: Vec<u8>,
+    piece: usize,
+    fails_at: u64,
+    stops_at: u64,
+    writes: u64,
+    failures: u64,
+}
+
+impl MemorySink {
+    ghost use Rattle.std.specs.Prelude.{◌≡◌, []};
+    ghost use Rattle.ck_plays.specs.Devices.{Writing};
+
+    /// A sink that takes at most `piece` bytes a write. The write of number `fails_at` fails and
+    /// that of number `stops_at` takes no byte; 0 is none.
+    pub fn new(alloc: Global, piece: usize, fails_at: u64, stops_at: u64) -> MemorySink
+        ensures writing { ⟦<MemorySink as Sink>⟧.is_written result
+            (record { bytes = []; failures = 0 }) }
+        ensures writes { result.writes ≡ 0 }
+        ensures piece { result.piece ≡ piece }
+        ensures fails_at { result.fails_at ≡ fails_at }
+        ensures stops_at { result.stops_at ≡ stops_at }
+    {
+        MemorySink {
+            bytes: Vec::new(alloc),
+            piece,
+            fails_at,
+            stops_at,
+            writes: 0,
+            failures: 0,
+        }
+    }
+
+    /// What was written.
+    pub fn as_slice(&self) -> &[u8]
+        ensures { (w : Writing) → ⟦<MemorySink as Sink>⟧.is_written self.now w
+            → result.now ≡ w.bytes }
+    {
+        self.bytes.as_slice()
+    }
+}
+
+impl Sink for MemorySink {
+    ghost use Rattle.std.specs.Prelude.{◌≡◌, ◌≤◌, ◌<◌, ◌+◌, ◌⊎◌, suc, length, IfOk, IsErr};
+    ghost use Rattle.std.specs.Prelude.{OnErr, vec_len, vec_capacity};
+    ghost use Rattle.ck_plays.specs.Devices.{Writing, after_write, IsCount};
+    ghost use Rattle.ck_plays.specs.MemoryDevices.{IsWrittenTo, count_taken};
+
+    ghost is_written = { λ s w. IsWrittenTo s.bytes.items s.failures w };
+
+    fn write(&mut self, bytes: &[u8]) -> io::Result<usize>
+        requires some { 0 < length bytes.now }
+        ensures bound { IfOk result (λ count. count ≤ length bytes.now) }
+        ensures writing { (w : Writing) → ⟦<MemorySink as Sink>⟧.is_written self.old w
+            → ⟦<MemorySink as Sink>⟧.is_written self.new (after_write w result bytes.now) }
+        ensures counted { IsCount self.new.writes (suc self.old.writes) }
+        ensures failing { self.new.writes ≡ self.new.fails_at → IsErr result }
+        ensures stopping { self.new.writes ≡ self.new.stops_at → IfOk result (λ count. count ≡ 0) }
+        ensures piece { IfOk result (λ count. count ≡
+            count_taken (length bytes.now) self.new.piece self.new.stops_at self.new.writes) }
+        ensures err { OnErr result ((self.new.writes ≡ self.new.fails_at)
+            ⊎ (vec_capacity self.old.bytes < vec_len self.old.bytes
+            + count_taken (length bytes.now) self.new.piece self.new.stops_at self.new.writes)) }
+        ensures set { (self.new.piece ≡ self.old.piece) × (self.new.fails_at ≡ self.old.fails_at)
+            × (self.new.stops_at ≡ self.old.stops_at) }
+    {
+        self.writes = self.writes.saturating_add(1);
+        let count = if self.writes == self.stops_at {
+            0
+        } else {
+            bytes.len().min(self.piece)
+        };
+        if self.writes == self.fails_at || self.bytes.extend_from_slice(&bytes[..count]).is_err() {
+            self.failures = self.failures.saturating_add(1);
+            return Err(io::Error::from(io::ErrorKind::Other));
+        }
+        if count == 0 {
+            self.failures = self.failures.saturating_add(1);
+        }
+        Ok(count)
+    }
+}

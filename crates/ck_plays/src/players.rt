@@ -1,0 +1,207 @@
+//! A token that is played a script, line by line.
+ghost use Rattle.std.specs.Prelude.{◌≡◌, ◌++◌, ◌<◌, ◌≤◌, [], length, take, IfOk, IfErr};
+ghost use Rattle.std.specs.Prelude.{OnOk, OnErr};
+ghost use Rattle.ck_journal.specs.Answers.{answer};
+ghost use Rattle.ck_script.specs.Replies.{reply_text};
+ghost use Rattle.ck_plays.specs.Devices.{Writing, wrote, failed_write};
+ghost use Rattle.ck_plays.specs.Players.{WriteFailed, IsUnwritten, IsRefused, IsCalled};
+ghost use Rattle.ck_plays.specs.Players.{AnswersLine};
+ghost use Rattle.ck_plays.specs.Players.{StopsAtLine, AnswersChunk, StopsInChunk, next_number};
+
+use crate::devices::Sink;
+use crate::faults::PlayFault;
+use ck_journal::{Call, JournaledToken};
+use ck_script::{BadLine, LONGEST_LINE, Line, LineError, cut_line, push_reply};
+use std::alloc::Global;
+use std::marker::Model;
+
+/// A token that is played a script. Contracts see the token, the open line and its number.
+#[derive(Drop)]
+pub(crate) struct Player<G: JournaledToken> {
+    pub(crate) token: G,
+    /// The beginning of the line that has no end yet.
+    pub(crate) open_line: Vec<u8>,
+    /// The text of the newest reply.
+    pub(crate) text: Vec<u8>,
+    /// The number of the open line, from 1.
+    pub(crate) number: u64,
+}
+
+impl<G: JournaledToken> Model for Player<G> {
+    ghost use Rattle.std.specs.Coded.{codes};
+    ghost use Rattle.ck_journal.specs.HistoryCode.{history_code};
+    ghost use Rattle.ck_plays.specs.Players.{PlayerState};
+
+    ghost Value = { PlayerState };
+
+    ghost coded = { Prim.hlevel (codes, history_code) };
+
+    ghost view = { λ p. record {
+      token = G.state p.token;
+      open_line = p.open_line.items;
+      number = p.number;
+    } };
+}
+
+/// Writes some of these bytes, or answers that the writer failed.
+fn write_some<W: Sink>(writer: &mut W, bytes: &[u8]) -> Result<usize, PlayFault>
+    requires some { 0 < length bytes.now }
+    ensures bound { IfOk result (λ count. count ≤ length bytes.now) }
+    ensures some { IfOk result (λ count. 0 < count) }
+    ensures ok { IfOk result (λ count. (w : Writing) → W.is_written writer.old w
+        → W.is_written writer.new (wrote w (take count bytes.now))) }
+    ensures fault { IfErr result (λ fault. fault ≡ PlayFault.Write) }
+    ensures err { OnErr result ((w : Writing) → W.is_written writer.old w
+        → W.is_written writer.new (failed_write w)) }
+{
+    match writer.write(bytes) {
+        Ok(count) => {
+            if count == 0 {
+                return Err(PlayFault::Write);
+            }
+            Ok(count)
+        }
+        Err(_) => Err(PlayFault::Write),
+    }
+}
+
+/// Writes all of these bytes, or answers that the writer failed.
+pub fn write_all<W: Sink>(writer: &mut W, bytes: &[u8]) -> Result<(), PlayFault>
+    ensures ok { OnOk result ((w : Writing) → W.is_written writer.old w
+        → W.is_written writer.new (wrote w bytes.now)) }
+    ensures fault { IfErr result (λ fault. fault ≡ PlayFault.Write) }
+    ensures err { OnErr result ((w : Writing) → W.is_written writer.old w
+        → WriteFailed (W.is_written writer.new) w bytes.now) }
+{
+    let mut at = 0;
+    while at < bytes.len() {
+        at += write_some(writer, &bytes[at..])?;
+    }
+    Ok(())
+}
+
+/// Adds to the open line, of this number, what is next of it.
+pub(crate) fn extend_open_line(
+    open_line: &mut Vec<u8>,
+    piece: &[u8],
+    number: u64,
+) -> Result<(), PlayFault>
+    ensures ok { OnOk result (open_line.new.items ≡ open_line.old.items ++ piece.now) }
+    ensures err { IfErr result (IsRefused number (open_line.old.items ++ piece.now)) }
+{
+    if open_line.len().saturating_add(piece.len()) > LONGEST_LINE {
+        return Err(PlayFault::Line(number, BadLine::TooLong));
+    }
+    match open_line.extend_from_slice(piece) {
+        Ok(()) => Ok(()),
+        Err(_) => Err(PlayFault::Memory),
+    }
+}
+
+/// Answers a call and writes the reply.
+fn answer_call<G: JournaledToken, W: Sink>(
+    token: &mut G,
+    text: &mut Vec<u8>,
+    alloc: Global,
+    writer: &mut W,
+    caller: u32,
+    call: Call,
+) -> Result<(), PlayFault>
+    ensures ok { OnOk result (IsCalled (G.state token.old) (G.state token.new) caller call
+        (W.is_written writer.old) (W.is_written writer.new)) }
+    ensures err { IfErr result (λ fault. (w : Writing) → W.is_written writer.old w
+        → IsUnwritten (W.is_written writer.new) w
+        (reply_text (answer (G.state token.old).limits (G.state token.old).history call)) fault) }
+{
+    let reply = token.call(alloc, caller, call)?;
+    text.clear();
+    push_reply(text, &reply)?;
+    write_all(writer, text.as_slice())
+}
+
+/// Answers a line of this number.
+fn answer_line<G: JournaledToken, W: Sink>(
+    token: &mut G,
+    text: &mut Vec<u8>,
+    alloc: Global,
+    writer: &mut W,
+    line: &[u8],
+    number: u64,
+) -> Result<(), PlayFault>
+    ensures ok { OnOk result (AnswersLine line.now (G.state token.old) number
+        (W.is_written writer.old) (G.state token.new) (next_number number)
+        (W.is_written writer.new)) }
+    ensures err { IfErr result (StopsAtLine line.now (G.state token.old) number
+        (W.is_written writer.old) (W.is_written writer.new)) }
+{
+    match Line::parse(alloc, line) {
+        Ok(Line::Skipped) => Ok(()),
+        Ok(Line::Called { caller, call }) => answer_call(token, text, alloc, writer, caller, call),
+        Err(LineError::Bad(reason)) => Err(PlayFault::Line(number, reason)),
+        Err(LineError::Memory) => Err(PlayFault::Memory),
+    }
+}
+
+/// Answers the open line, which has its end, and opens the next.
+pub(crate) fn end_line<G: JournaledToken, W: Sink>(
+    player: &mut Player<G>,
+    alloc: Global,
+    writer: &mut W,
+) -> Result<(), PlayFault>
+    ensures ok { OnOk result (AnswersLine player.old.open_line player.old.token
+        player.old.number (W.is_written writer.old)
+        player.new.token player.new.number (W.is_written writer.new)) }
+    ensures emptied { OnOk result (player.new.open_line ≡ []) }
+    ensures err { IfErr result (StopsAtLine player.old.open_line player.old.token
+        player.old.number (W.is_written writer.old) (W.is_written writer.new)) }
+{
+    answer_line(
+        &mut player.token,
+        &mut player.text,
+        alloc,
+        writer,
+        player.open_line.as_slice(),
+        player.number,
+    )?;
+    player.open_line.clear();
+    player.number = player.number.saturating_add(1);
+    Ok(())
+}
+
+/// Completes the open line by its last piece, and answers it.
+fn complete_line<G: JournaledToken, W: Sink>(
+    player: &mut Player<G>,
+    alloc: Global,
+    writer: &mut W,
+    piece: &[u8],
+) -> Result<(), PlayFault>
+    ensures ok { OnOk result (AnswersLine (player.old.open_line ++ piece.now)
+        player.old.token player.old.number (W.is_written writer.old)
+        player.new.token player.new.number (W.is_written writer.new)) }
+    ensures emptied { OnOk result (player.new.open_line ≡ []) }
+    ensures err { IfErr result (StopsAtLine (player.old.open_line ++ piece.now)
+        player.old.token player.old.number (W.is_written writer.old) (W.is_written writer.new)) }
+{
+    extend_open_line(&mut player.open_line, piece, player.number)?;
+    end_line(player, alloc, writer)
+}
+
+/// Answers the lines that end in this piece of a script, and keeps what follows them.
+pub(crate) fn answer_chunk<G: JournaledToken, W: Sink>(
+    player: &mut Player<G>,
+    alloc: Global,
+    writer: &mut W,
+    chunk: &[u8],
+) -> Result<(), PlayFault>
+    ensures ok { OnOk result (AnswersChunk chunk.now player.old (W.is_written writer.old)
+        player.new (W.is_written writer.new)) }
+    ensures err { IfErr result (StopsInChunk chunk.now player.old (W.is_written writer.old)
+        (W.is_written writer.new)) }
+{
+    let mut rest = chunk;
+    'lines: while let Some((piece, more)) = cut_line(rest) {
+        complete_line(player, alloc, writer, piece)?;
+        rest = more;
+    }
+    extend_open_line(&mut player.open_line, rest, player.number)
+}
