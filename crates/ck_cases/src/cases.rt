@@ -84,6 +84,21 @@ fn reply_text(
     Ok(reply_line(alloc, &reply)?)
 }
 
+/// What comes of a script's line of this number, which was read so.
+fn line_text(
+    alloc: Global,
+    token: &mut RetryingToken,
+    number: u64,
+    line: &Result<Line, LineError>,
+) -> Result<String, CaseError> {
+    match line {
+        Ok(Line::Called { caller, call }) => reply_text(alloc, token, *caller, call),
+        Ok(Line::Skipped) => Err(CaseError::NoLine(number)),
+        Err(LineError::Bad(reason)) => bad_text(alloc, reason),
+        Err(LineError::Memory) => Err(CaseError::Memory),
+    }
+}
+
 /// What comes of a script's line, which is the line of this number up to its arrow.
 fn script_text(
     alloc: Global,
@@ -91,12 +106,8 @@ fn script_text(
     number: u64,
     text: &str,
 ) -> Result<String, CaseError> {
-    match &Line::parse(alloc, text.as_bytes()) {
-        Ok(Line::Called { caller, call }) => reply_text(alloc, token, *caller, call),
-        Ok(Line::Skipped) => Err(CaseError::NoLine(number)),
-        Err(LineError::Bad(reason)) => bad_text(alloc, reason),
-        Err(LineError::Memory) => Err(CaseError::Memory),
-    }
+    let line = Line::parse(alloc, text.as_bytes());
+    line_text(alloc, token, number, &line)
 }
 
 /// What comes of the line of this number, whose text up to its arrow this is.

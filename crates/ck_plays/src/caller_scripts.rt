@@ -12,7 +12,15 @@ use crate::faults::PlayFault;
 use crate::readings::read_script;
 use ck_journal::Call;
 use ck_script::{BadLine, Line, LineError, cut_line};
+use ck_types::NoMemory;
 use std::alloc::Global;
+
+fn push_call(calls: &mut Vec<(u32, Call)>, caller: u32, call: Call) -> Result<(), NoMemory>
+    ensures { OnOk result (calls.new.items ≡ calls.old.items ++ (caller, call) ∷ []) }
+{
+    calls.push((caller, call))?;
+    Ok(())
+}
 
 /// Adds the call of the line of this number, where its caller is one of 1 to `callers`.
 fn add_call(
@@ -27,12 +35,11 @@ fn add_call(
     ensures err { IfErr result (IsRefusedLine callers (Some (Line.Called caller call)) number) }
 {
     if caller < 1 || callers < caller {
+        drop(call);
         return Err(PlayFault::Line(number, BadLine::CallerAbove(callers)));
     }
-    match calls.push((caller, call)) {
-        Ok(()) => Ok(()),
-        Err(_) => Err(PlayFault::Memory),
-    }
+    push_call(calls, caller, call)?;
+    Ok(())
 }
 
 /// Adds the call of a line of this number, if it has one.

@@ -59,10 +59,16 @@ fn script_of<K: TokenId>(
     ensures unplayed { IfOk result (IsUnplayed calls.now) }
     ensures number { IfOk result (λ script. script.caller.number ≡ caller.number) }
 {
-    let own = calls_by(alloc, calls, caller.number())?;
+    let Ok(own) = calls_by(alloc, calls, caller.number()) else {
+        drop(caller);
+        return Err(NoMemory);
+    };
     match Script::new(alloc, caller, own) {
         Ok(script) => Ok(script),
-        Err(_) => Err(NoMemory),
+        Err(refused) => {
+            drop(refused);
+            Err(NoMemory)
+        }
     }
 }
 
@@ -91,8 +97,13 @@ fn caller_of<K: TokenId>(script: Script<K>) -> Result<Caller<K>, NoMemory>
         → IfOk result (HasMadeAll calls) }
     ensures number { IfOk result (λ caller. caller.number ≡ script.caller.number) }
 {
-    script.outcome()?;
-    Ok(script.into_parts().0)
+    match script.outcome() {
+        Ok(()) => Ok(script.into_parts().0),
+        Err(error) => {
+            drop(script);
+            Err(error)
+        }
+    }
 }
 
 /// The callers of scripts that were played to their ends.

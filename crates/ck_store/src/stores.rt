@@ -96,9 +96,7 @@ impl Store {
     {
         let mut store = Store::new(alloc);
         for object in base.objects.as_slice() {
-            let attributes = object.attributes.clone()?;
-            store.reserve()?;
-            store.add(object.number, 0, attributes);
+            store.add_kept(object)?;
         }
         store.creations = base.creations;
         Ok(store)
@@ -203,6 +201,20 @@ impl Store {
             → StoreAgrees h self.old → StoreAgrees (e ◁ h) self.new }
     {
         self.add(self.creations + 1, session, attributes);
+    }
+
+    /// Adds an object of a base, which is no session's.
+    fn add_kept(&mut self, object: &KeptObject) -> Result<(), NoMemory>
+        requires later { self.old.creations < object.now.number }
+        requires small { object.now.number < 2 ^ 32 }
+        ensures rows { OnOk result (self.new.rows
+            ≡ self.old.rows ++ object_row object.now.number 0 object.now.attributes ∷ []) }
+        ensures creations { OnOk result (self.new.creations ≡ object.now.number) }
+    {
+        self.reserve()?;
+        let attributes = object.attributes.clone()?;
+        self.add(object.number, 0, attributes);
+        Ok(())
     }
 
     /// Adds an object whose number is above those of all objects so far.

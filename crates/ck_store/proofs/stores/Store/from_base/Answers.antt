@@ -1,7 +1,6 @@
 use Rattle.std.proofs.Common.{◌++◌, ◌∷◌, [], ◌≤◌, ap, refl, ◌∙◌, get_or, length, map}
 use Rattle.std.proofs.lemmas.List.{take_all}
 use Rattle.ck_journal.specs.declared.bases.KeptObject.{KeptObject}
-use Rattle.ck_store.specs.Rows.{object_row}
 use Rattle.ck_store.proofs.KeptLemmas.{kept_row, HasFirst-more, StoreAgrees-started}
 use Rattle.ck_store.proofs.SoundLemmas.{IsSound-later}
 use Rattle.ck_store.proofs.stores.Store.from_base.Goals as goal
@@ -15,16 +14,12 @@ loop-object-preserved c =
     record {
       items = items;
       first = HasFirst-more c.args.base.now c.requires c.loop-object.object-index object
-          c.loop-object.store c.add.new.self
+          c.loop-object.store c.add_kept.new.self
           (rw items at c.loop-object-test.true)
           c.loop-object.invariant.first
-          (c.add.ensures.rows
-          ∙ ap (λ rows. rows ++ object_row object.number 0 c.in_ok-attributes.attributes ∷ [])
-          c.in_ok-reserve.ensures.rows
-          ∙ ap (λ attributes. c.loop-object.store.rows ++ object_row object.number 0 attributes ∷ [])
-          c.in_ok-attributes.ensures.cases
+          (c.in_ok-add_kept.ensures.rows
           ∙ ap (λ kept. c.loop-object.store.rows ++ kept_row kept ∷ []) is)
-          (c.add.ensures.creations ∙ ap (λ (kept : KeptObject). kept.number) is);
+          (c.in_ok-add_kept.ensures.creations ∙ ap (λ (kept : KeptObject). kept.number) is);
     }
 
 pub invariant_of-store : goal.invariant_of-store
