@@ -1,3 +1,5 @@
+ghost use Rattle.std.specs.Prelude.{◌≡◌, IfOk};
+
 use ck_types::NoMemory;
 use smallvec::SmallVec;
 use std::alloc::{AllocError, Global};
@@ -20,6 +22,16 @@ impl Model for AttributeValue {
 }
 
 /// A copy of a value of at most 16 bytes takes no memory.
+/// Copies of two values.
+pub(crate) fn copies_of(
+    first: &AttributeValue,
+    second: &AttributeValue,
+) -> Result<(AttributeValue, AttributeValue), AllocError>
+    ensures { IfOk result (λ copies. copies ≡ (first.now, second.now)) }
+{
+    Ok((first.clone()?, second.clone()?))
+}
+
 impl Clone for AttributeValue {
     ghost use Rattle.std.specs.Prelude.{◌≡◌, ◌≤◌, length};
 

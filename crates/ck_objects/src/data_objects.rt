@@ -1,4 +1,4 @@
-use crate::attribute_values::AttributeValue;
+use crate::attribute_values::{AttributeValue, copies_of};
 use crate::attributes::Attribute;
 use crate::fields::Field;
 use crate::items::{Item, copied_items, flag_or, take_value};
@@ -28,16 +28,18 @@ impl Clone for Data {
     ghost is_clone = { λ object copy. copy ≡ object };
 
     fn clone(&self) -> Result<Data, AllocError> {
+        let (label, application) = copies_of(&self.label, &self.application)?;
+        let (value, object_id) = copies_of(&self.value, &self.object_id)?;
         Ok(Data {
-            label: self.label.clone()?,
+            label,
             token: self.token,
             private: self.private,
             modifiable: self.modifiable,
             copyable: self.copyable,
             destroyable: self.destroyable,
-            application: self.application.clone()?,
-            value: self.value.clone()?,
-            object_id: self.object_id.clone()?,
+            application,
+            value,
+            object_id,
         })
     }
 }

@@ -1,4 +1,4 @@
-use crate::attribute_values::AttributeValue;
+use crate::attribute_values::{AttributeValue, copies_of};
 use crate::attributes::Attribute;
 use crate::fields::Field;
 use crate::forms::{GENERIC_SECRET, SECRET_KEY};
@@ -51,6 +51,7 @@ impl Clone for Key {
     ghost is_clone = { λ key copy. copy ≡ key };
 
     fn clone(&self) -> Result<Key, AllocError> {
+        let (value, id) = copies_of(&self.value, &self.id)?;
         Ok(Key {
             label: self.label.clone()?,
             token: self.token,
@@ -61,8 +62,8 @@ impl Clone for Key {
             sensitive: self.sensitive,
             extractable: self.extractable,
             state: self.state,
-            value: self.value.clone()?,
-            id: self.id.clone()?,
+            value,
+            id,
             encrypt: self.encrypt,
             decrypt: self.decrypt,
             wrap: self.wrap,
