@@ -63,13 +63,7 @@ fn script_of<K: TokenId>(
         drop(caller);
         return Err(NoMemory);
     };
-    match Script::new(alloc, caller, own) {
-        Ok(script) => Ok(script),
-        Err(refused) => {
-            drop(refused);
-            Err(NoMemory)
-        }
-    }
+    Script::new(alloc, caller, own).ok().ok_or(NoMemory)
 }
 
 /// For each caller a script of its calls.
