@@ -69,6 +69,14 @@ both make None second = None
 both make (Some a) None = None
 both make (Some a) (Some b) = Some (make a b)
 
+abbrev pub pair_in : {A B : Type 0}
+    → (List ℕ → Option A) → (List ℕ → Option B) → List ℕ → List ℕ → Option (A × B)
+pair_in first second a b = both (λ x y. (x, y)) (first a) (second b)
+
+abbrev pub two_in : {A B : Type 0}
+    → (List ℕ → Option A) → (List ℕ → Option B) → List (List ℕ) → Option (A × B)
+two_in first second = with_two (pair_in first second)
+
 abbrev pub all_three : {A B C D : Type 0}
     → (A → B → C → D) → Option A → Option B → Option C → Option D
 all_three make None second third = None

@@ -2,19 +2,15 @@
 use Rattle.std.specs.Prelude.{ℕ, List, Option, option_map, option_and_then}
 use Rattle.ck_journal.specs.declared.calls.Call.{Call}
 use Rattle.ck_journal.specs.declared.calls.Call.TheVariants as call
-use Rattle.ck_script.specs.Parts.{with_none, with_one, with_two, with_three, with_four}
+use Rattle.ck_script.specs.Parts.{with_none, with_one, with_three, with_four}
 use Rattle.ck_script.specs.Arguments.{number_in, code_number_in, bytes_in, pin_in, room_in}
 use Rattle.ck_script.specs.Arguments.{mechanism_in, template_in, queries_in}
-use Rattle.ck_script.specs.Arguments.{both, all_three, all_four}
+use Rattle.ck_script.specs.Arguments.{two_in, all_three, all_four}
 use Rattle.ck_script.specs.CallNames.{row_named}
 use Rattle.ck_script.specs.declared.call_names.Function.{Function}
 use Rattle.ck_script.specs.declared.call_names.Function.TheVariants as function
 
 -- ---- as many arguments as a call takes, each with its meaning
-
-abbrev pub two_in : {A B : Type 0}
-    → (List ℕ → Option A) → (List ℕ → Option B) → List (List ℕ) → Option (A × B)
-two_in first second = with_two (λ a b. both (λ x y. (x, y)) (first a) (second b))
 
 abbrev pub three_in : {A B C : Type 0}
     → (List ℕ → Option A) → (List ℕ → Option B) → (List ℕ → Option C)

@@ -7,7 +7,7 @@ ghost use Rattle.std.specs.Str.Parse.{AllDigits};
 ghost use Rattle.ck_script.specs.Arguments.{is_code_digit, has_leading_zero, numeral_value};
 ghost use Rattle.ck_script.specs.Arguments.{number_in, code_number_in, is_dash, bytes_in, pin_in};
 ghost use Rattle.ck_script.specs.Arguments.{room_in, mechanism_in, item_in, query_in, list_in};
-ghost use Rattle.ck_script.specs.Arguments.{template_in, queries_in};
+ghost use Rattle.ck_script.specs.Arguments.{template_in, queries_in, pair_in, two_in};
 
 use crate::line_errors::{BadLine, LineError, NumberError};
 use crate::parts::Parts;
@@ -140,6 +140,39 @@ pub(crate) trait Argument: Sized {
         ensures bad { IfErr result (λ e. (e ≡ LineError.Memory) ⊎ (value_in text.now ≡ None)) };
 }
 
+/// The values of two texts.
+pub(crate) fn pair_in<A, B>(alloc: Global, first: &[u8], second: &[u8]) -> Result<(A, B), LineError>
+where
+    A: Argument + Drop,
+    B: Argument,
+    ensures values { IfOk result (λ values.
+        pair_in A.value_in B.value_in first.now second.now ≡ Some values) }
+    ensures bad { IfErr result (λ e. (e ≡ LineError.Memory)
+        ⊎ (pair_in A.value_in B.value_in first.now second.now ≡ None)) }
+{
+    let first = A::value_in(alloc, first)?;
+    let second = B::value_in(alloc, second)?;
+    Ok((first, second))
+}
+
+/// The values of the two parts, or the reason given where there are not exactly two.
+pub(crate) fn two_in<A, B>(
+    alloc: Global,
+    parts: Parts,
+    reason: BadLine,
+) -> Result<(A, B), LineError>
+where
+    A: Argument + Drop,
+    B: Argument,
+    ensures values { IfOk result (λ values.
+        two_in A.value_in B.value_in parts.entry ≡ Some values) }
+    ensures bad { IfErr result (λ e. (e ≡ LineError.Memory)
+        ⊎ (two_in A.value_in B.value_in parts.entry ≡ None)) }
+{
+    let (first, second) = parts.two().ok_or(reason)?;
+    pair_in(alloc, first, second)
+}
+
 impl Argument for u64 {
     ghost value_in = { number_in };
 
@@ -219,9 +252,9 @@ impl Argument for Item {
     ghost value_in = { item_in };
 
     fn value_in(alloc: Global, text: &[u8]) -> Result<Item, LineError> {
-        let (kind, value) = Parts::new(text, EQUALS_SIGN).two().ok_or(BadLine::Item)?;
-        let kind = code_number_in(kind)?;
-        let value = AttributeValue::from_vec(bytes_in(alloc, value)?.into_vec());
+        let parts = Parts::new(text, EQUALS_SIGN);
+        let (CodeNumber(kind), value): (_, Bytes) = two_in(alloc, parts, BadLine::Item)?;
+        let value = AttributeValue::from_vec(value.into_vec());
         Ok(Item { kind, value })
     }
 }
@@ -230,10 +263,9 @@ impl Argument for Item {
 impl Argument for AttributeQuery {
     ghost value_in = { query_in };
 
-    fn value_in(_alloc: Global, text: &[u8]) -> Result<AttributeQuery, LineError> {
-        let (kind, room) = Parts::new(text, COLON).two().ok_or(BadLine::Query)?;
-        let kind = code_number_in(kind)?;
-        let room = room_in(room)?;
+    fn value_in(alloc: Global, text: &[u8]) -> Result<AttributeQuery, LineError> {
+        let parts = Parts::new(text, COLON);
+        let (CodeNumber(kind), room) = two_in(alloc, parts, BadLine::Query)?;
         Ok(AttributeQuery { kind, room })
     }
 }

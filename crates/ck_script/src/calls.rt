@@ -1,9 +1,10 @@
-ghost use Rattle.std.specs.Prelude.{◌≡◌, ◌⊎◌, Some, None, IfOk, OnOk, IfErr};
+ghost use Rattle.std.specs.Prelude.{◌≡◌, ◌⊎◌, Some, None, IfOk, IfErr};
 ghost use Rattle.ck_journal.specs.declared.calls.Call.{Call};
 ghost use Rattle.ck_script.specs.Parts.{with_none, with_one};
-ghost use Rattle.ck_script.specs.Calls.{two_in, three_in, four_in, call_of, call_in};
+ghost use Rattle.ck_script.specs.Arguments.{two_in};
+ghost use Rattle.ck_script.specs.Calls.{three_in, four_in, call_of, call_in};
 
-use crate::arguments::{Argument, CodeNumber};
+use crate::arguments::{Argument, CodeNumber, pair_in, two_in};
 use crate::call_names::{Arity, CallName, Function};
 use crate::line_errors::{BadLine, LineError};
 use crate::parts::Parts;
@@ -20,82 +21,95 @@ struct Arguments<'a> {
 }
 
 impl<'a> Arguments<'a> {
-    /// No argument.
-    fn none(self) -> Result<(), LineError>
-        ensures call { OnOk result ((call : Call) → with_none call self.entry.parts ≡ Some call) }
+    /// The call that is made of no argument.
+    fn none<F: FnOnce() -> Call>(self, make: F) -> Result<Call, LineError>
+        requires { F.IsAlwaysCallable make }
+        ensures call { IfOk result (λ call.
+            (with_none call self.entry.parts ≡ Some call) × F.post make call) }
         ensures bad { IfErr result (λ e. (e ≡ LineError.Memory)
             ⊎ ((call : Call) → with_none call self.entry.parts ≡ None)) }
     {
         if self.parts.none() {
-            Ok(())
+            Ok(make())
         } else {
             Err(LineError::Bad(BadLine::ArgumentCount(self.name, Arity::None)))
         }
     }
 
-    /// The value of the only argument.
-    fn one<A: Argument>(self) -> Result<A, LineError>
-        ensures value { IfOk result (λ a. with_one A.value_in self.entry.parts ≡ Some a) }
+    /// The call that is made of the value of the only argument.
+    fn one<A: Argument, F: FnOnce(A) -> Call>(self, make: F) -> Result<Call, LineError>
+        requires { F.IsAlwaysCallable make }
+        ensures call { IfOk result (λ call. (a : _)
+            × (with_one A.value_in self.entry.parts ≡ Some a) × F.post make a call) }
         ensures bad { IfErr result (λ e. (e ≡ LineError.Memory)
             ⊎ (with_one A.value_in self.entry.parts ≡ None)) }
     {
         let count = BadLine::ArgumentCount(self.name, Arity::One);
         let first = self.parts.one().ok_or(count)?;
-        A::value_in(self.alloc, first)
+        let first = A::value_in(self.alloc, first)?;
+        Ok(make(first))
     }
 
-    /// The values of two arguments.
-    fn two<A: Argument + Drop, B: Argument>(self) -> Result<(A, B), LineError>
-        ensures values { IfOk result (λ values.
-            two_in A.value_in B.value_in self.entry.parts ≡ Some values) }
+    /// The call that is made of the values of two arguments.
+    fn two<A, B, F>(self, make: F) -> Result<Call, LineError>
+    where
+        A: Argument + Drop,
+        B: Argument,
+        F: FnOnce(A, B) -> Call,
+        requires { F.IsAlwaysCallable make }
+        ensures call { IfOk result (λ call. (a : _) × (b : _)
+            × (two_in A.value_in B.value_in self.entry.parts ≡ Some (a, b))
+            × F.post make a b call) }
         ensures bad { IfErr result (λ e. (e ≡ LineError.Memory)
             ⊎ (two_in A.value_in B.value_in self.entry.parts ≡ None)) }
     {
         let count = BadLine::ArgumentCount(self.name, Arity::Two);
-        let (first, second) = self.parts.two().ok_or(count)?;
-        let first = A::value_in(self.alloc, first)?;
-        let second = B::value_in(self.alloc, second)?;
-        Ok((first, second))
+        let (first, second) = two_in(self.alloc, self.parts, count)?;
+        Ok(make(first, second))
     }
 
-    /// The values of three arguments.
-    fn three<A, B, C>(self) -> Result<(A, B, C), LineError>
+    /// The call that is made of the values of three arguments.
+    fn three<A, B, C, F>(self, make: F) -> Result<Call, LineError>
     where
         A: Argument + Drop,
         B: Argument + Drop,
         C: Argument,
-        ensures values { IfOk result (λ values.
-            three_in A.value_in B.value_in C.value_in self.entry.parts ≡ Some values) }
+        F: FnOnce(A, B, C) -> Call,
+        requires { F.IsAlwaysCallable make }
+        ensures call { IfOk result (λ call. (a : _) × (b : _) × (c : _)
+            × (three_in A.value_in B.value_in C.value_in self.entry.parts ≡ Some (a, b, c))
+            × F.post make a b c call) }
         ensures bad { IfErr result (λ e. (e ≡ LineError.Memory)
             ⊎ (three_in A.value_in B.value_in C.value_in self.entry.parts ≡ None)) }
     {
         let count = BadLine::ArgumentCount(self.name, Arity::Three);
         let (first, second, third) = self.parts.three().ok_or(count)?;
-        let first = A::value_in(self.alloc, first)?;
-        let second = B::value_in(self.alloc, second)?;
+        let (first, second) = pair_in(self.alloc, first, second)?;
         let third = C::value_in(self.alloc, third)?;
-        Ok((first, second, third))
+        Ok(make(first, second, third))
     }
 
-    /// The values of four arguments.
-    fn four<A, B, C, D>(self) -> Result<(A, B, C, D), LineError>
+    /// The call that is made of the values of four arguments.
+    fn four<A, B, C, D, F>(self, make: F) -> Result<Call, LineError>
     where
         A: Argument + Drop,
         B: Argument + Drop,
         C: Argument + Drop,
         D: Argument,
-        ensures values { IfOk result (λ values.
-            four_in A.value_in B.value_in C.value_in D.value_in self.entry.parts ≡ Some values) }
+        F: FnOnce(A, B, C, D) -> Call,
+        requires { F.IsAlwaysCallable make }
+        ensures call { IfOk result (λ call. (a : _) × (b : _) × (c : _) × (d : _)
+            × (four_in A.value_in B.value_in C.value_in D.value_in self.entry.parts
+            ≡ Some (a, b, c, d))
+            × F.post make a b c d call) }
         ensures bad { IfErr result (λ e. (e ≡ LineError.Memory)
             ⊎ (four_in A.value_in B.value_in C.value_in D.value_in self.entry.parts ≡ None)) }
     {
         let count = BadLine::ArgumentCount(self.name, Arity::Four);
         let (first, second, third, fourth) = self.parts.four().ok_or(count)?;
-        let first = A::value_in(self.alloc, first)?;
-        let second = B::value_in(self.alloc, second)?;
-        let third = C::value_in(self.alloc, third)?;
-        let fourth = D::value_in(self.alloc, fourth)?;
-        Ok((first, second, third, fourth))
+        let (first, second) = pair_in(self.alloc, first, second)?;
+        let (third, fourth) = pair_in(self.alloc, third, fourth)?;
+        Ok(make(first, second, third, fourth))
     }
 }
 
@@ -105,186 +119,113 @@ fn call_of(arguments: Arguments) -> Result<Call, LineError>
     ensures bad { IfErr result (λ e. (e ≡ LineError.Memory)
         ⊎ (call_of arguments.entry.name.0 arguments.entry.parts ≡ None)) }
 {
-    let call = match arguments.name.0 {
-        Function::InitToken => {
-            let pin = arguments.one()?;
-            Call::InitToken { pin }
-        }
-        Function::InitPin => {
-            let (session, pin) = arguments.two()?;
-            Call::InitPin { session, pin }
-        }
-        Function::SetPin => {
-            let (session, old, new) = arguments.three()?;
-            Call::SetPin { session, old, new }
-        }
-        Function::GetTokenInfo => {
-            arguments.none()?;
-            Call::GetTokenInfo
-        }
-        Function::GetMechanismList => {
-            arguments.none()?;
-            Call::GetMechanismList
-        }
-        Function::OpenSession => {
-            let CodeNumber(flags) = arguments.one()?;
-            Call::OpenSession { flags }
-        }
-        Function::CloseSession => {
-            let session = arguments.one()?;
-            Call::CloseSession { session }
-        }
-        Function::CloseAllSessions => {
-            arguments.none()?;
-            Call::CloseAllSessions
-        }
-        Function::GetSessionInfo => {
-            let session = arguments.one()?;
-            Call::GetSessionInfo { session }
-        }
-        Function::SessionCancel => {
-            let (session, CodeNumber(flags)) = arguments.two()?;
-            Call::SessionCancel { session, flags }
-        }
-        Function::Login => {
-            let (session, user, pin) = arguments.three()?;
-            Call::Login { session, user, pin }
-        }
-        Function::Logout => {
-            let session = arguments.one()?;
-            Call::Logout { session }
-        }
-        Function::CreateObject => {
-            let (session, template) = arguments.two()?;
-            Call::CreateObject { session, template }
-        }
-        Function::CopyObject => {
-            let (session, object, template) = arguments.three()?;
-            Call::CopyObject {
-                session,
-                object,
-                template,
-            }
-        }
-        Function::DestroyObject => {
-            let (session, object) = arguments.two()?;
-            Call::DestroyObject { session, object }
-        }
-        Function::GetAttributeValue => {
-            let (session, object, queries) = arguments.three()?;
-            Call::GetAttributeValue {
+    match arguments.name.0 {
+        Function::InitToken => arguments.one(|pin| Call::InitToken { pin }),
+        Function::InitPin => arguments.two(|session, pin| Call::InitPin { session, pin }),
+        Function::SetPin => arguments.three(|session, old, new| Call::SetPin { session, old, new }),
+        Function::GetTokenInfo => arguments.none(|| Call::GetTokenInfo),
+        Function::GetMechanismList => arguments.none(|| Call::GetMechanismList),
+        Function::OpenSession => arguments.one(|CodeNumber(flags)| Call::OpenSession { flags }),
+        Function::CloseSession => arguments.one(|session| Call::CloseSession { session }),
+        Function::CloseAllSessions => arguments.none(|| Call::CloseAllSessions),
+        Function::GetSessionInfo => arguments.one(|session| Call::GetSessionInfo { session }),
+        Function::SessionCancel => arguments.two(|session, CodeNumber(flags)| Call::SessionCancel {
+            session,
+            flags,
+        }),
+        Function::Login => arguments.three(|session, user, pin| Call::Login { session, user, pin }),
+        Function::Logout => arguments.one(|session| Call::Logout { session }),
+        Function::CreateObject => arguments.two(|session, template| Call::CreateObject {
+            session,
+            template,
+        }),
+        Function::CopyObject => arguments.three(|session, object, template| Call::CopyObject {
+            session,
+            object,
+            template,
+        }),
+        Function::DestroyObject => arguments.two(|session, object| Call::DestroyObject {
+            session,
+            object,
+        }),
+        Function::GetAttributeValue => arguments.three(
+            |session, object, queries| Call::GetAttributeValue {
                 session,
                 object,
                 queries,
-            }
-        }
-        Function::SetAttributeValue => {
-            let (session, object, template) = arguments.three()?;
-            Call::SetAttributeValue {
+            },
+        ),
+        Function::SetAttributeValue => arguments.three(
+            |session, object, template| Call::SetAttributeValue {
                 session,
                 object,
                 template,
-            }
-        }
-        Function::FindObjectsInit => {
-            let (session, template) = arguments.two()?;
-            Call::FindObjectsInit { session, template }
-        }
-        Function::FindObjects => {
-            let (session, max) = arguments.two()?;
-            Call::FindObjects { session, max }
-        }
-        Function::FindObjectsFinal => {
-            let session = arguments.one()?;
-            Call::FindObjectsFinal { session }
-        }
-        Function::DigestInit => {
-            let (session, mechanism) = arguments.two()?;
-            Call::DigestInit { session, mechanism }
-        }
-        Function::Digest => {
-            let (session, bytes, room) = arguments.three()?;
-            Call::Digest {
-                session,
-                bytes,
-                room,
-            }
-        }
-        Function::DigestUpdate => {
-            let (session, bytes) = arguments.two()?;
-            Call::DigestUpdate { session, bytes }
-        }
-        Function::DigestFinal => {
-            let (session, room) = arguments.two()?;
-            Call::DigestFinal { session, room }
-        }
-        Function::SignInit => {
-            let (session, mechanism, key) = arguments.three()?;
-            Call::SignInit {
-                session,
-                mechanism,
-                key,
-            }
-        }
-        Function::Sign => {
-            let (session, bytes, room) = arguments.three()?;
-            Call::Sign {
-                session,
-                bytes,
-                room,
-            }
-        }
-        Function::SignUpdate => {
-            let (session, bytes) = arguments.two()?;
-            Call::SignUpdate { session, bytes }
-        }
-        Function::SignFinal => {
-            let (session, room) = arguments.two()?;
-            Call::SignFinal { session, room }
-        }
-        Function::VerifyInit => {
-            let (session, mechanism, key) = arguments.three()?;
-            Call::VerifyInit {
-                session,
-                mechanism,
-                key,
-            }
-        }
-        Function::Verify => {
-            let (session, bytes, signature) = arguments.three()?;
-            Call::Verify {
-                session,
-                bytes,
-                signature,
-            }
-        }
-        Function::VerifyUpdate => {
-            let (session, bytes) = arguments.two()?;
-            Call::VerifyUpdate { session, bytes }
-        }
-        Function::VerifyFinal => {
-            let (session, signature) = arguments.two()?;
-            Call::VerifyFinal { session, signature }
-        }
-        Function::GenerateKey => {
-            let (session, mechanism, template, random) = arguments.four()?;
-            Call::GenerateKey {
+            },
+        ),
+        Function::FindObjectsInit => arguments.two(|session, template| Call::FindObjectsInit {
+            session,
+            template,
+        }),
+        Function::FindObjects => arguments.two(|session, max| Call::FindObjects { session, max }),
+        Function::FindObjectsFinal => arguments.one(|session| Call::FindObjectsFinal { session }),
+        Function::DigestInit => arguments.two(|session, mechanism| Call::DigestInit {
+            session,
+            mechanism,
+        }),
+        Function::Digest => arguments.three(|session, bytes, room| Call::Digest {
+            session,
+            bytes,
+            room,
+        }),
+        Function::DigestUpdate => arguments.two(|session, bytes| Call::DigestUpdate {
+            session,
+            bytes,
+        }),
+        Function::DigestFinal => arguments.two(|session, room| Call::DigestFinal { session, room }),
+        Function::SignInit => arguments.three(|session, mechanism, key| Call::SignInit {
+            session,
+            mechanism,
+            key,
+        }),
+        Function::Sign => arguments.three(|session, bytes, room| Call::Sign {
+            session,
+            bytes,
+            room,
+        }),
+        Function::SignUpdate => arguments.two(|session, bytes| Call::SignUpdate { session, bytes }),
+        Function::SignFinal => arguments.two(|session, room| Call::SignFinal { session, room }),
+        Function::VerifyInit => arguments.three(|session, mechanism, key| Call::VerifyInit {
+            session,
+            mechanism,
+            key,
+        }),
+        Function::Verify => arguments.three(|session, bytes, signature| Call::Verify {
+            session,
+            bytes,
+            signature,
+        }),
+        Function::VerifyUpdate => arguments.two(|session, bytes| Call::VerifyUpdate {
+            session,
+            bytes,
+        }),
+        Function::VerifyFinal => arguments.two(|session, signature| Call::VerifyFinal {
+            session,
+            signature,
+        }),
+        Function::GenerateKey => arguments.four(
+            |session, mechanism, template, random| Call::GenerateKey {
                 session,
                 mechanism,
                 template,
                 random,
-            }
-        }
-        Function::SetKeyState => {
-            let (session, key, state) = arguments.three()?;
-            Call::SetKeyState {
-                session,
-                key,
-                state,
-            }
-        }
-    };
-    Ok(call)
+            },
+        ),
+        Function::SetKeyState => arguments.three(|session, key, state| Call::SetKeyState {
+            session,
+            key,
+            state,
+        }),
+    }
 }
 
 /// The reason of a call of a name that no call has. Where there is no memory to look for a similar
