@@ -4,6 +4,8 @@ pub mod Asked
 pub mod Following
 pub mod KnownLemmas
 pub mod Lengths
+pub mod NewAccounts
+pub mod Opening
 pub mod Places
 pub mod Playing
 pub mod Prefixes

@@ -187,6 +187,26 @@ fn look<K: TokenId>(
     Some((status_on(board.board(), ask), newest.duplicate()))
 }
 
+/// What a look at the board that is published finds. `None` also where it can't be read.
+fn look_through<K: TokenId>(
+    reader: &mut ReadHandle<BoardCopy<K>>,
+    account: &Account<K>,
+    seen: &KnownHistory<K>,
+    ask: Ask,
+) -> Option<(Status, KnownHistory<K>)>
+    ensures front { IfSome result (λ found. IsFront seen.now.history found.1.history) }
+    ensures count { IfSome result (λ found.
+        call_count account.now.number found.1.history ≡ account.now.count) }
+    ensures legal { IfSome result (λ found. IsLegal K.limits found.1.history) }
+    ensures answer { IfSome result (λ found.
+        reply_of found.0 ≡ answer K.limits found.1.history (call_of ask)) }
+{
+    let board = reader.enter()?;
+    let found = look(&*board, account, seen, ask);
+    drop(board);
+    found
+}
+
 impl<K: TokenId> Caller<K> {
     ghost use Rattle.std.specs.Prelude.{◌≡◌, IfNone, IfSome, OnSome};
     ghost use Rattle.ck_journal.specs.Answers.{IsLegal, answer};
@@ -207,10 +227,7 @@ impl<K: TokenId> Caller<K> {
         ensures same { self.new ≡ record self.old { seen = self.new.seen } }
         ensures unchanged { IfNone result (self.new ≡ self.old) }
     {
-        let board = self.reader.enter()?;
-        let found = look(&*board, &self.account, &self.seen, ask);
-        drop(board);
-        let (status, known) = found?;
+        let (status, known) = look_through(&mut self.reader, &self.account, &self.seen, ask)?;
         self.seen = known;
         Some(status)
     }

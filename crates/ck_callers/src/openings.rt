@@ -1,5 +1,7 @@
 //! What is made where a token comes to be shared.
-ghost use Rattle.std.specs.Prelude.{◌≡◌, IfOk, map};
+ghost use Rattle.std.specs.Prelude.{◌≡◌, ◌≤◌, [], IfOk, map};
+ghost use Rattle.left_right.specs.Handles.{published, pending};
+ghost use Rattle.ck_journal.specs.Boards.{board_of};
 ghost use Rattle.ck_journal.specs.Histories.{start};
 ghost use Rattle.ck_callers.specs.Accounts.{AreNew};
 ghost use Rattle.ck_callers.specs.Callers.{new_caller};
@@ -65,6 +67,30 @@ fn callers_of<K: TokenId, R: Wait + Drop>(
     Ok(callers)
 }
 
+/// The writer of a board that is of the base, and the callers that have these accounts.
+fn writer_and_callers<K: TokenId, R: Wait + Drop>(
+    rt: R,
+    alloc: Global,
+    board: TokenBoard,
+    callers: u32,
+    accounts: Vec<Account<K>>,
+    known: &KnownHistory<K>,
+) -> Result<(WriteHandle<BoardCopy<K>, EntrySlot<K>, R>, Vec<Caller<K>>), NoMemory>
+    requires board { board ≡ board_of K.limits (start K.base) }
+    requires callers { (1 ≤ callers) × (callers ≤ 8) }
+    requires counts { AreNew accounts.items }
+    requires known { known.now.history ≡ start K.base }
+    ensures published { IfOk result (λ opened. published opened.0 ≡ start K.base) }
+    ensures pending { IfOk result (λ opened. pending opened.0 ≡ []) }
+    ensures callers { IfOk result (λ opened.
+        opened.1.items ≡ map (new_caller K.base) accounts.items) }
+{
+    let (shown, hidden) = BoardCopy::pair(&board, known);
+    let writer = WriteHandle::new(alloc, rt, shown, hidden, callers as usize)?;
+    let callers = callers_of(alloc, accounts, known, &writer)?;
+    Ok((writer, callers))
+}
+
 impl<K: TokenId, R: Wait + Drop> Opened<K, R> {
     ghost use Rattle.std.specs.Prelude.{◌≡◌, ◌≤◌, ℕ, [], IfOk};
     ghost use Rattle.left_right.specs.Handles.{published, pending};
@@ -95,11 +121,10 @@ impl<K: TokenId, R: Wait + Drop> Opened<K, R> {
     {
         let NewIdentity { history, ledgers } = identity;
         let (head, front) = history.named::<K>();
-        let (books, accounts) = ledgers.named::<K>(alloc, callers)?;
         let known = KnownHistory::new(&front);
-        let (shown, hidden) = BoardCopy::pair(&board, &known);
-        let writer = WriteHandle::new(alloc, rt, shown, hidden, callers as usize)?;
-        let callers = callers_of(alloc, accounts, &known, &writer)?;
+        drop(front);
+        let (books, accounts) = ledgers.named::<K>(alloc, callers)?;
+        let (writer, callers) = writer_and_callers(rt, alloc, board, callers, accounts, &known)?;
         Ok(Opened {
             books,
             known,

@@ -1,9 +1,9 @@
-use Rattle.std.proofs.Common.{◌≤◌, ◌<◌, ◌^◌, sym, ap, subst, arith}
+use Rattle.std.proofs.Common.{◌≤◌, ◌<◌, ◌^◌, sym, ap, ◌∙◌, subst, arith}
 use Rattle.ck_journal.specs.Answers.{IsLegal}
 use Rattle.ck_journal.specs.Histories.{entry_count}
 use Rattle.ck_journal.proofs.FrontLemmas.{front_refl}
 use Rattle.ck_callers.specs.Callers.{CallerState, IsNextCall}
-use Rattle.ck_callers.proofs.Following.{count_fits, count_next, called}
+use Rattle.ck_callers.proofs.Following.{count_fits, count_next, books_next, called}
 use Rattle.ck_callers.proofs.callers.Caller.follow.Goals as goal
 
 pub count-requires : goal.count-requires
@@ -48,3 +48,17 @@ returns-clause-called g c = λ call reply entered.
       c.count.ensures.account,
     ) (called _ _ call reply c.args.known.now.history next low high c.count.ensures.same g.K.HistoryId.limits
     c.self.invariant.0 c.self.invariant.1 legal)
+
+pub returns-clause-seen : goal.returns-clause-seen
+returns-clause-seen g c = ap (λ k. k.history) c.duplicate-2.ensures
+
+pub returns-clause-books : goal.returns-clause-books
+returns-clause-books g c =
+    let next = subst (λ (s : CallerState). IsNextCall s c.args.books.now c.requires.0 c.requires.1
+    c.args.known.now.history) (sym c.self.view_is) c.requires.2 in
+    let low : 1 ≤ c.self.inside.account.number =
+    omega (arith, c.number-number.ensures.value, c.number-number.ensures.range.0) in
+    let high : c.self.inside.account.number ≤ 8 =
+    omega (arith, c.number-number.ensures.value, c.number-number.ensures.range.1) in
+    c.count.ensures.books ∙ books_next _ _ c.requires.0 c.requires.1 c.args.known.now.history next low high
+    c.count.ensures.same
