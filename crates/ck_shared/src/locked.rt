@@ -182,6 +182,7 @@ impl<K: TokenId, G: JournaledToken, R: Wait + Drop> Locked<K, G, R> {
         let mut caller = caller;
         caller.compare(&mut self.books);
         await_front(rt, caller.known().front(), self.known.front());
+        drop(caller);
     }
 
     /// The token without its lock. It waits for those who still read the board.
@@ -215,7 +216,10 @@ impl<K: TokenId, G: JournaledToken, R: Wait + Drop> Locked<K, G, R> {
     {
         let number = caller.account().number();
         let leaves = call.leaves_board();
-        let slot = add_slot(alloc, &mut self.writer, leaves)?;
+        let Ok(slot) = add_slot(alloc, &mut self.writer, leaves) else {
+            drop(call);
+            return Err(NoMemory);
+        };
         let Ok(reply) = self.token.call(alloc, number, call) else {
             show(rt, &mut self.writer, &self.known);
             return Err(NoMemory);

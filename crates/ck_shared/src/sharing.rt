@@ -38,6 +38,54 @@ pub trait CallerWork<R> {
         ensures { holds self.now caller.new result };
 }
 
+/// What threads do with jobs, one for each.
+trait ThreadWork<J, X> {
+    // what holds of what comes of it
+    ghost holds: { Self → X → Type 0 };
+
+    fn run(&self, job: J) -> X
+        ensures { holds self.now result };
+}
+
+/// All jobs are done, each in a thread of its own. What comes of them is in their order.
+fn map_jobs<J: Send + Drop, X: Send + Drop, T: ThreadWork<J, X> + Sync, R: Threads + Sync>(
+    rt: &R,
+    jobs: Vec<J>,
+    work: &T,
+) -> Result<Vec<X>, NoMemory>
+    ensures len { IfOk result (λ done. vec_len done ≡ vec_len jobs) }
+    ensures outputs { IfOk result (λ done. All (T.holds work.now) done.items) }
+{
+    let done = thread::map_vec(
+        rt,
+        jobs,
+        &|job: J|
+            ensures { T.holds work.entry.now result }
+        { work.run(job) },
+    );
+    Ok(done?)
+}
+
+/// The work of callers at a gate. A job is a caller, who comes back with what came of it.
+#[derive(Drop)]
+struct WorkAtGate<'a, G, S, R> {
+    rt: &'a R,
+    alloc: Global,
+    gate: &'a G,
+    work: &'a S,
+}
+
+impl<'a, K: TokenId, G: Gate<K>, S: CallerWork<R>, R> ThreadWork<Caller<K>, (S::Output, Caller<K>)>
+    for WorkAtGate<'a, G, S, R> {
+    ghost holds = { λ w done. S.holds w.work.now done.1 done.0 };
+
+    fn run(&self, job: Caller<K>) -> (S::Output, Caller<K>) {
+        let mut caller = job;
+        let output = self.work.act(self.rt, self.alloc, self.gate, &mut caller);
+        (output, caller)
+    }
+}
+
 /// All callers do their work, each in a thread of its own. They come back with what came of it.
 fn act_together<
     K: TokenId + Send + Sync,
@@ -54,17 +102,13 @@ fn act_together<
     ensures len { IfOk result (λ done. vec_len done ≡ vec_len callers) }
     ensures outputs { IfOk result (λ done. All (λ d. S.holds work.now d.1 d.0) done.items) }
 {
-    let done = thread::map_vec(
+    let at_gate = WorkAtGate {
         rt,
-        callers,
-        &|mut caller: Caller<K>|
-            ensures { S.holds work.entry.now result.1 result.0 }
-        {
-            let output = work.act(rt, alloc, gate, &mut caller);
-            (output, caller)
-        },
-    );
-    Ok(done?)
+        alloc,
+        gate,
+        work,
+    };
+    map_jobs(rt, callers, &at_gate)
 }
 
 /// Takes all callers back, and keeps what came of their work.
