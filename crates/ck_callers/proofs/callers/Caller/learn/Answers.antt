@@ -1,6 +1,6 @@
 use Rattle.std.proofs.Common.{sym, subst}
 use Rattle.ck_journal.specs.Fronts.{IsFront}
-use Rattle.ck_journal.proofs.FrontLemmas.{front_trans}
+use Rattle.ck_journal.proofs.FrontLemmas.{front_refl, front_trans}
 use Rattle.ck_callers.specs.KnownHistories.{KnownState}
 use Rattle.ck_callers.proofs.callers.Caller.learn.Goals as goal
 
@@ -21,3 +21,13 @@ returns-then-begins-clause-own g c =
     subst (λ h. IsFront h c.news.inside.known.history) c.front.ensures
     (subst (IsFront c.front.result.now) c.front-2.ensures (c.begins.ensures.front c.if-begins.true)) in
     rw (← c.self.view_is, c.duplicate.ensures) front
+
+pub returns-then-begins-clause-news : goal.returns-then-begins-clause-news
+returns-then-begins-clause-news g c = rw (← c.news.view_is, c.duplicate.ensures) (front_refl c.news.inside.known.history)
+
+pub returns-else-begins-clause-news : goal.returns-else-begins-clause-news
+returns-else-begins-clause-news g c =
+    let longer : IsFront c.news.inside.known.history c.self.inside.seen.history =
+    subst (IsFront c.news.inside.known.history) c.front.ensures
+    (subst (λ h. IsFront h c.front.result.now) c.front-2.ensures (c.begins.ensures.longer c.if-begins.false)) in
+    rw (← c.self.view_is, ← c.news.view_is) longer
