@@ -1,10 +1,68 @@
-use Rattle.std.proofs.Common.{◌≡◌, sym, ap, ◌∙◌, subst}
+use Rattle.std.proofs.Common.{◌≡◌, refl, sym, ap, ◌∙◌, subst, arith}
 use Rattle.left_right.specs.Handles.{published}
+use Rattle.ck_journal.specs.Callers.{AreCallers, call_counts}
 use Rattle.ck_journal.specs.Fronts.{IsFront}
-use Rattle.ck_journal.specs.Histories.{◌◁◌}
+use Rattle.ck_journal.specs.Histories.{◌◁◌, entry_count}
+use Rattle.ck_journal.specs.TokenStates.{IsAnswered, entry_of}
 use Rattle.ck_callers.specs.Callers.{IsNextCall, entry_by}
+use Rattle.ck_callers.specs.KnownHistories.{Covers}
 use Rattle.ck_shared.proofs.Shown.{covered_on, if_none}
 use Rattle.ck_shared.proofs.locked.Locked.step.Goals as goal
+
+pub invariant_of-self : goal.invariant_of-self
+invariant_of-self g c =
+    let tied = c.self.invariant.0 in (
+      record {
+        limits = tied.limits;
+        callers = tied.callers;
+        books = tied.books;
+        history = tied.history;
+        published = subst (Covers c.self.inside.known) (sym c.in_default.ensures.published) tied.published;
+      },
+      c.in_default.ensures.unchanged ∙ c.self.invariant.1,
+    )
+
+pub invariant_of-self-in_default-call : goal.invariant_of-self-in_default-call
+invariant_of-self-in_default-call g c =
+    let tied = c.self.invariant.0 in
+    let same = c.in_default-call.ensures.unchanged in (
+      record {
+        limits = same.limits ∙ tied.limits;
+        callers = subst (AreCallers g.K.TokenId.callers) (sym same.history) tied.callers;
+        books = tied.books ∙ ap call_counts (sym same.history);
+        history = tied.history ∙ sym same.history;
+        published = c.show.ensures.board;
+      },
+      c.show.ensures.pending,
+    )
+
+pub extend-requires-clause-next : goal.extend-requires-clause-next
+extend-requires-clause-next g c =
+    let token = g.G.JournaledToken.state c.self.inside.token in
+    let entry = entry_of token.limits token.history c.number-number.result c.args.call in
+    let before : c.duplicate-front.result ≡ token.history =
+    c.duplicate-front.ensures ∙ c.front.ensures ∙ c.self.invariant.0.history in
+    (entry, c.in-Ok-call.ensures.answered.entered ∙ ap (λ h. entry ◁ h) (sym before))
+
+pub follow-requires : goal.follow-requires
+follow-requires g c =
+    let token = g.G.JournaledToken.state c.self.inside.token in
+    let entry = entry_of token.limits token.history c.number-number.result c.args.call in
+    record {
+      entry = entry;
+      next = c.extend.ensures.0 ∙ c.in-Ok-call.ensures.answered.entered
+          ∙ ap (λ h. entry ◁ h) (sym c.self.invariant.0.history);
+      caller = refl;
+      range = (c.number-number.ensures.range.0, c.number-number.ensures.range.1);
+      room = omega (
+        arith,
+        c.len-bound.ensures,
+        ap entry_count c.journal.ensures.history,
+        ap entry_count c.extend.ensures.0,
+        c.len-bound.type_inv,
+      );
+      same_board = c.leaves_board-leaves.ensures.leaves;
+    }
 
 pub follow-requires-2 : goal.follow-requires-2
 follow-requires-2 g c =
@@ -61,3 +119,26 @@ returns-clause-called g c =
       counted = c.self.invariant.0.books;
       next = c.follow.ensures.history ∙ c.extend.ensures.0 ∙ entered;
     })
+
+pub invariant_of-self-2 : goal.invariant_of-self-2
+invariant_of-self-2 g c =
+    let tied = c.self.invariant.0 in
+    let answered = c.in-Ok-call.ensures.answered in
+    let known = c.follow.ensures.history ∙ c.extend.ensures.0 in (
+      record {
+        limits = answered.limits ∙ tied.limits;
+        callers = subst (AreCallers g.K.TokenId.callers) (sym answered.entered)
+            (c.number-number.ensures.range.0, c.number-number.ensures.caller, tied.callers);
+        books = c.follow-2.ensures.books ∙ ap call_counts known;
+        history = known;
+        published = c.show_by.ensures.board;
+      },
+      c.show_by.ensures.pending,
+    )
+
+pub returns-clause-answered : goal.returns-clause-answered
+returns-clause-answered g c =
+    let old = g.G.JournaledToken.state c.self.inside.token in
+    let new = g.G.JournaledToken.state c.call.new.self in
+    rw (← c.self.view_is) (subst (λ n. IsAnswered old new n c.args.call c.in-Ok-call.reply)
+    (c.number-number.ensures.value ∙ c.account.ensures.number) c.in-Ok-call.ensures.answered)
