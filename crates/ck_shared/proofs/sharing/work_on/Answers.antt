@@ -4,6 +4,28 @@ use Rattle.ck_journal.specs.TokenStates.{TokenState}
 use Rattle.ck_shared.specs.Outputs.{IsOfCaller}
 use Rattle.ck_shared.proofs.sharing.work_on.Goals as goal
 
+pub returns-in_default : goal.returns-in_default
+returns-in_default g c =
+    let taken = c.into_token.ensures in
+    record { limits = taken.limits; callers = taken.callers; base = taken.base; count = tt; outputs = tt }
+
+pub returns-in-Err : goal.returns-in-Err
+returns-in-Err g c =
+    let taken = c.into_token-in-Err.ensures in
+    record { limits = taken.limits; callers = taken.callers; base = taken.base; count = tt; outputs = tt }
+
+pub returns-in-Ok-done-clause-limits : goal.returns-in-Ok-done-clause-limits
+returns-in-Ok-done-clause-limits g c = c.into_token-in-Ok-done.ensures.limits
+
+pub returns-in-Ok-done-clause-callers : goal.returns-in-Ok-done-clause-callers
+returns-in-Ok-done-clause-callers g c = c.into_token-in-Ok-done.ensures.callers
+
+pub returns-in-Ok-done-clause-base : goal.returns-in-Ok-done-clause-base
+returns-in-Ok-done-clause-base g c = c.into_token-in-Ok-done.ensures.base
+
+pub returns-in-Ok-done-clause-count : goal.returns-in-Ok-done-clause-count
+returns-in-Ok-done-clause-count g c = c.settle_all.ensures.len ∙ c.in-Ok-done.ensures.len
+
 pub returns-in-Ok-done-clause-outputs : goal.returns-in-Ok-done-clause-outputs
 returns-in-Ok-done-clause-outputs g c =
     subst (λ (t : TokenState).
