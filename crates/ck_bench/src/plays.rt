@@ -47,9 +47,8 @@ fn make_calls<T: Target>(target: &mut T, alloc: Global, calls: &[Call]) -> Resul
     let mut refused = 0u64;
     for call in calls {
         let reply = target.call(alloc, call.clone()?)?;
-        if reply.rv != Rv::Ok {
-            refused = refused.saturating_add(1);
-        }
+        refused = refused.saturating_add(u64::from(reply.rv != Rv::Ok));
+        drop(reply);
     }
     Ok(refused)
 }
@@ -59,8 +58,32 @@ fn time_so_far<R: CpuClock>(rt: &R) -> io::Result<u128> {
     Ok(rt.process_cpu_time()?.as_nanos())
 }
 
-/// Makes the calls of each section, and writes how many they are, how many were refused and, where
+/// Writes the processor time that was taken, where that is asked for.
+fn write_time<R: Print>(rt: &R, name: &str, time: u128, is_timed: bool) -> io::Result<()> {
+    if is_timed {
+        println!(rt; "{name}: {time} ns")?;
+    }
+    Ok(())
+}
+
+/// Makes the calls of a section, and writes how many they are, how many were refused and, where
 /// that is asked for, the processor time that they took.
+fn play_section<R: CpuClock + Print, T: Target>(
+    rt: &R,
+    alloc: Global,
+    target: &mut T,
+    section: &Section,
+    is_timed: bool,
+) -> Result<(), BenchError> {
+    let Section { name, calls } = section;
+    let before = time_so_far(rt)?;
+    let refused = make_calls(target, alloc, calls.as_slice())?;
+    let time = time_so_far(rt)?.saturating_sub(before);
+    println!(rt; "{name}: {} calls, {refused} refused", calls.len())?;
+    Ok(write_time(rt, name, time, is_timed)?)
+}
+
+/// Makes the calls of each section, and writes the same of all of them.
 fn play<R: CpuClock + Print, T: Target>(
     rt: &R,
     alloc: Global,
@@ -68,14 +91,8 @@ fn play<R: CpuClock + Print, T: Target>(
     sections: &[Section],
     is_timed: bool,
 ) -> Result<(), BenchError> {
-    for Section { name, calls } in sections {
-        let before = time_so_far(rt)?;
-        let refused = make_calls(target, alloc, calls.as_slice())?;
-        let time = time_so_far(rt)?.saturating_sub(before);
-        println!(rt; "{name}: {} calls, {refused} refused", calls.len())?;
-        if is_timed {
-            println!(rt; "{name}: {time} ns")?;
-        }
+    for section in sections {
+        play_section(rt, alloc, target, section, is_timed)?;
     }
     Ok(())
 }
@@ -92,10 +109,7 @@ fn audit<R: CpuClock + Print>(
     let is_legal = audit_token(alloc, token)? == Verdict::Legal;
     let time = time_so_far(rt)?.saturating_sub(before);
     println!(rt; "audit of {} entries: {is_legal}", token.journal().len())?;
-    if is_timed {
-        println!(rt; "audit: {time} ns")?;
-    }
-    Ok(())
+    Ok(write_time(rt, "audit", time, is_timed)?)
 }
 
 /// Plays the sections on a token, whose journal is audited then.
@@ -118,7 +132,9 @@ pub(crate) fn play_alone<R: CpuClock + Print>(
     is_timed: bool,
 ) -> Result<(), BenchError> {
     let mut token = Token::new(alloc, Limits::largest());
-    play_and_audit(rt, alloc, &mut token, sections, is_timed)
+    let played = play_and_audit(rt, alloc, &mut token, sections, is_timed);
+    drop(token);
+    played
 }
 
 /// What the one caller of a shared token does.
@@ -170,5 +186,8 @@ pub(crate) fn play_locked<R: CpuClock + Print + Threads + Wait + Copy + Drop + S
     is_timed: bool,
 ) -> Result<(), BenchError> {
     let mut token = Token::new(alloc, Limits::largest());
-    play_shared(rt, alloc, &mut token, &SectionPlay { sections, is_timed })
+    let work = SectionPlay { sections, is_timed };
+    let played = play_shared(rt, alloc, &mut token, &work);
+    drop(token);
+    played
 }

@@ -26,10 +26,10 @@ fn begin<'a>(
 
 /// Adds a call to the newest section.
 fn add_call(sections: &mut [Section], call: Call) -> Result<(), NoMemory> {
-    if let Some(section) = sections.last_mut() {
-        section.calls.push(call)?;
+    match sections.last_mut() {
+        Some(section) => Ok(section.calls.push(call)?),
+        None => Ok(drop(call)),
     }
-    Ok(())
 }
 
 /// Adds what a line says to the sections.

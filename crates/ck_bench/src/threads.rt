@@ -46,7 +46,20 @@ fn answered<K: TokenId, G: Gate<K>, R: Wait>(
     if rv == Rv::Ok {
         return Ok(body);
     }
+    drop(body);
     Err(BenchError::Answered)
+}
+
+/// Makes a call, which must be answered CKR_OK.
+fn make<K: TokenId, G: Gate<K>, R: Wait>(
+    rt: &R,
+    alloc: Global,
+    gate: &G,
+    caller: &mut Caller<K>,
+    call: Call,
+) -> Result<(), BenchError> {
+    drop(answered(rt, alloc, gate, caller, call)?);
+    Ok(())
 }
 
 /// Makes a call that gives a handle.
@@ -131,15 +144,9 @@ fn change<K: TokenId, G: Gate<K>, R: Wait>(
     session: u64,
 ) -> Result<(), BenchError> {
     let object = handle_of(rt, alloc, gate, caller, creation(alloc, session)?)?;
-    answered(rt, alloc, gate, caller, reading(alloc, session, object)?)?;
-    answered(
-        rt,
-        alloc,
-        gate,
-        caller,
-        Call::DestroyObject { session, object },
-    )?;
-    Ok(())
+    make(rt, alloc, gate, caller, reading(alloc, session, object)?)?;
+    let destruction = Call::DestroyObject { session, object };
+    make(rt, alloc, gate, caller, destruction)
 }
 
 impl<'a> Tasks<'a> {
@@ -259,7 +266,29 @@ fn time_of<R: Clock + Threads + Wait + Copy + Drop + Send + Sync>(
     requires { (1 ≤ length tasks.now) × (length tasks.now ≤ 8) }
 {
     let mut token = Token::new(alloc, Limits::largest());
-    time_on(rt, alloc, &mut token, tasks)
+    let time = time_on(rt, alloc, &mut token, tasks);
+    drop(token);
+    time
+}
+
+/// Callers do these tasks on a new token. Writes what the slowest takes, by the clock where that is
+/// asked for.
+fn play_tasks<R: Clock + Print + Threads + Wait + Copy + Drop + Send + Sync>(
+    rt: R,
+    alloc: Global,
+    name: &str,
+    tasks: &[Task],
+    is_timed: bool,
+) -> Result<(), BenchError>
+    requires { (1 ≤ length tasks.now) × (length tasks.now ≤ 8) }
+{
+    let time = time_of(rt, alloc, tasks)?;
+    if is_timed {
+        println!(rt; "{name}: {time} ns")?;
+    } else {
+        println!(rt; "{name}: done")?;
+    }
+    Ok(())
 }
 
 /// Writes what callers take, by the clock where that is asked for: one asks so often, all of four
@@ -270,23 +299,10 @@ pub(crate) fn play_together<R: Clock + Print + Threads + Wait + Copy + Drop + Se
     asks: u64,
     is_timed: bool,
 ) -> Result<(), BenchError> {
-    let changes = asks / 100;
-    let runs: [(&str, &[Task]); 4] = [
-        ("asks of one caller", &[Task::Ask(asks)]),
-        ("asks of four callers", &[Task::Ask(asks); 4]),
-        (
-            "asks beside changes",
-            &[Task::Ask(asks), Task::ChangeBeside],
-        ),
-        ("changes of four callers", &[Task::Change(changes); 4]),
-    ];
-    for (name, tasks) in runs {
-        let time = time_of(rt, alloc, tasks)?;
-        if is_timed {
-            println!(rt; "{name}: {time} ns")?;
-        } else {
-            println!(rt; "{name}: done")?;
-        }
-    }
-    Ok(())
+    let (ask, change) = (Task::Ask(asks), Task::Change(asks / 100));
+    play_tasks(rt, alloc, "asks of one caller", &[ask], is_timed)?;
+    play_tasks(rt, alloc, "asks of four callers", &[ask; 4], is_timed)?;
+    let beside = [ask, Task::ChangeBeside];
+    play_tasks(rt, alloc, "asks beside changes", &beside, is_timed)?;
+    play_tasks(rt, alloc, "changes of four callers", &[change; 4], is_timed)
 }

@@ -18,6 +18,7 @@ use ck_token::Token;
 use ck_types::{NoMemory, Pin, Rv, mechanism_types};
 use std::alloc::Global;
 use std::marker::Brand;
+use std::mem;
 use std::sync::Wait;
 use std::thread::Threads;
 
@@ -54,13 +55,13 @@ fn expect(holds: bool) -> Result<(), RaceError> {
     Err(RaceError::Wrong(FAULT))
 }
 
-/// Whether an ask is answered so, or with all mechanisms where no text is wanted.
-fn is_answer(alloc: Global, status: &Option<Status>, wanted: &str) -> Result<bool, NoMemory> {
-    match status {
-        Some(Status::Reply(reply)) => Ok(reply_line(alloc, reply)?.as_str() == wanted),
-        Some(Status::Mechanisms(types)) => Ok(wanted.is_empty() && *types == mechanism_types()),
-        None => Ok(false),
-    }
+/// An ask is answered so, or with all mechanisms where no text is wanted.
+fn check_status(alloc: Global, status: &Option<Status>, wanted: &str) -> Result<(), RaceError> {
+    expect(match status {
+        Some(Status::Reply(reply)) => reply_line(alloc, reply)?.as_str() == wanted,
+        Some(Status::Mechanisms(types)) => wanted.is_empty() && *types == mechanism_types(),
+        None => false,
+    })
 }
 
 fn check_ask<K: TokenId>(
@@ -70,7 +71,7 @@ fn check_ask<K: TokenId>(
     wanted: &str,
 ) -> Result<(), RaceError> {
     let status = caller.status(ask);
-    expect(is_answer(alloc, &status, wanted)?)
+    check_status(alloc, &status, wanted)
 }
 
 /// Before the first call the token is in this state, it has no sessions, and it has all mechanisms.
@@ -104,7 +105,7 @@ fn make_first_calls<K: TokenId, G: JournaledToken, R: Wait + Drop>(
     token: &SharedToken<K, G, R>,
     caller: &mut Caller<K>,
 ) -> Result<(), RaceError> {
-    for line in FIRST_CALLS {
+    for line in FIRST_CALLS.as_slice() {
         make_call(rt, alloc, token, caller, line)?;
     }
     expect(caller.seen() == FIRST && caller.count() == FIRST)?;
@@ -123,23 +124,12 @@ fn check_script<K: TokenId>(alloc: Global, script: &AskingScript<K>) -> Result<(
     let mut known = FIRST;
     for answer in script.replies() {
         if let Answered::Status(status, seen) = answer {
-            expect(known <= *seen && is_answer(alloc, status, state_after(*seen))?)?;
+            expect(known <= *seen)?;
+            check_status(alloc, status, state_after(*seen))?;
             known = *seen;
         }
     }
     Ok(())
-}
-
-/// A caller that makes no call learns. It then knows so many entries, and sees their state.
-fn check_learnt<K: TokenId>(
-    alloc: Global,
-    caller: &mut Caller<K>,
-    news: &News<K>,
-    entries: u64,
-) -> Result<(), RaceError> {
-    caller.learn(news);
-    expect(caller.seen() == entries && caller.count() == 0)?;
-    check_ask(alloc, caller, Ask::Session(1), state_after(entries))
 }
 
 fn caller_at<K: TokenId>(
@@ -152,18 +142,42 @@ fn caller_at<K: TokenId>(
     }
 }
 
-/// The last caller asks before the first call. Then the first makes the first calls.
+/// The second caller, which makes no call, learns. It then knows so many entries, and sees their
+/// state.
+fn check_learnt<K: TokenId>(
+    alloc: Global,
+    scripts: &mut [AskingScript<K>],
+    news: &News<K>,
+    entries: u64,
+) -> Result<(), RaceError> {
+    let caller = caller_at(scripts, 1)?;
+    caller.learn(news);
+    expect(caller.seen() == entries && caller.count() == 0)?;
+    check_ask(alloc, caller, Ask::Session(1), state_after(entries))
+}
+
+/// The second caller learns what the first knows, which are so many entries.
+fn check_learning<K: TokenId>(
+    alloc: Global,
+    scripts: &mut [AskingScript<K>],
+    entries: u64,
+) -> Result<(), RaceError> {
+    let news = caller_at(scripts, 0)?.news();
+    check_learnt(alloc, scripts, &news, entries)
+}
+
+/// The last caller asks before the first call. Then the first makes the first calls, of which the
+/// second learns.
 fn prepare<K: TokenId, G: JournaledToken, R: Wait + Drop>(
     rt: &R,
     alloc: Global,
     token: &SharedToken<K, G, R>,
     scripts: &mut [AskingScript<K>],
     state: &str,
-) -> Result<News<K>, RaceError> {
+) -> Result<(), RaceError> {
     check_before(alloc, caller_at(scripts, 2)?, state)?;
-    let first = caller_at(scripts, 0)?;
-    make_first_calls(rt, alloc, token, first)?;
-    Ok(first.news())
+    make_first_calls(rt, alloc, token, caller_at(scripts, 0)?)?;
+    check_learning(alloc, scripts, FIRST)
 }
 
 /// The answers to a caller are right. It sees that the user is logged in, and what is older takes
@@ -180,33 +194,17 @@ fn check_after<K: TokenId>(
     expect(caller.seen() == ALL)
 }
 
+/// The second caller learns of the login. Then all callers have been answered as they must be.
 fn check_all_after<K: TokenId>(
     alloc: Global,
     scripts: &mut [AskingScript<K>],
     older: &News<K>,
 ) -> Result<(), RaceError> {
+    check_learning(alloc, scripts, ALL)?;
     for script in scripts {
         check_after(alloc, script, older)?;
     }
     Ok(())
-}
-
-/// The second caller learns of the first calls, all scripts are played, and it learns of the login.
-fn play_scripts<
-    K: TokenId + Send + Sync,
-    G: JournaledToken + Send,
-    R: Threads + Wait + Drop + Send + Sync,
->(
-    rt: &R,
-    alloc: Global,
-    token: &SharedToken<K, G, R>,
-    scripts: &mut [AskingScript<K>],
-    older: &News<K>,
-) -> Result<(), RaceError> {
-    check_learnt(alloc, caller_at(scripts, 1)?, older, FIRST)?;
-    run_steps(rt, alloc, token, scripts);
-    let newest = caller_at(scripts, 0)?.news();
-    check_learnt(alloc, caller_at(scripts, 1)?, &newest, ALL)
 }
 
 /// The first caller logs in. It and the second then ask again and again.
@@ -224,33 +222,36 @@ fn steps_of(alloc: Global, caller: u32) -> Result<Vec<Step>, NoMemory> {
 }
 
 fn script_of<K: TokenId>(alloc: Global, caller: Caller<K>) -> Result<AskingScript<K>, NoMemory> {
-    let steps = steps_of(alloc, caller.number())?;
-    match Script::new(alloc, caller, steps) {
-        Ok(script) => Ok(script),
-        Err(_) => Err(NoMemory),
+    match steps_of(alloc, caller.number()) {
+        Ok(steps) => Script::new(alloc, caller, steps).ok().ok_or(NoMemory),
+        Err(error) => {
+            drop(caller);
+            Err(error)
+        }
     }
 }
 
-fn scripts_of<K: TokenId>(
+/// Adds the scripts of callers.
+fn add_scripts<K: TokenId>(
     alloc: Global,
     callers: Vec<Caller<K>>,
-) -> Result<Vec<AskingScript<K>>, NoMemory> {
-    let mut scripts = Vec::with_capacity(alloc, callers.len())?;
+    scripts: &mut Vec<AskingScript<K>>,
+) -> Result<(), NoMemory> {
     for caller in callers {
         scripts.push(script_of(alloc, caller)?)?;
     }
-    Ok(scripts)
+    Ok(())
 }
 
-fn callers_of<K: TokenId>(
-    alloc: Global,
+/// The callers of scripts come back.
+fn add_callers<K: TokenId>(
     scripts: Vec<AskingScript<K>>,
-) -> Result<Vec<Caller<K>>, NoMemory> {
-    let mut callers = Vec::with_capacity(alloc, scripts.len())?;
+    callers: &mut Vec<Caller<K>>,
+) -> Result<(), RaceError> {
     for script in scripts {
-        callers.push(script.into_parts().0)?;
+        callers.push(script.caller)?;
     }
-    Ok(callers)
+    Ok(())
 }
 
 /// The callers call and ask: before the first call the token is in this state.
@@ -261,8 +262,9 @@ fn play<K: TokenId + Send + Sync, G: JournaledToken + Send, R: Threads + Wait + 
     scripts: &mut [AskingScript<K>],
     state: &str,
 ) -> Result<(), RaceError> {
-    let older = prepare(rt, alloc, token, scripts, state)?;
-    play_scripts(rt, alloc, token, scripts, &older)?;
+    prepare(rt, alloc, token, scripts, state)?;
+    let older = caller_at(scripts, 0)?.news();
+    run_steps(rt, alloc, token, scripts);
     check_all_after(alloc, scripts, &older)
 }
 
@@ -271,12 +273,25 @@ fn ask<K: TokenId + Send + Sync, G: JournaledToken + Send, R: Threads + Wait + D
     rt: &R,
     alloc: Global,
     token: &SharedToken<K, G, R>,
-    callers: Vec<Caller<K>>,
+    callers: &mut Vec<Caller<K>>,
     state: &str,
-) -> Result<Vec<Caller<K>>, RaceError> {
-    let mut scripts = scripts_of(alloc, callers)?;
-    play(rt, alloc, token, scripts.as_mut_slice(), state)?;
-    Ok(callers_of(alloc, scripts)?)
+) -> Result<(), RaceError> {
+    let mut scripts = Vec::new(alloc);
+    add_scripts(alloc, mem::replace(callers, Vec::new(alloc)), &mut scripts)?;
+    let played = play(rt, alloc, token, scripts.as_mut_slice(), state);
+    played.and(add_callers(scripts, callers))
+}
+
+/// Takes the token back from its callers. Its journal has an entry for each call.
+fn close<K: TokenId, G: JournaledToken, R: Wait + Drop>(
+    rt: &R,
+    token: SharedToken<K, G, R>,
+    callers: Vec<Caller<K>>,
+) -> Result<(), RaceError> {
+    match token.close(rt, callers).ok() {
+        Some(token) => expect(token.journal().len() == ALL),
+        None => Err(RaceError::Wrong(FAULT)),
+    }
 }
 
 /// Shares the token among three callers, of which `K` stands for the history, and takes it back.
@@ -291,16 +306,11 @@ fn ask_as<
     requires book { identity.history.seen.book ≡ K.book }
     requires ledgers { (n : ℕ) → K.ledger n ≡ name_of identity.ledgers n }
 {
-    let ends = SharedToken::<K, G, R>::adopt(rt, alloc, token, 3, identity);
-    let Ok(Ends { token, callers }) = ends else {
-        return Err(NoMemory.into());
-    };
+    let ends = SharedToken::<K, G, R>::adopt(rt, alloc, token, 3, identity).ok();
+    let Ends { token, mut callers } = ends.ok_or(NoMemory)?;
     let state = if is_cut { "0 404 64 0 0" } else { "0 4 64 0 0" };
-    let callers = ask(&rt, alloc, &token, callers, state)?;
-    match token.close(&rt, callers) {
-        Ok(token) => expect(token.journal().len() == ALL),
-        Err(_) => Err(RaceError::Wrong(FAULT)),
-    }
+    let asked = ask(&rt, alloc, &token, &mut callers, state);
+    asked.and(close(&rt, token, callers))
 }
 
 /// Three callers call and ask, on a new token or on one whose journal was cut.

@@ -80,7 +80,7 @@ impl<'a, 'c, K: TokenId, G: Gate<K>, R: Wait> DrawingCaller<'a, 'c, K, G, R> {
         if let Some(place) = places.get(number as usize % PLACES) {
             self.make_row(place, row)?;
             let session = place.session.load(Ordering::SeqCst);
-            let _status = self.gate.status(self.caller, Ask::Session(session));
+            drop(self.gate.status(self.caller, Ask::Session(session)));
         }
         Ok(())
     }

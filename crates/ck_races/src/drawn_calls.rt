@@ -3,14 +3,14 @@
 //! caller got.
 use crate::drawing_callers::DrawnCalls;
 use crate::errors::RaceError;
-use crate::journals::check_replies;
+use crate::journals::{CallerReplies, check_replies, done_calls};
 use crate::mix::Place;
 use crate::tokens::prepare_by;
 use ck_audit::{Verdict, audit_token};
 use ck_journal::Entry;
 use ck_shared::share;
 use ck_token::Token;
-use ck_types::{Limits, Rv};
+use ck_types::Limits;
 use std::alloc::Global;
 use std::sync::Wait;
 use std::thread::Threads;
@@ -26,8 +26,7 @@ const FIRST_CALLS: [&str; 5] = [
 
 /// At least a tenth of the calls were answered CKR_OK.
 fn check_codes(entries: &[Entry]) -> Result<(), RaceError> {
-    let done = entries.iter().filter(|entry| entry.reply.rv == Rv::Ok);
-    if done.count() >= entries.len() / 10 {
+    if done_calls(entries) >= entries.len() / 10 {
         return Ok(());
     }
     Err(RaceError::Wrong("over nine of ten drawn calls are refused"))
@@ -41,6 +40,19 @@ fn check_audit(alloc: Global, token: &Token) -> Result<u64, RaceError> {
     }
 }
 
+/// Each caller got the replies of its entries, and the journal is as it must be. Says how many
+/// entries it has.
+fn check_drawn(
+    alloc: Global,
+    token: &Token,
+    all: Vec<Result<CallerReplies, RaceError>>,
+) -> Result<u64, RaceError> {
+    let entries = token.journal().entries();
+    check_replies(entries, all)?;
+    check_codes(entries)?;
+    check_audit(alloc, token)
+}
+
 /// Makes the drawn calls of eight callers on a token, and checks its journal. Says how many they
 /// are.
 fn draw_on<R: Threads + Wait + Copy + Drop + Send + Sync>(
@@ -51,9 +63,7 @@ fn draw_on<R: Threads + Wait + Copy + Drop + Send + Sync>(
     prepare_by(alloc, token, FIRST_CALLS.as_slice())?;
     let work = DrawnCalls([Place::new(), Place::new(), Place::new(), Place::new()]);
     let all = share(rt, alloc, token, 8, &work)?;
-    check_replies(token.journal().entries(), all)?;
-    check_codes(token.journal().entries())?;
-    check_audit(alloc, token)
+    check_drawn(alloc, token, all)
 }
 
 /// Makes the drawn calls on a new token.
@@ -62,5 +72,7 @@ pub(crate) fn make_drawn_calls<R: Threads + Wait + Copy + Drop + Send + Sync>(
     alloc: Global,
 ) -> Result<u64, RaceError> {
     let mut token = Token::new(alloc, Limits::largest());
-    draw_on(rt, alloc, &mut token)
+    let calls = draw_on(rt, alloc, &mut token);
+    drop(token);
+    calls
 }

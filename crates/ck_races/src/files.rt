@@ -20,24 +20,12 @@ fn play_race<R: Threads + Wait + Copy + Drop + Send + Sync>(
 ) -> Result<u64, RaceError> {
     if is_alone {
         let mut token = Token::new(alloc, Limits::largest());
-        return retry_race(rt, alloc, &mut token, race);
+        let retries = retry_race(rt, alloc, &mut token, race);
+        drop(token);
+        return retries;
     }
     run_race(rt, alloc, race)?;
     Ok(0)
-}
-
-/// Plays races, and says the same of all of them.
-fn play_races<R: Threads + Wait + Copy + Drop + Send + Sync>(
-    rt: R,
-    alloc: Global,
-    races: &[Race],
-    is_alone: bool,
-) -> Result<u64, RaceError> {
-    let mut retries = 0u64;
-    for race in races {
-        retries = retries.saturating_add(play_race(rt, alloc, race, is_alone)?);
-    }
-    Ok(retries)
 }
 
 /// Adds a line: so many races of the file passed, and so many calls were made again.
@@ -54,6 +42,23 @@ fn add_passed(
     }
 }
 
+/// Plays the races of the file of this name, and adds a line where they pass.
+fn play_races<R: Threads + Wait + Copy + Drop + Send + Sync>(
+    rt: R,
+    alloc: Global,
+    text: &mut String,
+    name: &str,
+    races: &[Race],
+    is_alone: bool,
+) -> Result<(), RaceError> {
+    let mut retries = 0u64;
+    for race in races {
+        retries = retries.saturating_add(play_race(rt, alloc, race, is_alone)?);
+    }
+    add_passed(text, name, races.len(), retries)?;
+    Ok(())
+}
+
 /// Plays the races of the file of this name: in threads, or the steps of each one after the other.
 /// Adds a line where they pass.
 pub(crate) fn play_file<R: Files + AllocGlobal + Threads + Wait + Copy + Drop + Send + Sync>(
@@ -65,7 +70,5 @@ pub(crate) fn play_file<R: Files + AllocGlobal + Threads + Wait + Copy + Drop + 
     let alloc = rt.alloc();
     let lines = fs::read_to_string(&rt, name)?;
     let races = races_in(alloc, lines.as_str())?;
-    let retries = play_races(rt, alloc, races.as_slice(), is_alone)?;
-    add_passed(text, name, races.len(), retries)?;
-    Ok(())
+    play_races(rt, alloc, text, name, races.as_slice(), is_alone)
 }

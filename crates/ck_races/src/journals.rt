@@ -6,11 +6,17 @@ use ck_audit::are_replies_of;
 use ck_journal::{Entry, Reply};
 use ck_script::reply_line;
 use ck_token::Token;
-use ck_types::NoMemory;
+use ck_types::{NoMemory, Rv};
 use std::alloc::Global;
 
 /// A caller's number, and the replies that it got, in the order of its calls.
 pub(crate) type CallerReplies = (u32, Vec<Reply>);
+
+/// How many calls were answered CKR_OK.
+pub(crate) fn done_calls(entries: &[Entry]) -> usize {
+    let done = entries.iter().filter(|entry| entry.reply.rv == Rv::Ok);
+    done.count()
+}
 
 /// Each caller made its calls, and got the replies of its entries, in their order.
 pub(crate) fn check_replies(
@@ -43,27 +49,27 @@ fn check_order(entries: &[Entry], steps: &[Step], order: &[u32]) -> Result<(), R
 /// Compares the replies with those of the steps, up to the first entry of another caller. Says
 /// whether there is no such entry.
 fn check_in_order(alloc: Global, steps: &[Step], entries: &[Entry]) -> Result<bool, RaceError> {
+    let mut is_in_order = true;
     for (entry, step) in entries.iter().zip(steps) {
-        if entry.caller != step.caller {
-            return Ok(false);
+        is_in_order = is_in_order && entry.caller == step.caller;
+        if is_in_order {
+            compare(alloc, step, &entry.reply)?;
         }
-        compare(alloc, step, &entry.reply)?;
     }
-    Ok(true)
+    Ok(is_in_order)
 }
 
 /// The texts of the entries' replies.
 fn texts_of(alloc: Global, entries: &[Entry]) -> Result<Vec<String>, NoMemory> {
-    let mut texts = Vec::with_capacity(alloc, entries.len())?;
+    let mut texts = Vec::new(alloc);
     for entry in entries {
         texts.push(reply_line(alloc, &entry.reply)?)?;
     }
     Ok(texts)
 }
 
-/// The replies are those of the steps, to whichever callers: each as often.
-fn check_in_any(alloc: Global, steps: &[Step], entries: &[Entry]) -> Result<(), RaceError> {
-    let texts = texts_of(alloc, entries)?;
+/// The texts of replies are those of the steps: each as often.
+fn check_texts(steps: &[Step], texts: &[String]) -> Result<(), RaceError> {
     for step in steps {
         let came = texts.iter().filter(|text| text.as_str() == step.reply);
         let wanted = steps.iter().filter(|other| other.reply == step.reply);
@@ -74,17 +80,21 @@ fn check_in_any(alloc: Global, steps: &[Step], entries: &[Entry]) -> Result<(), 
     Ok(())
 }
 
+/// The replies are those of the steps, to whichever callers.
+fn check_in_any(alloc: Global, steps: &[Step], entries: &[Entry]) -> Result<(), RaceError> {
+    let texts = texts_of(alloc, entries)?;
+    check_texts(steps, texts.as_slice())
+}
+
 /// Checks what came of a race, whose first calls were made in this order of their callers. Where
 /// the replies are those of its steps, what is made afterwards is answered as it says.
 pub(crate) fn check_token(
     alloc: Global,
     token: &mut Token,
-    all: Vec<Result<CallerReplies, RaceError>>,
     race: &Race,
     order: &[u32],
 ) -> Result<(), RaceError> {
     let (entries, steps) = (token.journal().entries(), race.steps.as_slice());
-    check_replies(entries, all)?;
     check_order(entries, steps, order)?;
     let is_in_order = check_in_order(alloc, steps, entries)?;
     if race.is_in_any_order {

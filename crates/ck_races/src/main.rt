@@ -41,12 +41,11 @@ fn play_callers<R: AllocGlobal + Threads + Wait + Copy + Drop + Send + Sync>(
 ) -> Result<(), RaceError> {
     let alloc = rt.alloc();
     let counts = counts_of_two(rt, alloc)?;
-    write!(text, "{counts}\n")?;
     run_asks(rt, alloc)?;
     let calls = make_drawn_calls(rt, alloc)?;
     write!(
         text,
-        "asks: {RUNS} passed\ndrawn calls: {calls}, audit ok\n"
+        "{counts}\nasks: {RUNS} passed\ndrawn calls: {calls}, audit ok\n"
     )?;
     Ok(())
 }

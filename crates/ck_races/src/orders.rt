@@ -26,6 +26,11 @@ impl<'a> Turns<'a> {
         }
     }
 
+    /// The callers' numbers in the order of their calls.
+    pub(crate) fn order(&self) -> &[u32] {
+        self.order
+    }
+
     /// Whether a call was made before its turn, since that didn't come in time.
     pub(crate) fn is_late(&self) -> bool {
         self.turn.load(Ordering::SeqCst) >= LATE

@@ -60,6 +60,16 @@ impl<'a> Race<'a> {
         self.is_in_any_order = is_in_any_order;
     }
 
+    /// Adds a step to those that are made afterwards, or to those before.
+    fn add_step(&mut self, step: Step<'a>) -> Result<(), NoMemory> {
+        if self.is_afterwards {
+            self.afterwards.push(step)?;
+        } else {
+            self.steps.push(step)?;
+        }
+        Ok(())
+    }
+
     /// Adds what a line says.
     fn add(&mut self, alloc: Global, line: u64, text: &'a str) -> Result<(), RaceError> {
         match text {
@@ -67,8 +77,7 @@ impl<'a> Race<'a> {
             "together" => self.gather(false),
             "together in any order" => self.gather(true),
             "afterwards" => self.is_afterwards = true,
-            _ if self.is_afterwards => self.afterwards.push(step_in(alloc, line, text)?)?,
-            _ => self.steps.push(step_in(alloc, line, text)?)?,
+            _ => self.add_step(step_in(alloc, line, text)?)?,
         }
         Ok(())
     }

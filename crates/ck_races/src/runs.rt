@@ -1,6 +1,6 @@
 //! Runs of a race by callers in threads, with all calls in order and with the first ones alone.
 use crate::errors::RaceError;
-use crate::journals::{CallerReplies, check_token};
+use crate::journals::{CallerReplies, check_replies, check_token};
 use crate::orders::{Turns, reorder};
 use crate::races::{Race, Step};
 use crate::tokens::prepare;
@@ -22,7 +22,7 @@ const RUNS: u64 = 100;
 #[derive(Drop)]
 struct Run<'a> {
     steps: &'a [Step<'a>],
-    turns: Turns<'a>,
+    turns: &'a Turns<'a>,
 }
 
 impl<'a> Run<'a> {
@@ -40,6 +40,23 @@ impl<'a> Run<'a> {
         let reply = gate.call(rt, alloc, caller, call);
         self.turns.pass();
         reply
+    }
+
+    /// Makes the steps of a caller, and adds their replies.
+    fn make_own<K: TokenId, G: Gate<K>, R: Wait>(
+        &self,
+        rt: &R,
+        alloc: Global,
+        gate: &G,
+        caller: &mut Caller<K>,
+        replies: &mut Vec<Reply>,
+    ) -> Result<(), NoMemory> {
+        for step in self.steps {
+            if step.caller == caller.number() {
+                replies.push(self.make(rt, alloc, gate, caller, step)?)?;
+            }
+        }
+        Ok(())
     }
 }
 
@@ -59,13 +76,27 @@ impl<'a, R: Wait> CallerWork<R> for Run<'a> {
         gate: &G,
         caller: &mut Caller<K>,
     ) -> Result<CallerReplies, RaceError> {
-        let number = caller.number();
         let mut replies = Vec::new(alloc);
-        for step in self.steps.iter().filter(|step| step.caller == number) {
-            replies.push(self.make(rt, alloc, gate, caller, step)?)?;
-        }
-        Ok((number, replies))
+        self.make_own(rt, alloc, gate, caller, &mut replies)?;
+        Ok((caller.number(), replies))
     }
+}
+
+/// Checks a run: every turn came in time, each caller got the replies of its entries, and these are
+/// as the race says.
+fn check_run(
+    alloc: Global,
+    token: &mut Token,
+    all: Vec<Result<CallerReplies, RaceError>>,
+    race: &Race,
+    turns: &Turns,
+) -> Result<(), RaceError> {
+    if turns.is_late() {
+        drop(all);
+        return Err(RaceError::Wrong("a call's turn didn't come"));
+    }
+    check_replies(token.journal().entries(), all)?;
+    check_token(alloc, token, race, turns.order())
 }
 
 /// Eight callers make the steps of a race on a token, the first calls in this order of their
@@ -78,15 +109,13 @@ fn run_on<R: Threads + Wait + Copy + Drop + Send + Sync>(
     order: &[u32],
 ) -> Result<(), RaceError> {
     prepare(alloc, token, race.earlier.as_slice())?;
+    let turns = Turns::new(order);
     let run = Run {
         steps: race.steps.as_slice(),
-        turns: Turns::new(order),
+        turns: &turns,
     };
     let all = share(rt, alloc, token, 8, &run)?;
-    if run.turns.is_late() {
-        return Err(RaceError::Wrong("a call's turn didn't come"));
-    }
-    check_token(alloc, token, all, race, order)
+    check_run(alloc, token, all, race, &turns)
 }
 
 /// One run of a race on a token of its own.
@@ -97,11 +126,31 @@ fn run_once<R: Threads + Wait + Copy + Drop + Send + Sync>(
     order: &[u32],
 ) -> Result<(), RaceError> {
     let mut token = Token::new(alloc, Limits::largest());
-    run_on(rt, alloc, &mut token, race, order)
+    let outcome = run_on(rt, alloc, &mut token, race, order);
+    drop(token);
+    outcome
 }
 
-/// Runs a race again and again: with all steps in an order of their callers, first its own and then
-/// drawn, and with the first steps alone in order.
+/// Runs a race again and again: with all steps in an order of their callers, first this one and
+/// then drawn, and with the first steps alone in order.
+fn run_in_orders<R: Threads + Wait + Copy + Drop + Send + Sync>(
+    rt: R,
+    alloc: Global,
+    race: &Race,
+    order: &mut [u32],
+) -> Result<(), RaceError> {
+    let mut draws = Xoshiro256PlusPlus::seed_from_u64(race.line);
+    for _ in 0..RUNS {
+        run_once(rt, alloc, race, order)?;
+        run_once(rt, alloc, race, order.get(..race.first).unwrap_or(&[]))?;
+        if let Some(together) = order.get_mut(race.first..) {
+            reorder(&mut draws, together);
+        }
+    }
+    Ok(())
+}
+
+/// Runs a race in orders of the callers of its steps, beginning with that in which they stand.
 pub(crate) fn run_race<R: Threads + Wait + Copy + Drop + Send + Sync>(
     rt: R,
     alloc: Global,
@@ -109,14 +158,5 @@ pub(crate) fn run_race<R: Threads + Wait + Copy + Drop + Send + Sync>(
 ) -> Result<(), RaceError> {
     let callers = race.steps.iter().map(|step| step.caller);
     let mut order: Vec<u32> = callers.collect(alloc)?;
-    let mut draws = Xoshiro256PlusPlus::seed_from_u64(race.line);
-    for _ in 0..RUNS {
-        run_once(rt, alloc, race, order.as_slice())?;
-        let first = order.as_slice().get(..race.first).unwrap_or(&[]);
-        run_once(rt, alloc, race, first)?;
-        if let Some(together) = order.as_mut_slice().get_mut(race.first..) {
-            reorder(&mut draws, together);
-        }
-    }
-    Ok(())
+    run_in_orders(rt, alloc, race, order.as_mut_slice())
 }

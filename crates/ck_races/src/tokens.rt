@@ -47,7 +47,9 @@ pub(crate) fn prepare(alloc: Global, token: &mut Token, steps: &[Step]) -> Resul
 /// Makes the step of a line.
 fn make_line(alloc: Global, token: &mut Token, number: u64, line: &str) -> Result<(), RaceError> {
     let step = step_in(alloc, number, line)?;
-    make_step(alloc, token, &step)
+    let made = make_step(alloc, token, &step);
+    drop(step);
+    made
 }
 
 /// Makes the steps of lines, and cuts the journal.
@@ -67,6 +69,11 @@ pub(crate) fn token_after(alloc: Global, lines: &[&str]) -> Result<Token, RaceEr
     ensures { IfOk result (λ token. token.history ≡ start (start_of token.history)) }
 {
     let mut token = Token::new(alloc, Limits::largest());
-    prepare_by(alloc, &mut token, lines)?;
-    Ok(token)
+    match prepare_by(alloc, &mut token, lines) {
+        Ok(()) => Ok(token),
+        Err(error) => {
+            drop(token);
+            Err(error)
+        }
+    }
 }

@@ -1,11 +1,12 @@
 //! Two callers share a token, each in a thread of its own. docs/threads.md goes through it.
 use crate::errors::RaceError;
+use crate::journals::done_calls;
 use crate::tokens::prepare_by;
 use ck_callers::{Caller, Gate, TokenId};
 use ck_journal::{Call, READ_WRITE};
 use ck_shared::{CallerWork, share};
 use ck_token::Token;
-use ck_types::{Limits, Rv};
+use ck_types::Limits;
 use std::alloc::Global;
 use std::fmt;
 use std::sync::Wait;
@@ -63,9 +64,8 @@ fn share_between_two<R: Threads + Wait + Copy + Drop + Send + Sync>(
 ) -> Result<Counts, RaceError> {
     prepare_by(alloc, token, ["1 InitToken 31323334 -> 0"].as_slice())?;
     let counts = share(rt, alloc, token, 2, &ThreeSessions)?;
-    let entries = token.journal().entries().iter();
     Ok(Counts {
-        sessions: entries.filter(|entry| entry.reply.rv == Rv::Ok).count(),
+        sessions: done_calls(token.journal().entries()),
         calls: counts
             .iter()
             .fold(0, |sum, count| sum.saturating_add(*count)),
@@ -79,5 +79,7 @@ pub(crate) fn counts_of_two<R: Threads + Wait + Copy + Drop + Send + Sync>(
     alloc: Global,
 ) -> Result<Counts, RaceError> {
     let mut token = Token::new(alloc, Limits::largest());
-    share_between_two(rt, alloc, &mut token)
+    let counts = share_between_two(rt, alloc, &mut token);
+    drop(token);
+    counts
 }
