@@ -245,19 +245,27 @@ four-pass a b d e first second third fourth = rw (first, second, third, fourth)
 pub session-passes : (h : History) (session : ℕ) → is_open h session ≡ true → session_error h session ≡ None
 session-passes h session is_so = ap (λ t. error_if (not t) rv_error.SessionHandleInvalid) is_so
 
--- a session that is open, and then the checks of the object that a handle names
-pub object-checks : (h : History) (session object : ℕ) (checks : List Item → Option RvError)
-    (attributes : List Item) (error : Option RvError)
-    → is_open h session ≡ true → attributes_named h object ≡ Some attributes → checks attributes ≡ error
-    → or_else (session_error h session) (or_else (object_error h object checks) None) ≡ error
-object-checks h session object checks attributes error is_so named is =
-    ap (λ first. or_else first (or_else (object_error h object checks) None)) (session-passes h session is_so)
-    ∙ ap (λ found. or_else (option_map_or checks found (Some rv_error.ObjectHandleInvalid)) None) named
+-- a session that is open, and then the checks of what a handle names
+pub named-checks : (h : History) (session : ℕ) (found : Option (List Item)) (unnamed : RvError)
+    (checks : List Item → Option RvError) (attributes : List Item) (error : Option RvError)
+    → is_open h session ≡ true → found ≡ Some attributes → checks attributes ≡ error
+    → or_else (session_error h session) (or_else (option_map_or checks found (Some unnamed)) None) ≡ error
+named-checks h session found unnamed checks attributes error is_so named is =
+    ap (λ first. or_else first (or_else (option_map_or checks found (Some unnamed)) None))
+    (session-passes h session is_so)
+    ∙ ap (λ found. or_else (option_map_or checks found (Some unnamed)) None) named
     ∙ last (checks attributes) ∙ is
   where
     last : (error : Option RvError) → or_else error None ≡ error
     last None = refl
     last (Some code) = refl
+
+-- the same of the object that a handle names
+pub object-checks : (h : History) (session object : ℕ) (checks : List Item → Option RvError)
+    (attributes : List Item) (error : Option RvError)
+    → is_open h session ≡ true → attributes_named h object ≡ Some attributes → checks attributes ≡ error
+    → or_else (session_error h session) (or_else (object_error h object checks) None) ≡ error
+object-checks h session object = named-checks h session (attributes_named h object) rv_error.ObjectHandleInvalid
 
 -- ---- a reply that gives bytes
 

@@ -1,3 +1,4 @@
+use Rattle.std.proofs.lemmas.Grind.{common_steps}
 use Rattle.std.proofs.Common.{◌+◌, ◌<◌, ◌≡◌, suc, [], ◌∷◌, ◌++◌, None, take, map, length, get_or, sym, ap, ◌∙◌, arith}
 use Rattle.std.proofs.Math.Seq.{take-suc}
 use Rattle.std.proofs.lemmas.List.{map-append}
@@ -26,3 +27,9 @@ loop-query-preserved c =
           ∙ ap (graver (queries_code items (take index queries))) c.in_ok-answer.ensures.code
           ∙ sym (code-next items index queries other within),
     )
+
+pub loop-query-init : goal.loop-query-init
+loop-query-init c = grind (arith, common_steps)
+
+pub returns : goal.returns
+returns c = grind (arith, common_steps)

@@ -1,3 +1,5 @@
+use Rattle.std.proofs.lemmas.Grind.{common_steps}
+use Rattle.std.proofs.Common.{arith}
 use Rattle.std.proofs.Common.{ap, ◌∙◌}
 use Rattle.ck_journal.specs.declared.replies.Body.{Body}
 use Rattle.ck_journal.specs.declared.replies.Reply.{Reply}
@@ -50,3 +52,9 @@ invariant_of-self-2 c = whole c
 
 pub returns-clause-legal : goal.returns-clause-legal
 returns-clause-legal c = (whole c).legal
+
+pub returns-clause-answered : goal.returns-clause-answered
+returns-clause-answered c = grind (arith, common_steps)
+
+pub returns-in_default-prepare-clause-unchanged : goal.returns-in_default-prepare-clause-unchanged
+returns-in_default-prepare-clause-unchanged c = grind (arith, common_steps)

@@ -10,9 +10,27 @@ use Rattle.ck_journal.specs.Answers.{ok, new_handle, placement_error, prohibited
 use Rattle.ck_journal.specs.declared.calls.Call.TheVariants as call
 use Rattle.ck_journal.specs.declared.replies.Body.TheVariants as body
 use Rattle.ck_parts.specs.declared.changes.Change.TheVariants as change
-use Rattle.ck_token.proofs.DecisionLemmas.{refused-decision, memory-decision, object-checks}
+use Rattle.ck_token.proofs.DecisionLemmas.{refused-decision, memory-decision, object-checks, hit}
 use Rattle.ck_token.proofs.DecisionLemmas.{second-fails, third-fails, fourth-fails, four-pass}
 use Rattle.ck_token.proofs.tokens.Token.copy_object.Goals as goal
+
+pub copy_with-requires : goal.copy_with-requires
+copy_with-requires c =
+    let source = c.in_ok-source.source.now in
+    check_of-ok (copied_error (class_of source) (protections_of source) c.args.template.now.items) _
+    (sym c.check_copy.ensures ∙ c.in_ok-check_copy.was)
+
+pub returns-in_err-check_flag : goal.returns-in_err-check_flag
+returns-in_err-check_flag c =
+    let h = c.args.self.now.history in
+    let code = c.in_err-check_flag.field-0.0 in
+    let source = c.in_ok-source.source.now in
+    let fails = check_of-err (prohibited_error attribute.Copyable source) code
+    (sym c.check_flag.ensures ∙ c.in_err-check_flag.was) in
+    refused-decision c.args.self.now.limits h (call.CopyObject c.args.session c.args.object c.args.template.now) _ code
+    c.from_residual-in_err-check_flag.ensures.1
+    (object-checks h c.args.session c.args.object _ source _ c.in_ok-row.ensures.open c.in_ok-source.ensures.attributes
+    (hit _ _ code fails)) refl
 
 pub returns-in_err-check_copy : goal.returns-in_err-check_copy
 returns-in_err-check_copy c =

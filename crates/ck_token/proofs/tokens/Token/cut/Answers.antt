@@ -1,3 +1,5 @@
+use Rattle.std.proofs.lemmas.Grind.{common_steps}
+use Rattle.std.proofs.Common.{arith}
 use Rattle.std.proofs.Common.{sym, ap, ◌∙◌, subst}
 use Rattle.ck_journal.specs.Bases.{IsSound}
 use Rattle.ck_journal.specs.Histories.{start, JournalState}
@@ -51,3 +53,12 @@ returns-clause-left c =
     let none = nil_from_length (open_sessions h)
     (sym (c.count.ensures h agree.parts.sessions) ∙ c.if-count-ne0.false) in
     rw (← c.self.view_is) (left-by t.limits h (good-history t.limits h t.parts agree) none)
+
+pub returns-then-count-ne0-clause-cut : goal.returns-then-count-ne0-clause-cut
+returns-then-count-ne0-clause-cut c = grind (arith, common_steps)
+
+pub returns-in_err-objects-clause-cut : goal.returns-in_err-objects-clause-cut
+returns-in_err-objects-clause-cut c = grind (arith, common_steps)
+
+pub returns-clause-cut : goal.returns-clause-cut
+returns-clause-cut c = grind (arith, common_steps)

@@ -12,6 +12,34 @@ use Rattle.ck_parts.specs.declared.changes.Change.TheVariants as change
 use Rattle.ck_token.proofs.DecisionLemmas.{refused-decision, memory-decision, skip, hit, session-passes}
 use Rattle.ck_token.proofs.tokens.Token.generate_key.Goals as goal
 
+pub returns-in_err-error_if : goal.returns-in_err-error_if
+returns-in_err-error_if c =
+    let h = c.args.self.now.history in
+    let mechanism = c.args.mechanism.now in
+    let made = call.GenerateKey c.args.session mechanism c.args.template.now c.args.random.now in
+    let is_open = session-passes h c.args.session c.in_ok-row.ensures.open in
+    let code = c.in_err-error_if.field-0.0 in
+    let fails =
+    ap (λ t. error_if (not t) rv_error.MechanismInvalid) (sym c.is_key_generator-generates.ensures)
+    ∙ check_of-err _ code (sym c.error_if.ensures ∙ c.in_err-error_if.was) in
+    refused-decision c.args.self.now.limits h made _ code c.from_residual-in_err-error_if.ensures.1
+    (skip _ _ is_open ∙ hit _ _ code fails) refl
+
+pub returns-in_err-check_no_parameter : goal.returns-in_err-check_no_parameter
+returns-in_err-check_no_parameter c =
+    let h = c.args.self.now.history in
+    let mechanism = c.args.mechanism.now in
+    let made = call.GenerateKey c.args.session mechanism c.args.template.now c.args.random.now in
+    let is_open = session-passes h c.args.session c.in_ok-row.ensures.open in
+    let generates =
+    ap (λ t. error_if (not t) rv_error.MechanismInvalid) (sym c.is_key_generator-generates.ensures)
+    ∙ check_of-ok _ _ (sym c.error_if.ensures ∙ c.in_ok-error_if.was) in
+    let code = c.in_err-check_no_parameter.field-0.0 in
+    let fails = check_of-err (parameter_error mechanism) code
+    (sym c.check_no_parameter.ensures ∙ c.in_err-check_no_parameter.was) in
+    refused-decision c.args.self.now.limits h made _ code c.from_residual-in_err-check_no_parameter.ensures.1
+    (skip _ _ is_open ∙ skip _ _ generates ∙ hit _ _ code fails) refl
+
 pub returns-in_err-check_generation : goal.returns-in_err-check_generation
 returns-in_err-check_generation c =
     let h = c.args.self.now.history in

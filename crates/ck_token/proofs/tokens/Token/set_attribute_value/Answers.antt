@@ -11,9 +11,23 @@ use Rattle.ck_journal.specs.declared.calls.Call.TheVariants as call
 use Rattle.ck_parts.specs.declared.changes.Change.TheVariants as change
 use Rattle.ck_token.specs.Decisions.{reply_of}
 use Rattle.ck_parts.specs.declared.decisions.Decision.{Decision}
-use Rattle.ck_token.proofs.DecisionLemmas.{refused-decision, memory-decision, object-checks}
+use Rattle.ck_token.proofs.DecisionLemmas.{refused-decision, memory-decision, object-checks, hit}
 use Rattle.ck_token.proofs.DecisionLemmas.{second-fails, third-fails, three-pass}
 use Rattle.ck_token.proofs.tokens.Token.set_attribute_value.Goals as goal
+
+pub returns-in_err-check_writable : goal.returns-in_err-check_writable
+returns-in_err-check_writable c =
+    let h = c.args.self.now.history in
+    let code = c.in_err-check_writable.field-0.0 in
+    let present = c.in_ok-number.present.now in
+    let fails = check_of-err (read_only_session_error h c.args.session c.placement.result) code
+    (sym (c.check_writable.ensures c.args.session c.in_ok-row.ensures.row) ∙ c.in_err-check_writable.was) in
+    refused-decision c.args.self.now.limits h (call.SetAttributeValue c.args.session c.args.object
+    c.args.template.now) _ code
+    c.from_residual-in_err-check_writable.ensures.1
+    (object-checks h c.args.session c.args.object _ present _ c.in_ok-row.ensures.open c.in_ok-number.ensures.attributes
+    (hit _ _ code (ap (λ (p : Placement). read_only_session_error h c.args.session p)
+    (sym c.placement.ensures) ∙ fails))) refl
 
 pub returns-in_err-check_flag : goal.returns-in_err-check_flag
 returns-in_err-check_flag c =

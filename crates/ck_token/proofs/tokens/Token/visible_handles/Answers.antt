@@ -1,3 +1,5 @@
+use Rattle.std.proofs.lemmas.Grind.{common_steps}
+use Rattle.std.proofs.Common.{arith}
 use Rattle.std.proofs.Common.{◌∙◌, ap}
 use Rattle.ck_token.proofs.SearchLemmas.{next, given-next, passed-next}
 use Rattle.ck_token.proofs.tokens.Token.visible_handles.Goals.{in-Some+in_ok-push, in_default}
@@ -22,3 +24,9 @@ loop-number-preserved c =
           c.match-handle.handles.items c.match-handle.room (w.in_default.ensures h agree view)
           (ap (λ v. v.items) w.handles-is) w.room-is
     ])
+
+pub loop-number-init : goal.loop-number-init
+loop-number-init c = grind (arith, common_steps)
+
+pub returns : goal.returns
+returns c = grind (arith, common_steps)
