@@ -23,12 +23,12 @@ use Rattle.ck_journal.specs.Sessions.{is_read_write, state_of}
 use Rattle.ck_journal.proofs.LegalLemmas.{passed-done, creation-free, user_logins-bound, openings-bound}
 use Rattle.ck_journal.proofs.LegalLemmas.{tries-bound}
 use Rattle.ck_sessions.specs.Agreement.{SessionsState, SessionsAgree, CredentialAgrees, credential_of}
+use Rattle.ck_parts.proofs.Inversions.{of-effect}
 use Rattle.ck_parts.specs.Agreement.{PartsAgree, IsCounted}
 use Rattle.ck_parts.specs.Changes.{effect}
 use Rattle.ck_parts.specs.declared.changes.Change.{Change}
 use Rattle.ck_parts.specs.declared.changes.Change.TheVariants as change
 use Rattle.ck_parts.specs.declared.parts.Parts.{Parts}
-use Rattle.ck_parts.proofs.Inversions.{done-of_call, of-SetPin, of-CreateObject, of-StartHmac}
 use Rattle.ck_parts.proofs.PartMoves.{hmac-passed}
 
 credential-agrees : (u : UserType) (h : History) (s : SessionsState) → SessionsAgree h s
@@ -73,8 +73,8 @@ module _ (limits : Ranges) (in_range : AreInRange limits.sessions limits.opening
       let same = agree.sessions.openings in
       omega arith
   counted (change.CreateObject session attributes) is =
-      let d = done-of_call h answered_entry (change.CreateObject session attributes) is refl in
-      let of = of-CreateObject h r.body c session attributes d.1 in
+      let d = of-effect h answered_entry (change.CreateObject session attributes) is refl in
+      let of = d.1 in
       let below = creation-free limits h c (passes d.0) of.0 in
       let most = in_range.5 in
       let same = agree.objects.creations in
@@ -85,8 +85,8 @@ module _ (limits : Ranges) (in_range : AreInRange limits.sessions limits.opening
       let same = agree.sessions.logins in
       omega arith
   counted (change.SetPin owner pin) is =
-      let d = done-of_call h answered_entry (change.SetPin owner pin) is refl in
-      let of = of-SetPin h r.body c owner pin d.1 in
+      let d = of-effect h answered_entry (change.SetPin owner pin) is refl in
+      let of = d.1 in
       ap is_some (credential-agrees owner h p.sessions agree.sessions).pin
       ∙ subst (λ u. is_some (present_pin u h) ≡ true) of.3 (set_pin-passed limits h of.0 of.1 pin
       (passed-done limits answered_entry h (answered, legal) (call.SetPin of.0 of.1 pin) (d.0 ∙ ap Some of.2)))
@@ -95,8 +95,8 @@ module _ (limits : Ranges) (in_range : AreInRange limits.sessions limits.opening
       let same = (credential-agrees u h p.sessions agree.sessions).tries in
       omega arith
   counted (change.StartHmac k session hash key len) is =
-      let d = done-of_call h answered_entry (change.StartHmac k session hash key len) is refl in
-      let of = of-StartHmac h r.body limits c k session hash key len d.1 in
+      let d = of-effect h answered_entry (change.StartHmac k session hash key len) is refl in
+      let of = d.1 limits in
       let starts = of.3 in
       let passed = hmac-passed k h session of.0 of.1 (sym starts.error ∙ passes d.0) in
       let same = started-injected k session hash key len _ _ _ of.2 in

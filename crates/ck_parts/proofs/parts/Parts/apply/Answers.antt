@@ -16,12 +16,7 @@ use Rattle.ck_parts.proofs.Counts.{started-injected}
 use Rattle.ck_parts.proofs.OperationMoves.{operations-kept, operations-created, closed-one, closed-all}
 use Rattle.ck_parts.proofs.OperationMoves.{logged-out, cancelled, does-start, does-add, finished-is}
 use Rattle.ck_parts.proofs.OperationMoves.{finish-does, nothing-stays, tried-stays}
-use Rattle.ck_parts.proofs.Inversions.{done-of_call, of-InitPin, of-SetPin, of-LogIn, of-LogOut}
-use Rattle.ck_parts.proofs.Inversions.{of-CreateObject, of-SetAttributes, of-SetKeyState, of-DestroyObject}
-use Rattle.ck_parts.proofs.Inversions.{of-SetSearch, of-AdvanceSearch, of-StartDigest, of-StartHmac}
-use Rattle.ck_parts.proofs.Inversions.{of-AddPiece, of-CancelOperations}
-use Rattle.ck_parts.proofs.Inversions.{called-InitToken, called-OpenSession, called-CloseSession}
-use Rattle.ck_parts.proofs.Inversions.{called-CloseAllSessions}
+use Rattle.ck_parts.proofs.Inversions.{of-effect}
 use Rattle.ck_parts.proofs.PartMoves.{sessions-kept, objects-kept, sessions-created, sessions-unchanged}
 use Rattle.ck_parts.proofs.PartMoves.{objects-unchanged, tried, objects-tried, login-passed, change-passed}
 use Rattle.ck_parts.proofs.PartMoves.{destruction-passed, state-passed, digest-passed, hmac-passed}
@@ -55,7 +50,8 @@ returns-in-WrongTry c = record {
 pub returns-in-InitToken : goal.returns-in-InitToken
 returns-in-InitToken c = record {
   agree = λ limits h e legal is called agree.
-      let d = called-InitToken h e c.in-InitToken.pin (sym c.in-InitToken.is ∙ is) in
+      let made = of-effect h e (change.InitToken c.in-InitToken.pin) (sym c.in-InitToken.is ∙ is) refl in
+      let d = made.0 ∙ ap Some made.1 in
       record {
         sessions = c.init_token.ensures.agree h e d agree.sessions;
         objects = c.clear.ensures.agree h e _ d agree.objects;
@@ -66,8 +62,8 @@ returns-in-InitToken c = record {
 pub returns-in-InitPin : goal.returns-in-InitPin
 returns-in-InitPin c = record {
   agree = λ limits h e legal is called agree.
-      let made = done-of_call h e (change.InitPin c.in-InitPin.pin) (sym c.in-InitPin.is ∙ is) refl in
-      let of = of-InitPin h e.reply.body e.call c.in-InitPin.pin made.1 in
+      let made = of-effect h e (change.InitPin c.in-InitPin.pin) (sym c.in-InitPin.is ∙ is) refl in
+      let of = made.1 in
       let d = made.0 ∙ ap Some of.1 in
       record {
         sessions = c.init_pin.ensures.agree h e of.0 d agree.sessions;
@@ -79,8 +75,8 @@ returns-in-InitPin c = record {
 pub returns-in-SetPin : goal.returns-in-SetPin
 returns-in-SetPin c = record {
   agree = λ limits h e legal is called agree.
-      let made = done-of_call h e (change.SetPin c.in-SetPin.owner c.in-SetPin.pin) (sym c.in-SetPin.is ∙ is) refl in
-      let of = of-SetPin h e.reply.body e.call c.in-SetPin.owner c.in-SetPin.pin made.1 in
+      let made = of-effect h e (change.SetPin c.in-SetPin.owner c.in-SetPin.pin) (sym c.in-SetPin.is ∙ is) refl in
+      let of = made.1 in
       let d = made.0 ∙ ap Some of.2 in
       record {
         sessions = c.set_pin.ensures.agree h e of.0 of.1 d of.3 agree.sessions;
@@ -92,7 +88,8 @@ returns-in-SetPin c = record {
 pub returns-in-OpenSession : goal.returns-in-OpenSession
 returns-in-OpenSession c = record {
   agree = λ limits h e legal is called agree.
-      let d = called-OpenSession h e c.in-OpenSession.flags (sym c.in-OpenSession.is ∙ is) in
+      let made = of-effect h e (change.OpenSession c.in-OpenSession.flags) (sym c.in-OpenSession.is ∙ is) refl in
+      let d = made.0 ∙ ap Some made.1 in
       record {
         sessions = c.open_session.ensures.agree h e d (is_searching-next limits h legal.1) agree.sessions;
         objects = objects-kept h e _ d _ refl agree.objects;
@@ -103,7 +100,8 @@ returns-in-OpenSession c = record {
 pub returns-in-CloseSession : goal.returns-in-CloseSession
 returns-in-CloseSession c = record {
   agree = λ limits h e legal is called agree.
-      let d = called-CloseSession h e c.in-CloseSession.session (sym c.in-CloseSession.is ∙ is) in
+      let made = of-effect h e (change.CloseSession c.in-CloseSession.session) (sym c.in-CloseSession.is ∙ is) refl in
+      let d = made.0 ∙ ap Some made.1 in
       record {
         sessions = c.close.ensures.agree h e d agree.sessions;
         objects = c.end_session.ensures.agree h e d agree.objects;
@@ -115,7 +113,8 @@ returns-in-CloseSession c = record {
 pub returns-in-CloseAllSessions : goal.returns-in-CloseAllSessions
 returns-in-CloseAllSessions c = record {
   agree = λ limits h e legal is called agree.
-      let d = called-CloseAllSessions h e (sym c.in-CloseAllSessions.is ∙ is) in
+      let made = of-effect h e change.CloseAllSessions (sym c.in-CloseAllSessions.is ∙ is) refl in
+      let d = made.0 ∙ ap Some made.1 in
       record {
         sessions = c.close_all.ensures.agree h e d agree.sessions;
         objects = c.end_all_sessions.ensures.agree h e d agree.objects;
@@ -126,8 +125,8 @@ returns-in-CloseAllSessions c = record {
 pub returns-in-LogIn : goal.returns-in-LogIn
 returns-in-LogIn c = record {
   agree = λ limits h e legal is called agree.
-      let made = done-of_call h e (change.LogIn c.in-LogIn.user) (sym c.in-LogIn.is ∙ is) refl in
-      let of = of-LogIn h e.reply.body e.call c.in-LogIn.user made.1 in
+      let made = of-effect h e (change.LogIn c.in-LogIn.user) (sym c.in-LogIn.is ∙ is) refl in
+      let of = made.1 in
       let d = made.0 ∙ ap Some of.3 in
       let p = login-passed limits h of.0 of.1 of.2 (passed-done limits e h legal _ d) in
       record {
@@ -140,8 +139,8 @@ returns-in-LogIn c = record {
 pub returns-in-LogOut : goal.returns-in-LogOut
 returns-in-LogOut c = record {
   agree = λ limits h e legal is called agree.
-      let made = done-of_call h e change.LogOut (sym c.in-LogOut.is ∙ is) refl in
-      let of = of-LogOut h e.reply.body e.call made.1 in
+      let made = of-effect h e change.LogOut (sym c.in-LogOut.is ∙ is) refl in
+      let of = made.1 in
       let d = made.0 ∙ ap Some of.1 in
       record {
         sessions = c.log_out.ensures.agree h e of.0 d agree.sessions;
@@ -153,9 +152,9 @@ returns-in-LogOut c = record {
 pub returns-in-CreateObject : goal.returns-in-CreateObject
 returns-in-CreateObject c = record {
   agree = λ limits h e legal is called agree.
-      let made = done-of_call h e (change.CreateObject c.in-CreateObject.session c.in-CreateObject.attributes)
+      let made = of-effect h e (change.CreateObject c.in-CreateObject.session c.in-CreateObject.attributes)
       (sym c.in-CreateObject.is ∙ is) refl in
-      let of = of-CreateObject h e.reply.body e.call c.in-CreateObject.session c.in-CreateObject.attributes made.1 in
+      let of = made.1 in
       record {
         sessions = sessions-created h e e.call made.0 of.0 _ agree.sessions;
         objects = c.create_object.ensures h e e.call made.0 of.0 of.1 of.2 agree.objects;
@@ -168,9 +167,9 @@ returns-in-SetAttributes c = record {
   agree = λ limits h e legal is called agree.
       let number = c.in-SetAttributes.number in
       let values = c.in-SetAttributes.values in
-      let made = done-of_call h e (change.SetAttributes number values)
+      let made = of-effect h e (change.SetAttributes number values)
       (sym c.in-SetAttributes.is ∙ is) refl in
-      let of = of-SetAttributes h e.reply.body e.call number values made.1 in
+      let of = made.1 in
       let d = made.0 ∙ ap Some of.2 in
       let p = change-passed limits h of.0 of.1 values (passed-done limits e h legal _ d) in
       record {
@@ -186,8 +185,8 @@ returns-in-SetKeyState c = record {
   agree = λ limits h e legal is called agree.
       let number = c.in-SetKeyState.number in
       let state = c.in-SetKeyState.state in
-      let made = done-of_call h e (change.SetKeyState number state) (sym c.in-SetKeyState.is ∙ is) refl in
-      let of = of-SetKeyState h e.reply.body e.call number state made.1 in
+      let made = of-effect h e (change.SetKeyState number state) (sym c.in-SetKeyState.is ∙ is) refl in
+      let of = made.1 in
       let d = made.0 ∙ ap Some of.3 in
       let p = state-passed limits h of.0 of.1 of.2 (passed-done limits e h legal _ d) in
       record {
@@ -202,9 +201,9 @@ returns-in-SetKeyState c = record {
 pub returns-in-DestroyObject : goal.returns-in-DestroyObject
 returns-in-DestroyObject c = record {
   agree = λ limits h e legal is called agree.
-      let made = done-of_call h e (change.DestroyObject c.in-DestroyObject.number)
+      let made = of-effect h e (change.DestroyObject c.in-DestroyObject.number)
       (sym c.in-DestroyObject.is ∙ is) refl in
-      let of = of-DestroyObject h e.reply.body e.call c.in-DestroyObject.number made.1 in
+      let of = made.1 in
       let d = made.0 ∙ ap Some of.2 in
       let p = destruction-passed limits h of.0 of.1 (passed-done limits e h legal _ d) in
       record {
@@ -219,8 +218,8 @@ returns-in-SetSearch c = record {
   agree = λ limits h e legal is called agree.
       let session = c.in-SetSearch.session in
       let found = c.in-SetSearch.found in
-      let made = done-of_call h e (change.SetSearch session found) (sym c.in-SetSearch.is ∙ is) refl in
-      let sets = of-SetSearch h e.reply.body e.call session found made.1 in
+      let made = of-effect h e (change.SetSearch session found) (sym c.in-SetSearch.is ∙ is) refl in
+      let sets = made.1 in
       record {
         sessions = c.set_search.ensures.agree h e e.call made.0 sets agree.sessions;
         objects = objects-kept h e e.call made.0 _ sets.objects agree.objects;
@@ -231,9 +230,9 @@ returns-in-SetSearch c = record {
 pub returns-in-AdvanceSearch : goal.returns-in-AdvanceSearch
 returns-in-AdvanceSearch c = record {
   agree = λ limits h e legal is called agree.
-      let made = done-of_call h e (change.AdvanceSearch c.in-AdvanceSearch.session c.in-AdvanceSearch.number)
+      let made = of-effect h e (change.AdvanceSearch c.in-AdvanceSearch.session c.in-AdvanceSearch.number)
       (sym c.in-AdvanceSearch.is ∙ is) refl in
-      let of = of-AdvanceSearch h e.reply.body e.call c.in-AdvanceSearch.session c.in-AdvanceSearch.number made.1 in
+      let of = made.1 in
       let d = made.0 ∙ ap Some of.1 in
       record {
         sessions = c.advance_search.ensures.agree h e of.0 d of.2 agree.sessions;
@@ -247,8 +246,8 @@ returns-in-StartDigest c = record {
   agree = λ limits h e legal is called agree.
       let session = c.in-StartDigest.session in
       let hash = c.in-StartDigest.hash in
-      let made = done-of_call h e (change.StartDigest session hash) (sym c.in-StartDigest.is ∙ is) refl in
-      let of = of-StartDigest h e.reply.body e.call session hash made.1 in
+      let made = of-effect h e (change.StartDigest session hash) (sym c.in-StartDigest.is ∙ is) refl in
+      let of = made.1 in
       let d = made.0 ∙ ap Some of.1 in
       let idle = digest-passed limits h session of.0 (passed-done limits e h legal _ d) in
       record {
@@ -272,8 +271,8 @@ returns-in-StartHmac c = record {
       let hash = c.in-StartHmac.hash in
       let number = c.in-StartHmac.key in
       let len = c.in-StartHmac.len in
-      let made = done-of_call h e (change.StartHmac k session hash number len) (sym c.in-StartHmac.is ∙ is) refl in
-      let of = of-StartHmac h e.reply.body limits e.call k session hash number len made.1 in
+      let made = of-effect h e (change.StartHmac k session hash number len) (sym c.in-StartHmac.is ∙ is) refl in
+      let of = made.1 limits in
       let starts = of.3 in
       let passed =
       hmac-passed k h session of.0 of.1 (sym starts.error ∙ passed-done limits e h legal e.call made.0) in
@@ -303,8 +302,8 @@ returns-in-AddPiece c = record {
   agree = λ limits h e legal is called agree.
       let k = c.in-AddPiece.kind in
       let session = c.in-AddPiece.session in
-      let made = done-of_call h e (change.AddPiece k session) (sym c.in-AddPiece.is ∙ is) refl in
-      let step = of-AddPiece h e.reply.body e.call k session made.1 in
+      let made = of-effect h e (change.AddPiece k session) (sym c.in-AddPiece.is ∙ is) refl in
+      let step = made.1 in
       let bytes = c.added_bytes.ensures ∙ ap added_bytes called in
       record {
         sessions = step-sessions h e _ step _ agree.sessions;
@@ -350,8 +349,8 @@ returns-in-CancelOperations c = record {
   agree = λ limits h e legal is called agree.
       let session = c.in-CancelOperations.session in
       let flags = c.in-CancelOperations.flags in
-      let made = done-of_call h e (change.CancelOperations session flags) (sym c.in-CancelOperations.is ∙ is) refl in
-      let d = made.0 ∙ ap Some (of-CancelOperations h e.reply.body e.call session flags made.1) in
+      let made = of-effect h e (change.CancelOperations session flags) (sym c.in-CancelOperations.is ∙ is) refl in
+      let d = made.0 ∙ ap Some made.1 in
       record {
         sessions = sessions-kept h e _ d _ refl refl agree.sessions;
         objects = objects-kept h e _ d _ refl agree.objects;
