@@ -144,7 +144,9 @@ impl Token {
     {
         self.session(session)?;
         let active = self.operation(OperationKind::Digest, session).is_ok();
-        error_if(active, RvError::OperationActive)?;
+        if active {
+            return Err(Refused::from(RvError::OperationActive));
+        }
         let Some(hash) = digest_of(mechanism.kind) else {
             return Err(Refused::from(RvError::MechanismInvalid));
         };
@@ -182,7 +184,9 @@ impl Token {
     {
         self.session(session)?;
         let active = self.operation(kind, session).is_ok();
-        error_if(active, RvError::OperationActive)?;
+        if active {
+            return Err(Refused::from(RvError::OperationActive));
+        }
         let Some(hash) = mac_of(mechanism.kind) else {
             return Err(Refused::from(RvError::MechanismInvalid));
         };

@@ -76,13 +76,17 @@ impl Token {
     pub(super) fn init_token(&self, pin: Pin) -> Result<Decision, Refused>
         ensures { IsDecision self.now.limits self.now.history (call.InitToken pin) result }
     {
-        error_if(self.session_count() != 0, RvError::SessionExists)?;
+        if self.session_count() != 0 {
+            return Err(Refused::from(RvError::SessionExists));
+        }
         if self.is_initialized() {
             let so = self.credential(UserType::So);
             check_lock(so)?;
             check_pin(UserType::So, so, pin)?;
         } else {
-            error_if(!pin.fits(), RvError::PinLenRange)?;
+            if !pin.fits() {
+                return Err(Refused::from(RvError::PinLenRange));
+            }
         }
         Ok(Decision::of_change(Change::InitToken { pin }))
     }
@@ -91,11 +95,12 @@ impl Token {
         ensures { IsDecision self.now.limits self.now.history (call.InitPin session pin) result }
     {
         let row = self.session(session)?;
-        error_if(
-            !matches!(self.state(row), SessionState::RwSo),
-            RvError::UserNotLoggedIn,
-        )?;
-        error_if(!pin.fits(), RvError::PinLenRange)?;
+        if !matches!(self.state(row), SessionState::RwSo) {
+            return Err(Refused::from(RvError::UserNotLoggedIn));
+        }
+        if !pin.fits() {
+            return Err(Refused::from(RvError::PinLenRange));
+        }
         Ok(Decision::of_change(Change::InitPin { pin }))
     }
 
@@ -103,12 +108,18 @@ impl Token {
         ensures { IsDecision self.now.limits self.now.history (call.SetPin session old new) result }
     {
         let row = self.session(session)?;
-        error_if(!row.is_read_write(), RvError::SessionReadOnly)?;
+        if !row.is_read_write() {
+            return Err(Refused::from(RvError::SessionReadOnly));
+        }
         let owner = pin_owner(self.state(row));
         let credential = self.credential(owner);
-        error_if(credential.pin.is_none(), RvError::UserPinNotInitialized)?;
+        if credential.pin.is_none() {
+            return Err(Refused::from(RvError::UserPinNotInitialized));
+        }
         check_lock(credential)?;
-        error_if(!new.fits(), RvError::PinLenRange)?;
+        if !new.fits() {
+            return Err(Refused::from(RvError::PinLenRange));
+        }
         check_pin(owner, credential, old)?;
         Ok(Decision::of_change(Change::SetPin { owner, pin: new }))
     }
@@ -131,7 +142,9 @@ impl Token {
         check_not_logged_in(user, self.logged_in())?;
         self.check_read_write(user)?;
         let credential = self.credential(user);
-        error_if(credential.pin.is_none(), RvError::UserPinNotInitialized)?;
+        if credential.pin.is_none() {
+            return Err(Refused::from(RvError::UserPinNotInitialized));
+        }
         check_lock(credential)?;
         check_pin(user, credential, pin)?;
         self.check_login_count(user)?;
@@ -165,7 +178,9 @@ impl Token {
         ensures { IsDecision self.now.limits self.now.history (call.Logout session) result }
     {
         self.session(session)?;
-        error_if(self.logged_in().is_none(), RvError::UserNotLoggedIn)?;
+        if self.logged_in().is_none() {
+            return Err(Refused::from(RvError::UserNotLoggedIn));
+        }
         Ok(Decision::of_change(Change::LogOut))
     }
 }

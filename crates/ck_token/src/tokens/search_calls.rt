@@ -2,7 +2,7 @@ use super::Token;
 use ck_journal::{Body, number_of_handle};
 use ck_objects::Template;
 use ck_parts::{Change, Decision, Refused};
-use ck_types::{NoMemory, Rv, RvError, Sequence, error_if};
+use ck_types::{NoMemory, Rv, RvError, Sequence};
 use std::alloc::Global;
 
 /// Searching for objects.
@@ -22,7 +22,9 @@ impl Token {
             (call.FindObjectsInit session template.now) result }
     {
         let row = self.session(session)?;
-        error_if(row.is_searching(), RvError::OperationActive)?;
+        if row.is_searching() {
+            return Err(Refused::from(RvError::OperationActive));
+        }
         let found = self.parts.objects.find(alloc, self.view(), template)?;
         let found = Some(Sequence::from_vec(found));
         Ok(Decision::of_change(Change::SetSearch { session, found }))
@@ -84,7 +86,9 @@ impl Token {
             (call.FindObjectsFinal session) result }
     {
         let row = self.session(session)?;
-        error_if(!row.is_searching(), RvError::OperationNotInitialized)?;
+        if !row.is_searching() {
+            return Err(Refused::from(RvError::OperationNotInitialized));
+        }
         let found = None;
         Ok(Decision::of_change(Change::SetSearch { session, found }))
     }

@@ -3,7 +3,7 @@ ghost use Rattle.std.specs.Prelude.{◌≡◌};
 use super::Token;
 use ck_journal::{Body, READ_WRITE, SERIAL_SESSION, is_read_write};
 use ck_parts::{Change, Decision, Refused};
-use ck_types::{Rv, RvError, Sequence, TokenFlags, UserType, error_if, mechanism_types};
+use ck_types::{Rv, RvError, Sequence, TokenFlags, UserType, mechanism_types};
 use std::alloc::Global;
 
 /// All flags by which operations are cancelled: CKF_DIGEST, CKF_SIGN and CKF_VERIFY.
@@ -20,22 +20,25 @@ impl Token {
     pub(super) fn open_session(&self, flags: u64) -> Result<Decision, Refused>
         ensures { IsDecision self.now.limits self.now.history (call.OpenSession flags) result }
     {
-        error_if(!self.is_initialized(), RvError::TokenNotRecognized)?;
-        error_if(
-            flags & SERIAL_SESSION == 0,
-            RvError::SessionParallelNotSupported,
-        )?;
-        error_if(flags & READ_WRITE != flags, RvError::ArgumentsBad)?;
-        error_if(
-            !is_read_write(flags) && self.logged_in() == Some(UserType::So),
-            RvError::SessionReadWriteSoExists,
-        )?;
-        error_if(
-            self.limits.sessions() <= self.session_count(),
-            RvError::SessionCount,
-        )?;
+        if !self.is_initialized() {
+            return Err(Refused::from(RvError::TokenNotRecognized));
+        }
+        if flags & SERIAL_SESSION == 0 {
+            return Err(Refused::from(RvError::SessionParallelNotSupported));
+        }
+        if flags & READ_WRITE != flags {
+            return Err(Refused::from(RvError::ArgumentsBad));
+        }
+        if !is_read_write(flags) && self.logged_in() == Some(UserType::So) {
+            return Err(Refused::from(RvError::SessionReadWriteSoExists));
+        }
+        if self.limits.sessions() <= self.session_count() {
+            return Err(Refused::from(RvError::SessionCount));
+        }
         let openings = self.openings();
-        error_if(self.limits.openings() <= openings, RvError::DeviceMemory)?;
+        if self.limits.openings() <= openings {
+            return Err(Refused::from(RvError::DeviceMemory));
+        }
         Ok(Decision {
             rv: Rv::Ok,
             body: Body::Handle(openings + 1),
@@ -85,7 +88,9 @@ impl Token {
             (call.SessionCancel session flags) result }
     {
         self.session(session)?;
-        error_if(flags & CANCEL_FLAGS != flags, RvError::ArgumentsBad)?;
+        if flags & CANCEL_FLAGS != flags {
+            return Err(Refused::from(RvError::ArgumentsBad));
+        }
         Ok(Decision::of_change(Change::CancelOperations { session, flags }))
     }
 
