@@ -3,14 +3,14 @@
 //! caller got.
 use crate::drawing_callers::DrawnCalls;
 use crate::errors::RaceError;
-use crate::journals::{CallerReplies, check_replies, done_calls};
+use crate::journals::{CallerReplies, check_replies};
 use crate::mix::Place;
 use crate::tokens::prepare_by;
 use ck_audit::{Verdict, audit_token};
 use ck_journal::Entry;
 use ck_shared::share;
 use ck_token::Token;
-use ck_types::Limits;
+use ck_types::{Limits, Rv};
 use std::alloc::Global;
 use std::sync::Wait;
 use std::thread::Threads;
@@ -26,7 +26,8 @@ const FIRST_CALLS: [&str; 5] = [
 
 /// At least a tenth of the calls were answered CKR_OK.
 fn check_codes(entries: &[Entry]) -> Result<(), RaceError> {
-    if done_calls(entries) >= entries.len() / 10 {
+    let done = entries.iter().filter(|entry| entry.reply.rv == Rv::Ok);
+    if done.count() >= entries.len() / 10 {
         return Ok(());
     }
     Err(RaceError::Wrong("over nine of ten drawn calls are refused"))

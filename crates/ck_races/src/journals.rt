@@ -6,17 +6,11 @@ use ck_audit::are_replies_of;
 use ck_journal::{Entry, Reply};
 use ck_script::reply_line;
 use ck_token::Token;
-use ck_types::{NoMemory, Rv};
+use ck_types::NoMemory;
 use std::alloc::Global;
 
 /// A caller's number, and the replies that it got, in the order of its calls.
 pub(crate) type CallerReplies = (u32, Vec<Reply>);
-
-/// How many calls were answered CKR_OK.
-pub(crate) fn done_calls(entries: &[Entry]) -> usize {
-    let done = entries.iter().filter(|entry| entry.reply.rv == Rv::Ok);
-    done.count()
-}
 
 /// Each caller made its calls, and got the replies of its entries, in their order.
 pub(crate) fn check_replies(

@@ -1,13 +1,11 @@
 //! What callers of a shared token do to one another. Files of races are played: lists of calls that
 //! callers make, with the replies that they get. Each race is played by threads of its callers,
-//! with all calls in a set order and with the first ones alone. Then two callers open sessions, a
-//! caller asks while another logs in, and eight callers make drawn calls at once. What is written
-//! is the same in every order of the calls, or what is wrong first. Behind the word `alone` only
-//! the steps of each race are made, one after the other on a shared token, again where there was no
-//! memory, and the line of a file says how many were.
+//! with all calls in a set order and with the first ones alone. Then eight callers make drawn calls
+//! at once. What is written is the same in every order of the calls, or what is wrong first. Behind
+//! the word `alone` only the steps of each race are made, one after the other on a shared token,
+//! again where there was no memory, and the line of a file says how many were.
 #![tactic(auto)]
 
-mod asks;
 mod drawing_callers;
 mod drawn_calls;
 mod errors;
@@ -19,9 +17,7 @@ mod races;
 mod retries;
 mod runs;
 mod tokens;
-mod two_callers;
 
-use asks::{RUNS, run_asks};
 use drawn_calls::make_drawn_calls;
 use errors::RaceError;
 use files::play_file;
@@ -31,27 +27,9 @@ use std::fs::Files;
 use std::process::ExitCode;
 use std::sync::Wait;
 use std::thread::Threads;
-use two_callers::counts_of_two;
 
-/// Adds what two callers come to that open sessions, how often callers ask, and how many calls are
-/// drawn by eight.
-fn play_callers<R: AllocGlobal + Threads + Wait + Copy + Drop + Send + Sync>(
-    rt: R,
-    text: &mut String,
-) -> Result<(), RaceError> {
-    let alloc = rt.alloc();
-    let counts = counts_of_two(rt, alloc)?;
-    run_asks(rt, alloc)?;
-    let calls = make_drawn_calls(rt, alloc)?;
-    write!(
-        text,
-        "{counts}\nasks: {RUNS} passed\ndrawn calls: {calls}, audit ok\n"
-    )?;
-    Ok(())
-}
-
-/// Plays the files that the arguments name and, where the word `alone` isn't among them, what
-/// callers do at once. Adds a line for each that passes.
+/// Plays the files that the arguments name and, where the word `alone` isn't among them, the drawn
+/// calls. Adds a line for each that passes.
 fn play_all<R: Env + Files + AllocGlobal + Threads + Wait + Copy + Drop + Send + Sync>(
     rt: R,
     text: &mut String,
@@ -63,10 +41,11 @@ fn play_all<R: Env + Files + AllocGlobal + Threads + Wait + Copy + Drop + Send +
             name => play_file(rt, text, name, is_alone)?,
         }
     }
-    if is_alone {
-        return Ok(());
+    if !is_alone {
+        let calls = make_drawn_calls(rt, rt.alloc())?;
+        write!(text, "drawn calls: {calls}, audit ok\n")?;
     }
-    play_callers(rt, text)
+    Ok(())
 }
 
 fn main(rt: HostRuntime) -> ExitCode {

@@ -1,11 +1,11 @@
 //! Tokens before they are shared, and steps that are made without sharing one.
-ghost use Rattle.std.specs.Prelude.{◌≡◌, IfOk, OnOk};
+ghost use Rattle.std.specs.Prelude.{◌≡◌, OnOk};
 ghost use Rattle.ck_journal.specs.Histories.{start, start_of};
 
 use crate::errors::RaceError;
 use crate::races::{Step, compare, step_in};
 use ck_token::{Token, Uncut};
-use ck_types::{Limits, NoMemory};
+use ck_types::NoMemory;
 use std::alloc::Global;
 
 fn make_step(alloc: Global, token: &mut Token, step: &Step) -> Result<(), RaceError> {
@@ -62,18 +62,4 @@ pub(crate) fn prepare_by(alloc: Global, token: &mut Token, lines: &[&str]) -> Re
         make_line(alloc, token, number, line)?;
     }
     cut(alloc, token)
-}
-
-/// A new token on which the steps of these lines were made, and whose journal is cut.
-pub(crate) fn token_after(alloc: Global, lines: &[&str]) -> Result<Token, RaceError>
-    ensures { IfOk result (λ token. token.history ≡ start (start_of token.history)) }
-{
-    let mut token = Token::new(alloc, Limits::largest());
-    match prepare_by(alloc, &mut token, lines) {
-        Ok(()) => Ok(token),
-        Err(error) => {
-            drop(token);
-            Err(error)
-        }
-    }
 }

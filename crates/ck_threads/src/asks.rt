@@ -5,17 +5,16 @@ ghost use Rattle.std.specs.Prelude.{◌≡◌, ℕ};
 ghost use Rattle.ck_journal.specs.Histories.{start, start_of};
 ghost use Rattle.ck_callers.specs.Accounts.{name_of};
 
-use crate::errors::RaceError;
-use crate::mix::{Place, call_of};
-use crate::tokens::token_after;
+use crate::errors::ThreadError;
+use crate::tokens::initialized_token;
 use ck_callers::{
     Answered, Ask, Caller, NewIdentity, News, Script, Status, Step, TokenId, run_steps,
 };
-use ck_journal::{Call, JournaledToken};
+use ck_journal::{Call, JournaledToken, READ_WRITE};
 use ck_script::reply_line;
 use ck_shared::{Ends, SharedToken};
 use ck_token::Token;
-use ck_types::{NoMemory, Pin, Rv, mechanism_types};
+use ck_types::{Limits, NoMemory, Pin, Rv, mechanism_types};
 use std::alloc::Global;
 use std::marker::Brand;
 use std::mem;
@@ -25,16 +24,6 @@ use std::thread::Threads;
 /// How often each of two callers asks for the state of the session.
 const ASKS: u32 = 1_000;
 
-/// What the first caller calls before another logs in: session 1 is then open, and nobody is logged
-/// in.
-const FIRST_CALLS: [&str; 5] = [
-    "InitToken 31323334",
-    "OpenSession 6",
-    "Login 1 0 31323334",
-    "InitPIN 1 75736572",
-    "Logout 1",
-];
-
 /// How many entries the first calls have.
 const FIRST: u64 = 5;
 /// How many there are with the login.
@@ -43,20 +32,17 @@ const ALL: u64 = 6;
 /// How often all of it is run: on new tokens, and on tokens whose journal was cut.
 pub(crate) const RUNS: u32 = 100;
 
-/// What is said where what comes isn't what must come.
-const FAULT: &str = "asks are not answered as they must be";
-
 type AskingScript<K> = Script<K, Step, Answered>;
 
-fn expect(holds: bool) -> Result<(), RaceError> {
+fn expect(holds: bool) -> Result<(), ThreadError> {
     if holds {
         return Ok(());
     }
-    Err(RaceError::Wrong(FAULT))
+    Err(ThreadError::Ask)
 }
 
 /// An ask is answered so, or with all mechanisms where no text is wanted.
-fn check_status(alloc: Global, status: &Option<Status>, wanted: &str) -> Result<(), RaceError> {
+fn check_status(alloc: Global, status: &Option<Status>, wanted: &str) -> Result<(), ThreadError> {
     expect(match status {
         Some(Status::Reply(reply)) => reply_line(alloc, reply)?.as_str() == wanted,
         Some(Status::Mechanisms(types)) => wanted.is_empty() && *types == mechanism_types(),
@@ -69,7 +55,7 @@ fn check_ask<K: TokenId>(
     caller: &mut Caller<K>,
     ask: Ask,
     wanted: &str,
-) -> Result<(), RaceError> {
+) -> Result<(), ThreadError> {
     let status = caller.status(ask);
     check_status(alloc, &status, wanted)
 }
@@ -79,35 +65,48 @@ fn check_before<K: TokenId>(
     alloc: Global,
     caller: &mut Caller<K>,
     state: &str,
-) -> Result<(), RaceError> {
+) -> Result<(), ThreadError> {
     check_ask(alloc, caller, Ask::Token, state)?;
     check_ask(alloc, caller, Ask::Session(1), "b3")?;
     check_ask(alloc, caller, Ask::Mechanisms, "")
 }
 
-/// A caller makes the call of a line.
+/// A caller makes a call, which is answered CKR_OK.
 fn make_call<K: TokenId, G: JournaledToken, R: Wait + Drop>(
     rt: &R,
     alloc: Global,
     token: &SharedToken<K, G, R>,
     caller: &mut Caller<K>,
-    line: &str,
-) -> Result<(), RaceError> {
-    let call = call_of(alloc, &Place::new(), line)?;
+    call: Call,
+) -> Result<(), ThreadError> {
     let reply = token.call(rt, alloc, caller, call)?;
     expect(reply.rv == Rv::Ok)
 }
 
-/// A caller makes the first calls.
+/// A caller makes the first calls: then session 1 is open, and nobody is logged in.
 fn make_first_calls<K: TokenId, G: JournaledToken, R: Wait + Drop>(
     rt: &R,
     alloc: Global,
     token: &SharedToken<K, G, R>,
     caller: &mut Caller<K>,
-) -> Result<(), RaceError> {
-    for line in FIRST_CALLS.as_slice() {
-        make_call(rt, alloc, token, caller, line)?;
-    }
+) -> Result<(), ThreadError> {
+    let (so, pin, session) = (Pin::of(b"1234"), Pin::of(b"user"), 1);
+    let login = Call::Login {
+        session,
+        user: 0,
+        pin: so,
+    };
+    make_call(rt, alloc, token, caller, Call::InitToken { pin: so })?;
+    make_call(
+        rt,
+        alloc,
+        token,
+        caller,
+        Call::OpenSession { flags: READ_WRITE },
+    )?;
+    make_call(rt, alloc, token, caller, login)?;
+    make_call(rt, alloc, token, caller, Call::InitPin { session, pin })?;
+    make_call(rt, alloc, token, caller, Call::Logout { session })?;
     expect(caller.seen() == FIRST && caller.count() == FIRST)?;
     check_ask(alloc, caller, Ask::Token, "0 40c 64 1 1")
 }
@@ -119,7 +118,7 @@ fn state_after(entries: u64) -> &'static str {
 
 /// All steps of a script were taken. With each answer comes how many entries the caller knows: it
 /// is that of their state, and what is known stays.
-fn check_script<K: TokenId>(alloc: Global, script: &AskingScript<K>) -> Result<(), RaceError> {
+fn check_script<K: TokenId>(alloc: Global, script: &AskingScript<K>) -> Result<(), ThreadError> {
     script.outcome()?;
     let mut known = FIRST;
     for answer in script.replies() {
@@ -135,10 +134,10 @@ fn check_script<K: TokenId>(alloc: Global, script: &AskingScript<K>) -> Result<(
 fn caller_at<K: TokenId>(
     scripts: &mut [AskingScript<K>],
     place: usize,
-) -> Result<&mut Caller<K>, RaceError> {
+) -> Result<&mut Caller<K>, ThreadError> {
     match scripts.get_mut(place) {
         Some(script) => Ok(&mut script.caller),
-        None => Err(RaceError::Wrong(FAULT)),
+        None => Err(ThreadError::Ask),
     }
 }
 
@@ -149,7 +148,7 @@ fn check_learnt<K: TokenId>(
     scripts: &mut [AskingScript<K>],
     news: &News<K>,
     entries: u64,
-) -> Result<(), RaceError> {
+) -> Result<(), ThreadError> {
     let caller = caller_at(scripts, 1)?;
     caller.learn(news);
     expect(caller.seen() == entries && caller.count() == 0)?;
@@ -161,7 +160,7 @@ fn check_learning<K: TokenId>(
     alloc: Global,
     scripts: &mut [AskingScript<K>],
     entries: u64,
-) -> Result<(), RaceError> {
+) -> Result<(), ThreadError> {
     let news = caller_at(scripts, 0)?.news();
     check_learnt(alloc, scripts, &news, entries)
 }
@@ -174,7 +173,7 @@ fn prepare<K: TokenId, G: JournaledToken, R: Wait + Drop>(
     token: &SharedToken<K, G, R>,
     scripts: &mut [AskingScript<K>],
     state: &str,
-) -> Result<(), RaceError> {
+) -> Result<(), ThreadError> {
     check_before(alloc, caller_at(scripts, 2)?, state)?;
     make_first_calls(rt, alloc, token, caller_at(scripts, 0)?)?;
     check_learning(alloc, scripts, FIRST)
@@ -186,7 +185,7 @@ fn check_after<K: TokenId>(
     alloc: Global,
     script: &mut AskingScript<K>,
     older: &News<K>,
-) -> Result<(), RaceError> {
+) -> Result<(), ThreadError> {
     check_script(alloc, script)?;
     let caller = &mut script.caller;
     check_ask(alloc, caller, Ask::Session(1), state_after(ALL))?;
@@ -199,7 +198,7 @@ fn check_all_after<K: TokenId>(
     alloc: Global,
     scripts: &mut [AskingScript<K>],
     older: &News<K>,
-) -> Result<(), RaceError> {
+) -> Result<(), ThreadError> {
     check_learning(alloc, scripts, ALL)?;
     for script in scripts {
         check_after(alloc, script, older)?;
@@ -247,7 +246,7 @@ fn add_scripts<K: TokenId>(
 fn add_callers<K: TokenId>(
     scripts: Vec<AskingScript<K>>,
     callers: &mut Vec<Caller<K>>,
-) -> Result<(), RaceError> {
+) -> Result<(), ThreadError> {
     for script in scripts {
         callers.push(script.caller)?;
     }
@@ -261,7 +260,7 @@ fn play<K: TokenId + Send + Sync, G: JournaledToken + Send, R: Threads + Wait + 
     token: &SharedToken<K, G, R>,
     scripts: &mut [AskingScript<K>],
     state: &str,
-) -> Result<(), RaceError> {
+) -> Result<(), ThreadError> {
     prepare(rt, alloc, token, scripts, state)?;
     let older = caller_at(scripts, 0)?.news();
     run_steps(rt, alloc, token, scripts);
@@ -275,7 +274,7 @@ fn ask<K: TokenId + Send + Sync, G: JournaledToken + Send, R: Threads + Wait + D
     token: &SharedToken<K, G, R>,
     callers: &mut Vec<Caller<K>>,
     state: &str,
-) -> Result<(), RaceError> {
+) -> Result<(), ThreadError> {
     let mut scripts = Vec::new(alloc);
     add_scripts(alloc, mem::replace(callers, Vec::new(alloc)), &mut scripts)?;
     let played = play(rt, alloc, token, scripts.as_mut_slice(), state);
@@ -287,10 +286,10 @@ fn close<K: TokenId, G: JournaledToken, R: Wait + Drop>(
     rt: &R,
     token: SharedToken<K, G, R>,
     callers: Vec<Caller<K>>,
-) -> Result<(), RaceError> {
+) -> Result<(), ThreadError> {
     match token.close(rt, callers).ok() {
         Some(token) => expect(token.journal().len() == ALL),
-        None => Err(RaceError::Wrong(FAULT)),
+        None => Err(ThreadError::Ask),
     }
 }
 
@@ -299,7 +298,7 @@ fn ask_as<
     K: TokenId + Send + Sync,
     G: JournaledToken + Send,
     R: Threads + Wait + Copy + Drop + Send + Sync,
->(rt: R, alloc: Global, token: G, identity: NewIdentity, is_cut: bool) -> Result<(), RaceError>
+>(rt: R, alloc: Global, token: G, identity: NewIdentity, is_cut: bool) -> Result<(), ThreadError>
     requires history { (G.state token).history ≡ start K.base }
     requires limits { (G.state token).limits ≡ K.limits }
     requires callers { K.callers ≡ 3 }
@@ -319,7 +318,7 @@ fn run_asks_on<R: Threads + Wait + Copy + Drop + Send + Sync>(
     alloc: Global,
     token: Token,
     is_cut: bool,
-) -> Result<(), RaceError>
+) -> Result<(), ThreadError>
     requires { token.history ≡ start (start_of token.history) }
 {
     ask_as::<Brand, Token, R>(rt, alloc, token, NewIdentity::new(), is_cut)
@@ -329,11 +328,10 @@ fn run_asks_on<R: Threads + Wait + Copy + Drop + Send + Sync>(
 pub(crate) fn run_asks<R: Threads + Wait + Copy + Drop + Send + Sync>(
     rt: R,
     alloc: Global,
-) -> Result<(), RaceError> {
+) -> Result<(), ThreadError> {
     for _ in 0..RUNS {
-        run_asks_on(rt, alloc, token_after(alloc, &[])?, false)?;
-        let cut = token_after(alloc, ["1 InitToken 31323334 -> 0"].as_slice())?;
-        run_asks_on(rt, alloc, cut, true)?;
+        run_asks_on(rt, alloc, Token::new(alloc, Limits::largest()), false)?;
+        run_asks_on(rt, alloc, initialized_token(alloc)?, true)?;
     }
     Ok(())
 }

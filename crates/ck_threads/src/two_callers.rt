@@ -1,12 +1,11 @@
 //! Two callers share a token, each in a thread of its own. docs/threads.md goes through it.
-use crate::errors::RaceError;
-use crate::journals::done_calls;
-use crate::tokens::prepare_by;
+use crate::errors::ThreadError;
+use crate::tokens::initialize;
 use ck_callers::{Caller, Gate, TokenId};
 use ck_journal::{Call, READ_WRITE};
 use ck_shared::{CallerWork, share};
 use ck_token::Token;
-use ck_types::Limits;
+use ck_types::{Limits, Rv};
 use std::alloc::Global;
 use std::fmt;
 use std::sync::Wait;
@@ -61,11 +60,12 @@ fn share_between_two<R: Threads + Wait + Copy + Drop + Send + Sync>(
     rt: R,
     alloc: Global,
     token: &mut Token,
-) -> Result<Counts, RaceError> {
-    prepare_by(alloc, token, ["1 InitToken 31323334 -> 0"].as_slice())?;
+) -> Result<Counts, ThreadError> {
+    initialize(alloc, token)?;
     let counts = share(rt, alloc, token, 2, &ThreeSessions)?;
+    let entries = token.journal().entries().iter();
     Ok(Counts {
-        sessions: done_calls(token.journal().entries()),
+        sessions: entries.filter(|entry| entry.reply.rv == Rv::Ok).count(),
         calls: counts
             .iter()
             .fold(0, |sum, count| sum.saturating_add(*count)),
@@ -77,7 +77,7 @@ fn share_between_two<R: Threads + Wait + Copy + Drop + Send + Sync>(
 pub(crate) fn counts_of_two<R: Threads + Wait + Copy + Drop + Send + Sync>(
     rt: R,
     alloc: Global,
-) -> Result<Counts, RaceError> {
+) -> Result<Counts, ThreadError> {
     let mut token = Token::new(alloc, Limits::largest());
     let counts = share_between_two(rt, alloc, &mut token);
     drop(token);
