@@ -21,7 +21,6 @@ impl Model for AttributeValue {
     ghost view = { λ v. v.bytes.items };
 }
 
-/// A copy of a value of at most 16 bytes takes no memory.
 /// Copies of two values.
 pub(crate) fn copies_of(
     first: &AttributeValue,
@@ -32,6 +31,7 @@ pub(crate) fn copies_of(
     Ok((first.clone()?, second.clone()?))
 }
 
+/// A copy of a value of at most 16 bytes takes no memory.
 impl Clone for AttributeValue {
     ghost use Rattle.std.specs.Prelude.{◌≡◌, ◌≤◌, length};
 

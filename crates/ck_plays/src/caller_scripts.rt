@@ -15,6 +15,7 @@ use ck_script::{BadLine, Line, LineError, cut_line};
 use ck_types::NoMemory;
 use std::alloc::Global;
 
+/// Adds a call with its caller.
 fn push_call(calls: &mut Vec<(u32, Call)>, caller: u32, call: Call) -> Result<(), NoMemory>
     ensures { OnOk result (calls.new.items ≡ calls.old.items ++ (caller, call) ∷ []) }
 {
