@@ -1,0 +1,18 @@
+//! The token behind the C interface of PKCS #11: a static library whose exports make a token in
+//! memory that C gives, make its calls, and tell the replies to them. `module/token.h` declares
+//! them for C, and says what C owes.
+#![tactic(auto)]
+
+mod copies;
+mod handles;
+mod line_calls;
+mod lives;
+mod modules;
+mod object_calls;
+mod operation_calls;
+mod queries;
+mod reply_readers;
+mod search_calls;
+mod session_calls;
+mod steps;
+mod templates;

@@ -1,0 +1,62 @@
+ghost use Rattle.std.specs.Prelude.{◌≡◌, Result};
+ghost use Rattle.std.specs.Borrow.{sem, full_share};
+ghost use Rattle.std.specs.Mem.{type_size};
+ghost use Rattle.std.specs.Ptr.{lies_at, room_at};
+ghost use Rattle.ck_journal.specs.Histories.{entry_count};
+ghost use Rattle.ck_module.specs.Lives.{IsNew, IsCut, cut_number};
+ghost use Rattle.ck_module.specs.contracts.modules.Module.{the_row};
+ghost use Rattle.ck_module.specs.declared.modules.Module.{Module};
+ghost use Rattle.ck_token.specs.declared.cuts.Uncut.{Uncut};
+
+use crate::handles::Handle;
+use crate::modules::Module;
+use ck_token::Uncut;
+use std::alloc::Global;
+
+/// How many bytes a token takes.
+#[unsafe(no_mangle)]
+pub extern "C" fn ospreyrack_size() -> usize
+    ensures { result ≡ type_size the_row }
+{
+    size_of::<Module>()
+}
+
+/// Makes a new token in the room that C gives. It takes no memory beside.
+#[unsafe(no_mangle)]
+pub unsafe extern "C" fn ospreyrack_make(alloc: Global, at: *mut u8)
+    requires* { sem 𝓛 (room_at the_row at) }
+    ensures* { ∃ₛ (λ (m : Module). sem 𝓛 (lies_at the_row full_share at m) ∗ ⌜ IsNew m ⌝) }
+{
+    let module = Module::new(alloc);
+    std::ptr::write(at as *mut Module, module);
+}
+
+/// Makes the token a new one, and gives back all memory that it has taken.
+#[unsafe(no_mangle)]
+pub extern "C" fn ospreyrack_reset(alloc: Global, handle: &mut Handle)
+    ensures { IsNew handle.new.value }
+{
+    *handle.as_mut() = Module::new(alloc);
+}
+
+/// Cuts the token's journal: 0. Where a session is open: 1. Where there is no memory for it: 2.
+#[unsafe(no_mangle)]
+pub extern "C" fn ospreyrack_cut(alloc: Global, handle: &mut Handle) -> u32
+    ensures { (cut : Result (Unit {0}) Uncut) × (result ≡ cut_number cut)
+        × IsCut cut handle.old.value handle.new.value }
+{
+    match handle.as_mut().cut(alloc) {
+        Ok(()) => 0,
+        Err(Uncut::Session) => 1,
+        Err(Uncut::Memory) => 2,
+    }
+}
+
+/// How many entries the token's journal has.
+#[unsafe(no_mangle)]
+pub extern "C" fn ospreyrack_entries(handle: &mut Handle) -> u64
+    ensures entries { result ≡ entry_count handle.old.value.token.history }
+    ensures unchanged { handle.new.value ≡ handle.old.value }
+{
+    handle.as_mut().token.journal().len()
+}

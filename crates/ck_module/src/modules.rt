@@ -1,0 +1,87 @@
+ghost use Rattle.std.specs.Prelude.{◌≡◌, OnOk};
+ghost use Rattle.ck_script.specs.Replies.{reply_line};
+ghost use Rattle.ck_module.specs.Calls.{IsCalled, IsLine, IsText};
+ghost use Rattle.ck_module.specs.Lives.{IsNew, IsCut};
+
+use crate::steps::Step;
+use ck_journal::{Body, Call, Reply};
+use ck_script::{Line, LineError, push_reply};
+use ck_token::{Token, Uncut};
+use ck_types::{Limits, NoMemory, Rv};
+use std::alloc::Global;
+
+/// A token, the reply to the last call that it answered, and the text that was last made of one.
+#[derive(Drop)]
+pub struct Module {
+    pub(crate) token: Token,
+    pub(crate) reply: Reply,
+    pub(crate) text: Vec<u8>,
+}
+
+/// Writes the text of a reply, without a line end, in place of what stood there.
+fn write_reply(text: &mut Vec<u8>, reply: &Reply) -> Result<(), NoMemory>
+    ensures { OnOk result (text.new.items ≡ reply_line reply.now) }
+{
+    text.clear();
+    push_reply(text, reply)?;
+    text.truncate(text.len().saturating_sub(1));
+    Ok(())
+}
+
+impl Module {
+    /// A new token of the largest limits, which takes no memory. It has the reply CKR_OK.
+    pub(crate) fn new(alloc: Global) -> Module
+        ensures { IsNew result }
+    {
+        Module {
+            token: Token::new(alloc, Limits::largest()),
+            reply: Reply {
+                rv: Rv::Ok,
+                body: Body::Empty,
+            },
+            text: Vec::new(alloc),
+        }
+    }
+
+    /// Makes a call, and keeps its reply.
+    pub(crate) fn call(&mut self, alloc: Global, caller: u32, call: Call) -> Step
+        ensures { IsCalled caller call result self.old self.new }
+    {
+        match self.token.call(alloc, caller, call) {
+            Ok(reply) => {
+                self.reply = reply;
+                Step::Answered
+            }
+            Err(NoMemory) => Step::NoMemory,
+        }
+    }
+
+    /// Makes the call of a line of a script, and keeps its reply.
+    pub(crate) fn line(&mut self, alloc: Global, line: &[u8]) -> Step
+        ensures { IsLine line.now result self.old self.new }
+    {
+        match Line::parse(alloc, line) {
+            Ok(Line::Called { caller, call }) => self.call(alloc, caller, call),
+            Ok(Line::Skipped) | Err(LineError::Bad(_)) => Step::NoCall,
+            Err(LineError::Memory) => Step::NoMemory,
+        }
+    }
+
+    /// Makes the text of the reply, without a line end.
+    pub(crate) fn write_text(&mut self) -> Step
+        ensures { IsText result self.old self.new }
+    {
+        match write_reply(&mut self.text, &self.reply) {
+            Ok(()) => Step::Answered,
+            Err(NoMemory) => Step::NoMemory,
+        }
+    }
+
+    /// Cuts the journal.
+    pub(crate) fn cut(&mut self, alloc: Global) -> Result<(), Uncut>
+        ensures { IsCut result self.old self.new }
+    {
+        self.token.cut(alloc)?;
+        Ok(())
+    }
+}

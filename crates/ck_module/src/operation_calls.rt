@@ -1,0 +1,276 @@
+ghost use Rattle.ck_journal.specs.declared.calls.Call.TheVariants as call;
+ghost use Rattle.ck_module.specs.Calls.{IsCalledBy};
+ghost use Rattle.ck_module.specs.Queries.{room_of};
+
+use crate::handles::Handle;
+use crate::queries::room_of;
+use crate::steps::Step;
+use ck_journal::Call;
+use ck_types::{Bytes, Mechanism};
+use std::alloc::Global;
+
+/// C_DigestInit (PKCS #11 Base 3.0, Message digesting functions). No bytes are no parameter.
+#[unsafe(no_mangle)]
+pub extern "C" fn ospreyrack_digest_init(
+    alloc: Global,
+    handle: &mut Handle,
+    caller: u32,
+    session: u64,
+    kind: u64,
+    parameter: &[u8],
+) -> u32
+    ensures { IsCalledBy caller (call.DigestInit session (record { kind = kind; parameter = parameter.now })) result
+        handle.old.value handle.new.value }
+{
+    let Ok(parameter) = Bytes::from_slice(alloc, parameter) else {
+        return Step::NoMemory.number();
+    };
+    let call = Call::DigestInit {
+        session,
+        mechanism: Mechanism { kind, parameter },
+    };
+    handle.as_mut().call(alloc, caller, call).number()
+}
+
+/// C_Digest. Without `has_room` the length alone is asked for.
+#[unsafe(no_mangle)]
+pub extern "C" fn ospreyrack_digest(
+    alloc: Global,
+    handle: &mut Handle,
+    caller: u32,
+    session: u64,
+    bytes: &[u8],
+    has_room: bool,
+    room: u64,
+) -> u32
+    ensures { IsCalledBy caller (call.Digest session bytes.now (room_of has_room room)) result
+        handle.old.value handle.new.value }
+{
+    let Ok(bytes) = Bytes::from_slice(alloc, bytes) else {
+        return Step::NoMemory.number();
+    };
+    let call = Call::Digest {
+        session,
+        bytes,
+        room: room_of(has_room, room),
+    };
+    handle.as_mut().call(alloc, caller, call).number()
+}
+
+/// C_DigestUpdate.
+#[unsafe(no_mangle)]
+pub extern "C" fn ospreyrack_digest_update(
+    alloc: Global,
+    handle: &mut Handle,
+    caller: u32,
+    session: u64,
+    bytes: &[u8],
+) -> u32
+    ensures { IsCalledBy caller (call.DigestUpdate session bytes.now) result
+        handle.old.value handle.new.value }
+{
+    let Ok(bytes) = Bytes::from_slice(alloc, bytes) else {
+        return Step::NoMemory.number();
+    };
+    let call = Call::DigestUpdate { session, bytes };
+    handle.as_mut().call(alloc, caller, call).number()
+}
+
+/// C_DigestFinal. Without `has_room` the length alone is asked for.
+#[unsafe(no_mangle)]
+pub extern "C" fn ospreyrack_digest_final(
+    alloc: Global,
+    handle: &mut Handle,
+    caller: u32,
+    session: u64,
+    has_room: bool,
+    room: u64,
+) -> u32
+    ensures { IsCalledBy caller (call.DigestFinal session (room_of has_room room)) result
+        handle.old.value handle.new.value }
+{
+    let call = Call::DigestFinal {
+        session,
+        room: room_of(has_room, room),
+    };
+    handle.as_mut().call(alloc, caller, call).number()
+}
+
+/// C_SignInit (PKCS #11 Base 3.0, Signing and MACing functions). No bytes are no parameter.
+#[unsafe(no_mangle)]
+pub extern "C" fn ospreyrack_sign_init(
+    alloc: Global,
+    handle: &mut Handle,
+    caller: u32,
+    session: u64,
+    kind: u64,
+    parameter: &[u8],
+    key: u64,
+) -> u32
+    ensures { IsCalledBy caller (call.SignInit session (record { kind = kind; parameter = parameter.now }) key) result
+        handle.old.value handle.new.value }
+{
+    let Ok(parameter) = Bytes::from_slice(alloc, parameter) else {
+        return Step::NoMemory.number();
+    };
+    let call = Call::SignInit {
+        session,
+        mechanism: Mechanism { kind, parameter },
+        key,
+    };
+    handle.as_mut().call(alloc, caller, call).number()
+}
+
+/// C_Sign. Without `has_room` the length alone is asked for.
+#[unsafe(no_mangle)]
+pub extern "C" fn ospreyrack_sign(
+    alloc: Global,
+    handle: &mut Handle,
+    caller: u32,
+    session: u64,
+    bytes: &[u8],
+    has_room: bool,
+    room: u64,
+) -> u32
+    ensures { IsCalledBy caller (call.Sign session bytes.now (room_of has_room room)) result
+        handle.old.value handle.new.value }
+{
+    let Ok(bytes) = Bytes::from_slice(alloc, bytes) else {
+        return Step::NoMemory.number();
+    };
+    let call = Call::Sign {
+        session,
+        bytes,
+        room: room_of(has_room, room),
+    };
+    handle.as_mut().call(alloc, caller, call).number()
+}
+
+/// C_SignUpdate.
+#[unsafe(no_mangle)]
+pub extern "C" fn ospreyrack_sign_update(
+    alloc: Global,
+    handle: &mut Handle,
+    caller: u32,
+    session: u64,
+    bytes: &[u8],
+) -> u32
+    ensures { IsCalledBy caller (call.SignUpdate session bytes.now) result
+        handle.old.value handle.new.value }
+{
+    let Ok(bytes) = Bytes::from_slice(alloc, bytes) else {
+        return Step::NoMemory.number();
+    };
+    let call = Call::SignUpdate { session, bytes };
+    handle.as_mut().call(alloc, caller, call).number()
+}
+
+/// C_SignFinal. Without `has_room` the length alone is asked for.
+#[unsafe(no_mangle)]
+pub extern "C" fn ospreyrack_sign_final(
+    alloc: Global,
+    handle: &mut Handle,
+    caller: u32,
+    session: u64,
+    has_room: bool,
+    room: u64,
+) -> u32
+    ensures { IsCalledBy caller (call.SignFinal session (room_of has_room room)) result
+        handle.old.value handle.new.value }
+{
+    let call = Call::SignFinal {
+        session,
+        room: room_of(has_room, room),
+    };
+    handle.as_mut().call(alloc, caller, call).number()
+}
+
+/// C_VerifyInit (PKCS #11 Base 3.0, Functions for verifying signatures and MACs). No bytes are no parameter.
+#[unsafe(no_mangle)]
+pub extern "C" fn ospreyrack_verify_init(
+    alloc: Global,
+    handle: &mut Handle,
+    caller: u32,
+    session: u64,
+    kind: u64,
+    parameter: &[u8],
+    key: u64,
+) -> u32
+    ensures { IsCalledBy caller (call.VerifyInit session (record { kind = kind; parameter = parameter.now }) key) result
+        handle.old.value handle.new.value }
+{
+    let Ok(parameter) = Bytes::from_slice(alloc, parameter) else {
+        return Step::NoMemory.number();
+    };
+    let call = Call::VerifyInit {
+        session,
+        mechanism: Mechanism { kind, parameter },
+        key,
+    };
+    handle.as_mut().call(alloc, caller, call).number()
+}
+
+/// C_Verify.
+#[unsafe(no_mangle)]
+pub extern "C" fn ospreyrack_verify(
+    alloc: Global,
+    handle: &mut Handle,
+    caller: u32,
+    session: u64,
+    bytes: &[u8],
+    signature: &[u8],
+) -> u32
+    ensures { IsCalledBy caller (call.Verify session bytes.now signature.now) result
+        handle.old.value handle.new.value }
+{
+    let Ok(bytes) = Bytes::from_slice(alloc, bytes) else {
+        return Step::NoMemory.number();
+    };
+    let Ok(signature) = Bytes::from_slice(alloc, signature) else {
+        return Step::NoMemory.number();
+    };
+    let call = Call::Verify {
+        session,
+        bytes,
+        signature,
+    };
+    handle.as_mut().call(alloc, caller, call).number()
+}
+
+/// C_VerifyUpdate.
+#[unsafe(no_mangle)]
+pub extern "C" fn ospreyrack_verify_update(
+    alloc: Global,
+    handle: &mut Handle,
+    caller: u32,
+    session: u64,
+    bytes: &[u8],
+) -> u32
+    ensures { IsCalledBy caller (call.VerifyUpdate session bytes.now) result
+        handle.old.value handle.new.value }
+{
+    let Ok(bytes) = Bytes::from_slice(alloc, bytes) else {
+        return Step::NoMemory.number();
+    };
+    let call = Call::VerifyUpdate { session, bytes };
+    handle.as_mut().call(alloc, caller, call).number()
+}
+
+/// C_VerifyFinal.
+#[unsafe(no_mangle)]
+pub extern "C" fn ospreyrack_verify_final(
+    alloc: Global,
+    handle: &mut Handle,
+    caller: u32,
+    session: u64,
+    signature: &[u8],
+) -> u32
+    ensures { IsCalledBy caller (call.VerifyFinal session signature.now) result
+        handle.old.value handle.new.value }
+{
+    let Ok(signature) = Bytes::from_slice(alloc, signature) else {
+        return Step::NoMemory.number();
+    };
+    let call = Call::VerifyFinal { session, signature };
+    handle.as_mut().call(alloc, caller, call).number()
+}

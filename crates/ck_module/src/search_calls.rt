@@ -1,0 +1,61 @@
+ghost use Rattle.ck_journal.specs.declared.calls.Call.TheVariants as call;
+ghost use Rattle.ck_module.specs.Calls.{IsCalledBy};
+ghost use Rattle.ck_module.specs.Templates.{template_of};
+
+use crate::handles::Handle;
+use crate::steps::Step;
+use crate::templates::{TypeAndLength, template_of};
+use ck_journal::Call;
+use std::alloc::Global;
+
+/// C_FindObjectsInit (PKCS #11 Base 3.0, Object management functions). The values of the template
+/// stand one after the other in `values`.
+#[unsafe(no_mangle)]
+pub extern "C" fn ospreyrack_find_objects_init(
+    alloc: Global,
+    handle: &mut Handle,
+    caller: u32,
+    session: u64,
+    attributes: &[TypeAndLength],
+    values: &[u8],
+) -> u32
+    ensures { IsCalledBy caller (call.FindObjectsInit session
+        (template_of attributes.now values.now)) result handle.old.value handle.new.value }
+{
+    let Ok(template) = template_of(alloc, attributes, values) else {
+        return Step::NoMemory.number();
+    };
+    let call = Call::FindObjectsInit { session, template };
+    handle.as_mut().call(alloc, caller, call).number()
+}
+
+/// C_FindObjects.
+#[unsafe(no_mangle)]
+pub extern "C" fn ospreyrack_find_objects(
+    alloc: Global,
+    handle: &mut Handle,
+    caller: u32,
+    session: u64,
+    max: u64,
+) -> u32
+    ensures { IsCalledBy caller (call.FindObjects session max) result
+        handle.old.value handle.new.value }
+{
+    let call = Call::FindObjects { session, max };
+    handle.as_mut().call(alloc, caller, call).number()
+}
+
+/// C_FindObjectsFinal.
+#[unsafe(no_mangle)]
+pub extern "C" fn ospreyrack_find_objects_final(
+    alloc: Global,
+    handle: &mut Handle,
+    caller: u32,
+    session: u64,
+) -> u32
+    ensures { IsCalledBy caller (call.FindObjectsFinal session) result
+        handle.old.value handle.new.value }
+{
+    let call = Call::FindObjectsFinal { session };
+    handle.as_mut().call(alloc, caller, call).number()
+}

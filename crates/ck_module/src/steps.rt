@@ -1,0 +1,26 @@
+ghost use Rattle.std.specs.Prelude.{◌≡◌};
+ghost use Rattle.ck_module.specs.Steps.{step_number};
+
+/// What comes of a call that C asks for.
+#[derive(Clone, Copy)]
+pub(crate) enum Step {
+    /// It was answered, and stands in the journal.
+    Answered,
+    /// The line is empty, a comment or a bad one.
+    NoCall,
+    /// There was no memory for it.
+    NoMemory,
+}
+
+impl Step {
+    /// The number that C knows it by.
+    pub(crate) fn number(self) -> u32
+        ensures { result ≡ step_number self }
+    {
+        match self {
+            Step::Answered => 0,
+            Step::NoCall => 1,
+            Step::NoMemory => 2,
+        }
+    }
+}

@@ -1,0 +1,192 @@
+/*
+ * The proved token, as the static library of crates/ck_module exports it. Each function here has a
+ * contract in that crate, which says what it does; what a caller in C owes is said at it.
+ *
+ * - A `struct token` is used by one thread at a time.
+ * - A pointer is never NULL, also where no element stands behind it.
+ * - What a function that makes a call answers is one of `enum step`. The reply to the last call
+ *   that was answered stays in the token until the next one is, and is read by the functions that
+ *   stand last here, which make no call.
+ */
+#ifndef OSPREYRACK_TOKEN_H
+#define OSPREYRACK_TOKEN_H
+
+#include <stdbool.h>
+#include <stddef.h>
+#include <stdint.h>
+
+/* Where a token lies. */
+struct token {
+    void *at;
+};
+
+/* What comes of a call. */
+enum step {
+    ANSWERED = 0,  /* it was answered, and stands in the token's journal */
+    NO_CALL = 1,   /* the line is empty, a comment or a bad one; nothing has changed */
+    NO_MEMORY = 2, /* there was no memory for it; nothing has changed */
+};
+
+/* ---- A token's life */
+
+/* How many bytes a token takes. */
+size_t ospreyrack_size(void);
+
+/* Makes a new token of the largest limits in room of that many bytes, whose address is a multiple
+ * of 16. It takes no memory beside. */
+void ospreyrack_make(void *at);
+
+/* Makes the token a new one, and gives back all memory that it has taken. */
+void ospreyrack_reset(struct token *token);
+
+/* What comes of a cut of the token's journal. */
+enum cut {
+    CUT = 0,          /* it has no entry now, and no later reply differs by it */
+    SESSION_OPEN = 1, /* a session is open, so nothing has changed */
+    NO_ROOM = 2,      /* there was no memory for it; nothing has changed */
+};
+
+uint32_t ospreyrack_cut(struct token *token);
+
+/* How many entries the token's journal has. */
+uint64_t ospreyrack_entries(struct token *token);
+
+/* ---- Calls by lines */
+
+/* Makes the call of a line of the script language, which stands here without its line end. */
+uint32_t ospreyrack_line(struct token *token, const uint8_t *line, size_t length);
+
+/* Makes the text of the reply, without a line end: ANSWERED, or NO_MEMORY. */
+uint32_t ospreyrack_write_text(struct token *token);
+
+/* The length of the text that was last made. Its bytes, or as many of them as there is room for,
+ * are copied to `out`. */
+size_t ospreyrack_text(struct token *token, uint8_t *out, size_t room);
+
+/* ---- Calls by their arguments. `caller` is the number of who calls. */
+
+/* An attribute of a template: its type, and the length of its value. The values stand one after the
+ * other in a list of bytes beside. */
+struct item {
+    uint64_t kind;
+    uint64_t length;
+};
+
+/* What is asked of an attribute: its type, and the room for its value. Without `has_room` only the
+ * value's length is asked for. */
+struct query {
+    uint64_t kind;
+    uint64_t room;
+    bool has_room;
+};
+
+uint32_t ospreyrack_open_session(struct token *token, uint32_t caller, uint64_t flags);
+uint32_t ospreyrack_close_session(struct token *token, uint32_t caller, uint64_t session);
+uint32_t ospreyrack_close_all_sessions(struct token *token, uint32_t caller);
+uint32_t ospreyrack_logout(struct token *token, uint32_t caller, uint64_t session);
+uint32_t ospreyrack_get_session_info(struct token *token, uint32_t caller, uint64_t session);
+uint32_t ospreyrack_get_token_info(struct token *token, uint32_t caller);
+uint32_t ospreyrack_session_cancel(struct token *token, uint32_t caller, uint64_t session,
+                                   uint64_t flags);
+uint32_t ospreyrack_create_object(struct token *token, uint32_t caller, uint64_t session,
+                                  const struct item *items, size_t count,
+                                  const uint8_t *values, size_t length);
+uint32_t ospreyrack_get_attribute_value(struct token *token, uint32_t caller, uint64_t session,
+                                        uint64_t object, const struct query *queries,
+                                        size_t count);
+uint32_t ospreyrack_set_key_state(struct token *token, uint32_t caller, uint64_t session,
+                                  uint64_t key, uint64_t state);
+uint32_t ospreyrack_destroy_object(struct token *token, uint32_t caller, uint64_t session,
+                                   uint64_t object);
+uint32_t ospreyrack_find_objects_init(struct token *token, uint32_t caller, uint64_t session,
+                                      const struct item *items, size_t count,
+                                      const uint8_t *values, size_t length);
+uint32_t ospreyrack_find_objects(struct token *token, uint32_t caller, uint64_t session,
+                                 uint64_t max);
+uint32_t ospreyrack_find_objects_final(struct token *token, uint32_t caller, uint64_t session);
+uint32_t ospreyrack_digest_init(struct token *token, uint32_t caller, uint64_t session,
+                                uint64_t mechanism, const uint8_t *parameter, size_t length);
+uint32_t ospreyrack_digest(struct token *token, uint32_t caller, uint64_t session,
+                           const uint8_t *bytes, size_t length, bool has_room, uint64_t room);
+uint32_t ospreyrack_digest_update(struct token *token, uint32_t caller, uint64_t session,
+                                  const uint8_t *bytes, size_t length);
+uint32_t ospreyrack_digest_final(struct token *token, uint32_t caller, uint64_t session,
+                                 bool has_room, uint64_t room);
+uint32_t ospreyrack_sign_init(struct token *token, uint32_t caller, uint64_t session,
+                              uint64_t mechanism, const uint8_t *parameter, size_t length,
+                              uint64_t key);
+uint32_t ospreyrack_sign(struct token *token, uint32_t caller, uint64_t session,
+                         const uint8_t *bytes, size_t length, bool has_room, uint64_t room);
+uint32_t ospreyrack_sign_update(struct token *token, uint32_t caller, uint64_t session,
+                                const uint8_t *bytes, size_t length);
+uint32_t ospreyrack_sign_final(struct token *token, uint32_t caller, uint64_t session,
+                               bool has_room, uint64_t room);
+uint32_t ospreyrack_verify_init(struct token *token, uint32_t caller, uint64_t session,
+                                uint64_t mechanism, const uint8_t *parameter, size_t length,
+                                uint64_t key);
+uint32_t ospreyrack_verify(struct token *token, uint32_t caller, uint64_t session,
+                           const uint8_t *bytes, size_t length,
+                           const uint8_t *signature, size_t signature_length);
+uint32_t ospreyrack_verify_update(struct token *token, uint32_t caller, uint64_t session,
+                                  const uint8_t *bytes, size_t length);
+uint32_t ospreyrack_verify_final(struct token *token, uint32_t caller, uint64_t session,
+                                 const uint8_t *signature, size_t length);
+
+/* ---- The reply to the last answered call */
+
+/* Its return code. */
+uint64_t ospreyrack_code(struct token *token);
+
+/* The handle of a new session or object, else 0. */
+uint64_t ospreyrack_handle(struct token *token);
+
+/* A session's state and flags; zeros where the reply has none. */
+struct session {
+    uint64_t state;
+    uint64_t flags;
+};
+
+void ospreyrack_session(struct token *token, struct session *out);
+
+/* The token's flags, and its counts of sessions; zeros where the reply has none. */
+struct token_info {
+    uint64_t flags;
+    uint64_t limit;       /* how many sessions may be open at once */
+    uint64_t sessions;    /* how many are open */
+    uint64_t rw_sessions; /* how many of these are read/write sessions */
+};
+
+void ospreyrack_token_info(struct token *token, struct token_info *out);
+
+/* How many mechanisms, or handles of found objects, the reply has. They, or as many of them as
+ * there is room for, are copied to `out`. */
+size_t ospreyrack_mechanisms(struct token *token, uint64_t *out, size_t room);
+size_t ospreyrack_handles(struct token *token, uint64_t *out, size_t room);
+
+/* The answer to a query, counted from 0. */
+enum answer_kind {
+    UNAVAILABLE = 0, /* hidden, or not an attribute of the object, or too little room */
+    LENGTH = 1,      /* the value's length */
+    VALUE = 2,       /* the value, of that length */
+};
+
+struct answer {
+    uint64_t kind;
+    uint64_t length;
+};
+
+/* Unavailable where the reply has no such answer. */
+void ospreyrack_answer(struct token *token, size_t index, struct answer *out);
+
+/* The length of the value that this query is answered, and 0 where it isn't answered one. The
+ * value's bytes, or as many of them as there is room for, are copied to `out`. */
+size_t ospreyrack_value(struct token *token, size_t index, uint8_t *out, size_t room);
+
+/* The length of the digest or signature that the reply has or tells the length of, else 0. */
+uint64_t ospreyrack_length(struct token *token);
+
+/* The length of the digest or signature that the reply has, and 0 where it has none. Its bytes, or
+ * as many of them as there is room for, are copied to `out`. */
+size_t ospreyrack_bytes(struct token *token, uint8_t *out, size_t room);
+
+#endif
