@@ -2,16 +2,11 @@ use ck_types::NoMemory;
 use std::alloc::{AllocError, AllocFailed};
 use thiserror::Error;
 
-/// Why the cases of a file don't pass.
+/// Why the cases of a file can't be played to their end.
 #[derive(Debug, Drop, Error)]
 pub(crate) enum CaseError {
     #[error("out of memory")]
     Memory,
-    #[error("line {0}: no line of a case")]
-    NoLine(u64),
-    /// What came of the line.
-    #[error("line {0}: came {1}")]
-    Differs(u64, String),
     /// What found no memory left the journal with another length.
     #[error("out of memory, and the journal has {came} entries in place of {entries}")]
     Entered { entries: u64, came: u64 },

@@ -1,172 +1,263 @@
-//! The lines of a file of cases. A line `limits SESSIONS OPENINGS CREATIONS LOGINS`, or `limits
-//! largest`, begins a case on a new token; before the first such line the token has the largest
-//! limits. Each other line is what is done, an arrow, and what comes of it. Empty lines and lines
-//! that begin with `#` are skipped.
-//!
-//! - `1 OpenSession 6 -> 0 1`: a line of a script and its reply.
-//! - `1 OpenSession E -> bad script: ..`: a line that is none of a script's, and why.
-//! - `cut -> entries 2`: the token's journal is cut, and so many entries are taken out.
-//! - `cut -> a session is open`: it isn't cut, and why.
-//! - `audit 1 9 9 9 -> entry 3 is wrong`: the journal is audited as one of a token of these limits,
-//!   and its first reply that isn't such a token's is that of this entry; or `-> legal`.
+//! The cases of a file are played, line by line.
 use crate::case_errors::CaseError;
+use crate::findings::Finding;
+use crate::limits::{LimitsError, LimitsLine};
+use crate::lines::{ARROW, BAD_SCRIPT, CaseLine, LineFault, Step};
+use crate::outcomes::Outcome;
+use crate::reports::Report;
 use crate::retries::RetryingToken;
 use ck_audit::Verdict;
-use ck_journal::{Call, Journal};
-use ck_script::{BadLine, Line, LineError, reply_line};
+use ck_script::{BadLine, Line, LineError};
 use ck_token::Uncut;
 use ck_types::Limits;
 use std::alloc::Global;
 use std::fmt;
 
-/// How many lines with an arrow passed, and how often something was done again that had found no
-/// memory.
+/// The most findings of a file that are written, where no other number is given.
+pub(crate) const MOST_FINDINGS: u64 = 100;
+
+/// What is written of a file.
 #[derive(Clone, Copy)]
-pub(crate) struct Passed {
-    lines: u64,
-    retries: u64,
+pub(crate) enum Output {
+    /// A line for each finding, this many at the most, and one that counts lines.
+    Report { most: u64 },
+    /// The file again, with what came in place of what is recorded.
+    Replies,
 }
 
-impl fmt::Display for Passed {
-    fn fmt<W: fmt::Write>(&self, f: &mut fmt::Formatter<W>) -> fmt::Result {
-        write!(f, "{} passed", self.lines)?;
-        if self.retries > 0 {
-            write!(f, ", {} made again", self.retries)?;
+/// How files are played.
+#[derive(Clone, Copy)]
+pub(crate) struct PlayOptions {
+    /// The limits of all cases, in place of those that the file has.
+    pub(crate) limits: Option<Limits>,
+    pub(crate) output: Output,
+}
+
+/// What came of a file.
+#[derive(Drop)]
+pub(crate) struct Played {
+    /// What goes to standard output.
+    pub(crate) output: String,
+    /// What goes to standard error.
+    pub(crate) errors: String,
+    /// Whether all is right: each line has what came of it, where the file isn't written again.
+    pub(crate) is_right: bool,
+}
+
+/// A file that is played.
+#[derive(Drop)]
+struct Player<'a> {
+    alloc: Global,
+    limits: Option<Limits>,
+    token: RetryingToken,
+    /// The number of the line that is played, from 1.
+    number: u64,
+    /// Whether a case has begun.
+    has_begun: bool,
+    report: Report<'a>,
+    /// The lines so far of a file that is written again.
+    rewritten: Option<String>,
+}
+
+impl<'a> Player<'a> {
+    fn new(alloc: Global, name: &'a str, options: &PlayOptions) -> Player<'a> {
+        let limits = options.limits.unwrap_or(Limits::largest());
+        let (most, rewritten) = match options.output {
+            Output::Report { most } => (most, None),
+            Output::Replies => (MOST_FINDINGS, Some(String::new(alloc))),
+        };
+        Player {
+            alloc,
+            limits: options.limits,
+            token: RetryingToken::new(alloc, limits),
+            number: 0,
+            has_begun: false,
+            report: Report::new(alloc, name, most),
+            rewritten,
+        }
+    }
+
+    /// Reports what is wrong with the line.
+    fn report(&mut self, finding: &Finding<'_>) -> Result<(), CaseError> {
+        Ok(self.report.add(self.number, finding)?)
+    }
+
+    /// Adds a line to the file that is written again.
+    fn rewrite<T: fmt::Display>(&mut self, line: &T) -> Result<(), CaseError> {
+        if let Some(text) = &mut self.rewritten {
+            write!(text, "{line}\n")?;
         }
         Ok(())
     }
-}
 
-/// The limits of four numbers, or of the word `largest`.
-fn limits_of(text: &str) -> Option<Limits> {
-    if text == "largest" {
-        return Some(Limits::largest());
-    }
-    let mut words = text.split(' ');
-    let mut numbers = [0; 4];
-    for number in numbers.iter_mut() {
-        *number = words.next()?.parse().ok()?;
-    }
-    if words.next().is_some() {
-        return None;
-    }
-    let [sessions, openings, creations, logins] = numbers;
-    Limits::of(sessions, openings, creations, logins)
-}
-
-/// How many entries a cut takes out, or why the journal isn't cut.
-fn cut_text(alloc: Global, cut: &Result<Journal, Uncut>) -> Result<String, CaseError> {
-    match cut {
-        Ok(journal) => Ok(format!(in alloc; "entries {}", journal.len())?),
-        Err(refused) => Ok(format!(in alloc; "{refused}")?),
-    }
-}
-
-fn bad_text(alloc: Global, reason: &BadLine) -> Result<String, CaseError> {
-    Ok(format!(in alloc; "bad script: {reason}")?)
-}
-
-fn verdict_text(alloc: Global, verdict: Verdict) -> Result<String, CaseError> {
-    match verdict {
-        Verdict::Legal => Ok(String::from_str(alloc, "legal")?),
-        Verdict::Wrong(number) => Ok(format!(in alloc; "entry {number} is wrong")?),
-    }
-}
-
-/// Makes a call, and gives the reply's text.
-fn reply_text(
-    alloc: Global,
-    token: &mut RetryingToken,
-    caller: u32,
-    call: &Call,
-) -> Result<String, CaseError> {
-    let reply = token.call(alloc, caller, call)?;
-    Ok(reply_line(alloc, &reply)?)
-}
-
-/// What comes of a script's line of this number, which was read so.
-fn line_text(
-    alloc: Global,
-    token: &mut RetryingToken,
-    number: u64,
-    line: &Result<Line, LineError>,
-) -> Result<String, CaseError> {
-    match line {
-        Ok(Line::Called { caller, call }) => reply_text(alloc, token, *caller, call),
-        Ok(Line::Skipped) => Err(CaseError::NoLine(number)),
-        Err(LineError::Bad(reason)) => bad_text(alloc, reason),
-        Err(LineError::Memory) => Err(CaseError::Memory),
-    }
-}
-
-/// What comes of a script's line, which is the line of this number up to its arrow.
-fn script_text(
-    alloc: Global,
-    token: &mut RetryingToken,
-    number: u64,
-    text: &str,
-) -> Result<String, CaseError> {
-    let line = Line::parse(alloc, text.as_bytes());
-    line_text(alloc, token, number, &line)
-}
-
-/// What comes of the line of this number, whose text up to its arrow this is.
-fn outcome_of(
-    alloc: Global,
-    token: &mut RetryingToken,
-    number: u64,
-    text: &str,
-) -> Result<String, CaseError> {
-    if text == "cut" {
-        return cut_text(alloc, &token.cut(alloc)?);
-    }
-    if let Some(limits) = text.strip_prefix("audit ") {
-        let limits = limits_of(limits).ok_or(CaseError::NoLine(number))?;
-        return verdict_text(alloc, token.audit(alloc, limits)?);
-    }
-    script_text(alloc, token, number, text)
-}
-
-/// Plays the line of this number, and says whether it has an arrow.
-fn play_line(
-    alloc: Global,
-    token: &mut RetryingToken,
-    number: u64,
-    line: &str,
-) -> Result<bool, CaseError> {
-    if line.is_empty() || line.starts_with('#') {
-        return Ok(false);
-    }
-    if let Some(limits) = line.strip_prefix("limits ") {
-        token.start(alloc, limits_of(limits).ok_or(CaseError::NoLine(number))?);
-        return Ok(false);
-    }
-    let (text, outcome) = line.split_once(" -> ").ok_or(CaseError::NoLine(number))?;
-    let came = outcome_of(alloc, token, number, text)?;
-    if came.as_str() == outcome {
-        return Ok(true);
-    }
-    Err(CaseError::Differs(number, came))
-}
-
-/// Plays the lines of a file.
-fn play_lines(alloc: Global, token: &mut RetryingToken, text: &str) -> Result<Passed, CaseError> {
-    let mut number = 0u64;
-    let mut lines = 0u64;
-    for line in text.lines() {
-        number = number.saturating_add(1);
-        if play_line(alloc, token, number, line)? {
-            lines = lines.saturating_add(1);
+    /// Adds the line of limits with which all cases are played, where they are given.
+    fn rewrite_limits(&mut self) -> Result<(), CaseError> {
+        match self.limits {
+            Some(limits) => self.rewrite(&LimitsLine(limits)),
+            None => Ok(()),
         }
     }
-    Ok(Passed {
-        lines,
-        retries: token.retries(),
-    })
+
+    /// Plays the next line.
+    fn play_line(&mut self, line: &str) -> Result<(), CaseError> {
+        self.number = self.number.saturating_add(1);
+        match CaseLine::of(line) {
+            CaseLine::Skipped => self.rewrite(&line),
+            CaseLine::Limits(limits) => self.begin_case(line, limits),
+            CaseLine::Step { step, recorded } => self.play_step(line, step, recorded),
+        }
+    }
+
+    /// Begins the case of a line of limits. Where they are bad, its token has the largest.
+    fn begin_case(
+        &mut self,
+        line: &str,
+        limits: Result<Limits, LimitsError>,
+    ) -> Result<(), CaseError> {
+        self.audit()?;
+        self.has_begun = true;
+        if let Err(error) = limits {
+            let fault = LineFault::Limits(error);
+            self.report(&Finding::Bad { text: line, fault })?;
+        }
+        let limits = self.limits.or(limits.ok()).unwrap_or(Limits::largest());
+        self.token.start(self.alloc, limits);
+        match self.limits {
+            Some(_) => self.rewrite_limits(),
+            None => self.rewrite(&line),
+        }
+    }
+
+    /// Audits the journal of a case. That the journal of a token is legal is proved; this shows it
+    /// of the program as it was built.
+    fn audit(&mut self) -> Result<(), CaseError> {
+        match self.token.audit_own(self.alloc)? {
+            Verdict::Legal => Ok(()),
+            Verdict::Wrong(entry) => self.report(&Finding::WrongEntry(entry)),
+        }
+    }
+
+    /// Plays the step of a line.
+    fn play_step(
+        &mut self,
+        line: &str,
+        step: &str,
+        recorded: Option<&str>,
+    ) -> Result<(), CaseError> {
+        if !self.has_begun {
+            self.has_begun = true;
+            self.rewrite_limits()?;
+        }
+        match self.outcome_of(step)? {
+            Outcome::Bad(fault) if !is_bad_script(recorded) => {
+                self.report(&Finding::Bad { text: step, fault })?;
+                self.rewrite(&line)
+            }
+            outcome => {
+                let came = outcome.text(self.alloc)?;
+                self.judge(step, came.as_str(), recorded)
+            }
+        }
+    }
+
+    /// Compares what came of a step with what is recorded, or writes it in place of that.
+    fn judge(&mut self, step: &str, came: &str, recorded: Option<&str>) -> Result<(), CaseError> {
+        if let Some(text) = &mut self.rewritten {
+            return Ok(write!(text, "{step}{ARROW}{came}\n")?);
+        }
+        match recorded {
+            None => {
+                self.report.add_without_reply();
+                Ok(())
+            }
+            Some(recorded) if recorded == came => {
+                self.report.add_passed();
+                Ok(())
+            }
+            Some(recorded) => self.report(&Finding::Differs {
+                step,
+                came,
+                recorded,
+            }),
+        }
+    }
+
+    /// What comes of a step.
+    fn outcome_of(&mut self, step: &str) -> Result<Outcome, CaseError> {
+        match Step::of(step) {
+            Step::Cut => {
+                self.audit()?;
+                self.cut()
+            }
+            Step::Audit(Ok(limits)) => {
+                Ok(Outcome::Audited(self.token.audit(self.alloc, limits)?))
+            }
+            Step::Audit(Err(error)) => Ok(Outcome::Bad(LineFault::Limits(error))),
+            Step::Call(text) => self.call(text),
+        }
+    }
+
+    fn cut(&mut self) -> Result<Outcome, CaseError> {
+        match self.token.cut(self.alloc)? {
+            Ok(journal) => Ok(Outcome::Cut(journal.len())),
+            Err(Uncut::Session) => Ok(Outcome::Uncut),
+            Err(Uncut::Memory) => Err(CaseError::Memory),
+        }
+    }
+
+    /// Makes the call of a line of a script.
+    fn call(&mut self, text: &str) -> Result<Outcome, CaseError> {
+        match Line::parse(self.alloc, text.as_bytes()) {
+            Ok(Line::Called { caller, call }) => {
+                Ok(Outcome::Replied(self.token.call(self.alloc, caller, &call)?))
+            }
+            Ok(Line::Skipped) => Ok(Outcome::Bad(LineFault::Script(BadLine::NoCall))),
+            Err(LineError::Bad(reason)) => Ok(Outcome::Bad(LineFault::Script(reason))),
+            Err(LineError::Memory) => Err(CaseError::Memory),
+        }
+    }
+
+    /// Ends the last case, and gives what came of the file.
+    fn finish(mut self) -> Result<Played, CaseError> {
+        self.audit()?;
+        let Player {
+            alloc,
+            token,
+            report,
+            rewritten,
+            ..
+        } = self;
+        let is_right = report.is_right();
+        match rewritten {
+            Some(output) => Ok(Played {
+                output,
+                errors: report.findings()?,
+                is_right,
+            }),
+            None => Ok(Played {
+                output: report.summary(token.retries())?,
+                errors: String::new(alloc),
+                is_right,
+            }),
+        }
+    }
 }
 
-/// Plays the lines of a file on tokens of their own.
-pub(crate) fn play_text(alloc: Global, text: &str) -> Result<Passed, CaseError> {
-    let mut token = RetryingToken::new(alloc);
-    play_lines(alloc, &mut token, text)
+/// Whether it is recorded of a step that it is a bad line of a script.
+fn is_bad_script(recorded: Option<&str>) -> bool {
+    recorded.is_some_and(|text| text.starts_with(BAD_SCRIPT))
+}
+
+/// Plays the lines of the file of this name on tokens of their own.
+pub(crate) fn play_text(
+    alloc: Global,
+    name: &str,
+    text: &str,
+    options: &PlayOptions,
+) -> Result<Played, CaseError> {
+    let mut player = Player::new(alloc, name, options);
+    for line in text.lines() {
+        player.play_line(line)?;
+    }
+    player.finish()
 }

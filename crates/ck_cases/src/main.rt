@@ -1,51 +1,120 @@
-//! Plays files of cases, whose lines are calls with the replies that they must have, and writes a
-//! line for each file: how many lines passed, or the first one of which something else comes. What
-//! finds no memory is done again, and the line says how often that was.
+//! Plays files of recorded calls, compares the replies that come with those that are recorded, and
+//! audits the journals. A line is written for each line that differs or is bad, and one that counts
+//! the lines of the file. What finds no memory is done again, and the count says how often that
+//! was.
 #![tactic(auto)]
 
+mod arguments;
 mod case_errors;
 mod cases;
+mod files;
+mod findings;
+mod limits;
+mod lines;
+mod outcomes;
+mod reports;
 mod retries;
+mod shown;
+mod statuses;
+#[cfg(test)]
+mod tests;
 
-use cases::play_text;
+use arguments::{ArgumentError, Request, request_of};
+use cases::{Output, PlayOptions, play_text};
+use files::{FileError, read_file, text_of};
+use statuses::Status;
 use std::env::Env;
 use std::fs::Files;
 use std::process::ExitCode;
-use std::{env, fs, io};
+use std::{env, io};
 
-/// Plays the file of this name, and says whether its lines pass.
-fn play_file<R: Files + Print + AllocGlobal>(rt: &R, name: &str) -> io::Result<bool> {
-    let text = match fs::read_to_string(rt, name) {
+/// Plays the file of this name.
+fn play_bytes<R: Print + Eprint + AllocGlobal>(
+    rt: &R,
+    name: &str,
+    bytes: &[u8],
+    options: &PlayOptions,
+) -> io::Result<Status> {
+    let text = match text_of(bytes) {
         Ok(text) => text,
-        Err(error) => {
-            println!(rt; "{name}: {error}")?;
-            return Ok(false);
-        }
+        Err(error) => return report_unread(rt, name, &error),
     };
-    match play_text(rt.alloc(), text.as_str()) {
-        Ok(passed) => {
-            println!(rt; "{name}: {passed}")?;
-            Ok(true)
+    match play_text(rt.alloc(), name, text, options) {
+        Ok(played) => {
+            eprint!(rt; "{}", played.errors)?;
+            print!(rt; "{}", played.output)?;
+            Ok(Status::of(played.is_right))
         }
         Err(error) => {
-            println!(rt; "{name}: {error}")?;
-            Ok(false)
+            match options.output {
+                Output::Report { .. } => println!(rt; "{name}: {error}")?,
+                Output::Replies => eprintln!(rt; "{name}: {error}")?,
+            }
+            Ok(Status::Wrong)
         }
     }
 }
 
-/// Plays the files that the arguments name, and says whether all of their lines pass.
-fn play_files<R: Env + Files + Print + AllocGlobal>(rt: &R) -> io::Result<bool> {
-    let mut all_pass = true;
-    for name in env::args(rt)?.skip(1) {
-        all_pass = play_file(rt, name.as_str())? && all_pass;
+/// Writes why a file isn't read.
+fn report_unread<R: Eprint>(rt: &R, name: &str, error: &FileError) -> io::Result<Status> {
+    eprintln!(rt; "ck_cases: {name}: {error}")?;
+    match error {
+        FileError::Memory => Ok(Status::Wrong),
+        _ => Ok(Status::Unread),
     }
-    Ok(all_pass)
+}
+
+/// Plays the file of this name.
+fn play_file<R: Files + Print + Eprint + AllocGlobal>(
+    rt: &R,
+    name: &str,
+    options: &PlayOptions,
+) -> io::Result<Status> {
+    match read_file(rt, name) {
+        Ok(bytes) => play_bytes(rt, name, bytes.as_slice(), options),
+        Err(error) => report_unread(rt, name, &error),
+    }
+}
+
+/// Plays the files of these names, and gives the worst status.
+fn play_files<R: Files + Print + Eprint + AllocGlobal>(
+    rt: &R,
+    names: &[&str],
+    options: &PlayOptions,
+) -> io::Result<Status> {
+    let mut worst = Status::Right;
+    for name in names {
+        worst = worst.max(play_file(rt, name, options)?);
+    }
+    Ok(worst)
+}
+
+/// Does what the arguments ask for.
+fn run<R: Env + Files + Print + Eprint + AllocGlobal>(rt: &R) -> io::Result<Status> {
+    let alloc = rt.alloc();
+    let words: Vec<String> = env::args(rt)?.collect(alloc)?;
+    match request_of(alloc, words.as_slice()) {
+        Ok(Request::Play { names, options }) => play_files(rt, names.as_slice(), &options),
+        Ok(Request::Help(text)) => {
+            print!(rt; "{text}")?;
+            Ok(Status::Right)
+        }
+        Err(error) => {
+            eprint!(rt; "{error}")?;
+            match error {
+                ArgumentError::Memory => Ok(Status::Wrong),
+                _ => Ok(Status::Unread),
+            }
+        }
+    }
 }
 
 fn main(rt: HostRuntime) -> ExitCode {
-    match play_files(&rt) {
-        Ok(true) => ExitCode::SUCCESS,
-        Ok(false) | Err(_) => ExitCode::FAILURE,
+    match run(&rt) {
+        Ok(status) => ExitCode::from(status.number()),
+        Err(error) => {
+            let _ = eprintln!(rt; "ck_cases: {error}");
+            ExitCode::FAILURE
+        }
     }
 }

@@ -1,6 +1,6 @@
 //! A token whose calls, cuts and audits are made again where they find no memory.
 use crate::case_errors::CaseError;
-use ck_audit::{Verdict, audit};
+use ck_audit::{Verdict, audit, audit_token};
 use ck_journal::{Call, Journal, Reply};
 use ck_token::{Token, Uncut};
 use ck_types::Limits;
@@ -15,10 +15,13 @@ pub(crate) struct RetryingToken {
 }
 
 impl RetryingToken {
-    /// A token of the largest limits.
-    pub(crate) fn new(alloc: Global) -> RetryingToken {
+    ghost use Rattle.std.specs.Prelude.{◌≡◌, IfOk};
+    ghost use Rattle.ck_audit.specs.declared.audits.Verdict.TheVariants as verdict;
+
+    /// A token of these limits.
+    pub(crate) fn new(alloc: Global, limits: Limits) -> RetryingToken {
         RetryingToken {
-            token: Token::new(alloc, Limits::largest()),
+            token: Token::new(alloc, limits),
             retries: 0,
         }
     }
@@ -56,6 +59,18 @@ impl RetryingToken {
         }
         self.retry(entries)?;
         Ok(self.token.call(alloc, caller, call.clone()?)?)
+    }
+
+    /// Audits the journal as one of the token's own limits, as which it is legal.
+    pub(crate) fn audit_own(&mut self, alloc: Global) -> Result<Verdict, CaseError>
+        ensures { IfOk result (λ found. found ≡ verdict.Legal) }
+    {
+        let entries = self.token.journal().len();
+        if let Ok(verdict) = audit_token(alloc, &self.token) {
+            return Ok(verdict);
+        }
+        self.retry(entries)?;
+        Ok(audit_token(alloc, &self.token)?)
     }
 
     /// Audits the journal as one of a token of these limits.

@@ -1,0 +1,48 @@
+//! What is wrong with lines of a file.
+use crate::lines::LineFault;
+use crate::shown::{NamedReply, Shortened, hidden_difference};
+use std::fmt;
+
+/// What is wrong with a line.
+#[derive(Clone, Copy)]
+pub(crate) enum Finding<'a> {
+    /// Something else came of a step than is recorded.
+    Differs {
+        step: &'a str,
+        came: &'a str,
+        recorded: &'a str,
+    },
+    /// The line, whose text up to its arrow this is, is none of a case.
+    Bad {
+        text: &'a str,
+        fault: LineFault,
+    },
+    /// The journal of the case up to this line has a wrong entry, of this number.
+    WrongEntry(u64),
+}
+
+impl fmt::Display for Finding<'_> {
+    fn fmt<W: fmt::Write>(&self, f: &mut fmt::Formatter<W>) -> fmt::Result {
+        match self {
+            Finding::Differs {
+                step,
+                came,
+                recorded,
+            } => {
+                write!(f, "{}: came {}", Shortened(step), NamedReply(came))?;
+                write!(f, ", and not {}", NamedReply(recorded))?;
+                match hidden_difference(came, recorded) {
+                    Some(place) => write!(f, " (they differ from character {place} on)"),
+                    None => Ok(()),
+                }
+            }
+            Finding::Bad { text, fault } => write!(f, "{}: {fault}", Shortened(text)),
+            Finding::WrongEntry(number) => {
+                write!(
+                    f,
+                    "audit of the journal up to here: entry {number} is wrong"
+                )
+            }
+        }
+    }
+}

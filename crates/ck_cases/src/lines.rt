@@ -1,0 +1,86 @@
+//! The lines of a file of cases. A line `limits SESSIONS OPENINGS CREATIONS LOGINS`, or `limits
+//! largest`, begins a case on a new token; before the first such line the token has the largest
+//! limits. Each other line is a step, an arrow, and what comes of the step; a step without an arrow
+//! is made too. Empty lines and lines that begin with `#` are skipped.
+//!
+//! - `1 OpenSession 6 -> 0 1`: a line of a script and its reply.
+//! - `1 OpenSession E -> bad script: ..`: a line that is none of a script's, and why.
+//! - `cut -> entries 2`: the token's journal is cut, and so many entries are taken out.
+//! - `cut -> a session is open`: it isn't cut, and why.
+//! - `audit 1 9 9 9 -> entry 3 is wrong`: the journal is audited as one of a token of these limits,
+//!   and its first reply that isn't such a token's is that of this entry; or `-> legal`.
+use crate::limits::{LimitsError, limits_in};
+use ck_script::BadLine;
+use ck_types::Limits;
+use thiserror::Error;
+
+/// What stands between a step and what comes of it.
+pub(crate) const ARROW: &str = " -> ";
+
+/// What stands before the reason of a line that is none of a script's.
+pub(crate) const BAD_SCRIPT: &str = "bad script: ";
+
+/// Why a line is no line of a case.
+#[derive(Clone, Copy, Debug, Error)]
+pub(crate) enum LineFault {
+    #[error("{0}")]
+    Script(BadLine),
+    #[error("{0}")]
+    Limits(LimitsError),
+}
+
+/// A line of a file of cases.
+pub(crate) enum CaseLine<'a> {
+    /// An empty line or a comment.
+    Skipped,
+    /// A case begins, on a token of these limits.
+    Limits(Result<Limits, LimitsError>),
+    /// What is done, and what came of it where that is recorded.
+    Step {
+        step: &'a str,
+        recorded: Option<&'a str>,
+    },
+}
+
+impl<'a> CaseLine<'a> {
+    /// What a line says, without the line's end.
+    pub(crate) fn of(line: &'a str) -> CaseLine<'a> {
+        if line.is_empty() || line.starts_with('#') {
+            return CaseLine::Skipped;
+        }
+        if let Some(limits) = line.strip_prefix("limits ") {
+            return CaseLine::Limits(limits_in(limits, ' '));
+        }
+        match line.split_once(ARROW) {
+            Some((step, recorded)) => CaseLine::Step {
+                step,
+                recorded: Some(recorded),
+            },
+            None => CaseLine::Step {
+                step: line,
+                recorded: None,
+            },
+        }
+    }
+}
+
+/// What a step does.
+pub(crate) enum Step<'a> {
+    Cut,
+    /// Audits the journal as one of a token of these limits.
+    Audit(Result<Limits, LimitsError>),
+    /// Makes the call of a line of a script.
+    Call(&'a str),
+}
+
+impl<'a> Step<'a> {
+    pub(crate) fn of(text: &'a str) -> Step<'a> {
+        if text == "cut" {
+            return Step::Cut;
+        }
+        match text.strip_prefix("audit ") {
+            Some(limits) => Step::Audit(limits_in(limits, ' ')),
+            None => Step::Call(text),
+        }
+    }
+}

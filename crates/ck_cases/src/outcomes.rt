@@ -1,0 +1,36 @@
+//! What comes of a step.
+use crate::case_errors::CaseError;
+use crate::lines::{BAD_SCRIPT, LineFault};
+use ck_audit::Verdict;
+use ck_journal::Reply;
+use ck_script::reply_line;
+use std::alloc::Global;
+
+/// What comes of a step.
+#[derive(Drop)]
+pub(crate) enum Outcome {
+    Replied(Reply),
+    /// So many entries are taken out of the journal.
+    Cut(u64),
+    /// The journal isn't cut, since a session is open.
+    Uncut,
+    Audited(Verdict),
+    /// The step is none.
+    Bad(LineFault),
+}
+
+impl Outcome {
+    /// The text that stands behind the arrow.
+    pub(crate) fn text(&self, alloc: Global) -> Result<String, CaseError> {
+        match self {
+            Outcome::Replied(reply) => Ok(reply_line(alloc, reply)?),
+            Outcome::Cut(entries) => Ok(format!(in alloc; "entries {entries}")?),
+            Outcome::Uncut => Ok(String::from_str(alloc, "a session is open")?),
+            Outcome::Audited(Verdict::Legal) => Ok(String::from_str(alloc, "legal")?),
+            Outcome::Audited(Verdict::Wrong(number)) => {
+                Ok(format!(in alloc; "entry {number} is wrong")?)
+            }
+            Outcome::Bad(fault) => Ok(format!(in alloc; "{BAD_SCRIPT}{fault}")?),
+        }
+    }
+}
