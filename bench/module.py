@@ -1,0 +1,141 @@
+#!/usr/bin/env python3
+"""Measures the C module beside SoftHSM and NSS's own module, each loaded as applications load it, by
+one thread and by four, and prints a table of nanoseconds for each call. Then prints what the module
+adds to a call of the token: the call in C less `Token::call`, as ck_bench measures it.
+
+It needs `module/build`, ck_bench built (`rt run` in crates/ck_bench), gcc, and SoftHSM and NSS
+(apt-get install softhsm2 libnss3 libnss3-dev); a peer that isn't there is left out. It wants four
+processors without other work. Each figure is the best of several runs.
+
+The module may take no longer than SoftHSM, no longer than NSS where a call of the token alone takes
+no longer, and may add at most 100 ns to a call without bytes. Where one of these isn't so, the status
+is 1.
+"""
+import glob
+import os
+import re
+import subprocess
+import sys
+import tempfile
+
+from make_script import script
+
+HERE = os.path.dirname(os.path.abspath(__file__))
+MODULE = os.path.join(HERE, "..", "module", "out", "libospreyrack.so")
+BENCH = os.path.join(HERE, "..", "crates", "ck_bench", "out", "ck_bench")
+NSS_PARAMETERS = (
+    "configdir='' certPrefix='' keyPrefix='' secmod='' "
+    "flags=readOnly,noCertDB,noModDB,forceOpen,optimizeSpace"
+)
+RUNS = 3
+MOST_ADDED = 100
+
+# What ck_bench calls the calls of the token that a round here makes, and how many calls a round is.
+TOKEN_CALLS = {
+    "session info": ("session info", 1),
+    "token info": ("token info", 1),
+    "open and close": ("open and close, each", 2),
+    "label": ("get label", 1),
+    "create and destroy": ("create and destroy a data object (both together)", 2),
+    "digest of 64 bytes": ("digest of 64 bytes (with its start)", 2),
+    "signature of 64 bytes": ("HMAC of 64 bytes (with its start)", 2),
+}
+WITHOUT_BYTES = ["session info", "token info", "open and close"]
+
+
+def compile_client(folder):
+    flags = subprocess.check_output(["pkg-config", "--cflags", "nss"], text=True).split()
+    client = os.path.join(folder, "module")
+    source = os.path.join(HERE, "module.c")
+    subprocess.check_call(["gcc", "-O2", "-std=gnu11", *flags, "-o", client, source, "-lpthread"])
+    return client
+
+
+def soft_hsm_environment(folder):
+    tokens = os.path.join(folder, "tokens")
+    os.makedirs(tokens, exist_ok=True)
+    configuration = os.path.join(folder, "softhsm2.conf")
+    with open(configuration, "w") as file:
+        file.write(f"directories.tokendir = {tokens}\nobjectstore.backend = file\n")
+    return {**os.environ, "SOFTHSM2_CONF": configuration}
+
+
+def peers(folder):
+    """The modules to measure: a name, a path, what stands behind it, and the environment."""
+    own = {name: value for name, value in os.environ.items() if not name.startswith("OSPREYRACK_")}
+    yield "module", MODULE, [], own
+    for path in glob.glob("/usr/lib*/softhsm/libsofthsm2.so")[:1]:
+        yield "SoftHSM", path, [], soft_hsm_environment(folder)
+    for path in glob.glob("/usr/lib*/**/libsoftokn3.so", recursive=True)[:1]:
+        yield "NSS", path, [NSS_PARAMETERS], dict(os.environ)
+
+
+def measure(client, path, threads, parameters, environment):
+    best = {}
+    for _ in range(RUNS):
+        words = [client, path, str(threads), *parameters]
+        for line in subprocess.check_output(words, text=True, env=environment).splitlines():
+            name, time = line.rsplit(": ", 1)
+            best[name] = min(best.get(name, float("inf")), float(time))
+    return best
+
+
+def token_times():
+    """The nanoseconds of a round's calls of the token alone."""
+    said = subprocess.check_output([BENCH, "alone"], input=script("single-calls"), text=True)
+    best, count = {}, {}
+    for line in said.splitlines():
+        name, said_of = line.rsplit(": ", 1)
+        if calls := re.fullmatch(r"(\d+) calls, 0 refused", said_of):
+            count[name] = int(calls[1])
+        elif (time := re.fullmatch(r"(\d+) ns", said_of)) and name in count:
+            each = int(time[1]) / count[name]
+            best[name] = min(best.get(name, float("inf")), each)
+    return {name: best[theirs] * calls for name, (theirs, calls) in TOKEN_CALLS.items()}
+
+
+def faults_of(times, token, threads):
+    """What isn't as wanted among these times of one count of threads."""
+    own = times["module"]
+    for name, time in own.items():
+        if time > times.get("SoftHSM", own)[name]:
+            yield f"{name}, {threads} threads: slower than SoftHSM"
+        nss = times.get("NSS", {}).get(name)
+        if nss and name in token and threads == 1 and token[name] <= nss < time:
+            yield f"{name}, {threads} threads: slower than NSS"
+
+
+def print_table(times, threads):
+    names = list(times)
+    print(f"{threads} threads, ns".ljust(28) + "".join(name.rjust(14) for name in names))
+    for row in times["module"]:
+        print(row.ljust(28) + "".join(f"{times[name][row]:14,.0f}" for name in names))
+
+
+def main():
+    faults = []
+    token = token_times()
+    with tempfile.TemporaryDirectory() as folder:
+        client = compile_client(folder)
+        for threads in (1, 4):
+            times = {
+                name: measure(client, path, threads, parameters, environment)
+                for name, path, parameters, environment in peers(folder)
+            }
+            print_table(times, threads)
+            faults += faults_of(times, token, threads)
+            if threads == 1:
+                alone = times["module"]
+    for name, time in token.items():
+        calls = TOKEN_CALLS[name][1]
+        added = (alone[name] - time) / calls
+        print(f"{name}: a call of the token {time / calls:,.0f} ns, the module adds {added:,.0f}")
+        if name in WITHOUT_BYTES and added > MOST_ADDED:
+            faults.append(f"{name}: the module adds more than {MOST_ADDED} ns to a call")
+    for fault in faults:
+        print(fault)
+    sys.exit(1 if faults else 0)
+
+
+if __name__ == "__main__":
+    main()

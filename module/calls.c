@@ -1,0 +1,289 @@
+/*
+ * Calls of the token: by lines where a journal file is kept, and else by their arguments where the
+ * token has a function for that. What is replied is read by the caller of `make_call`.
+ */
+#include "module.h"
+
+#include <string.h>
+
+/* Bounds beyond which an application's number is taken for a mistake. With them the lengths of a
+ * template can be added without overflow. */
+static const CK_ULONG most_attributes = 1 << 20;
+static const CK_ULONG longest_value = 1 << 30;
+
+/* From how many entries on the token's journal in memory is cut. */
+static const uint64_t cut_from = 1000;
+
+/* ---- Arguments */
+
+struct bytes bytes_of(const void *at, CK_ULONG length, size_t longest) {
+    static const uint8_t none[1];
+    if (at == NULL && length == 0)
+        return (struct bytes){none, 0};
+    return (struct bytes){at, length > longest ? longest + 1 : length};
+}
+
+struct bytes parameter_of(const CK_MECHANISM *mechanism) {
+    return bytes_of(mechanism->pParameter, mechanism->ulParameterLen, LONGEST_PARAMETER);
+}
+
+static bool is_missing(struct bytes bytes) {
+    return bytes.at == NULL && bytes.length > 0;
+}
+
+static CK_RV check_template(const CK_ATTRIBUTE *attributes, CK_ULONG count) {
+    for (CK_ULONG i = 0; i < count; i++) {
+        CK_ULONG length = attributes[i].ulValueLen;
+        if (length > longest_value || (attributes[i].pValue == NULL && length > 0))
+            return CKR_ATTRIBUTE_VALUE_INVALID;
+    }
+    return CKR_OK;
+}
+
+CK_RV check_call(const struct call *call) {
+    if (is_missing(call->pin) || is_missing(call->new_pin) || is_missing(call->bytes)
+        || is_missing(call->signature))
+        return CKR_ARGUMENTS_BAD;
+    if (call->mechanism != NULL && is_missing(parameter_of(call->mechanism)))
+        return CKR_MECHANISM_PARAM_INVALID;
+    if (call->count > most_attributes || (call->attributes == NULL && call->count > 0))
+        return CKR_ARGUMENTS_BAD;
+    if (call->name == GET_ATTRIBUTE_VALUE)
+        return CKR_OK;
+    return check_template(call->attributes, call->count);
+}
+
+/* Threads are numbered from 1 to 8 in the order in which they first call; the ninth is 1 again. The
+ * room for a thread's number is taken when the library is loaded: at a call, the C library would
+ * end the process where it is refused. */
+static uint32_t caller_number(void) {
+    static uint32_t threads;
+    static _Thread_local uint32_t number __attribute__((tls_model("initial-exec")));
+    if (number == 0)
+        number = threads++ % 8 + 1;
+    return number;
+}
+
+/* ---- Calls by lines */
+
+bool add_reply(struct buffer *buffer) {
+    uint8_t none;
+    if (ospreyrack_write_text(&library.token) != ANSWERED)
+        return false;
+    size_t length = ospreyrack_text(&library.token, &none, 0);
+    if (!buffer_reserve(buffer, length))
+        return false;
+    buffer->length += ospreyrack_text(&library.token, buffer->bytes + buffer->length, length);
+    return true;
+}
+
+uint32_t answer_line(const uint8_t *line, size_t length) {
+    if (!reserve_entry(length))
+        return NO_MEMORY;
+    uint32_t step = ospreyrack_line(&library.token, line, length);
+    if (step == ANSWERED)
+        add_entry(line, length);
+    return step;
+}
+
+static uint32_t call_by_line(const struct call *call) {
+    if (!write_line(call, caller_number(), &library.line))
+        return NO_MEMORY;
+    uint32_t step = answer_line(library.line.bytes, library.line.length);
+    if (step != ANSWERED)
+        return step;
+    if (call->label != NULL && ospreyrack_code(&library.token) == CKR_OK)
+        set_label(call->label);
+    write_journal();
+    return ANSWERED;
+}
+
+/* ---- Calls by arguments
+ *
+ * What a switch doesn't know it hands to the next one. What none knows goes by a line. */
+
+/* Gathers a template's items, and their values one after the other. */
+static bool gather_template(const struct call *call) {
+    library.items.length = 0;
+    library.values.length = 0;
+    bool is_added = buffer_reserve(&library.items, call->count * sizeof(struct item))
+        && buffer_reserve(&library.values, 0);
+    for (CK_ULONG i = 0; is_added && i < call->count; i++) {
+        const CK_ATTRIBUTE *attribute = &call->attributes[i];
+        struct item item = {attribute->type, attribute->ulValueLen};
+        is_added = buffer_add(&library.items, &item, sizeof item)
+            && buffer_add(&library.values, attribute->pValue, item.length);
+    }
+    return is_added;
+}
+
+static bool gather_queries(const struct call *call) {
+    library.items.length = 0;
+    bool is_added = buffer_reserve(&library.items, call->count * sizeof(struct query));
+    for (CK_ULONG i = 0; is_added && i < call->count; i++) {
+        const CK_ATTRIBUTE *attribute = &call->attributes[i];
+        struct query query = {attribute->type, attribute->ulValueLen, attribute->pValue != NULL};
+        is_added = buffer_add(&library.items, &query, sizeof query);
+    }
+    return is_added;
+}
+
+static uint32_t call_with_template(const struct call *call, uint32_t caller) {
+    if (!gather_template(call))
+        return NO_MEMORY;
+    const struct item *items = (const void *)library.items.bytes;
+    if (call->name == CREATE_OBJECT)
+        return ospreyrack_create_object(&library.token, caller, call->session, items, call->count,
+                                        library.values.bytes, library.values.length);
+    return ospreyrack_find_objects_init(&library.token, caller, call->session, items, call->count,
+                                        library.values.bytes, library.values.length);
+}
+
+static uint32_t call_with_queries(const struct call *call, uint32_t caller) {
+    if (!gather_queries(call))
+        return NO_MEMORY;
+    return ospreyrack_get_attribute_value(&library.token, caller, call->session, call->object,
+                                          (const void *)library.items.bytes, call->count);
+}
+
+/* Calls on objects and searches. */
+static uint32_t call_on_objects(const struct call *call, uint32_t caller) {
+    struct token *token = &library.token;
+    CK_ULONG session = call->session;
+    switch (call->name) {
+    case CREATE_OBJECT:
+    case FIND_OBJECTS_INIT:
+        return call_with_template(call, caller);
+    case GET_ATTRIBUTE_VALUE:
+        return call_with_queries(call, caller);
+    case SET_KEY_STATE:
+        return ospreyrack_set_key_state(token, caller, session, call->object, call->number);
+    case DESTROY_OBJECT:
+        return ospreyrack_destroy_object(token, caller, session, call->object);
+    case FIND_OBJECTS:
+        return ospreyrack_find_objects(token, caller, session, call->number);
+    case FIND_OBJECTS_FINAL:
+        return ospreyrack_find_objects_final(token, caller, session);
+    default:
+        return call_by_line(call);
+    }
+}
+
+/* Starts of digests, signing and verifying. */
+static uint32_t call_with_mechanism(const struct call *call, uint32_t caller) {
+    CK_MECHANISM_TYPE type = call->mechanism->mechanism;
+    struct bytes parameter = parameter_of(call->mechanism);
+    if (call->name == DIGEST_INIT)
+        return ospreyrack_digest_init(&library.token, caller, call->session, type, parameter.at,
+                                      parameter.length);
+    if (call->name == SIGN_INIT)
+        return ospreyrack_sign_init(&library.token, caller, call->session, type, parameter.at,
+                                    parameter.length, call->object);
+    return ospreyrack_verify_init(&library.token, caller, call->session, type, parameter.at,
+                                  parameter.length, call->object);
+}
+
+/* Calls with a message, or a piece or the end of one. */
+static uint32_t call_with_message(const struct call *call, uint32_t caller) {
+    struct token *token = &library.token;
+    CK_ULONG session = call->session;
+    struct bytes bytes = call->bytes;
+    struct bytes signature = call->signature;
+    struct room room = call->room;
+    switch (call->name) {
+    case DIGEST:
+        return ospreyrack_digest(token, caller, session, bytes.at, bytes.length, room.has_room,
+                                 room.length);
+    case DIGEST_UPDATE:
+        return ospreyrack_digest_update(token, caller, session, bytes.at, bytes.length);
+    case DIGEST_FINAL:
+        return ospreyrack_digest_final(token, caller, session, room.has_room, room.length);
+    case SIGN:
+        return ospreyrack_sign(token, caller, session, bytes.at, bytes.length, room.has_room,
+                               room.length);
+    case SIGN_UPDATE:
+        return ospreyrack_sign_update(token, caller, session, bytes.at, bytes.length);
+    case SIGN_FINAL:
+        return ospreyrack_sign_final(token, caller, session, room.has_room, room.length);
+    case VERIFY:
+        return ospreyrack_verify(token, caller, session, bytes.at, bytes.length, signature.at,
+                                 signature.length);
+    case VERIFY_UPDATE:
+        return ospreyrack_verify_update(token, caller, session, bytes.at, bytes.length);
+    case VERIFY_FINAL:
+        return ospreyrack_verify_final(token, caller, session, signature.at, signature.length);
+    default:
+        return call_on_objects(call, caller);
+    }
+}
+
+static uint32_t call_by_arguments(const struct call *call) {
+    struct token *token = &library.token;
+    uint32_t caller = caller_number();
+    CK_ULONG session = call->session;
+    switch (call->name) {
+    case OPEN_SESSION:
+        return ospreyrack_open_session(token, caller, call->flags);
+    case CLOSE_SESSION:
+        return ospreyrack_close_session(token, caller, session);
+    case CLOSE_ALL_SESSIONS:
+        return ospreyrack_close_all_sessions(token, caller);
+    case LOGOUT:
+        return ospreyrack_logout(token, caller, session);
+    case GET_SESSION_INFO:
+        return ospreyrack_get_session_info(token, caller, session);
+    case GET_TOKEN_INFO:
+        return ospreyrack_get_token_info(token, caller);
+    case SESSION_CANCEL:
+        return ospreyrack_session_cancel(token, caller, session, call->flags);
+    case DIGEST_INIT:
+    case SIGN_INIT:
+    case VERIFY_INIT:
+        return call_with_mechanism(call, caller);
+    default:
+        return call_with_message(call, caller);
+    }
+}
+
+/* ---- Both ways */
+
+void cut_journal(void) {
+    if (library.cuts_journal && ospreyrack_entries(&library.token) >= cut_from)
+        ospreyrack_cut(&library.token);
+}
+
+CK_RV make_call(const struct call *call) {
+    if (library.journal.has_failed)
+        return CKR_DEVICE_ERROR;
+    CK_RV code = check_call(call);
+    if (code != CKR_OK)
+        return code;
+    uint32_t step = library.journal.is_kept ? call_by_line(call) : call_by_arguments(call);
+    if (step != ANSWERED)
+        return CKR_HOST_MEMORY;
+    if (library.journal.has_failed)
+        return CKR_DEVICE_ERROR;
+    code = ospreyrack_code(&library.token);
+    if (call->name == CLOSE_SESSION || call->name == CLOSE_ALL_SESSIONS)
+        cut_journal();
+    return code;
+}
+
+CK_RV make_call_for_handle(const struct call *call, CK_ULONG *handle) {
+    if (handle == NULL)
+        return CKR_ARGUMENTS_BAD;
+    CK_RV code = make_call(call);
+    if (code == CKR_OK)
+        *handle = ospreyrack_handle(&library.token);
+    return code;
+}
+
+CK_RV answer(const struct call *call) {
+    CK_RV code = enter();
+    return code == CKR_OK ? leave(make_call(call)) : code;
+}
+
+CK_RV answer_handle(const struct call *call, CK_ULONG *handle) {
+    CK_RV code = enter();
+    return code == CKR_OK ? leave(make_call_for_handle(call, handle)) : code;
+}

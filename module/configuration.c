@@ -1,0 +1,149 @@
+/*
+ * The words of the environment that configure the library, and its lines on standard error.
+ */
+#include "module.h"
+
+#include <errno.h>
+#include <stdarg.h>
+#include <stdio.h>
+#include <stdlib.h>
+#include <string.h>
+#include <sys/auxv.h>
+#include <unistd.h>
+
+static const char prefix[] = "OSPREYRACK_";
+static const char script_word[] = "OSPREYRACK_SCRIPT";
+static const char journal_word[] = "OSPREYRACK_JOURNAL";
+static const char token_word[] = "OSPREYRACK_TOKEN";
+static const char seed_word[] = "OSPREYRACK_SEED";
+static const char cut_word[] = "OSPREYRACK_CUT";
+
+static const char *const all_words[] = {script_word, journal_word, token_word, seed_word, cut_word};
+
+bool report(const char *word, const char *format, ...) {
+    char message[8192];
+    va_list arguments;
+    va_start(arguments, format);
+    vsnprintf(message, sizeof message, format, arguments);
+    va_end(arguments);
+    dprintf(STDERR_FILENO, "ospreyrack: %s: %s\n", word, message);
+    return false;
+}
+
+static bool is_known(const char *name, size_t length) {
+    for (size_t i = 0; i < sizeof all_words / sizeof *all_words; i++) {
+        if (strlen(all_words[i]) == length && memcmp(name, all_words[i], length) == 0)
+            return true;
+    }
+    return false;
+}
+
+/* A mistyped word would else do nothing, and nobody would be told. */
+static bool check_names(void) {
+    for (char **entry = environ; entry != NULL && *entry != NULL; entry++) {
+        size_t length = strcspn(*entry, "=");
+        if (strncmp(*entry, prefix, strlen(prefix)) != 0 || is_known(*entry, length))
+            continue;
+        char name[64];
+        snprintf(name, sizeof name, "%.*s", (int)(length < 60 ? length : 60), *entry);
+        return report(name, "there is no such word");
+    }
+    return true;
+}
+
+/* The value of a word, or NULL where it isn't set. */
+static bool read_word(const char *word, const char **value) {
+    *value = secure_getenv(word);
+    return *value == NULL || **value != '\0' || report(word, "the value is empty");
+}
+
+static bool read_cut(void) {
+    const char *value;
+    if (!read_word(cut_word, &value))
+        return false;
+    library.cuts_journal = value == NULL || strcmp(value, "yes") == 0;
+    return library.cuts_journal || strcmp(value, "no") == 0
+        || report(cut_word, "the value is yes or no, and not %s", value);
+}
+
+static bool read_seed(void) {
+    const char *value;
+    if (!read_word(seed_word, &value))
+        return false;
+    if (value == NULL)
+        return true;
+    errno = 0;
+    library.seed = strtoull(value, NULL, 10);
+    if (strspn(value, "0123456789") != strlen(value) || errno != 0)
+        return report(seed_word, "the value is a decimal number below 2^64, and not %s", value);
+    library.has_seed = true;
+    return true;
+}
+
+/* Writes a path with the process's number in place of each %p. */
+static bool expand_path(const char *path, struct buffer *expanded) {
+    char number[24];
+    snprintf(number, sizeof number, "%ld", (long)getpid());
+    const char *place;
+    bool is_added = true;
+    while (is_added && (place = strstr(path, "%p")) != NULL) {
+        is_added = buffer_add(expanded, path, (size_t)(place - path))
+            && buffer_add_text(expanded, number);
+        path = place + 2;
+    }
+    return is_added && buffer_add(expanded, path, strlen(path) + 1);
+}
+
+static bool open_new_journal(const char *path) {
+    if (!open_journal(journal_word, path))
+        return false;
+    if (library.journal.length > 0)
+        return report(journal_word, "%s: the file is there and isn't empty", path);
+    return begin_journal();
+}
+
+static bool open_expanded_journal(const char *path) {
+    struct buffer expanded = {0};
+    bool is_good = expand_path(path, &expanded)
+        ? open_new_journal((const char *)expanded.bytes)
+        : report(journal_word, "there is no memory for the name");
+    buffer_free(&expanded);
+    return is_good;
+}
+
+/* Opens the token's file, and answers what stands in it. */
+static bool open_token(const char *path, bool *is_new) {
+    if (!open_journal(token_word, path))
+        return false;
+    *is_new = is_new_journal();
+    return *is_new ? begin_journal() : answer_journal(path) && close_sessions(token_word);
+}
+
+/* The script is for a token that has no calls yet. */
+static bool answer_files(const char *script, const char *journal, const char *token) {
+    bool is_new = true;
+    if (journal != NULL && token != NULL)
+        return report(journal_word, "the file of OSPREYRACK_TOKEN is a journal already");
+    if (journal != NULL && !open_expanded_journal(journal))
+        return false;
+    if (token != NULL && !open_token(token, &is_new))
+        return false;
+    if (script != NULL && is_new
+        && !(answer_script(script_word, script) && close_sessions(script_word)))
+        return false;
+    return write_first_journal();
+}
+
+bool configure(void) {
+    const char *script;
+    const char *journal;
+    const char *token;
+    if (getauxval(AT_SECURE) == 0 && !check_names())
+        return false;
+    bool is_good = read_word(script_word, &script) && read_word(journal_word, &journal)
+        && read_word(token_word, &token) && read_cut() && read_seed()
+        && answer_files(script, journal, token);
+    if (is_good && library.has_seed)
+        report(seed_word, "keys and random bytes follow from this number: for tests only");
+    return is_good;
+}

@@ -1,0 +1,140 @@
+/*
+ * The journal file: the calls of a run, each with its reply, in the form of case files.
+ *
+ * What is added to the journal is gathered as text, and written by one write(2) before the
+ * application gets the answer. So a process that is killed loses no call that was answered.
+ */
+#include "module.h"
+
+#include <errno.h>
+#include <fcntl.h>
+#include <string.h>
+#include <sys/file.h>
+#include <sys/stat.h>
+#include <unistd.h>
+
+static const char header[] =
+    "# The journal of an Ospreyrack token: its calls with their replies, in the order of answers.\n"
+    "# The PINs and the values of keys stand in it as they are.\n"
+    "limits largest\n";
+
+enum { HEADER_LENGTH = sizeof header - 1 };
+
+const char arrow[] = " -> ";
+const char label_start[] = "# label ";
+
+/* Whether the open file is a regular one that no other process has locked. */
+static bool lock_file(struct journal *journal, const char *path) {
+    struct stat status;
+    if (fstat(journal->file, &status) != 0 || !S_ISREG(status.st_mode))
+        return report(journal->word, "%s: this is no regular file", path);
+    if (flock(journal->file, LOCK_EX | LOCK_NB) != 0)
+        return report(journal->word, "%s: another process has locked the file", path);
+    if (fstat(journal->file, &status) != 0)
+        return report(journal->word, "%s: %s", path, strerror(errno));
+    journal->length = status.st_size;
+    return true;
+}
+
+/* Where the application has closed its standard error, what is written there mustn't get into the
+ * file, so the descriptor is another than those of the standard streams. */
+static int open_file(const char *path) {
+    int file = open(path, O_RDWR | O_APPEND | O_CREAT | O_CLOEXEC, S_IRUSR | S_IWUSR);
+    if (file < 0 || file > STDERR_FILENO)
+        return file;
+    int moved = fcntl(file, F_DUPFD_CLOEXEC, STDERR_FILENO + 1);
+    close(file);
+    return moved;
+}
+
+bool open_journal(const char *word, const char *path) {
+    struct journal *journal = &library.journal;
+    int file = open_file(path);
+    if (file < 0)
+        return report(word, "%s: the file can't be opened: %s", path, strerror(errno));
+    journal->is_open = true;
+    journal->file = file;
+    journal->word = word;
+    return lock_file(journal, path);
+}
+
+bool is_new_journal(void) {
+    char start[HEADER_LENGTH];
+    off_t length = library.journal.length;
+    return length < HEADER_LENGTH
+        && pread(library.journal.file, start, (size_t)length, 0) == length
+        && memcmp(start, header, (size_t)length) == 0;
+}
+
+bool begin_journal(void) {
+    library.journal.length = 0;
+    library.journal.is_kept = true;
+    return buffer_add_text(&library.journal.text, header)
+        || report(library.journal.word, "there is no memory for the journal");
+}
+
+bool reserve_entry(size_t length) {
+    size_t label = sizeof label_start + 2 * LABEL_LENGTH + 1;
+    return !library.journal.is_kept
+        || buffer_reserve(&library.journal.text, length + 1 + label);
+}
+
+/* Adds what was reserved. */
+void add_entry(const uint8_t *line, size_t length) {
+    struct buffer *text = &library.journal.text;
+    if (!library.journal.is_kept)
+        return;
+    buffer_add(text, line, length);
+    size_t end = text->length;
+    if (!buffer_add_text(text, arrow) || !add_reply(text) || !reserve_entry(0))
+        text->length = end;
+    buffer_add_text(text, "\n");
+}
+
+bool set_label(const CK_UTF8CHAR *label) {
+    struct buffer *text = &library.journal.text;
+    memmove(library.label, label, LABEL_LENGTH);
+    return !library.journal.is_kept
+        || (buffer_add_text(text, label_start)
+            && buffer_add_hexadecimal(text, library.label, LABEL_LENGTH)
+            && buffer_add_text(text, "\n"));
+}
+
+/* Cuts the file off behind the length that is kept. */
+static bool truncate_file(const struct journal *journal) {
+    struct stat status;
+    if (fstat(journal->file, &status) != 0)
+        return false;
+    return status.st_size == journal->length || ftruncate(journal->file, journal->length) == 0;
+}
+
+/* What was written in part is taken back, since it is in no answer. */
+bool write_journal(void) {
+    struct journal *journal = &library.journal;
+    size_t length = journal->text.length;
+    journal->text.length = 0;
+    if (length == 0)
+        return true;
+    ssize_t written = write(journal->file, journal->text.bytes, length);
+    if (written == (ssize_t)length) {
+        journal->length += written;
+        return true;
+    }
+    const char *reason = written < 0 ? strerror(errno) : "there is no room for it";
+    const char *rest = truncate_file(journal) ? "" : ", and a part of it stays in the file";
+    journal->has_failed = true;
+    return report(journal->word, "a call can't be written: %s%s", reason, rest);
+}
+
+bool write_first_journal(void) {
+    const struct journal *journal = &library.journal;
+    if (journal->is_open && !truncate_file(journal))
+        return report(journal->word, "the file can't be cut off: %s", strerror(errno));
+    return write_journal();
+}
+
+void close_journal(void) {
+    if (library.journal.is_open)
+        close(library.journal.file);
+    buffer_free(&library.journal.text);
+}

@@ -1,0 +1,87 @@
+/*
+ * Keys and random bytes (PKCS #11 Base 3.0, Key management functions, Random number generation
+ * functions), and the states of keys, for which the standard has no function.
+ */
+#include "module.h"
+
+#include <string.h>
+
+/* The longest key. What a template asks for beyond it the token refuses. */
+enum { LONGEST_KEY = 4096 };
+
+/* How many random bytes a key takes by its template. */
+static size_t key_length(const CK_ATTRIBUTE *attributes, CK_ULONG count) {
+    for (CK_ULONG i = 0; i < count; i++) {
+        const CK_ATTRIBUTE *attribute = &attributes[i];
+        CK_ULONG length;
+        if (attribute->type != CKA_VALUE_LEN)
+            continue;
+        if (attribute->ulValueLen != sizeof length)
+            return 0;
+        memcpy(&length, attribute->pValue, sizeof length);
+        return length > LONGEST_KEY ? LONGEST_KEY : length;
+    }
+    return 0;
+}
+
+static CK_RV generate_key(struct call call, CK_OBJECT_HANDLE *key) {
+    uint8_t bytes[LONGEST_KEY];
+    if (call.mechanism == NULL)
+        return CKR_ARGUMENTS_BAD;
+    CK_RV code = check_call(&call);
+    if (code != CKR_OK)
+        return code;
+    call.bytes = (struct bytes){bytes, key_length(call.attributes, call.count)};
+    if (!random_bytes(bytes, call.bytes.length))
+        return CKR_DEVICE_ERROR;
+    return make_call_for_handle(&call, key);
+}
+
+CK_RV C_GenerateKey(CK_SESSION_HANDLE session, CK_MECHANISM_PTR mechanism,
+                    CK_ATTRIBUTE_PTR attributes, CK_ULONG count, CK_OBJECT_HANDLE_PTR key) {
+    const struct call call = {
+        .name = GENERATE_KEY,
+        .session = session,
+        .mechanism = mechanism,
+        .attributes = attributes,
+        .count = count,
+    };
+    CK_RV code = enter();
+    return code == CKR_OK ? leave(generate_key(call, key)) : code;
+}
+
+/* Whether a function may go on that is about bytes and a session alone. */
+static CK_RV check_session(CK_SESSION_HANDLE session, const CK_BYTE *bytes, CK_ULONG length) {
+    const struct call call = {.name = GET_SESSION_INFO, .session = session};
+    if (bytes == NULL && length > 0)
+        return CKR_ARGUMENTS_BAD;
+    return make_call(&call);
+}
+
+CK_RV C_GenerateRandom(CK_SESSION_HANDLE session, CK_BYTE_PTR out, CK_ULONG length) {
+    CK_RV code = enter();
+    if (code != CKR_OK)
+        return code;
+    code = check_session(session, out, length);
+    if (code == CKR_OK && !random_bytes(out, length))
+        code = CKR_DEVICE_ERROR;
+    return leave(code);
+}
+
+CK_RV C_SeedRandom(CK_SESSION_HANDLE session, CK_BYTE_PTR seed, CK_ULONG length) {
+    CK_RV code = enter();
+    if (code != CKR_OK)
+        return code;
+    code = check_session(session, seed, length);
+    return leave(code == CKR_OK ? CKR_RANDOM_SEED_NOT_SUPPORTED : code);
+}
+
+CK_RV C_SetKeyState(CK_SESSION_HANDLE session, CK_OBJECT_HANDLE key, CK_ULONG state) {
+    const struct call call = {
+        .name = SET_KEY_STATE,
+        .session = session,
+        .object = key,
+        .number = state,
+    };
+    return answer(&call);
+}

@@ -1,0 +1,109 @@
+/*
+ * The lock that calls take, and what a fork does to the library.
+ *
+ * The lock is the module's own mutex, or one that is made by the application's functions (PKCS #11
+ * Base 3.0, General-purpose functions, C_Initialize). In the latter case the own mutex is held for
+ * a moment alone, since the application's threads may be none that it knows.
+ */
+#include "module.h"
+
+#include <pthread.h>
+#include <unistd.h>
+
+/* Zeros where the own mutex is the lock. */
+struct application_lock {
+    CK_VOID_PTR mutex;
+    CK_DESTROYMUTEX destroy;
+    CK_LOCKMUTEX lock;
+    CK_UNLOCKMUTEX unlock;
+};
+
+struct library library;
+
+static pthread_mutex_t own_mutex = PTHREAD_MUTEX_INITIALIZER;
+static struct application_lock application_lock;
+
+/* Never read. By it the memory of the parent stays reachable in the child of a fork, so that nobody
+ * takes it for lost. */
+static struct library left_by_parent __attribute__((used));
+
+CK_RV enter(void) {
+    pthread_mutex_lock(&own_mutex);
+    if (!library.is_initialized) {
+        pthread_mutex_unlock(&own_mutex);
+        return CKR_CRYPTOKI_NOT_INITIALIZED;
+    }
+    if (application_lock.lock == NULL)
+        return CKR_OK;
+    struct application_lock lock = application_lock;
+    pthread_mutex_unlock(&own_mutex);
+    return lock.lock(lock.mutex) == CKR_OK ? CKR_OK : CKR_GENERAL_ERROR;
+}
+
+CK_RV leave(CK_RV code) {
+    if (application_lock.lock == NULL)
+        pthread_mutex_unlock(&own_mutex);
+    else
+        application_lock.unlock(application_lock.mutex);
+    return code;
+}
+
+void take_own_mutex(void) {
+    pthread_mutex_lock(&own_mutex);
+}
+
+void release_own_mutex(void) {
+    pthread_mutex_unlock(&own_mutex);
+}
+
+CK_RV open_lock(const CK_C_INITIALIZE_ARGS *arguments) {
+    if (arguments == NULL || arguments->CreateMutex == NULL
+        || (arguments->flags & CKF_OS_LOCKING_OK) != 0)
+        return CKR_OK;
+    struct application_lock lock = {
+        .destroy = arguments->DestroyMutex,
+        .lock = arguments->LockMutex,
+        .unlock = arguments->UnlockMutex,
+    };
+    CK_RV code = arguments->CreateMutex(&lock.mutex);
+    if (code == CKR_OK)
+        application_lock = lock;
+    return code;
+}
+
+void drop_lock(void) {
+    if (application_lock.lock != NULL)
+        application_lock.destroy(application_lock.mutex);
+    application_lock = (struct application_lock){0};
+}
+
+void close_library(void) {
+    struct application_lock lock = application_lock;
+    if (lock.lock != NULL)
+        pthread_mutex_lock(&own_mutex);
+    library = (struct library){0};
+    application_lock = (struct application_lock){0};
+    pthread_mutex_unlock(&own_mutex);
+    if (lock.lock != NULL) {
+        lock.unlock(lock.mutex);
+        lock.destroy(lock.mutex);
+    }
+}
+
+/* The parent may have been in the middle of a call in another thread, so its memory is neither used
+ * nor freed. */
+static void begin_in_child(void) {
+    if (library.journal.is_open)
+        close(library.journal.file);
+    left_by_parent = library;
+    library = (struct library){0};
+    application_lock = (struct application_lock){0};
+    pthread_mutex_init(&own_mutex, NULL);
+}
+
+bool watch_forks(void) {
+    static bool is_watching;
+    if (!is_watching)
+        is_watching = pthread_atfork(NULL, NULL, begin_in_child) == 0;
+    return is_watching;
+}

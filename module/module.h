@@ -1,0 +1,304 @@
+/*
+ * What the files of the module share: its state, the calls that it makes of the token, and the
+ * helpers that more than one file needs. Every file includes it first.
+ */
+#ifndef OSPREYRACK_MODULE_H
+#define OSPREYRACK_MODULE_H
+
+#ifndef _GNU_SOURCE
+#define _GNU_SOURCE
+#endif
+
+#if !defined(__linux__) || !defined(__x86_64__)
+#error "the module is for Linux on x86-64"
+#endif
+
+#include <stdbool.h>
+#include <stddef.h>
+#include <stdint.h>
+#include <sys/types.h>
+
+/* The functions that the header declares are what the library exports. */
+#pragma GCC visibility push(default)
+#include <pkcs11.h>
+#pragma GCC visibility pop
+
+#include "token.h"
+
+_Static_assert(sizeof(CK_ULONG) == 8 && sizeof(void *) == 8, "the module is for 64 bits");
+_Static_assert(__BYTE_ORDER__ == __ORDER_LITTLE_ENDIAN__, "the module is for little endian");
+_Static_assert(_Alignof(max_align_t) >= 16, "malloc gives room that is aligned for a token");
+
+/* ---- Buffers: buffers.c */
+
+/* Bytes that grow. Where memory is refused, a function answers false and nothing has changed. */
+struct buffer {
+    uint8_t *bytes;
+    size_t length;
+    size_t room;
+};
+
+/* Makes room for so many more bytes. Afterwards `bytes` isn't NULL, also where none are asked for. */
+bool buffer_reserve(struct buffer *buffer, size_t more);
+bool buffer_add(struct buffer *buffer, const void *bytes, size_t length);
+bool buffer_add_text(struct buffer *buffer, const char *text);
+
+/* Adds two hexadecimal digits for each byte. */
+bool buffer_add_hexadecimal(struct buffer *buffer, const uint8_t *bytes, size_t length);
+void buffer_free(struct buffer *buffer);
+
+/* ---- The state of the library */
+
+enum { LABEL_LENGTH = 32 };
+
+/* The journal file. */
+struct journal {
+    bool is_open;
+    bool is_kept;       /* calls that are answered are added to it */
+    bool has_failed;    /* it couldn't be written, so no call is answered any more */
+    int file;
+    off_t length;       /* how long the file is, without what is left to be written */
+    const char *word;   /* the word of the environment that names the file */
+    struct buffer text; /* what is left to be written */
+};
+
+/* Everything between C_Initialize and C_Finalize. It is read and written under the lock alone. */
+struct library {
+    bool is_initialized;
+    struct token token;
+    CK_UTF8CHAR label[LABEL_LENGTH];
+    bool cuts_journal; /* the token's journal in memory is cut where no session is open */
+    bool has_seed;     /* random bytes follow from a seed */
+    uint64_t seed;     /* the state of the seeded generator */
+    struct journal journal;
+    struct buffer line;   /* a call as a line of the script language */
+    struct buffer items;  /* the items of a template, or queries */
+    struct buffer values; /* the values of a template's items */
+    struct buffer reply;  /* a reply's text that is compared */
+};
+
+extern struct library library;
+
+/* ---- Locking: locking.c */
+
+/* Takes the lock: CKR_OK, or else the code to be returned at once. */
+CK_RV enter(void);
+
+/* Releases the lock, and returns the code. */
+CK_RV leave(CK_RV code);
+
+/* C_Initialize holds the module's own mutex, whatever the application's lock is. */
+void take_own_mutex(void);
+void release_own_mutex(void);
+
+/* Makes the lock that these arguments of C_Initialize ask for; NULL asks for the own mutex. */
+CK_RV open_lock(const CK_C_INITIALIZE_ARGS *arguments);
+
+/* Gives a lock back that isn't held. */
+void drop_lock(void);
+
+/* Clears the library's state and gives the lock back, which is held. */
+void close_library(void);
+
+/* From now on a child of a fork begins without initialization. Answers false without memory. */
+bool watch_forks(void);
+
+/* ---- Calls: calls.c */
+
+/* The calls of the script language. */
+enum call_name {
+    INIT_TOKEN,
+    INIT_PIN,
+    SET_PIN,
+    OPEN_SESSION,
+    CLOSE_SESSION,
+    CLOSE_ALL_SESSIONS,
+    LOGIN,
+    LOGOUT,
+    GET_SESSION_INFO,
+    GET_TOKEN_INFO,
+    GET_MECHANISM_LIST,
+    SESSION_CANCEL,
+    CREATE_OBJECT,
+    GENERATE_KEY,
+    COPY_OBJECT,
+    GET_ATTRIBUTE_VALUE,
+    SET_ATTRIBUTE_VALUE,
+    SET_KEY_STATE,
+    DESTROY_OBJECT,
+    FIND_OBJECTS_INIT,
+    FIND_OBJECTS,
+    FIND_OBJECTS_FINAL,
+    DIGEST_INIT,
+    DIGEST,
+    DIGEST_UPDATE,
+    DIGEST_FINAL,
+    SIGN_INIT,
+    SIGN,
+    SIGN_UPDATE,
+    SIGN_FINAL,
+    VERIFY_INIT,
+    VERIFY,
+    VERIFY_UPDATE,
+    VERIFY_FINAL,
+};
+
+enum {
+    LONGEST_PIN = 64,
+    LONGEST_SIGNATURE = 64,
+    LONGEST_PARAMETER = 8,
+    LONGEST_MESSAGE = 1 << 20,
+    LONGEST_LINE = 4194304,
+};
+
+struct bytes {
+    const uint8_t *at; /* NULL only where the application gave NULL with a length */
+    size_t length;
+};
+
+/* The room for a digest or a signature. Without room its length alone is asked for. */
+struct room {
+    bool has_room;
+    CK_ULONG length;
+};
+
+/* A call with its arguments; those that the call hasn't are zeros. */
+struct call {
+    enum call_name name;
+    CK_ULONG session;
+    CK_ULONG object; /* an object or a key */
+    CK_ULONG number; /* a user, the most handles, or a key's state */
+    CK_FLAGS flags;
+    struct bytes pin, new_pin;
+    struct bytes bytes; /* a message, a piece of it, or the random bytes of a new key */
+    struct bytes signature;
+    struct room room;
+    const CK_MECHANISM *mechanism;
+    const CK_ATTRIBUTE *attributes; /* a template, or queries */
+    CK_ULONG count;
+    const CK_UTF8CHAR *label; /* of INIT_TOKEN */
+};
+
+/* The bytes that the application gave. Of what is longer than `longest` one byte more than that is
+ * handed on, so that it stays too long. */
+struct bytes bytes_of(const void *at, CK_ULONG length, size_t longest);
+struct bytes parameter_of(const CK_MECHANISM *mechanism);
+
+/* What is wrong with the pointers and lengths of a call's arguments. */
+CK_RV check_call(const struct call *call);
+
+/* Makes a call under the lock. Returns what is wrong with its arguments; CKR_HOST_MEMORY where
+ * there is no memory for it, and nothing has changed; CKR_DEVICE_ERROR where the journal file can't
+ * be written; or the reply's code. */
+CK_RV make_call(const struct call *call);
+
+/* The same, of a call that is answered a handle. */
+CK_RV make_call_for_handle(const struct call *call, CK_ULONG *handle);
+
+/* The same with the lock taken and released. */
+CK_RV answer(const struct call *call);
+CK_RV answer_handle(const struct call *call, CK_ULONG *handle);
+
+/* Makes the call of a line, and adds it to the journal's text where a journal is kept. */
+uint32_t answer_line(const uint8_t *line, size_t length);
+
+/* Cuts the token's journal in memory where it is long and the configuration lets it. */
+void cut_journal(void);
+
+/* Appends the text of the reply to the last call. */
+bool add_reply(struct buffer *buffer);
+
+/* ---- Lines: lines.c */
+
+/* Writes a call as a line. Answers false where it is too long, or without memory. */
+bool write_line(const struct call *call, uint32_t caller, struct buffer *line);
+
+/* ---- Messages: messages.c */
+
+/* Starts an operation of the kind that the flag names, or ends it where there is no mechanism. */
+CK_RV begin_operation(const struct call *call, CK_FLAGS kind);
+
+/* Makes a call that is answered a digest or a signature. */
+CK_RV answer_output(struct call call, CK_BYTE *output, CK_ULONG *length);
+
+/* Makes an update of an operation, in as many pieces as are needed. */
+CK_RV answer_update(struct call call, CK_FLAGS kind);
+
+/* ---- The journal file: journal.c */
+
+/* Opens and locks the file. */
+bool open_journal(const char *word, const char *path);
+
+/* Begins the text of a new journal, where the file is empty or has a part of its header alone. */
+bool is_new_journal(void);
+bool begin_journal(void);
+
+/* Makes room for a line with its end and a label, so that these can be added without a fault. */
+bool reserve_entry(size_t length);
+
+/* Adds a line and the reply to it, or the line alone where there is no memory for the reply. */
+void add_entry(const uint8_t *line, size_t length);
+
+/* Keeps the label, and adds it to the journal. */
+bool set_label(const CK_UTF8CHAR *label);
+
+/* What stands between a call and its reply, and what the line of a label begins with. */
+extern const char arrow[];
+extern const char label_start[];
+
+/* Writes what is left to be written. */
+bool write_journal(void);
+
+/* The same once the file's lines are answered: first it is cut off behind those that are kept. */
+bool write_first_journal(void);
+void close_journal(void);
+
+/* ---- Scripts: scripts.c */
+
+/* Answers the lines of a script, or those of the journal file that is open. */
+bool answer_script(const char *word, const char *path);
+bool answer_journal(const char *path);
+
+/* Closes the sessions that they left open. */
+bool close_sessions(const char *word);
+
+/* ---- Configuration: configuration.c */
+
+/* Does what the words of the environment say. Where it can't, a line on standard error says why. */
+bool configure(void);
+
+/* Writes a line to standard error. Answers false, so that what fails can return it. */
+bool report(const char *word, const char *format, ...) __attribute__((format(printf, 2, 3)));
+
+/* ---- Random bytes: random.c */
+
+bool random_bytes(uint8_t *out, size_t length);
+
+/* ---- What the module says of itself: general.c */
+
+#define MANUFACTURER "Ospreyrack"
+
+extern const CK_VERSION module_version;
+
+/* ---- Slots: slots.c */
+
+/* The one slot. */
+enum { SLOT = 0 };
+
+/* Takes the lock for a function that names a slot. */
+CK_RV enter_slot(CK_SLOT_ID slot);
+
+/* Copies a text, and pads it with blanks. */
+void copy_padded(CK_UTF8CHAR *out, size_t length, const char *text);
+
+/* ---- The vendor interface */
+
+/* "Vendor Ospreyrack" 1.0. */
+struct vendor_functions {
+    CK_VERSION version;
+    CK_RV (*C_SetKeyState)(CK_SESSION_HANDLE session, CK_OBJECT_HANDLE key, CK_ULONG state);
+};
+
+CK_RV C_SetKeyState(CK_SESSION_HANDLE session, CK_OBJECT_HANDLE key, CK_ULONG state);
+
+#endif

@@ -1,0 +1,191 @@
+/*
+ * The lines of scripts and of journal files, which are answered when the library is initialized.
+ */
+#include "module.h"
+
+#include <errno.h>
+#include <fcntl.h>
+#include <stdio.h>
+#include <stdlib.h>
+#include <string.h>
+#include <unistd.h>
+
+/* A file that is read. */
+struct source {
+    const char *word; /* the word of the environment that names it */
+    const char *path;
+    bool is_journal;  /* a reply may be missing in it, and the end of the last line */
+    bool has_begun;   /* it has a line that isn't a comment */
+    bool has_calls;
+    size_t number;    /* of the line that was last read */
+    off_t length;     /* of all lines with their ends */
+};
+
+static bool report_line(const struct source *source, const char *reason) {
+    return report(source->word, "%s, line %zu: %s", source->path, source->number, reason);
+}
+
+static bool is_text(const uint8_t *line, size_t length, const char *text) {
+    return length == strlen(text) && memcmp(line, text, length) == 0;
+}
+
+static bool is_comment(const uint8_t *line, size_t length) {
+    return length == 0 || (line[0] == '#' && length <= LONGEST_LINE);
+}
+
+/* A digit's value, or 16 where it is none. */
+static unsigned digit_value(uint8_t digit) {
+    static const char digits[] = "0123456789abcdef";
+    const char *at = memchr(digits, digit, 16);
+    return at == NULL ? 16 : (unsigned)(at - digits);
+}
+
+static bool read_hexadecimal(const uint8_t *text, uint8_t *out, size_t length) {
+    for (size_t i = 0; i < length; i++) {
+        unsigned high = digit_value(text[2 * i]);
+        unsigned low = digit_value(text[2 * i + 1]);
+        if (high > 15 || low > 15)
+            return false;
+        out[i] = (uint8_t)(high << 4 | low);
+    }
+    return true;
+}
+
+/* Some comments have the token's label. */
+static bool answer_comment(const struct source *source, const uint8_t *line, size_t length) {
+    CK_UTF8CHAR label[LABEL_LENGTH];
+    size_t start = strlen(label_start);
+    if (length != start + 2 * LABEL_LENGTH || memcmp(line, label_start, start) != 0
+        || !read_hexadecimal(line + start, label, LABEL_LENGTH))
+        return true;
+    return set_label(label) || report_line(source, "there is no memory for the label");
+}
+
+/* Of long replies the first bytes are shown. */
+static bool report_reply(const struct source *source, const struct buffer *reply,
+                         const uint8_t *given, size_t length) {
+    enum { MOST_SHOWN = 40 };
+    char reason[128];
+    int shown = reply->length > MOST_SHOWN ? MOST_SHOWN : (int)reply->length;
+    int given_shown = length > MOST_SHOWN ? MOST_SHOWN : (int)length;
+    if (given == NULL)
+        snprintf(reason, sizeof reason, "the reply is %.*s", shown, (const char *)reply->bytes);
+    else
+        snprintf(reason, sizeof reason, "the reply is %.*s, and not %.*s", shown,
+                 (const char *)reply->bytes, given_shown, (const char *)given);
+    return report_line(source, reason);
+}
+
+/* Whether the reply to the last call is the one that is given, or OK where none is. */
+static bool check_reply(const struct source *source, const uint8_t *given, size_t length) {
+    struct buffer *reply = &library.reply;
+    if (given == NULL && (source->is_journal || ospreyrack_code(&library.token) == CKR_OK))
+        return true;
+    reply->length = 0;
+    if (!add_reply(reply))
+        return report_line(source, "there is no memory for the reply");
+    if (given != NULL && length == reply->length && memcmp(given, reply->bytes, length) == 0)
+        return true;
+    return report_reply(source, reply, given, length);
+}
+
+static bool answer_call(struct source *source, const uint8_t *line, size_t length) {
+    const uint8_t *at = memmem(line, length, arrow, strlen(arrow));
+    size_t call_length = at == NULL ? length : (size_t)(at - line);
+    uint32_t step = answer_line(line, call_length);
+    if (step == NO_MEMORY)
+        return report_line(source, "there is no memory for the call");
+    if (step != ANSWERED)
+        return report_line(source, "this is no call");
+    source->has_calls = true;
+    if (at == NULL)
+        return check_reply(source, NULL, 0);
+    at += strlen(arrow);
+    return check_reply(source, at, length - (size_t)(at - line));
+}
+
+/* A journal begins with the limits of its token. A new token has no others. */
+static bool answer_text(struct source *source, const uint8_t *line, size_t length) {
+    if (is_comment(line, length))
+        return answer_comment(source, line, length);
+    source->has_begun = true;
+    if (!source->has_calls && is_text(line, length, "limits largest"))
+        return true;
+    bool is_good = answer_call(source, line, length);
+    cut_journal();
+    return is_good;
+}
+
+/* A journal's last line lacks its end where the process was killed while it was written. In a file
+ * that nothing shows to be a journal, it is left alone. */
+static bool drop_line(const struct source *source) {
+    if (!source->has_begun)
+        return report_line(source, "this is no journal");
+    report_line(source, "the line has no end, so it wasn't answered, and is dropped");
+    return true;
+}
+
+static bool answer_source_line(struct source *source, const char *line, size_t length) {
+    bool has_end = line[length - 1] == '\n';
+    source->number++;
+    if (!has_end && source->is_journal)
+        return drop_line(source);
+    source->length += (off_t)length;
+    return answer_text(source, (const uint8_t *)line, has_end ? length - 1 : length);
+}
+
+static bool answer_lines(struct source *source, FILE *file) {
+    char *line = NULL;
+    size_t room = 0;
+    bool is_good = true;
+    while (is_good) {
+        ssize_t length = getline(&line, &room, file);
+        if (length <= 0)
+            break;
+        is_good = answer_source_line(source, line, (size_t)length);
+    }
+    if (is_good && !feof(file))
+        is_good = report(source->word, "%s: the file can't be read: %s", source->path,
+                         strerror(errno));
+    free(line);
+    return is_good;
+}
+
+static bool answer_file(struct source *source, FILE *file) {
+    if (file == NULL)
+        return report(source->word, "%s: the file can't be opened: %s", source->path,
+                      strerror(errno));
+    bool is_good = answer_lines(source, file);
+    fclose(file);
+    return is_good;
+}
+
+bool answer_script(const char *word, const char *path) {
+    struct source source = {.word = word, .path = path};
+    return answer_file(&source, fopen(path, "re"));
+}
+
+/* The journal file by a descriptor of its own, which can be closed. */
+static FILE *copy_of_journal(void) {
+    int file = fcntl(library.journal.file, F_DUPFD_CLOEXEC, 0);
+    FILE *copy = file < 0 ? NULL : fdopen(file, "r");
+    if (copy == NULL && file >= 0)
+        close(file);
+    return copy;
+}
+
+/* The journal goes on behind the last line that has its end. */
+bool answer_journal(const char *path) {
+    struct source source = {.word = library.journal.word, .path = path, .is_journal = true};
+    if (!answer_file(&source, copy_of_journal()))
+        return false;
+    library.journal.length = source.length;
+    library.journal.is_kept = true;
+    return true;
+}
+
+bool close_sessions(const char *word) {
+    static const char line[] = "1 CloseAllSessions";
+    return answer_line((const uint8_t *)line, strlen(line)) == ANSWERED
+        || report(word, "there is no memory for the last call");
+}

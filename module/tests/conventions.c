@@ -1,0 +1,1133 @@
+/*
+ * The conventions of the C interface, which the token itself knows nothing of: pointers, lengths
+ * and rooms, the order of initialization, the lists of functions, the application's lock, forks and
+ * the words of the environment. Called with the module's file and a temporary folder, and with the
+ * word `journals` where each token is to keep a journal there.
+ */
+#include "support.h"
+
+#include <sanitizer/lsan_interface.h>
+#include <stdio.h>
+#include <stdlib.h>
+#include <string.h>
+#include <sys/stat.h>
+#include <sys/wait.h>
+#include <unistd.h>
+
+static const char *folder;
+
+static const CK_FLAGS read_write = CKF_SERIAL_SESSION | CKF_RW_SESSION;
+
+/* ---- Every function of the list, by its name */
+
+struct function {
+    const char *name;
+    size_t offset; /* in the function list */
+};
+
+#define CK_PKCS11_3_0 1
+#define CK_PKCS11_FUNCTION_INFO(name) {#name, offsetof(CK_FUNCTION_LIST_3_0, name)},
+
+static const struct function functions[] = {
+#include <pkcs11f.h>
+};
+
+#undef CK_PKCS11_FUNCTION_INFO
+
+enum { FUNCTIONS = sizeof functions / sizeof *functions };
+
+/* No function has more than nine arguments, and each of them is a number or a pointer. */
+typedef CK_RV (*any_function)(CK_ULONG, CK_ULONG, CK_ULONG, CK_ULONG, CK_ULONG, CK_ULONG, CK_ULONG,
+                              CK_ULONG, CK_ULONG);
+
+static any_function function_at(const void *list, size_t offset) {
+    any_function function;
+    memcpy(&function, (const char *)list + offset, sizeof function);
+    return function;
+}
+
+static CK_RV call_with_zeros(const struct function *function) {
+    return function_at(p11, function->offset)(0, 0, 0, 0, 0, 0, 0, 0, 0);
+}
+
+static bool is_one_of(const char *name, const char *const *names) {
+    for (; *names != NULL; names++) {
+        if (strcmp(*names, name) == 0)
+            return true;
+    }
+    return false;
+}
+
+/* ---- Lists of functions */
+
+static void test_lists(void) {
+    CK_FUNCTION_LIST *old = NULL;
+    CHECK(p11->version.major == 3 && p11->version.minor == 0);
+    EXPECT(CKR_OK, p11->C_GetFunctionList(&old));
+    CHECK(old != NULL && old->version.major == 2 && old->version.minor == 40);
+    for (size_t i = 0; i < FUNCTIONS; i++) {
+        const struct function *function = &functions[i];
+        void *symbol = exported(function->name);
+        any_function address = function_at(p11, function->offset);
+        check(symbol != NULL && memcmp(&symbol, &address, sizeof symbol) == 0, function->name);
+        if (old != NULL && function->offset < sizeof *old)
+            check(function_at(old, function->offset) == address, function->name);
+    }
+    CHECK(exported("C_SetKeyState") == NULL);
+    CHECK(exported("ospreyrack_line") == NULL);
+}
+
+static bool is_interface(const CK_INTERFACE *interface, const char *name, int major, int minor) {
+    const CK_VERSION *version = interface->pFunctionList;
+    return strcmp((const char *)interface->pInterfaceName, name) == 0 && version->major == major
+        && version->minor == minor && interface->flags == 0;
+}
+
+static void test_interfaces(void) {
+    static CK_UTF8CHAR standard[] = "PKCS 11", vendor[] = "Vendor Ospreyrack", other[] = "PKCS 12";
+    CK_VERSION v3_0 = {3, 0}, v2_40 = {2, 40}, v1_0 = {1, 0}, v3_1 = {3, 1};
+    CK_INTERFACE *interface = NULL;
+    EXPECT(CKR_OK, p11->C_GetInterface(NULL, NULL, &interface, 0));
+    CHECK(is_interface(interface, "PKCS 11", 3, 0));
+    EXPECT(CKR_OK, p11->C_GetInterface(standard, NULL, &interface, 0));
+    CHECK(is_interface(interface, "PKCS 11", 3, 0));
+    EXPECT(CKR_OK, p11->C_GetInterface(NULL, &v3_0, &interface, 0));
+    CHECK(interface->pFunctionList == p11);
+    EXPECT(CKR_OK, p11->C_GetInterface(standard, &v2_40, &interface, 0));
+    CHECK(is_interface(interface, "PKCS 11", 2, 40));
+    EXPECT(CKR_OK, p11->C_GetInterface(vendor, &v1_0, &interface, 0));
+    CHECK(is_interface(interface, "Vendor Ospreyrack", 1, 0));
+    CHECK(p11->C_GetInterface(other, NULL, &interface, 0) != CKR_OK);
+    CHECK(p11->C_GetInterface(standard, &v3_1, &interface, 0) != CKR_OK);
+    CHECK(p11->C_GetInterface(vendor, &v2_40, &interface, 0) != CKR_OK);
+    CHECK(p11->C_GetInterface(NULL, NULL, &interface, CKF_INTERFACE_FORK_SAFE) != CKR_OK);
+    EXPECT(CKR_ARGUMENTS_BAD, p11->C_GetInterface(NULL, NULL, NULL, 0));
+    EXPECT(CKR_ARGUMENTS_BAD, p11->C_GetFunctionList(NULL));
+    EXPECT(CKR_ARGUMENTS_BAD, p11->C_GetInterfaceList(NULL, NULL));
+}
+
+struct vendor_functions {
+    CK_VERSION version;
+    CK_RV (*C_SetKeyState)(CK_SESSION_HANDLE session, CK_OBJECT_HANDLE key, CK_ULONG state);
+};
+
+static void test_vendor_interface(void) {
+    static CK_UTF8CHAR name[] = "Vendor Ospreyrack";
+    CK_INTERFACE *interface = NULL;
+    CK_MECHANISM hmac = mechanism_of(CKM_SHA256_HMAC);
+    EXPECT(CKR_OK, p11->C_GetInterface(name, NULL, &interface, 0));
+    const struct vendor_functions *vendor = interface->pFunctionList;
+    EXPECT(CKR_CRYPTOKI_NOT_INITIALIZED, vendor->C_SetKeyState(1, 1, 5));
+    CK_SESSION_HANDLE session = begin_token();
+    CK_OBJECT_HANDLE key = create_key(session, "Jefe");
+    EXPECT(CKR_OK, vendor->C_SetKeyState(session, key, 5));
+    EXPECT(CKR_KEY_FUNCTION_NOT_PERMITTED, p11->C_SignInit(session, &hmac, key));
+    EXPECT(CKR_OK, p11->C_VerifyInit(session, &hmac, key));
+    EXPECT(CKR_ARGUMENTS_BAD, vendor->C_SetKeyState(session, key, 99));
+    EXPECT(CKR_ACTION_PROHIBITED, vendor->C_SetKeyState(session, key, 5));
+    EXPECT(CKR_KEY_HANDLE_INVALID, vendor->C_SetKeyState(session, 0, 1));
+    EXPECT(CKR_SESSION_HANDLE_INVALID, vendor->C_SetKeyState(0, key, 1));
+    end_token();
+}
+
+/* ---- The order of initialization */
+
+static const char *const always_answered[] = {
+    "C_Initialize", "C_GetFunctionList", "C_GetInterface", "C_GetInterfaceList", NULL,
+};
+
+static void check_not_initialized(void) {
+    for (size_t i = 0; i < FUNCTIONS; i++) {
+        if (!is_one_of(functions[i].name, always_answered))
+            check_code(call_with_zeros(&functions[i]), CKR_CRYPTOKI_NOT_INITIALIZED,
+                       functions[i].name);
+    }
+}
+
+static void test_order(void) {
+    check_not_initialized();
+    EXPECT(CKR_OK, p11->C_Initialize(NULL));
+    EXPECT(CKR_CRYPTOKI_ALREADY_INITIALIZED, p11->C_Initialize(NULL));
+    EXPECT(CKR_ARGUMENTS_BAD, p11->C_Finalize(token_label));
+    CK_SESSION_HANDLE session = log_in();
+    EXPECT(CKR_OK, p11->C_Finalize(NULL));
+    check_not_initialized();
+    EXPECT(CKR_OK, p11->C_Initialize(NULL));
+    EXPECT(CKR_SESSION_HANDLE_INVALID, p11->C_CloseSession(session));
+    CK_TOKEN_INFO info;
+    EXPECT(CKR_OK, p11->C_GetTokenInfo(0, &info));
+    check((info.flags & CKF_TOKEN_INITIALIZED) == 0, "C_Initialize makes a new token");
+    end_token();
+}
+
+/* ---- Functions that aren't supported */
+
+static const char *const supported[] = {
+    "C_Initialize", "C_Finalize", "C_GetInfo", "C_GetFunctionList", "C_GetInterface",
+    "C_GetInterfaceList", "C_GetSlotList", "C_GetSlotInfo", "C_GetTokenInfo", "C_GetMechanismList",
+    "C_GetMechanismInfo", "C_WaitForSlotEvent", "C_InitToken", "C_InitPIN", "C_SetPIN",
+    "C_OpenSession", "C_CloseSession", "C_CloseAllSessions", "C_GetSessionInfo", "C_SessionCancel",
+    "C_Login", "C_Logout", "C_CreateObject", "C_CopyObject", "C_DestroyObject", "C_GetObjectSize",
+    "C_GetAttributeValue", "C_SetAttributeValue", "C_FindObjectsInit", "C_FindObjects",
+    "C_FindObjectsFinal", "C_DigestInit", "C_Digest", "C_DigestUpdate", "C_DigestFinal",
+    "C_SignInit", "C_Sign", "C_SignUpdate", "C_SignFinal", "C_VerifyInit", "C_Verify",
+    "C_VerifyUpdate", "C_VerifyFinal", "C_GenerateKey", "C_SeedRandom", "C_GenerateRandom", NULL,
+};
+
+static const char *const parallel[] = {"C_GetFunctionStatus", "C_CancelFunction", NULL};
+
+static void test_unsupported(void) {
+    begin_token();
+    for (size_t i = 0; i < FUNCTIONS; i++) {
+        const char *name = functions[i].name;
+        CK_RV expected = is_one_of(name, parallel) ? CKR_FUNCTION_NOT_PARALLEL
+                                                   : CKR_FUNCTION_NOT_SUPPORTED;
+        if (!is_one_of(name, supported))
+            check_code(call_with_zeros(&functions[i]), expected, name);
+    }
+    CK_SLOT_ID slot = 7;
+    EXPECT(CKR_NO_EVENT, p11->C_WaitForSlotEvent(CKF_DONT_BLOCK, &slot, NULL));
+    EXPECT(CKR_FUNCTION_NOT_SUPPORTED, p11->C_WaitForSlotEvent(0, &slot, NULL));
+    end_token();
+}
+
+/* ---- Arguments of C_Initialize */
+
+static int mutexes, locks, unlocks, destroyed, created_code, locked_code, depth;
+
+static CK_RV create_mutex(CK_VOID_PTR_PTR mutex) {
+    if (created_code != CKR_OK)
+        return (CK_RV)created_code;
+    *mutex = &mutexes;
+    mutexes++;
+    return CKR_OK;
+}
+
+static CK_RV destroy_mutex(CK_VOID_PTR mutex) {
+    check(mutex == &mutexes && depth == 0, "DestroyMutex is given the mutex, unlocked");
+    destroyed++;
+    return CKR_OK;
+}
+
+static CK_RV lock_mutex(CK_VOID_PTR mutex) {
+    if (locked_code != CKR_OK)
+        return (CK_RV)locked_code;
+    check(mutex == &mutexes && depth == 0, "LockMutex is given the mutex, unlocked");
+    depth++;
+    locks++;
+    return CKR_OK;
+}
+
+static CK_RV unlock_mutex(CK_VOID_PTR mutex) {
+    check(mutex == &mutexes && depth == 1, "UnlockMutex is given the mutex, locked");
+    depth--;
+    unlocks++;
+    return CKR_OK;
+}
+
+static CK_C_INITIALIZE_ARGS mutex_arguments(void) {
+    mutexes = locks = unlocks = destroyed = depth = 0;
+    created_code = locked_code = CKR_OK;
+    return (CK_C_INITIALIZE_ARGS){
+        .CreateMutex = create_mutex,
+        .DestroyMutex = destroy_mutex,
+        .LockMutex = lock_mutex,
+        .UnlockMutex = unlock_mutex,
+    };
+}
+
+static void test_bad_arguments(void) {
+    CK_C_INITIALIZE_ARGS arguments = {.LibraryParameters = (void *)token_label};
+    EXPECT(CKR_ARGUMENTS_BAD, p11->C_Initialize(&arguments));
+    for (unsigned set = 1; set < 15; set++) {
+        arguments = mutex_arguments();
+        arguments.CreateMutex = (set & 1) ? create_mutex : NULL;
+        arguments.DestroyMutex = (set & 2) ? destroy_mutex : NULL;
+        arguments.LockMutex = (set & 4) ? lock_mutex : NULL;
+        arguments.UnlockMutex = (set & 8) ? unlock_mutex : NULL;
+        EXPECT(CKR_ARGUMENTS_BAD, p11->C_Initialize(&arguments));
+    }
+    arguments = mutex_arguments();
+    created_code = CKR_CANT_LOCK;
+    EXPECT(CKR_CANT_LOCK, p11->C_Initialize(&arguments));
+    CHECK(destroyed == 0 && locks == unlocks);
+    arguments = (CK_C_INITIALIZE_ARGS){0};
+    EXPECT(CKR_OK, p11->C_Initialize(&arguments));
+    end_token();
+}
+
+/* Calls every function but C_Finalize, and sees that the lock was taken and released for it. */
+static void check_every_lock(void) {
+    static const char *const without[] = {
+        "C_Initialize", "C_Finalize", "C_GetFunctionList", "C_GetInterface", "C_GetInterfaceList",
+        NULL,
+    };
+    for (size_t i = 0; i < FUNCTIONS; i++) {
+        int before = locks;
+        if (is_one_of(functions[i].name, without))
+            continue;
+        call_with_zeros(&functions[i]);
+        check(locks > before && locks == unlocks && depth == 0, functions[i].name);
+    }
+}
+
+static void test_mutex_functions(void) {
+    CK_C_INITIALIZE_ARGS arguments = mutex_arguments();
+    EXPECT(CKR_OK, p11->C_Initialize(&arguments));
+    CHECK(mutexes == 1 && destroyed == 0);
+    log_in();
+    check_every_lock();
+    EXPECT(CKR_OK, p11->C_Finalize(NULL));
+    CHECK(mutexes == 1 && destroyed == 1 && locks == unlocks && depth == 0);
+    arguments = mutex_arguments();
+    arguments.flags = CKF_OS_LOCKING_OK;
+    EXPECT(CKR_OK, p11->C_Initialize(&arguments));
+    log_in();
+    EXPECT(CKR_OK, p11->C_Finalize(NULL));
+    CHECK(locks == unlocks && depth == 0 && mutexes == destroyed);
+}
+
+static void test_failing_lock(void) {
+    CK_C_INITIALIZE_ARGS arguments = mutex_arguments();
+    CK_INFO info;
+    EXPECT(CKR_OK, p11->C_Initialize(&arguments));
+    CK_SESSION_HANDLE session = log_in();
+    locked_code = CKR_MUTEX_BAD;
+    int before = unlocks;
+    CHECK(p11->C_GetInfo(&info) != CKR_OK);
+    CHECK(p11->C_CloseSession(session) != CKR_OK);
+    CHECK(p11->C_Finalize(NULL) != CKR_OK);
+    check(unlocks == before, "what wasn't locked isn't unlocked");
+    locked_code = CKR_OK;
+    check_code(p11->C_CloseSession(session), CKR_OK, "the call that found no lock changed nothing");
+    end_token();
+}
+
+/* ---- NULL pointers */
+
+static CK_BYTE bytes[64] = "bytes";
+static CK_ULONG length;
+
+static void test_null_general(void) {
+    begin_token();
+    EXPECT(CKR_ARGUMENTS_BAD, p11->C_GetInfo(NULL));
+    EXPECT(CKR_ARGUMENTS_BAD, p11->C_GetSlotList(CK_TRUE, NULL, NULL));
+    EXPECT(CKR_ARGUMENTS_BAD, p11->C_GetSlotInfo(0, NULL));
+    EXPECT(CKR_ARGUMENTS_BAD, p11->C_GetTokenInfo(0, NULL));
+    EXPECT(CKR_ARGUMENTS_BAD, p11->C_GetMechanismList(0, NULL, NULL));
+    EXPECT(CKR_ARGUMENTS_BAD, p11->C_GetMechanismInfo(0, CKM_SHA256, NULL));
+    EXPECT(CKR_ARGUMENTS_BAD, p11->C_WaitForSlotEvent(CKF_DONT_BLOCK, NULL, NULL));
+    EXPECT(CKR_ARGUMENTS_BAD, p11->C_WaitForSlotEvent(CKF_DONT_BLOCK, &length, bytes));
+    EXPECT(CKR_OK, p11->C_CloseAllSessions(0));
+    EXPECT(CKR_ARGUMENTS_BAD, p11->C_InitToken(0, NULL, 4, token_label));
+    EXPECT(CKR_ARGUMENTS_BAD, p11->C_InitToken(0, so_pin, 4, NULL));
+    EXPECT(CKR_ARGUMENTS_BAD, p11->C_OpenSession(0, read_write, NULL, NULL, NULL));
+    CK_TOKEN_INFO info;
+    EXPECT(CKR_OK, p11->C_GetTokenInfo(0, &info));
+    CHECK(info.ulSessionCount == 0 && (info.flags & CKF_SO_PIN_COUNT_LOW) == 0);
+    end_token();
+}
+
+static void test_null_sessions(void) {
+    CK_SESSION_HANDLE session = begin_token();
+    EXPECT(CKR_ARGUMENTS_BAD, p11->C_GetSessionInfo(session, NULL));
+    EXPECT(CKR_ARGUMENTS_BAD, p11->C_SetPIN(session, NULL, 4, user_pin, 4));
+    EXPECT(CKR_ARGUMENTS_BAD, p11->C_SetPIN(session, user_pin, 4, NULL, 4));
+    EXPECT(CKR_ARGUMENTS_BAD, p11->C_Login(session, CKU_SO, NULL, 4));
+    EXPECT(CKR_OK, p11->C_Logout(session));
+    EXPECT(CKR_ARGUMENTS_BAD, p11->C_Login(session, CKU_USER, NULL, 4));
+    EXPECT(CKR_PIN_INCORRECT, p11->C_Login(session, CKU_USER, NULL, 0));
+    EXPECT(CKR_OK, p11->C_Login(session, CKU_SO, so_pin, 4));
+    EXPECT(CKR_ARGUMENTS_BAD, p11->C_InitPIN(session, NULL, 4));
+    EXPECT(CKR_PIN_LEN_RANGE, p11->C_InitPIN(session, NULL, 0));
+    EXPECT(CKR_ARGUMENTS_BAD, p11->C_GenerateRandom(session, NULL, 1));
+    EXPECT(CKR_ARGUMENTS_BAD, p11->C_SeedRandom(session, NULL, 1));
+    EXPECT(CKR_OK, p11->C_GenerateRandom(session, NULL, 0));
+    end_token();
+}
+
+static void test_null_objects(void) {
+    CK_SESSION_HANDLE session = begin_token();
+    CK_OBJECT_HANDLE object = create_data(session, "label"), handle = 77;
+    CK_MECHANISM generation = mechanism_of(CKM_GENERIC_SECRET_KEY_GEN);
+    CK_ULONG key_length = 16;
+    CK_OBJECT_CLASS class = CKO_DATA;
+    CK_ATTRIBUTE data = {CKA_CLASS, &class, sizeof class};
+    CK_ATTRIBUTE key = {CKA_VALUE_LEN, &key_length, sizeof key_length};
+    EXPECT(CKR_ARGUMENTS_BAD, p11->C_CreateObject(session, NULL, 1, &handle));
+    EXPECT(CKR_ARGUMENTS_BAD, p11->C_CreateObject(session, &data, 1, NULL));
+    EXPECT(CKR_ARGUMENTS_BAD, p11->C_CopyObject(session, object, NULL, 1, &handle));
+    EXPECT(CKR_ARGUMENTS_BAD, p11->C_CopyObject(session, object, NULL, 0, NULL));
+    EXPECT(CKR_ARGUMENTS_BAD, p11->C_GetObjectSize(session, object, NULL));
+    EXPECT(CKR_ARGUMENTS_BAD, p11->C_GetAttributeValue(session, object, NULL, 1));
+    EXPECT(CKR_OK, p11->C_GetAttributeValue(session, object, NULL, 0));
+    EXPECT(CKR_ARGUMENTS_BAD, p11->C_SetAttributeValue(session, object, NULL, 1));
+    EXPECT(CKR_ARGUMENTS_BAD, p11->C_FindObjectsInit(session, NULL, 1));
+    EXPECT(CKR_OK, p11->C_FindObjectsInit(session, NULL, 0));
+    EXPECT(CKR_ARGUMENTS_BAD, p11->C_FindObjects(session, NULL, 1, &length));
+    EXPECT(CKR_ARGUMENTS_BAD, p11->C_FindObjects(session, &handle, 1, NULL));
+    EXPECT(CKR_OK, p11->C_FindObjects(session, &handle, 1, &length));
+    check(length == 1 && handle == object, "the calls before found nothing and lost nothing");
+    EXPECT(CKR_ARGUMENTS_BAD, p11->C_GenerateKey(session, NULL, &key, 1, &handle));
+    EXPECT(CKR_ARGUMENTS_BAD, p11->C_GenerateKey(session, &generation, NULL, 1, &handle));
+    EXPECT(CKR_ARGUMENTS_BAD, p11->C_GenerateKey(session, &generation, &key, 1, NULL));
+    EXPECT(CKR_OK, p11->C_GenerateKey(session, &generation, &key, 1, &handle));
+    CHECK((handle & UINT32_MAX) == object + 1);
+    end_token();
+}
+
+/* A NULL pointer changes nothing: the operation stays active. */
+static void test_null_operations(void) {
+    CK_SESSION_HANDLE session = begin_token();
+    CK_MECHANISM sha256 = mechanism_of(CKM_SHA256), hmac = mechanism_of(CKM_SHA256_HMAC);
+    CK_MECHANISM no_parameter = {CKM_SHA256_HMAC_GENERAL, NULL, 8};
+    CK_OBJECT_HANDLE key = create_key(session, "Jefe");
+    EXPECT(CKR_MECHANISM_PARAM_INVALID, p11->C_DigestInit(session, &no_parameter));
+    EXPECT(CKR_MECHANISM_PARAM_INVALID, p11->C_SignInit(session, &no_parameter, key));
+    EXPECT(CKR_MECHANISM_PARAM_INVALID, p11->C_VerifyInit(session, &no_parameter, key));
+    EXPECT(CKR_OK, p11->C_DigestInit(session, &sha256));
+    EXPECT(CKR_ARGUMENTS_BAD, p11->C_Digest(session, NULL, 1, bytes, &length));
+    EXPECT(CKR_ARGUMENTS_BAD, p11->C_Digest(session, bytes, 1, bytes, NULL));
+    EXPECT(CKR_ARGUMENTS_BAD, p11->C_DigestUpdate(session, NULL, 1));
+    EXPECT(CKR_ARGUMENTS_BAD, p11->C_DigestFinal(session, bytes, NULL));
+    EXPECT(CKR_OK, p11->C_DigestUpdate(session, NULL, 0));
+    EXPECT(CKR_OK, p11->C_SignInit(session, &hmac, key));
+    EXPECT(CKR_ARGUMENTS_BAD, p11->C_Sign(session, NULL, 1, bytes, &length));
+    EXPECT(CKR_ARGUMENTS_BAD, p11->C_Sign(session, bytes, 1, bytes, NULL));
+    EXPECT(CKR_ARGUMENTS_BAD, p11->C_SignUpdate(session, NULL, 1));
+    EXPECT(CKR_ARGUMENTS_BAD, p11->C_SignFinal(session, bytes, NULL));
+    EXPECT(CKR_OK, p11->C_SignUpdate(session, NULL, 0));
+    EXPECT(CKR_OK, p11->C_VerifyInit(session, &hmac, key));
+    EXPECT(CKR_ARGUMENTS_BAD, p11->C_Verify(session, NULL, 1, bytes, 32));
+    EXPECT(CKR_ARGUMENTS_BAD, p11->C_Verify(session, bytes, 1, NULL, 32));
+    EXPECT(CKR_ARGUMENTS_BAD, p11->C_VerifyUpdate(session, NULL, 1));
+    EXPECT(CKR_ARGUMENTS_BAD, p11->C_VerifyFinal(session, NULL, 32));
+    EXPECT(CKR_OK, p11->C_VerifyUpdate(session, NULL, 0));
+    EXPECT(CKR_SIGNATURE_LEN_RANGE, p11->C_VerifyFinal(session, NULL, 0));
+    end_token();
+}
+
+/* Lengths that no memory can have are refused before anything is read. */
+static void test_bad_lengths(void) {
+    static const CK_ULONG lengths[] = {CK_UNAVAILABLE_INFORMATION, (CK_ULONG)1 << 63,
+                                       (CK_ULONG)1 << 40};
+    CK_SESSION_HANDLE session = begin_token();
+    CK_OBJECT_HANDLE object = create_data(session, "label"), handle = 0;
+    CK_OBJECT_CLASS class = CKO_DATA;
+    for (size_t i = 0; i < sizeof lengths / sizeof *lengths; i++) {
+        CK_ATTRIBUTE template[] = {
+            {CKA_CLASS, &class, sizeof class},
+            {CKA_LABEL, bytes, lengths[i]},
+            {CKA_APPLICATION, bytes, lengths[i]},
+        };
+        EXPECT(CKR_ATTRIBUTE_VALUE_INVALID, p11->C_CreateObject(session, template, 3, &handle));
+        EXPECT(CKR_ATTRIBUTE_VALUE_INVALID,
+               p11->C_CopyObject(session, object, template + 1, 2, &handle));
+        EXPECT(CKR_ATTRIBUTE_VALUE_INVALID,
+               p11->C_SetAttributeValue(session, object, template + 1, 2));
+        EXPECT(CKR_ATTRIBUTE_VALUE_INVALID, p11->C_FindObjectsInit(session, template, 3));
+        template[1].pValue = NULL;
+        EXPECT(CKR_ATTRIBUTE_VALUE_INVALID, p11->C_CreateObject(session, template, 2, &handle));
+        CHECK(p11->C_GetAttributeValue(session, object, template, lengths[i]) == CKR_ARGUMENTS_BAD);
+    }
+    CHECK(handle == 0);
+    end_token();
+}
+
+/* ---- Outputs and rooms */
+
+static CK_SESSION_HANDLE current_session;
+static CK_OBJECT_HANDLE current_key;
+static CK_MECHANISM current_mechanism;
+
+/* A call with an output, and what must be done before it. */
+struct output {
+    const char *what;
+    CK_RV (*begin)(void);
+    CK_RV (*make)(void *out, CK_ULONG *count);
+    size_t size; /* of one element */
+};
+
+static CK_RV begin_nothing(void) {
+    return CKR_OK;
+}
+
+static CK_RV begin_digest(void) {
+    return p11->C_DigestInit(current_session, &current_mechanism);
+}
+
+static CK_RV begin_digest_update(void) {
+    CK_RV code = begin_digest();
+    return code == CKR_OK ? p11->C_DigestUpdate(current_session, bytes, 5) : code;
+}
+
+static CK_RV begin_sign(void) {
+    return p11->C_SignInit(current_session, &current_mechanism, current_key);
+}
+
+static CK_RV begin_sign_update(void) {
+    CK_RV code = begin_sign();
+    return code == CKR_OK ? p11->C_SignUpdate(current_session, bytes, 5) : code;
+}
+
+static CK_RV make_digest(void *out, CK_ULONG *count) {
+    return p11->C_Digest(current_session, bytes, 5, out, count);
+}
+
+static CK_RV make_digest_final(void *out, CK_ULONG *count) {
+    return p11->C_DigestFinal(current_session, out, count);
+}
+
+static CK_RV make_sign(void *out, CK_ULONG *count) {
+    return p11->C_Sign(current_session, bytes, 5, out, count);
+}
+
+static CK_RV make_sign_final(void *out, CK_ULONG *count) {
+    return p11->C_SignFinal(current_session, out, count);
+}
+
+static CK_RV make_slots(void *out, CK_ULONG *count) {
+    return p11->C_GetSlotList(CK_TRUE, out, count);
+}
+
+static CK_RV make_all_slots(void *out, CK_ULONG *count) {
+    return p11->C_GetSlotList(CK_FALSE, out, count);
+}
+
+static CK_RV make_mechanisms(void *out, CK_ULONG *count) {
+    return p11->C_GetMechanismList(0, out, count);
+}
+
+static CK_RV make_interfaces(void *out, CK_ULONG *count) {
+    return p11->C_GetInterfaceList(out, count);
+}
+
+/* One call with room for so many elements: only `written` of them are written. */
+static void check_room(const struct output *output, CK_ULONG room, CK_RV expected, CK_ULONG count,
+                       CK_ULONG written) {
+    size_t memory_length = room * output->size;
+    uint8_t *memory = guarded_new(memory_length);
+    CK_ULONG given = room;
+    check_code(output->make(memory, &given), expected, output->what);
+    check(given == count, output->what);
+    check(guarded_is_intact(memory, memory_length, written * output->size), output->what);
+    guarded_free(memory);
+}
+
+/* The length is asked for; then the room is none, one too small, exact, and more than needed. */
+static void check_output(const struct output *output, CK_ULONG count) {
+    CK_ULONG given = 0;
+    check_code(output->begin(), CKR_OK, output->what);
+    check_code(output->make(NULL, &given), CKR_OK, output->what);
+    check(given == count, output->what);
+    check_room(output, 0, CKR_BUFFER_TOO_SMALL, count, 0);
+    check_room(output, count - 1, CKR_BUFFER_TOO_SMALL, count, 0);
+    check_room(output, count, CKR_OK, count, count);
+    check_code(output->begin(), CKR_OK, output->what);
+    check_room(output, count + 3, CKR_OK, count, count);
+}
+
+static void test_lists_of_numbers(void) {
+    static const struct output slots = {"C_GetSlotList", begin_nothing, make_slots, 8};
+    static const struct output all_slots = {"C_GetSlotList", begin_nothing, make_all_slots, 8};
+    static const struct output mechanisms = {"C_GetMechanismList", begin_nothing, make_mechanisms,
+                                             8};
+    static const struct output interfaces = {"C_GetInterfaceList", begin_nothing, make_interfaces,
+                                             sizeof(CK_INTERFACE)};
+    check_output(&interfaces, 3);
+    begin_token();
+    check_output(&slots, 1);
+    check_output(&all_slots, 1);
+    check_output(&mechanisms, 13);
+    end_token();
+}
+
+static void test_digest_rooms(void) {
+    static const struct output digest = {"C_Digest", begin_digest, make_digest, 1};
+    static const struct output final = {"C_DigestFinal", begin_digest_update, make_digest_final, 1};
+    static const struct { CK_MECHANISM_TYPE type; CK_ULONG length; } digests[] = {
+        {CKM_SHA224, 28}, {CKM_SHA256, 32}, {CKM_SHA384, 48}, {CKM_SHA512, 64},
+    };
+    current_session = begin_token();
+    for (size_t i = 0; i < 4; i++) {
+        current_mechanism = mechanism_of(digests[i].type);
+        check_output(&digest, digests[i].length);
+        check_output(&final, digests[i].length);
+    }
+    end_token();
+}
+
+static void test_sign_rooms(void) {
+    static const struct output sign = {"C_Sign", begin_sign, make_sign, 1};
+    static const struct output final = {"C_SignFinal", begin_sign_update, make_sign_final, 1};
+    static const struct { CK_MECHANISM_TYPE type; CK_ULONG length; } macs[] = {
+        {CKM_SHA224_HMAC, 28}, {CKM_SHA256_HMAC, 32}, {CKM_SHA384_HMAC, 48}, {CKM_SHA512_HMAC, 64},
+        {CKM_SHA256_HMAC_GENERAL, 1}, {CKM_SHA512_HMAC_GENERAL, 63},
+    };
+    current_session = begin_token();
+    current_key = create_key(current_session, "Jefe");
+    for (size_t i = 0; i < 6; i++) {
+        CK_ULONG general = macs[i].length;
+        current_mechanism = mechanism_of(macs[i].type);
+        if (i >= 4)
+            current_mechanism = (CK_MECHANISM){macs[i].type, &general, sizeof general};
+        check_output(&sign, macs[i].length);
+        check_output(&final, macs[i].length);
+    }
+    end_token();
+}
+
+/* C_GetAttributeValue of a label of five bytes with this room. */
+static void check_label_room(CK_SESSION_HANDLE session, CK_OBJECT_HANDLE object, CK_ULONG room,
+                             CK_RV expected, CK_ULONG given, size_t written) {
+    uint8_t *memory = guarded_new(room);
+    CK_ATTRIBUTE label = {CKA_LABEL, memory, room};
+    EXPECT(expected, p11->C_GetAttributeValue(session, object, &label, 1));
+    CHECK(label.ulValueLen == given && label.pValue == memory && label.type == CKA_LABEL);
+    CHECK(guarded_is_intact(memory, room, written));
+    CHECK(written == 0 || memcmp(memory, "label", written) == 0);
+    guarded_free(memory);
+}
+
+static void test_attribute_rooms(void) {
+    CK_SESSION_HANDLE session = begin_token();
+    CK_OBJECT_HANDLE object = create_data(session, "label");
+    CK_ATTRIBUTE label = {CKA_LABEL, NULL, 0};
+    EXPECT(CKR_OK, p11->C_GetAttributeValue(session, object, &label, 1));
+    CHECK(label.ulValueLen == 5);
+    check_label_room(session, object, 0, CKR_BUFFER_TOO_SMALL, CK_UNAVAILABLE_INFORMATION, 0);
+    check_label_room(session, object, 4, CKR_BUFFER_TOO_SMALL, CK_UNAVAILABLE_INFORMATION, 0);
+    check_label_room(session, object, 5, CKR_OK, 5, 5);
+    check_label_room(session, object, 64, CKR_OK, 5, 5);
+    label = (CK_ATTRIBUTE){CKA_LABEL, bytes, CK_UNAVAILABLE_INFORMATION};
+    EXPECT(CKR_OK, p11->C_GetAttributeValue(session, object, &label, 1));
+    CHECK(label.ulValueLen == 5);
+    end_token();
+}
+
+/* Each query is answered by itself, whatever the code of the call is. */
+static void test_attribute_codes(void) {
+    CK_SESSION_HANDLE session = begin_token();
+    CK_OBJECT_HANDLE key = create_key(session, "Jefe");
+    CK_BBOOL yes = CK_TRUE;
+    CK_BYTE value[8] = {0}, token = 9, small[1] = {0};
+    CK_ATTRIBUTE sensitive = {CKA_SENSITIVE, &yes, sizeof yes};
+    EXPECT(CKR_OK, p11->C_SetAttributeValue(session, key, &sensitive, 1));
+    CK_ATTRIBUTE queries[] = {
+        {CKA_CLASS, small, sizeof small},
+        {CKA_MODULUS, value, sizeof value},
+        {CKA_VALUE, value, sizeof value},
+        {CKA_TOKEN, &token, sizeof token},
+    };
+    EXPECT(CKR_ATTRIBUTE_SENSITIVE, p11->C_GetAttributeValue(session, key, queries, 4));
+    for (int i = 0; i < 3; i++)
+        CHECK(queries[i].ulValueLen == CK_UNAVAILABLE_INFORMATION);
+    CHECK(queries[3].ulValueLen == 1 && token == 0);
+    CHECK(value[0] == 0 && small[0] == 0);
+    queries[1].ulValueLen = sizeof value;
+    EXPECT(CKR_ATTRIBUTE_TYPE_INVALID, p11->C_GetAttributeValue(session, key, queries + 1, 1));
+    queries[3].ulValueLen = 77;
+    EXPECT(CKR_OBJECT_HANDLE_INVALID, p11->C_GetAttributeValue(session, 0, queries + 3, 1));
+    check(queries[3].ulValueLen == 77, "without an object nothing is answered");
+    end_token();
+}
+
+/* ---- Searches of many objects, which the module makes in pieces */
+
+static void find_and_check(CK_SESSION_HANDLE session, CK_ULONG most, CK_ULONG expected,
+                           CK_OBJECT_HANDLE first) {
+    size_t memory_length = most * sizeof(CK_OBJECT_HANDLE);
+    uint8_t *memory = guarded_new(memory_length);
+    CK_OBJECT_HANDLE *handles = (CK_OBJECT_HANDLE *)(void *)memory;
+    CK_ULONG count = 77;
+    EXPECT(CKR_OK, p11->C_FindObjects(session, handles, most, &count));
+    CHECK(count == expected);
+    CHECK(guarded_is_intact(memory, memory_length, expected * sizeof *handles));
+    size_t wrong = 0;
+    for (CK_ULONG i = 0; i < count && i < most; i++)
+        wrong += handles[i] != first + i;
+    CHECK(wrong == 0);
+    guarded_free(memory);
+}
+
+static void test_many_objects(void) {
+    CK_SESSION_HANDLE session = begin_token();
+    CK_ATTRIBUTE label = {CKA_LABEL, (void *)(uintptr_t) "one of many", 11};
+    for (int i = 0; i < 2500; i++)
+        create_data(session, "one of many");
+    EXPECT(CKR_OK, p11->C_FindObjectsInit(session, &label, 1));
+    EXPECT(CKR_OK, p11->C_FindObjects(session, NULL, 0, &length));
+    CHECK(length == 0);
+    find_and_check(session, 3, 3, 1);
+    find_and_check(session, 2000, 2000, 4);
+    find_and_check(session, 3000, 497, 2004);
+    find_and_check(session, 3000, 0, 0);
+    EXPECT(CKR_OK, p11->C_FindObjectsFinal(session));
+    EXPECT(CKR_OK, p11->C_FindObjectsInit(session, NULL, 0));
+    find_and_check(session, 5000, 2500, 1);
+    EXPECT(CKR_OK, p11->C_FindObjectsFinal(session));
+    end_token();
+}
+
+/* ---- Operations */
+
+static void test_cancel(void) {
+    CK_SESSION_HANDLE session = begin_token();
+    CK_MECHANISM sha256 = mechanism_of(CKM_SHA256), hmac = mechanism_of(CKM_SHA256_HMAC);
+    CK_OBJECT_HANDLE key = create_key(session, "Jefe");
+    for (int way = 0; way < 2; way++) {
+        EXPECT(CKR_OK, p11->C_DigestInit(session, &sha256));
+        EXPECT(CKR_OPERATION_ACTIVE, p11->C_DigestInit(session, &sha256));
+        EXPECT(CKR_OK, p11->C_SignInit(session, &hmac, key));
+        EXPECT(CKR_OK, p11->C_VerifyInit(session, &hmac, key));
+        EXPECT(CKR_OK, way ? p11->C_DigestInit(session, NULL)
+                           : p11->C_SessionCancel(session, CKF_DIGEST));
+        EXPECT(CKR_OPERATION_NOT_INITIALIZED, p11->C_DigestUpdate(session, bytes, 1));
+        EXPECT(CKR_OK, p11->C_SignUpdate(session, bytes, 1));
+        EXPECT(CKR_OK, way ? p11->C_SignInit(session, NULL, key)
+                           : p11->C_SessionCancel(session, CKF_SIGN));
+        EXPECT(CKR_OPERATION_NOT_INITIALIZED, p11->C_SignUpdate(session, bytes, 1));
+        EXPECT(CKR_OK, p11->C_VerifyUpdate(session, bytes, 1));
+        EXPECT(CKR_OK, way ? p11->C_VerifyInit(session, NULL, key)
+                           : p11->C_SessionCancel(session, CKF_VERIFY));
+        EXPECT(CKR_OPERATION_NOT_INITIALIZED, p11->C_VerifyUpdate(session, bytes, 1));
+    }
+    EXPECT(CKR_ARGUMENTS_BAD, p11->C_SessionCancel(session, CKF_ENCRYPT));
+    EXPECT(CKR_SESSION_HANDLE_INVALID, p11->C_SessionCancel(0, CKF_DIGEST));
+    EXPECT(CKR_SESSION_HANDLE_INVALID, p11->C_DigestInit(0, NULL));
+    end_token();
+}
+
+enum { PIECE = 1 << 20, LARGE = 3000000 };
+
+/* The message is 3,000,000 letters a. The expected values are of Python's hashlib and hmac. */
+static CK_BYTE large[LARGE];
+static const char sha256_of_piece[] =
+    "9bc1b2a288b26af7257a36277ae3816a7d4f16e89c1e7e77d0a5c48bad62b360";
+static const char sha256_of_large[] =
+    "2a152c894398719c0570f83fac34ac03a0f6e8e474b995c2403aa5434f7b9dd4";
+static const char hmac_of_large[] =
+    "96aaafbf1aa6958484d0730558b201ebd98213e4f947bcfc2c9bc47d8b8529ab";
+
+static void test_large_digests(void) {
+    CK_SESSION_HANDLE session = begin_token();
+    CK_MECHANISM sha256 = mechanism_of(CKM_SHA256);
+    CK_BYTE digest[64];
+    memset(large, 'a', sizeof large);
+    length = sizeof digest;
+    EXPECT(CKR_OK, p11->C_DigestInit(session, &sha256));
+    EXPECT(CKR_OK, p11->C_Digest(session, large, PIECE, digest, &length));
+    CHECK(is_hexadecimal(digest, length, sha256_of_piece));
+    EXPECT(CKR_OK, p11->C_DigestInit(session, &sha256));
+    EXPECT(CKR_DATA_LEN_RANGE, p11->C_Digest(session, large, PIECE + 1, digest, &length));
+    EXPECT(CKR_OPERATION_NOT_INITIALIZED, p11->C_Digest(session, large, 1, digest, &length));
+    EXPECT(CKR_OK, p11->C_DigestInit(session, &sha256));
+    EXPECT(CKR_DATA_LEN_RANGE, p11->C_Digest(session, large, LARGE, digest, &length));
+    EXPECT(CKR_OK, p11->C_DigestInit(session, &sha256));
+    EXPECT(CKR_OK, p11->C_DigestUpdate(session, large, LARGE));
+    length = sizeof digest;
+    EXPECT(CKR_OK, p11->C_DigestFinal(session, digest, &length));
+    CHECK(is_hexadecimal(digest, length, sha256_of_large));
+    end_token();
+}
+
+static void test_large_signatures(void) {
+    CK_SESSION_HANDLE session = begin_token();
+    CK_MECHANISM hmac = mechanism_of(CKM_SHA256_HMAC);
+    CK_OBJECT_HANDLE key = create_key(session, "Jefe");
+    CK_BYTE signature[100];
+    length = sizeof signature;
+    memset(large, 'a', sizeof large);
+    EXPECT(CKR_OK, p11->C_SignInit(session, &hmac, key));
+    EXPECT(CKR_OK, p11->C_SignUpdate(session, large, LARGE));
+    EXPECT(CKR_OK, p11->C_SignFinal(session, signature, &length));
+    CHECK(is_hexadecimal(signature, length, hmac_of_large));
+    EXPECT(CKR_OK, p11->C_VerifyInit(session, &hmac, key));
+    EXPECT(CKR_OK, p11->C_VerifyUpdate(session, large, LARGE));
+    EXPECT(CKR_OK, p11->C_VerifyFinal(session, signature, 32));
+    EXPECT(CKR_OK, p11->C_VerifyInit(session, &hmac, key));
+    EXPECT(CKR_DATA_LEN_RANGE, p11->C_Verify(session, large, PIECE + 1, signature, 32));
+    EXPECT(CKR_OK, p11->C_SignInit(session, &hmac, key));
+    EXPECT(CKR_DATA_LEN_RANGE, p11->C_Sign(session, large, PIECE + 1, signature, &length));
+    for (CK_ULONG wrong = 31; wrong <= sizeof signature; wrong += wrong == 31 ? 2 : 67) {
+        EXPECT(CKR_OK, p11->C_VerifyInit(session, &hmac, key));
+        EXPECT(CKR_SIGNATURE_LEN_RANGE, p11->C_Verify(session, large, LARGE / 3, signature, wrong));
+    }
+    end_token();
+}
+
+/* ---- PINs of any length */
+
+static void test_pins(void) {
+    CK_SESSION_HANDLE session = begin_token();
+    CK_UTF8CHAR pin[200];
+    memset(pin, 'p', sizeof pin);
+    EXPECT(CKR_PIN_LEN_RANGE, p11->C_SetPIN(session, user_pin, 4, pin, 3));
+    EXPECT(CKR_PIN_LEN_RANGE, p11->C_SetPIN(session, user_pin, 4, pin, 65));
+    EXPECT(CKR_PIN_LEN_RANGE, p11->C_SetPIN(session, user_pin, 4, pin, 200));
+    EXPECT(CKR_OK, p11->C_SetPIN(session, user_pin, 4, pin, 64));
+    EXPECT(CKR_OK, p11->C_Logout(session));
+    EXPECT(CKR_PIN_INCORRECT, p11->C_Login(session, CKU_USER, pin, 200));
+    EXPECT(CKR_PIN_INCORRECT, p11->C_Login(session, CKU_USER, pin, 65));
+    EXPECT(CKR_OK, p11->C_Login(session, CKU_USER, pin, 64));
+    end_token();
+}
+
+/* ---- The slot and its token */
+
+static void test_slots(void) {
+    CK_SLOT_INFO slot;
+    CK_TOKEN_INFO token;
+    CK_MECHANISM_INFO mechanism;
+    CK_SESSION_HANDLE session = begin_token();
+    EXPECT(CKR_SLOT_ID_INVALID, p11->C_GetSlotInfo(1, &slot));
+    EXPECT(CKR_SLOT_ID_INVALID, p11->C_GetTokenInfo(1, &token));
+    EXPECT(CKR_SLOT_ID_INVALID, p11->C_GetMechanismList(1, NULL, &length));
+    EXPECT(CKR_SLOT_ID_INVALID, p11->C_GetMechanismInfo(1, CKM_SHA256, &mechanism));
+    EXPECT(CKR_SLOT_ID_INVALID, p11->C_OpenSession(1, read_write, NULL, NULL, &session));
+    EXPECT(CKR_SLOT_ID_INVALID, p11->C_CloseAllSessions(CK_UNAVAILABLE_INFORMATION));
+    EXPECT(CKR_SLOT_ID_INVALID, p11->C_InitToken(1, so_pin, 4, token_label));
+    EXPECT(CKR_OK, p11->C_GetSlotInfo(0, &slot));
+    CHECK((slot.flags & CKF_TOKEN_PRESENT) != 0);
+    end_token();
+}
+
+static void test_token_info(void) {
+    CK_TOKEN_INFO info;
+    memset(&info, 0, sizeof info);
+    CK_SESSION_HANDLE session = begin_token(), read_only = 0;
+    EXPECT(CKR_OK, p11->C_OpenSession(0, CKF_SERIAL_SESSION, NULL, NULL, &read_only));
+    EXPECT(CKR_OK, p11->C_GetTokenInfo(0, &info));
+    CHECK(memcmp(info.label, token_label, sizeof info.label) == 0);
+    CHECK(memcmp(info.manufacturerID, "Ospreyrack                      ", 32) == 0);
+    CHECK(memchr(info.model, 0, sizeof info.model) == NULL);
+    CHECK(memchr(info.serialNumber, 0, sizeof info.serialNumber) == NULL);
+    CHECK(memcmp(info.utcTime, "                ", 16) == 0);
+    CHECK(info.flags == (CKF_RNG | CKF_LOGIN_REQUIRED | CKF_USER_PIN_INITIALIZED
+                         | CKF_TOKEN_INITIALIZED));
+    CHECK(info.ulMinPinLen == 4 && info.ulMaxPinLen == 64);
+    CHECK(info.ulMaxSessionCount == 64 && info.ulMaxRwSessionCount == 64);
+    CHECK(info.ulSessionCount == 2 && info.ulRwSessionCount == 1);
+    CHECK(info.ulTotalPublicMemory == CK_UNAVAILABLE_INFORMATION);
+    CHECK(info.ulFreePrivateMemory == CK_UNAVAILABLE_INFORMATION);
+    CK_SESSION_INFO session_info;
+    EXPECT(CKR_OK, p11->C_GetSessionInfo(session, &session_info));
+    CHECK(session_info.slotID == 0 && session_info.state == CKS_RW_USER_FUNCTIONS);
+    CHECK(session_info.flags == read_write && session_info.ulDeviceError == 0);
+    end_token();
+}
+
+/* The label stays where C_InitToken is refused. */
+static void test_label(void) {
+    CK_UTF8CHAR other[32] = "another                         ";
+    CK_TOKEN_INFO info;
+    CK_SESSION_HANDLE session = begin_token();
+    EXPECT(CKR_SESSION_EXISTS, p11->C_InitToken(0, so_pin, 4, other));
+    EXPECT(CKR_OK, p11->C_CloseSession(session));
+    EXPECT(CKR_PIN_INCORRECT, p11->C_InitToken(0, user_pin, 4, other));
+    EXPECT(CKR_OK, p11->C_GetTokenInfo(0, &info));
+    CHECK(memcmp(info.label, token_label, 32) == 0);
+    EXPECT(CKR_OK, p11->C_InitToken(0, so_pin, 4, other));
+    EXPECT(CKR_OK, p11->C_GetTokenInfo(0, &info));
+    CHECK(memcmp(info.label, other, 32) == 0);
+    end_token();
+}
+
+static void test_mechanisms(void) {
+    CK_MECHANISM_TYPE types[13];
+    CK_MECHANISM_INFO info;
+    CK_ULONG count = 13;
+    begin_token();
+    EXPECT(CKR_OK, p11->C_GetMechanismList(0, types, &count));
+    for (CK_ULONG i = 0; i < count; i++) {
+        bool is_digest = types[i] == CKM_SHA224 || types[i] == CKM_SHA256 || types[i] == CKM_SHA384
+            || types[i] == CKM_SHA512;
+        CK_FLAGS flags = types[i] == CKM_GENERIC_SECRET_KEY_GEN ? CKF_GENERATE
+            : is_digest ? CKF_DIGEST : CKF_SIGN | CKF_VERIFY;
+        EXPECT(CKR_OK, p11->C_GetMechanismInfo(0, types[i], &info));
+        CHECK(info.flags == flags);
+        CHECK(is_digest || (info.ulMinKeySize == 1 && info.ulMaxKeySize == 4096));
+    }
+    EXPECT(CKR_MECHANISM_INVALID, p11->C_GetMechanismInfo(0, CKM_RSA_PKCS, &info));
+    end_token();
+}
+
+static void test_object_size(void) {
+    CK_SESSION_HANDLE session = begin_token();
+    CK_OBJECT_HANDLE object = create_data(session, "label");
+    CK_ULONG size = 0;
+    EXPECT(CKR_OK, p11->C_GetObjectSize(session, object, &size));
+    CHECK(size == CK_UNAVAILABLE_INFORMATION);
+    EXPECT(CKR_OBJECT_HANDLE_INVALID, p11->C_GetObjectSize(session, object + 1, &size));
+    EXPECT(CKR_SESSION_HANDLE_INVALID, p11->C_GetObjectSize(session + 1, object, &size));
+    end_token();
+}
+
+static void test_random(void) {
+    CK_SESSION_HANDLE session = begin_token();
+    uint8_t *first = guarded_new(1000), *second = guarded_new(1000);
+    EXPECT(CKR_OK, p11->C_GenerateRandom(session, first, 999));
+    EXPECT(CKR_OK, p11->C_GenerateRandom(session, second, 999));
+    CHECK(guarded_is_intact(first, 1000, 999) && guarded_is_intact(second, 1000, 999));
+    CHECK(memcmp(first, second, 999) != 0);
+    CHECK(memcmp(first, first + 500, 499) != 0);
+    EXPECT(CKR_SESSION_HANDLE_INVALID, p11->C_GenerateRandom(session + 1, first, 1));
+    EXPECT(CKR_RANDOM_SEED_NOT_SUPPORTED, p11->C_SeedRandom(session, first, 4));
+    EXPECT(CKR_SESSION_HANDLE_INVALID, p11->C_SeedRandom(session + 1, first, 4));
+    guarded_free(first);
+    guarded_free(second);
+    end_token();
+}
+
+/* ---- Forks */
+
+/* Runs in a child. Its status says whether all is as it must be. */
+static int see_as_child(CK_SESSION_HANDLE session, CK_RV expected) {
+    CK_SESSION_INFO session_info;
+    CK_TOKEN_INFO token;
+    if (p11->C_GetSessionInfo(session, &session_info) != CKR_CRYPTOKI_NOT_INITIALIZED)
+        return 1;
+    if (p11->C_Initialize(NULL) != expected)
+        return 2;
+    if (expected != CKR_OK)
+        return 0;
+    if (p11->C_GetSessionInfo(session, &session_info) != CKR_SESSION_HANDLE_INVALID)
+        return 3;
+    if (p11->C_GetTokenInfo(0, &token) != CKR_OK || (token.flags & CKF_TOKEN_INITIALIZED) != 0)
+        return 4;
+    return p11->C_Finalize(NULL) == CKR_OK ? 0 : 5;
+}
+
+static int run_child(CK_SESSION_HANDLE session, CK_RV expected) {
+    fflush(NULL);
+    pid_t child = fork();
+    if (child == 0)
+        _exit(see_as_child(session, expected));
+    int status = -1;
+    waitpid(child, &status, 0);
+    return WIFEXITED(status) ? WEXITSTATUS(status) : -1;
+}
+
+static void test_fork(void) {
+    CK_SESSION_INFO info;
+    CK_SESSION_HANDLE session = begin_token();
+    CHECK(run_child(session, CKR_OK) == 0);
+    EXPECT(CKR_OK, p11->C_GetSessionInfo(session, &info));
+    CHECK(info.state == CKS_RW_USER_FUNCTIONS);
+    CHECK(run_child(session, CKR_OK) == 0);
+    CK_OBJECT_HANDLE object = create_data(session, "of the parent");
+    EXPECT(CKR_OK, p11->C_DestroyObject(session, object));
+    end_token();
+}
+
+static char path[4096];
+
+static const char *path_of(const char *name) {
+    snprintf(path, sizeof path, "%s/%s", folder, name);
+    return path;
+}
+
+/* Standard error goes to a file until `read_errors`. */
+static int kept_errors = -1;
+
+static void keep_errors(void) {
+    fflush(stderr);
+    kept_errors = dup(STDERR_FILENO);
+    if (freopen(path_of("errors"), "w", stderr) == NULL)
+        exit(2);
+}
+
+static size_t read_errors(char *text, size_t room) {
+    fflush(stderr);
+    dup2(kept_errors, STDERR_FILENO);
+    close(kept_errors);
+    FILE *file = fopen(path_of("errors"), "r");
+    size_t count = file == NULL ? 0 : fread(text, 1, room - 1, file);
+    if (file != NULL)
+        fclose(file);
+    text[count] = '\0';
+    return count;
+}
+
+/* The lock on the file stays the parent's. */
+static void test_fork_with_file(void) {
+    char text[2000];
+    setenv("OSPREYRACK_TOKEN", path_of("forked.cases"), 1);
+    EXPECT(CKR_OK, p11->C_Initialize(NULL));
+    CK_SESSION_HANDLE session = log_in();
+    for (int i = 0; i < 2; i++) {
+        keep_errors();
+        int status = run_child(session, CKR_GENERAL_ERROR);
+        read_errors(text, sizeof text);
+        CHECK(status == 0);
+        CHECK(strstr(text, "ospreyrack: OSPREYRACK_TOKEN: ") != NULL);
+    }
+    create_data(session, "of the parent");
+    end_token();
+    unsetenv("OSPREYRACK_TOKEN");
+}
+
+/* ---- The words of the environment */
+
+static void write_file(const char *name, const char *text) {
+    FILE *file = fopen(path_of(name), "w");
+    if (file == NULL || fputs(text, file) < 0 || fclose(file) != 0)
+        exit(2);
+}
+
+/* C_Initialize fails with one line that names the word. */
+static void check_word(const char *word, const char *value, const char *part) {
+    char text[2000], start[100];
+    snprintf(start, sizeof start, "ospreyrack: %s: ", word);
+    setenv(word, value, 1);
+    keep_errors();
+    CK_RV code = p11->C_Initialize(NULL);
+    size_t count = read_errors(text, sizeof text);
+    check_code(code, CKR_GENERAL_ERROR, value);
+    check(strncmp(text, start, strlen(start)) == 0, text);
+    check(strstr(text, part) != NULL, text);
+    check(count > 0 && strchr(text, '\n') == text + count - 1, "the message is one line");
+    unsetenv(word);
+    check_code(p11->C_Initialize(NULL), CKR_OK, "C_Initialize without the bad word");
+    end_token();
+}
+
+static void check_file_word(const char *word, const char *name, const char *part) {
+    char value[4096];
+    snprintf(value, sizeof value, "%s", path_of(name));
+    check_word(word, value, part);
+}
+
+static void test_bad_words(void) {
+    static const char *const seeds[] = {"", "x", "-1", "+1", " 1", "1 ", "0x10", "1.0",
+                                        "18446744073709551616"};
+    for (size_t i = 0; i < sizeof seeds / sizeof *seeds; i++)
+        check_word("OSPREYRACK_SEED", seeds[i], "");
+    check_word("OSPREYRACK_CUT", "", "");
+    check_word("OSPREYRACK_CUT", "maybe", "");
+    check_word("OSPREYRACK_CUT", "YES", "");
+    check_word("OSPREYRACK_SCRIPT", "", "");
+    check_word("OSPREYRACK_JOURNAL", "", "");
+    check_word("OSPREYRACK_TOKEN", "", "");
+    check_word("OSPREYRACK_SEEDS", "1", "");
+    check_word("OSPREYRACK_", "1", "");
+}
+
+static const char bad_reply[] = "1 InitToken 31323334 -> 0\n1 OpenSession 6 -> 0 2\n";
+static const char no_journal[] = "This is a text.\nIt isn't a journal.\n";
+
+static bool has_length(const char *name, size_t expected) {
+    struct stat status;
+    return stat(path_of(name), &status) == 0 && (size_t)status.st_size == expected;
+}
+
+static bool is_there(const char *name) {
+    return access(path_of(name), F_OK) == 0;
+}
+
+static void test_bad_files(void) {
+    write_file("bad_line", "1 InitToken 31323334 -> 0\n\n# a comment\n1 OpenSession six\n");
+    write_file("bad_reply", bad_reply);
+    write_file("bad_code", "1 InitToken 313233\n");
+    write_file("no_journal", no_journal);
+    mkdir(path_of("folder"), 0700);
+    check_file_word("OSPREYRACK_SCRIPT", "not_there", "not_there");
+    check_file_word("OSPREYRACK_SCRIPT", "bad_line", "line 4");
+    check_file_word("OSPREYRACK_SCRIPT", "bad_reply", "line 2");
+    check_file_word("OSPREYRACK_SCRIPT", "bad_code", "line 1");
+    check_file_word("OSPREYRACK_SCRIPT", "folder", "folder");
+    check_file_word("OSPREYRACK_JOURNAL", "not_there/journal", "not_there/journal");
+    check_file_word("OSPREYRACK_JOURNAL", "no_journal", "no_journal");
+    check_file_word("OSPREYRACK_JOURNAL", "folder", "folder");
+    check_file_word("OSPREYRACK_TOKEN", "no_journal", "line 1");
+    check_file_word("OSPREYRACK_TOKEN", "folder", "folder");
+    check_file_word("OSPREYRACK_TOKEN", "bad_reply", "line 2");
+    CHECK(has_length("no_journal", sizeof no_journal - 1));
+    CHECK(has_length("bad_reply", sizeof bad_reply - 1));
+    setenv("OSPREYRACK_TOKEN", path_of("unused.cases"), 1);
+    check_file_word("OSPREYRACK_JOURNAL", "unused_too.cases", "OSPREYRACK_TOKEN");
+    CHECK(!is_there("unused_too.cases"));
+    unsetenv("OSPREYRACK_TOKEN");
+}
+
+/* ---- Memory */
+
+static void use_and_end(void) {
+    CK_SESSION_HANDLE session = begin_token();
+    CK_MECHANISM sha256 = mechanism_of(CKM_SHA256);
+    CK_BYTE digest[32];
+    CK_ULONG digest_length = sizeof digest;
+    create_key(session, "Jefe");
+    EXPECT(CKR_OK, p11->C_DigestInit(session, &sha256));
+    EXPECT(CKR_OK, p11->C_Digest(session, bytes, 5, digest, &digest_length));
+    EXPECT(CKR_OK, p11->C_FindObjectsInit(session, NULL, 0));
+    EXPECT(CKR_OK, p11->C_DigestInit(session, &sha256));
+    EXPECT(CKR_OK, p11->C_DigestUpdate(session, bytes, 5));
+    end_token();
+}
+
+static void test_leaks(void) {
+    char text[2000];
+    write_file("bad_reply", bad_reply);
+    for (int i = 0; i < 10; i++)
+        use_and_end();
+    setenv("OSPREYRACK_SCRIPT", path_of("bad_reply"), 1);
+    keep_errors();
+    CK_RV code = p11->C_Initialize(NULL);
+    read_errors(text, sizeof text);
+    EXPECT(CKR_GENERAL_ERROR, code);
+    unsetenv("OSPREYRACK_SCRIPT");
+    check(__lsan_do_recoverable_leak_check() == 0, "no memory is lost");
+}
+
+static const struct test tests[] = {
+    {"before C_Initialize and after C_Finalize; twice; a new token each time", test_order},
+    {"the lists of functions have each function, and it is exported", test_lists},
+    {"interfaces by name, by version, and by neither", test_interfaces},
+    {"the vendor interface takes a key to another state", test_vendor_interface},
+    {"functions that aren't supported say so", test_unsupported},
+    {"bad arguments of C_Initialize", test_bad_arguments},
+    {"the application's mutex functions are called in pairs, around every call",
+     test_mutex_functions},
+    {"an application's lock that fails", test_failing_lock},
+    {"NULL pointers: the library, slots and tokens", test_null_general},
+    {"NULL pointers: sessions, PINs and random bytes", test_null_sessions},
+    {"NULL pointers: objects, searches and keys", test_null_objects},
+    {"NULL pointers: digests, signing and verifying", test_null_operations},
+    {"lengths that no memory can have", test_bad_lengths},
+    {"rooms of lists: asked for, too small, exact, larger", test_lists_of_numbers},
+    {"rooms of digests: asked for, too small, exact, larger", test_digest_rooms},
+    {"rooms of signatures: asked for, too small, exact, larger", test_sign_rooms},
+    {"rooms of attributes: asked for, too small, exact, larger", test_attribute_rooms},
+    {"each query of attributes is answered by itself", test_attribute_codes},
+    {"searches that find 2,500 objects", test_many_objects},
+    {"operations end by C_SessionCancel, and by a NULL mechanism", test_cancel},
+    {"digests of messages above 2^20 bytes", test_large_digests},
+    {"signatures of messages above 2^20 bytes", test_large_signatures},
+    {"PINs of 3 to 200 bytes", test_pins},
+    {"slots that aren't there", test_slots},
+    {"what is said of the token and of a session", test_token_info},
+    {"the label is that of the last C_InitToken that was answered OK", test_label},
+    {"what is said of the mechanisms", test_mechanisms},
+    {"the size of an object", test_object_size},
+    {"random bytes", test_random},
+    {"a child of a fork begins anew, and its parent goes on", test_fork},
+    {"a child of a fork leaves the parent's file and its lock alone", test_fork_with_file},
+    {"bad words of the environment, and then none", test_bad_words},
+    {"bad files in words of the environment, and then none", test_bad_files},
+    {"no memory is lost, by C_Finalize or by a C_Initialize that fails", test_leaks},
+};
+
+int main(int count, char **arguments) {
+    bool has_journals = count == 4 && strcmp(arguments[3], "journals") == 0;
+    if (count != 3 && !has_journals) {
+        fprintf(stderr, "conventions MODULE FOLDER [journals]\n");
+        return 2;
+    }
+    folder = arguments[2];
+    if (has_journals)
+        keep_journals(folder);
+    load_module(arguments[1]);
+    return run_tests(has_journals ? "conventions by lines" : "conventions", tests,
+                     sizeof tests / sizeof *tests);
+}

@@ -1,0 +1,625 @@
+/*
+ * Refuses each growth of memory in turn: the first allocation of a call, then the second, until a
+ * call has no more of them. Each time the library and its token are new. The call must be answered
+ * CKR_HOST_MEMORY, change nothing, and succeed when it is made again. Called with the module's file
+ * and a temporary folder; linked with -rdynamic, so that the module allocates by these functions.
+ */
+#include "support.h"
+
+#include <errno.h>
+#include <fcntl.h>
+#include <pthread.h>
+#include <stdio.h>
+#include <stdlib.h>
+#include <string.h>
+#include <sys/stat.h>
+#include <unistd.h>
+
+/* ---- Memory that is refused */
+
+void *__libc_malloc(size_t size);
+void *__libc_calloc(size_t count, size_t size);
+void *__libc_realloc(void *memory, size_t size);
+void *__libc_memalign(size_t alignment, size_t size);
+void __libc_free(void *memory);
+
+/* How many allocations there are before the one that is refused; negative where none is. */
+static long left_to_refusal = -1;
+static bool is_refused;
+static long live_allocations;
+
+static bool refuses(void) {
+    if (left_to_refusal < 0 || left_to_refusal-- > 0)
+        return false;
+    is_refused = true;
+    errno = ENOMEM;
+    return true;
+}
+
+static void *counted(void *memory) {
+    live_allocations += memory != NULL;
+    return memory;
+}
+
+void *malloc(size_t size) {
+    return refuses() ? NULL : counted(__libc_malloc(size));
+}
+
+void *calloc(size_t count, size_t size) {
+    return refuses() ? NULL : counted(__libc_calloc(count, size));
+}
+
+void *realloc(void *memory, size_t size) {
+    if (refuses())
+        return NULL;
+    live_allocations -= memory != NULL;
+    return counted(__libc_realloc(memory, size));
+}
+
+void *aligned_alloc(size_t alignment, size_t size) {
+    return refuses() ? NULL : counted(__libc_memalign(alignment, size));
+}
+
+int posix_memalign(void **memory, size_t alignment, size_t size) {
+    *memory = aligned_alloc(alignment, size);
+    return *memory == NULL ? ENOMEM : 0;
+}
+
+void free(void *memory) {
+    live_allocations -= memory != NULL;
+    __libc_free(memory);
+}
+
+static void refuse_after(long allocations) {
+    is_refused = false;
+    left_to_refusal = allocations;
+}
+
+static bool stop_refusing(void) {
+    left_to_refusal = -1;
+    return is_refused;
+}
+
+/* ---- Calls */
+
+static CK_SESSION_HANDLE session, other_session;
+static CK_OBJECT_HANDLE object, key;
+
+/* What a call answers. */
+struct result {
+    CK_ULONG number;
+    CK_ULONG length;
+    CK_BYTE bytes[64];
+};
+
+static CK_BYTE text[3000];
+static CK_UTF8CHAR new_pin[5] = {'o', 't', 'h', 'e', 'r'};
+static CK_BBOOL no = CK_FALSE;
+static CK_OBJECT_CLASS data_class = CKO_DATA;
+static CK_MECHANISM sha512 = {CKM_SHA512, NULL, 0};
+static CK_MECHANISM hmac = {CKM_SHA256_HMAC, NULL, 0};
+static CK_MECHANISM generation = {CKM_GENERIC_SECRET_KEY_GEN, NULL, 0};
+static const CK_FLAGS read_write = CKF_SERIAL_SESSION | CKF_RW_SESSION;
+
+static CK_RV open_session(struct result *result) {
+    return p11->C_OpenSession(0, read_write, NULL, NULL, &result->number);
+}
+
+static CK_RV close_session(struct result *result) {
+    (void)result;
+    return p11->C_CloseSession(other_session);
+}
+
+static CK_RV close_all_sessions(struct result *result) {
+    (void)result;
+    return p11->C_CloseAllSessions(0);
+}
+
+static CK_RV init_token(struct result *result) {
+    (void)result;
+    return p11->C_InitToken(0, so_pin, sizeof so_pin, token_label);
+}
+
+static CK_RV log_in_user(struct result *result) {
+    (void)result;
+    return p11->C_Login(session, CKU_USER, user_pin, sizeof user_pin);
+}
+
+static CK_RV log_in_officer(struct result *result) {
+    (void)result;
+    return p11->C_Login(session, CKU_SO, so_pin, sizeof so_pin);
+}
+
+static CK_RV log_out(struct result *result) {
+    (void)result;
+    return p11->C_Logout(session);
+}
+
+static CK_RV init_pin(struct result *result) {
+    (void)result;
+    return p11->C_InitPIN(session, new_pin, sizeof new_pin);
+}
+
+static CK_RV set_pin(struct result *result) {
+    (void)result;
+    return p11->C_SetPIN(session, user_pin, sizeof user_pin, new_pin, sizeof new_pin);
+}
+
+static CK_RV get_session_info(struct result *result) {
+    CK_SESSION_INFO info = {0};
+    CK_RV code = p11->C_GetSessionInfo(session, &info);
+    result->number = info.state;
+    result->length = info.flags;
+    return code;
+}
+
+static CK_RV get_token_info(struct result *result) {
+    CK_TOKEN_INFO info = {0};
+    CK_RV code = p11->C_GetTokenInfo(0, &info);
+    result->number = info.flags;
+    result->length = info.ulSessionCount;
+    memcpy(result->bytes, info.label, sizeof info.label);
+    return code;
+}
+
+static CK_RV get_mechanism_list(struct result *result) {
+    CK_MECHANISM_TYPE types[13] = {0};
+    result->length = 13;
+    CK_RV code = p11->C_GetMechanismList(0, types, &result->length);
+    memcpy(result->bytes, types, sizeof result->bytes);
+    return code;
+}
+
+static CK_RV session_cancel(struct result *result) {
+    (void)result;
+    return p11->C_SessionCancel(session, CKF_DIGEST | CKF_SIGN);
+}
+
+static CK_RV create_object(struct result *result) {
+    CK_ATTRIBUTE template[] = {
+        {CKA_CLASS, &data_class, sizeof data_class},
+        {CKA_PRIVATE, &no, sizeof no},
+        {CKA_LABEL, text, 2000},
+        {CKA_VALUE, text, sizeof text},
+    };
+    return p11->C_CreateObject(session, template, 4, &result->number);
+}
+
+static CK_RV generate_key(struct result *result) {
+    CK_ULONG key_length = 1000;
+    CK_ATTRIBUTE template[] = {
+        {CKA_VALUE_LEN, &key_length, sizeof key_length},
+        {CKA_LABEL, text, 300},
+    };
+    return p11->C_GenerateKey(session, &generation, template, 2, &result->number);
+}
+
+static CK_RV copy_object(struct result *result) {
+    CK_ATTRIBUTE label = {CKA_LABEL, text, 2000};
+    return p11->C_CopyObject(session, object, &label, 1, &result->number);
+}
+
+static CK_RV get_attribute_value(struct result *result) {
+    CK_ATTRIBUTE queries[40];
+    for (int i = 0; i < 39; i++)
+        queries[i] = (CK_ATTRIBUTE){CKA_VALUE, NULL, 0};
+    queries[39] = (CK_ATTRIBUTE){CKA_LABEL, result->bytes, sizeof result->bytes};
+    CK_RV code = p11->C_GetAttributeValue(session, object, queries, 40);
+    result->length = queries[39].ulValueLen;
+    return code;
+}
+
+static CK_RV set_attribute_value(struct result *result) {
+    CK_ATTRIBUTE label = {CKA_VALUE, text, 2500};
+    (void)result;
+    return p11->C_SetAttributeValue(session, object, &label, 1);
+}
+
+static CK_RV get_object_size(struct result *result) {
+    return p11->C_GetObjectSize(session, object, &result->length);
+}
+
+static CK_RV destroy_object(struct result *result) {
+    (void)result;
+    return p11->C_DestroyObject(session, object);
+}
+
+static CK_RV find_objects_init(struct result *result) {
+    CK_ATTRIBUTE value = {CKA_PRIVATE, &no, sizeof no};
+    (void)result;
+    return p11->C_FindObjectsInit(session, &value, 1);
+}
+
+static CK_RV find_objects(struct result *result) {
+    CK_OBJECT_HANDLE handles[4] = {0};
+    CK_RV code = p11->C_FindObjects(session, handles, 4, &result->length);
+    memcpy(result->bytes, handles, sizeof handles);
+    return code;
+}
+
+static CK_RV find_objects_final(struct result *result) {
+    (void)result;
+    return p11->C_FindObjectsFinal(session);
+}
+
+static CK_RV digest_init(struct result *result) {
+    (void)result;
+    return p11->C_DigestInit(session, &sha512);
+}
+
+static CK_RV digest(struct result *result) {
+    result->length = sizeof result->bytes;
+    return p11->C_Digest(session, text, sizeof text, result->bytes, &result->length);
+}
+
+static CK_RV digest_update(struct result *result) {
+    (void)result;
+    return p11->C_DigestUpdate(session, text, sizeof text);
+}
+
+static CK_RV digest_final(struct result *result) {
+    result->length = sizeof result->bytes;
+    return p11->C_DigestFinal(session, result->bytes, &result->length);
+}
+
+static CK_RV sign_init(struct result *result) {
+    (void)result;
+    return p11->C_SignInit(session, &hmac, key);
+}
+
+static CK_RV sign(struct result *result) {
+    result->length = sizeof result->bytes;
+    return p11->C_Sign(session, hmac_message, sizeof hmac_message, result->bytes, &result->length);
+}
+
+static CK_RV sign_update(struct result *result) {
+    (void)result;
+    return p11->C_SignUpdate(session, hmac_message, sizeof hmac_message);
+}
+
+static CK_RV sign_final(struct result *result) {
+    result->length = sizeof result->bytes;
+    return p11->C_SignFinal(session, result->bytes, &result->length);
+}
+
+static CK_RV verify_init(struct result *result) {
+    (void)result;
+    return p11->C_VerifyInit(session, &hmac, key);
+}
+
+static CK_BYTE signature[32] = {
+    0x5b, 0xdc, 0xc1, 0x46, 0xbf, 0x60, 0x75, 0x4e, 0x6a, 0x04, 0x24, 0x26, 0x08, 0x95, 0x75, 0xc7,
+    0x5a, 0x00, 0x3f, 0x08, 0x9d, 0x27, 0x39, 0x83, 0x9d, 0xec, 0x58, 0xb9, 0x64, 0xec, 0x38, 0x43,
+};
+
+static CK_RV verify(struct result *result) {
+    (void)result;
+    return p11->C_Verify(session, hmac_message, sizeof hmac_message, signature, sizeof signature);
+}
+
+static CK_RV verify_update(struct result *result) {
+    (void)result;
+    return p11->C_VerifyUpdate(session, hmac_message, sizeof hmac_message);
+}
+
+static CK_RV verify_final(struct result *result) {
+    (void)result;
+    return p11->C_VerifyFinal(session, signature, sizeof signature);
+}
+
+static CK_RV generate_random(struct result *result) {
+    result->length = sizeof result->bytes;
+    return p11->C_GenerateRandom(session, result->bytes, sizeof result->bytes);
+}
+
+typedef CK_RV (*call)(struct result *result);
+
+/* A call, and those that are made before it. */
+struct growth {
+    const char *name;
+    call make;
+    call before[2];
+};
+
+static const struct growth growths[] = {
+    {"C_OpenSession", open_session, {NULL}},
+    {"C_CloseSession", close_session, {NULL}},
+    {"C_CloseAllSessions", close_all_sessions, {NULL}},
+    {"C_InitToken", init_token, {close_all_sessions}},
+    {"C_Login", log_in_user, {log_out}},
+    {"C_Logout", log_out, {NULL}},
+    {"C_InitPIN", init_pin, {log_out, log_in_officer}},
+    {"C_SetPIN", set_pin, {NULL}},
+    {"C_GetSessionInfo", get_session_info, {NULL}},
+    {"C_GetTokenInfo", get_token_info, {NULL}},
+    {"C_GetMechanismList", get_mechanism_list, {NULL}},
+    {"C_SessionCancel", session_cancel, {digest_init}},
+    {"C_CreateObject", create_object, {NULL}},
+    {"C_GenerateKey", generate_key, {NULL}},
+    {"C_CopyObject", copy_object, {NULL}},
+    {"C_GetAttributeValue", get_attribute_value, {NULL}},
+    {"C_SetAttributeValue", set_attribute_value, {NULL}},
+    {"C_GetObjectSize", get_object_size, {NULL}},
+    {"C_DestroyObject", destroy_object, {NULL}},
+    {"C_FindObjectsInit", find_objects_init, {NULL}},
+    {"C_FindObjects", find_objects, {find_objects_init}},
+    {"C_FindObjectsFinal", find_objects_final, {find_objects_init}},
+    {"C_DigestInit", digest_init, {NULL}},
+    {"C_Digest", digest, {digest_init}},
+    {"C_DigestUpdate", digest_update, {digest_init}},
+    {"C_DigestFinal", digest_final, {digest_init, digest_update}},
+    {"C_SignInit", sign_init, {NULL}},
+    {"C_Sign", sign, {sign_init}},
+    {"C_SignUpdate", sign_update, {sign_init}},
+    {"C_SignFinal", sign_final, {sign_init, sign_update}},
+    {"C_VerifyInit", verify_init, {NULL}},
+    {"C_Verify", verify, {verify_init}},
+    {"C_VerifyUpdate", verify_update, {verify_init}},
+    {"C_VerifyFinal", verify_final, {verify_init, verify_update}},
+    {"C_GenerateRandom", generate_random, {NULL}},
+};
+
+enum { GROWTHS = sizeof growths / sizeof *growths, MOST_GROWTHS = 1000 };
+
+/* ---- The state that a refused call must leave */
+
+struct state {
+    CK_RV codes[3];
+    struct result token, session, object;
+};
+
+static struct state read_state(void) {
+    struct state state;
+    memset(&state, 0, sizeof state);
+    state.codes[0] = get_token_info(&state.token);
+    state.codes[1] = get_session_info(&state.session);
+    state.codes[2] = get_attribute_value(&state.object);
+    return state;
+}
+
+static bool is_same_result(const struct result *made, const struct result *expected) {
+    return made->number == expected->number && made->length == expected->length
+        && memcmp(made->bytes, expected->bytes, sizeof made->bytes) == 0;
+}
+
+static bool is_same_state(const struct state *made, const struct state *expected) {
+    return memcmp(made->codes, expected->codes, sizeof made->codes) == 0
+        && is_same_result(&made->token, &expected->token)
+        && is_same_result(&made->session, &expected->session)
+        && is_same_result(&made->object, &expected->object);
+}
+
+/* ---- Growths of calls */
+
+static bool has_journal;
+static char journal[4096];
+
+/* C_Initialize and C_Finalize, between which all memory is given back. */
+static long live_at_start;
+
+static void begin_library(void) {
+    live_at_start = live_allocations;
+    EXPECT(CKR_OK, p11->C_Initialize(NULL));
+}
+
+static void end_library(void) {
+    EXPECT(CKR_OK, p11->C_Finalize(NULL));
+    check(live_allocations == live_at_start, "C_Finalize gives all memory back");
+}
+
+/* A new token with two sessions, an object and a key, and the calls before the tried one. */
+static void begin(const struct growth *growth) {
+    struct result ignored;
+    unlink(journal);
+    begin_library();
+    session = log_in();
+    EXPECT(CKR_OK, p11->C_OpenSession(0, read_write, NULL, NULL, &other_session));
+    object = create_data(session, "label");
+    key = create_key(session, "Jefe");
+    for (int i = 0; i < 2 && growth->before[i] != NULL; i++)
+        check_code(growth->before[i](&ignored), CKR_OK, growth->name);
+}
+
+/* Makes a call whose allocation is refused. Where there is none, answers false. By lines a call is
+ * answered although there was no memory for the text of its reply. */
+static bool try_growth(const struct growth *growth, long number, const struct state *state,
+                       const struct result *expected) {
+    struct result result;
+    memset(&result, 0, sizeof result);
+    begin(growth);
+    refuse_after(number);
+    CK_RV code = growth->make(&result);
+    bool was_refused = stop_refusing();
+    if (was_refused && !(has_journal && code == CKR_OK)) {
+        check_code(code, CKR_HOST_MEMORY, growth->name);
+        struct state now = read_state();
+        check(is_same_state(&now, state), growth->name);
+        memset(&result, 0, sizeof result);
+        code = growth->make(&result);
+    }
+    check_code(code, CKR_OK, growth->name);
+    check(is_same_result(&result, expected), growth->name);
+    end_library();
+    return was_refused;
+}
+
+/* The file that is left can be gone on from. */
+static void check_journal(void) {
+    unsetenv("OSPREYRACK_JOURNAL");
+    setenv("OSPREYRACK_TOKEN", journal, 1);
+    begin_library();
+    end_library();
+    unsetenv("OSPREYRACK_TOKEN");
+    setenv("OSPREYRACK_JOURNAL", journal, 1);
+}
+
+static void check_growths(const struct growth *growth) {
+    struct result expected;
+    memset(&expected, 0, sizeof expected);
+    begin(growth);
+    struct state state = read_state();
+    check_code(growth->make(&expected), CKR_OK, growth->name);
+    end_library();
+    long number = 0;
+    while (number < MOST_GROWTHS && try_growth(growth, number, &state, &expected)) {
+        if (has_journal)
+            check_journal();
+        number++;
+    }
+    check(number < MOST_GROWTHS, "there is a call that allocates no more");
+}
+
+static void test_typed(void) {
+    has_journal = false;
+    for (size_t i = 0; i < GROWTHS; i++)
+        check_growths(&growths[i]);
+}
+
+static void test_by_lines(void) {
+    has_journal = true;
+    setenv("OSPREYRACK_JOURNAL", journal, 1);
+    for (size_t i = 0; i < GROWTHS; i++)
+        check_growths(&growths[i]);
+    unsetenv("OSPREYRACK_JOURNAL");
+}
+
+/* ---- A thread's first call */
+
+static void *call_without_memory(void *ignored) {
+    struct result result;
+    refuse_after(0);
+    CK_RV code = get_token_info(&result);
+    stop_refusing();
+    check(code == CKR_OK || code == CKR_HOST_MEMORY, "C_GetTokenInfo");
+    EXPECT(CKR_OK, get_token_info(&result));
+    return ignored;
+}
+
+/* What the module keeps for each thread must not need memory: without it the C library would end
+ * the process. */
+static void test_first_call(void) {
+    pthread_t thread;
+    begin_token();
+    if (pthread_create(&thread, NULL, call_without_memory, NULL) != 0)
+        exit(2);
+    pthread_join(thread, NULL);
+    end_token();
+}
+
+/* ---- Growths of C_Initialize */
+
+static char script[4096];
+static char kept[4096];
+
+static void write_script(void) {
+    FILE *file = fopen(script, "w");
+    if (file == NULL)
+        exit(2);
+    fputs("1 InitToken 31323334\n1 OpenSession 6\n"
+          "1 CreateObject 1 0=0000000000000000,1=01,2=00,3=6c6162656c -> 0 1\n", file);
+    fclose(file);
+}
+
+static off_t length_of(const char *path) {
+    struct stat status;
+    return stat(path, &status) == 0 ? status.st_size : 0;
+}
+
+/* The token of the script: it is initialized, and has one object. */
+static void check_token(void) {
+    CK_OBJECT_HANDLE found[2] = {0};
+    CK_ULONG count = 0;
+    EXPECT(CKR_OK, p11->C_OpenSession(0, CKF_SERIAL_SESSION, NULL, NULL, &session));
+    EXPECT(CKR_OK, p11->C_FindObjectsInit(session, NULL, 0));
+    EXPECT(CKR_OK, p11->C_FindObjects(session, found, 2, &count));
+    CHECK(count == 1 && found[0] == 1);
+    EXPECT(CKR_OK, p11->C_CloseSession(session));
+}
+
+static void begin_without_file(void) {
+    unlink(journal);
+}
+
+/* The file has the script's calls, and is a new copy each time. */
+static void begin_with_file(void) {
+    char command[9000];
+    snprintf(command, sizeof command, "cp '%s' '%s'", kept, journal);
+    if (system(command) != 0)
+        exit(2);
+}
+
+static bool try_initialize(long number) {
+    off_t length = length_of(journal);
+    live_at_start = live_allocations;
+    refuse_after(number);
+    CK_RV code = p11->C_Initialize(NULL);
+    bool was_refused = stop_refusing();
+    if (was_refused && code != CKR_OK) {
+        check(code == CKR_HOST_MEMORY || code == CKR_GENERAL_ERROR, "C_Initialize without memory");
+        check(length_of(journal) == length, "C_Initialize that fails leaves the file");
+        check(live_allocations == live_at_start, "C_Initialize that fails gives all memory back");
+        code = p11->C_Initialize(NULL);
+    }
+    check_code(code, CKR_OK, "C_Initialize");
+    check_token();
+    end_library();
+    return was_refused;
+}
+
+static void check_initialize(void (*prepare)(void)) {
+    long number = 0;
+    prepare();
+    while (number < MOST_GROWTHS && try_initialize(number)) {
+        prepare();
+        number++;
+    }
+    CHECK(number > 1 && number < MOST_GROWTHS);
+}
+
+static void test_initialize(void) {
+    write_script();
+    setenv("OSPREYRACK_SCRIPT", script, 1);
+    check_initialize(begin_without_file);
+    setenv("OSPREYRACK_TOKEN", journal, 1);
+    check_initialize(begin_without_file);
+    if (rename(journal, kept) != 0)
+        exit(2);
+    check_initialize(begin_with_file);
+    unsetenv("OSPREYRACK_TOKEN");
+    unsetenv("OSPREYRACK_SCRIPT");
+}
+
+static const struct test tests[] = {
+    {"each growth of 35 calls is refused, typed", test_typed},
+    {"each growth of 35 calls is refused, by lines", test_by_lines},
+    {"each growth of C_Initialize is refused, with a script and a file", test_initialize},
+    {"a thread's first call without memory", test_first_call},
+};
+
+/* The module's lines on standard error are for nobody here; those of the checks are written. */
+static void hide_lines_of_module(void) {
+    int null = open("/dev/null", O_WRONLY);
+    stderr = fdopen(dup(STDERR_FILENO), "w");
+    if (null < 0 || stderr == NULL || dup2(null, STDERR_FILENO) < 0)
+        exit(2);
+    setvbuf(stderr, NULL, _IONBF, 0);
+}
+
+int main(int count, char **arguments) {
+    if (count != 3) {
+        fprintf(stderr, "growths MODULE FOLDER\n");
+        return 2;
+    }
+    const char *folder = arguments[2];
+    snprintf(journal, sizeof journal, "%s/growths.cases", folder);
+    snprintf(script, sizeof script, "%s/growths.script", folder);
+    snprintf(kept, sizeof kept, "%s/kept.cases", folder);
+    memset(text, 'x', sizeof text);
+    hide_lines_of_module();
+    setenv("OSPREYRACK_SEED", "1", 1);
+    load_module(arguments[1]);
+    /* What the first calls of a process take stays. */
+    begin_token();
+    end_token();
+    return run_tests("growths", tests, sizeof tests / sizeof *tests);
+}

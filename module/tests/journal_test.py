@@ -1,0 +1,463 @@
+"""Tests of the journal file and of the other words of the environment: kills, cut files, changed
+files, full devices, seeds, and memory over many calls.
+
+Called with the module's file and the program ck_cases. With the first argument `answer` or `memory`
+it is a worker, which this program starts itself.
+"""
+import contextlib
+import os
+import random
+import resource
+import shutil
+import signal
+import stat
+import subprocess
+import sys
+import tempfile
+
+import support
+
+GENERAL_ERROR = 5
+DEVICE_ERROR = "30"
+LOG_IN = ["1 InitToken 31323334", "1 OpenSession 6", "1 Login 1 0 31323334",
+              "1 InitPIN 1 75736572", "1 Logout 1", "1 Login 1 1 75736572"]
+SOME_CALLS = LOG_IN + [
+    "1 CreateObject 1 0=0000000000000000,1=01,2=00,3=6162",
+    "1 CreateObject 1 0=0400000000000000,100=1000000000000000,1=01,11=4a656665",
+    "1 SignInit 1 251 4294967298", "1 Sign 1 6162 32", "1 Login 1 1 31", "1 GetTokenInfo",
+    "1 FindObjectsInit 1 -", "1 FindObjects 1 9", "1 OpenSession 4",
+]
+
+# ---- Workers
+
+
+def answer_input(path):
+    """Answers the calls that stand in standard input, one after the other."""
+    module = support.Module(path)
+    print(f"{module.call('Initialize', None):x}", flush=True)
+    for line in sys.stdin:
+        print(module.say(line.rstrip("\n")), flush=True)
+    print(f"{module.finalize():x}", flush=True)
+
+
+def resident_memory():
+    with open("/proc/self/statm", encoding="ascii") as file:
+        return int(file.read().split()[1]) * resource.getpagesize()
+
+
+def measure_memory(path):
+    """Writes how much memory 180,000 calls took, after 20,000 before them."""
+    module = support.Module(path)
+    module.call("Initialize", None)
+    module.say("1 InitToken 31323334")
+    for count in range(1, 50001):
+        module.answer(["1", "OpenSession", "6"])
+        module.answer(["1", "DigestInit", str(count), "250"])
+        module.answer(["1", "Digest", str(count), "616263", "32"])
+        reply = module.answer(["1", "CloseSession", str(count)])
+        if count == 5000:
+            before = resident_memory()
+    print(resident_memory() - before, reply, flush=True)
+
+
+def environment_of(words):
+    environment = {word: value for word, value in os.environ.items()
+                   if not word.startswith("OSPREYRACK_")}
+    return environment | {f"OSPREYRACK_{word}": str(value) for word, value in words.items()}
+
+
+class Worker:
+    """A process that answers calls."""
+
+    def __init__(self, path, limit=None, **words):
+        self.process = subprocess.Popen(
+            [sys.executable, os.path.abspath(__file__), "answer", path],
+            env=environment_of(words), text=True, stdin=subprocess.PIPE, stdout=subprocess.PIPE,
+            stderr=subprocess.PIPE, preexec_fn=lambda: limit_files(limit))
+        self.code = self.read()
+
+    def read(self):
+        return self.process.stdout.readline().rstrip("\n")
+
+    def say(self, line):
+        self.process.stdin.write(line + "\n")
+        self.process.stdin.flush()
+        return self.read()
+
+    def end(self):
+        """Lets it end by itself. Answers what it wrote to standard error."""
+        out, errors = self.process.communicate(timeout=60)
+        self.last = out.rstrip("\n")
+        return errors
+
+    def kill(self):
+        """Answers the replies that were written before it was killed."""
+        self.process.send_signal(signal.SIGKILL)
+        out, _ = self.process.communicate(timeout=60)
+        return [line for line in out.split("\n")[:-1]]
+
+
+def limit_files(limit):
+    if limit is not None:
+        resource.setrlimit(resource.RLIMIT_FSIZE, (limit, resource.RLIM_INFINITY))
+
+
+# ---- Helpers
+
+
+@contextlib.contextmanager
+def errors_in(path):
+    """What this process writes to standard error goes to a file."""
+    sys.stderr.flush()
+    kept = os.dup(2)
+    file = os.open(path, os.O_WRONLY | os.O_CREAT | os.O_TRUNC, 0o600)
+    os.dup2(file, 2)
+    os.close(file)
+    try:
+        yield
+    finally:
+        os.dup2(kept, 2)
+        os.close(kept)
+
+
+def read(path):
+    with open(path, "rb") as file:
+        return file.read()
+
+
+def write(path, content):
+    with open(path, "wb") as file:
+        file.write(content)
+
+
+class Tests:
+    def __init__(self, checks, module_path, ck_cases, folder):
+        self.checks = checks
+        self.path = module_path
+        self.module = support.Module(module_path)
+        self.ck_cases = ck_cases
+        self.folder = folder
+
+    def file(self, name):
+        return os.path.join(self.folder, name)
+
+    def initialize(self, **words):
+        """C_Initialize in this process: its code, and what it wrote to standard error."""
+        with errors_in(self.file("errors")):
+            code = self.module.initialize(**words)
+        return code, read(self.file("errors")).decode()
+
+    def begin(self, **words):
+        code, errors = self.initialize(**words)
+        self.checks.equal(code, 0, f"C_Initialize with {words}: {errors}")
+
+    def end(self):
+        self.checks.equal(self.module.finalize(), 0, "C_Finalize")
+
+    def say_all(self, lines):
+        return [self.module.say(line) for line in lines]
+
+    def journal_of_some_calls(self):
+        """A file with some calls, in which nothing else stands."""
+        path = self.file("some.cases")
+        if not os.path.exists(path):
+            self.begin(TOKEN=path)
+            replies = self.say_all(SOME_CALLS)
+            self.end()
+            lines = read(path).decode().split("\n")
+            for call, reply in zip(SOME_CALLS, replies):
+                self.checks.check(f"{call} -> {reply}" in lines, f"{call} stands in the file")
+        return path
+
+    # ---- The tests
+
+    def test_file(self):
+        """The form of the file."""
+        path = self.journal_of_some_calls()
+        content = read(path).decode()
+        self.checks.check(content.startswith("# "), "the file begins with comments")
+        self.checks.equal(content.count("limits largest\n"), 1, "lines of limits")
+        label = f"# label {support.LABEL.hex()}\n"
+        self.checks.equal(content.count(label), 1, "lines of the label")
+        self.checks.equal(stat.S_IMODE(os.stat(path).st_mode), 0o600, "the file's mode")
+        support.audit(self.checks, self.ck_cases, path)
+        self.begin(JOURNAL=self.file("of-%p-and-%p.cases"))
+        name = self.file(f"of-{os.getpid()}-and-{os.getpid()}.cases")
+        self.checks.check(os.path.exists(name), "%p in the name is the process's number")
+        self.end()
+
+    def test_going_on(self):
+        """A token goes on from a file, with its label, its PINs and its objects."""
+        path = self.file("going_on.cases")
+        shutil.copy(self.journal_of_some_calls(), path)
+        for count in range(3):
+            self.begin(TOKEN=path)
+            _, info = self.module.token_info()
+            self.checks.equal(bytes(info.label), support.LABEL, "the label")
+            self.checks.equal(info.sessions, 0, "open sessions")
+            session = 3 + count
+            self.checks.equal(self.module.say("1 OpenSession 6"), f"0 {session}", "a new session")
+            self.checks.equal(self.module.say(f"1 Login {session} 1 75736572"), "0", "the login")
+            self.checks.equal(self.module.say(f"1 GetAttributeValue {session} 1 3:9"), "0 =6162",
+                              "the label of the object")
+            key = 2 + ((2 + count) << 32)
+            self.checks.equal(self.module.say(f"1 GetAttributeValue {session} {key} 11:9"),
+                              "0 =4a656665", "the key's value")
+            self.end()
+        support.audit(self.checks, self.ck_cases, path)
+
+    def test_new_label(self):
+        """The label of a later C_InitToken comes back."""
+        path = self.file("labels.cases")
+        for label in [b"the first".ljust(32), bytes(range(32)), b"\xff" * 32]:
+            self.module.label = label
+            self.begin(TOKEN=path)
+            self.checks.equal(self.module.say("1 InitToken 31323334"), "0", "InitToken")
+            self.checks.equal(self.module.say("1 InitToken 3132333435"), "a0", "a wrong PIN")
+            self.end()
+            self.begin(TOKEN=path)
+            self.checks.equal(bytes(self.module.token_info()[1].label), label, "the label")
+            self.end()
+        self.module.label = support.LABEL
+        support.audit(self.checks, self.ck_cases, path)
+
+    def test_script(self):
+        """A script prepares PINs and a key, once for each token."""
+        script, path = self.file("script"), self.file("scripted.cases")
+        lines = ["# PINs and a key", "1 InitToken 31323334 -> 0", "", *LOG_IN[1:5],
+                 "1 Login 1 1 75736572 -> 0",
+                 "1 CreateObject 1 0=0400000000000000,100=1000000000000000,1=01,3=6b6579,"
+                 "11=4a656665"]
+        write(script, "\n".join(lines).encode())
+        for count in range(2):
+            self.begin(TOKEN=path, SCRIPT=script)
+            self.checks.equal(self.module.say("1 GetTokenInfo"), "0 40c 64 0 0", "GetTokenInfo")
+            self.checks.equal(self.module.say("1 OpenSession 6"), f"0 {2 + count}", "OpenSession")
+            self.checks.equal(self.module.say(f"1 Login {2 + count} 1 75736572"), "0", "Login")
+            self.checks.equal(self.module.say(f"1 FindObjectsInit {2 + count} 3=6b6579"), "0",
+                              "FindObjectsInit")
+            self.checks.equal(self.module.say(f"1 FindObjects {2 + count} 9"),
+                              f"0 {1 + ((2 + count) << 32)}", "the key")
+            self.end()
+        self.checks.equal(read(path).count(b"CreateObject"), 1, "the script's calls in the file")
+        self.begin(SCRIPT=script)
+        self.checks.equal(self.module.say("1 GetTokenInfo"), "0 40c 64 0 0", "without a file")
+        self.end()
+        support.audit(self.checks, self.ck_cases, path)
+
+    def test_cut_off(self):
+        """A file that is cut off at each of its bytes: what has its end is kept."""
+        whole = read(self.journal_of_some_calls())
+        header = whole[:whole.index(b"limits largest\n") + len(b"limits largest\n")]
+        path = self.file("cut_off.cases")
+        for length in range(len(whole) + 1):
+            write(path, whole[:length])
+            code, errors = self.initialize(TOKEN=path)
+            self.checks.equal(code, 0, f"C_Initialize with {length} bytes: {errors}")
+            if code == 0:
+                self.end()
+            kept = whole[:whole.rfind(b"\n", 0, length) + 1] if length >= len(header) else header
+            self.checks.check(read(path).startswith(kept), f"the lines of {length} bytes are kept")
+            rest = read(path)[len(kept):]
+            expected = b"1 CloseAllSessions -> 0\n" if length >= len(header) else b""
+            self.checks.equal(rest, expected, f"what follows the lines of {length} bytes")
+            is_told = "OSPREYRACK_TOKEN" in errors
+            self.checks.equal(is_told, length > len(header) and len(kept) < length,
+                              f"whether a dropped line is told of, at {length} bytes")
+        support.audit(self.checks, self.ck_cases, path)
+
+    def test_changed(self):
+        """Each reply, changed: refused with its line, and the file stays."""
+        lines = read(self.journal_of_some_calls()).split(b"\n")
+        path = self.file("changed.cases")
+        for place, line in enumerate(lines):
+            if b" -> " not in line:
+                continue
+            for other in [line + b"0", line.replace(b" -> ", b" -> 9", 1),
+                          line.replace(b"1 ", b"9 ", 1), line.replace(b" -> ", b" ->", 1)]:
+                content = b"\n".join(lines[:place] + [other] + lines[place + 1:])
+                write(path, content)
+                code, errors = self.initialize(TOKEN=path)
+                self.checks.equal(code, GENERAL_ERROR, f"C_Initialize with {other}")
+                if code == 0:
+                    self.end()
+                start = f"ospreyrack: OSPREYRACK_TOKEN: {path}, line {place + 1}: "
+                self.checks.check(errors.startswith(start) and errors.count("\n") == 1, errors)
+                self.checks.equal(read(path), content, "the file")
+        self.begin(TOKEN=self.journal_of_some_calls())
+        self.end()
+
+    def test_lacking_reply(self):
+        """A line of which there was no memory for the reply."""
+        content = read(self.journal_of_some_calls())
+        path = self.file("lacking.cases")
+        write(path, content.replace(b"1 OpenSession 6 -> 0 1\n", b"1 OpenSession 6\n", 1))
+        self.begin(TOKEN=path)
+        self.checks.equal(self.module.say("1 GetTokenInfo"), "0 40c 64 0 0", "GetTokenInfo")
+        self.end()
+
+    def test_two_processes(self):
+        """One process at a time has the file."""
+        path = self.file("two.cases")
+        first = Worker(self.path, TOKEN=path)
+        self.checks.equal(first.say("1 InitToken 31323334"), "0", "the first process")
+        second = Worker(self.path, TOKEN=path)
+        self.checks.equal(second.code, f"{GENERAL_ERROR:x}", "C_Initialize of the second process")
+        self.checks.check(second.end().startswith(f"ospreyrack: OSPREYRACK_TOKEN: {path}: "),
+                          "the second process says why")
+        self.checks.equal(first.say("1 OpenSession 6"), "0 1", "the first process goes on")
+        self.checks.equal(first.end(), "", "the errors of the first process")
+        third = Worker(self.path, TOKEN=path)
+        self.checks.equal(third.say("1 OpenSession 6"), "0 2", "a process after it")
+        third.end()
+        support.audit(self.checks, self.ck_cases, path)
+
+    def kill_once(self, path, draw):
+        """A process that is killed in the middle of calls. Answers how many were answered."""
+        before = read(path) if os.path.exists(path) else b""
+        worker = Worker(self.path, TOKEN=path)
+        if not before:
+            worker.say("1 InitToken 31323334")
+        session = worker.say("1 OpenSession 6")[2:]
+        calls = [f"1 CreateObject {session} 0=0000000000000000,1=01,2=00,3={count:08x}"
+                 for count in range(400)]
+        worker.process.stdin.write("\n".join(calls) + "\n")
+        worker.process.stdin.flush()
+        replies = [worker.read() for _ in range(draw.randrange(1, 200))]
+        replies += worker.kill()
+        content = read(path).decode()
+        answered = [f"{call} -> {reply}" for call, reply in zip(calls, replies)]
+        lines = [line for line in content[len(before):].split("\n")[:-1] if "CreateObject" in line]
+        self.checks.check(content.startswith(before.decode()), "the calls before stand in the file")
+        self.checks.equal(lines[:len(answered)], answered, "the answered calls")
+        return len(lines)
+
+    def test_kills(self):
+        """What was answered before a process is killed stands in the file."""
+        path = self.file("killed.cases")
+        draw = random.Random(1)
+        total = sum(self.kill_once(path, draw) for _ in range(6))
+        worker = Worker(self.path, TOKEN=path)
+        session = worker.say("1 OpenSession 4")[2:]
+        worker.say(f"1 FindObjectsInit {session} -")
+        found = worker.say(f"1 FindObjects {session} 4000")
+        self.checks.equal(found.count(",") + 1, total, "the objects of the killed processes")
+        worker.end()
+        support.audit(self.checks, self.ck_cases, path)
+
+    def test_full(self):
+        """A device that is full from the beginning: a clear line."""
+        for word in ["JOURNAL", "TOKEN"]:
+            code, errors = self.initialize(**{word: "/dev/full"})
+            self.checks.equal(code, GENERAL_ERROR, f"C_Initialize with {word}=/dev/full")
+            self.checks.check(errors.startswith(f"ospreyrack: OSPREYRACK_{word}: /dev/full: ")
+                              and errors.count("\n") == 1, errors)
+        worker = Worker(self.path, limit=100, JOURNAL=self.file("small.cases"))
+        self.checks.equal(worker.code, f"{GENERAL_ERROR:x}", "C_Initialize with room for 100 bytes")
+        self.checks.check("OSPREYRACK_JOURNAL" in worker.end(), "no room for the file's header")
+
+    def test_filling(self):
+        """A device that becomes full: CKR_DEVICE_ERROR, and the file has whole lines."""
+        for limit in range(2000, 2040, 3):
+            path = self.file(f"filled-{limit}.cases")
+            worker = Worker(self.path, limit=limit, TOKEN=path)
+            replies = []
+            while DEVICE_ERROR not in replies and len(replies) < 300:
+                replies.append(worker.say("1 GetTokenInfo"))
+            self.checks.check(10 < len(replies) < 300, "the file becomes full")
+            self.checks.equal(worker.say("1 InitToken 31323334"), DEVICE_ERROR, "a later call")
+            errors = worker.end()
+            self.checks.equal(worker.last, "0", "C_Finalize")
+            self.checks.check(errors.startswith("ospreyrack: OSPREYRACK_TOKEN: ")
+                              and errors.count("\n") == 1, errors)
+            content = read(path).decode()
+            self.checks.equal(content.count("1 GetTokenInfo -> 0 4 64 0 0\n"), len(replies) - 1,
+                              "the answered calls in the file")
+            self.checks.check(content.endswith("0\n") and len(content) <= limit, "whole lines")
+            self.begin(TOKEN=path)
+            self.end()
+
+    def seeded_run(self, seed):
+        code, errors = self.initialize(SEED=seed)
+        self.checks.equal(code, 0, "C_Initialize with a seed")
+        self.checks.check(errors.startswith("ospreyrack: OSPREYRACK_SEED: "), "a seed is warned of")
+        self.say_all(LOG_IN)
+        values = []
+        for count in range(3):
+            made = self.module.say("1 GenerateKey 1 350 161=2000000000000000,2=00")
+            values.append(self.module.say(f"1 GetAttributeValue 1 {made[2:]} 11:64"))
+        out = (support.c_ubyte * 16)()
+        self.module.call("GenerateRandom", support.c_ulong(1), out, support.c_ulong(16))
+        self.end()
+        self.checks.equal(len(set(values)), 3, "different keys in one run")
+        self.checks.check(all(len(value) == 3 + 64 for value in values), f"keys: {values}")
+        return values + [bytes(out)]
+
+    def test_seed(self):
+        """Equal seeds make equal keys and random bytes, and others make others."""
+        first, second, other = (self.seeded_run(seed) for seed in [7, 7, 8])
+        largest = self.seeded_run(2**64 - 1)
+        self.checks.equal(first, second, "two runs of one seed")
+        self.checks.check(not set(first) & set(other), "another seed makes others")
+        self.checks.check(not set(first) & set(largest), "the largest seed makes others")
+
+    def run_memory(self, cut):
+        run = subprocess.run([sys.executable, os.path.abspath(__file__), "memory", self.path],
+                             env=environment_of({"CUT": cut}), capture_output=True, text=True,
+                             timeout=200)
+        grown, reply = run.stdout.split()
+        self.checks.equal(reply, "0", "the last reply")
+        return int(grown)
+
+    def test_memory(self):
+        """OSPREYRACK_CUT=yes keeps memory flat over 200,000 calls, and =no doesn't."""
+        grown = self.run_memory("yes")
+        self.checks.check(grown < 1 << 20, f"with yes memory grows by {grown} bytes")
+        grown = self.run_memory("no")
+        self.checks.check(grown > 4 << 20, f"with no memory grows by {grown} bytes")
+
+    def test_cut(self):
+        """No reply differs by OSPREYRACK_CUT."""
+        lines = list(LOG_IN)
+        for count in range(1, 800):
+            lines += [f"1 OpenSession {4 + 2 * (count % 2)}", f"1 CloseSession {count}",
+                      f"1 GetSessionInfo {count}", "1 GetTokenInfo",
+                      f"1 CreateObject {count + 1} 0=0000000000000000,1=01,2=00",
+                      f"1 Login {count + 1} 1 7573657{count % 3}"]
+        replies = []
+        for words in [{}, {"CUT": "yes"}, {"CUT": "no"},
+                      {"CUT": "yes", "JOURNAL": self.file("cut_yes.cases")},
+                      {"CUT": "no", "JOURNAL": self.file("cut_no.cases")}]:
+            self.begin(**words)
+            replies.append(self.say_all(lines))
+            self.end()
+        for made in replies[1:]:
+            self.checks.equal(made, replies[0], "the replies")
+        self.checks.equal(read(self.file("cut_yes.cases")), read(self.file("cut_no.cases")),
+                          "the files")
+        support.audit(self.checks, self.ck_cases, self.file("cut_yes.cases"))
+        self.begin(TOKEN=self.file("cut_yes.cases"))
+        self.end()
+
+
+TESTS = [Tests.test_file, Tests.test_going_on, Tests.test_new_label, Tests.test_script,
+         Tests.test_cut_off, Tests.test_changed, Tests.test_lacking_reply, Tests.test_two_processes,
+         Tests.test_kills, Tests.test_full, Tests.test_filling, Tests.test_seed, Tests.test_cut,
+         Tests.test_memory]
+
+
+def main():
+    if sys.argv[1] == "answer":
+        return answer_input(sys.argv[2])
+    if sys.argv[1] == "memory":
+        return measure_memory(sys.argv[2])
+    checks = support.Checks("journal")
+    for test in TESTS:
+        with tempfile.TemporaryDirectory() as folder:
+            test(Tests(checks, sys.argv[1], sys.argv[2], folder))
+        checks.end(test.__doc__.split(".\n")[0].rstrip("."))
+    return checks.status()
+
+
+if __name__ == "__main__":
+    sys.exit(main())

@@ -1,0 +1,328 @@
+/*
+ * Threads that make calls of all kinds at once, each of which checks what it is answered. Called
+ * with the module's file, how many threads there are, and how many rounds each of them makes; and
+ * with the word `mutexes` where the lock is to be made by functions of the application.
+ */
+#include "support.h"
+
+#include <pthread.h>
+#include <stdatomic.h>
+#include <stdio.h>
+#include <stdlib.h>
+#include <string.h>
+#include <sys/wait.h>
+#include <unistd.h>
+
+enum { MOST_THREADS = 64, SHARED_SESSIONS = 4 };
+
+static int threads;
+static int rounds;
+static CK_SESSION_HANDLE shared[SHARED_SESSIONS];
+static CK_OBJECT_HANDLE shared_key;
+static const CK_FLAGS read_write = CKF_SERIAL_SESSION | CKF_RW_SESSION;
+
+/* ---- What a thread does in a session. An operation that another thread has started there is left
+ * to that one: the call that starts it is answered CKR_OPERATION_ACTIVE. */
+
+static bool is_started(CK_RV code) {
+    check(code == CKR_OK || code == CKR_OPERATION_ACTIVE, "an operation is started, or is active");
+    return code == CKR_OK;
+}
+
+static void digest_at_once(CK_SESSION_HANDLE session) {
+    CK_MECHANISM sha256 = mechanism_of(CKM_SHA256);
+    CK_BYTE message[] = {'a', 'b', 'c'}, digest[32];
+    CK_ULONG length = sizeof digest;
+    if (!is_started(p11->C_DigestInit(session, &sha256)))
+        return;
+    EXPECT(CKR_OK, p11->C_Digest(session, message, sizeof message, digest, &length));
+    CHECK(is_hexadecimal(digest, length, sha256_of_abc));
+}
+
+static void digest_in_pieces(CK_SESSION_HANDLE session) {
+    CK_MECHANISM sha512 = mechanism_of(CKM_SHA512);
+    CK_BYTE message[] = {'a', 'b', 'c'}, digest[64];
+    CK_ULONG length = sizeof digest;
+    if (!is_started(p11->C_DigestInit(session, &sha512)))
+        return;
+    for (int i = 0; i < 3; i++)
+        EXPECT(CKR_OK, p11->C_DigestUpdate(session, message + i, 1));
+    EXPECT(CKR_OK, p11->C_DigestFinal(session, digest, &length));
+    CHECK(is_hexadecimal(digest, length, sha512_of_abc));
+}
+
+static void sign_and_verify(CK_SESSION_HANDLE session, CK_OBJECT_HANDLE key) {
+    CK_MECHANISM hmac = mechanism_of(CKM_SHA256_HMAC);
+    CK_BYTE signature[32];
+    CK_ULONG length = sizeof signature;
+    if (!is_started(p11->C_SignInit(session, &hmac, key)))
+        return;
+    EXPECT(CKR_OK, p11->C_SignUpdate(session, hmac_message, 10));
+    EXPECT(CKR_OK, p11->C_SignUpdate(session, hmac_message + 10, sizeof hmac_message - 10));
+    EXPECT(CKR_OK, p11->C_SignFinal(session, signature, &length));
+    CHECK(is_hexadecimal(signature, length, hmac_of_message));
+    if (!is_started(p11->C_VerifyInit(session, &hmac, key)))
+        return;
+    EXPECT(CKR_OK, p11->C_Verify(session, hmac_message, sizeof hmac_message, signature, length));
+    if (!is_started(p11->C_VerifyInit(session, &hmac, key)))
+        return;
+    signature[0] ^= 1;
+    EXPECT(CKR_SIGNATURE_INVALID,
+           p11->C_Verify(session, hmac_message, sizeof hmac_message, signature, length));
+}
+
+static void find_by_label(CK_SESSION_HANDLE session, char *label, CK_OBJECT_HANDLE object) {
+    CK_ATTRIBUTE query = {CKA_LABEL, label, strlen(label)};
+    CK_OBJECT_HANDLE found[2] = {0, 0};
+    CK_ULONG count = 0;
+    if (!is_started(p11->C_FindObjectsInit(session, &query, 1)))
+        return;
+    EXPECT(CKR_OK, p11->C_FindObjects(session, found, 2, &count));
+    EXPECT(CKR_OK, p11->C_FindObjectsFinal(session));
+    CHECK(count == 1 && found[0] == object);
+}
+
+static void check_label(CK_SESSION_HANDLE session, CK_OBJECT_HANDLE object, const char *label) {
+    char value[64];
+    CK_ATTRIBUTE query = {CKA_LABEL, value, sizeof value};
+    EXPECT(CKR_OK, p11->C_GetAttributeValue(session, object, &query, 1));
+    CHECK(query.ulValueLen == strlen(label) && memcmp(value, label, strlen(label)) == 0);
+}
+
+static void use_objects(CK_SESSION_HANDLE session, char *label) {
+    char changed[] = "a changed label";
+    CK_ATTRIBUTE change = {CKA_LABEL, changed, strlen(changed)};
+    CK_OBJECT_HANDLE object = create_data(session, label), copy = 0;
+    find_by_label(session, label, object);
+    check_label(session, object, label);
+    EXPECT(CKR_OK, p11->C_CopyObject(session, object, NULL, 0, &copy));
+    EXPECT(CKR_OK, p11->C_SetAttributeValue(session, object, &change, 1));
+    check_label(session, object, changed);
+    check_label(session, copy, label);
+    EXPECT(CKR_OK, p11->C_DestroyObject(session, object));
+    EXPECT(CKR_OK, p11->C_DestroyObject(session, copy));
+    EXPECT(CKR_OBJECT_HANDLE_INVALID, p11->C_DestroyObject(session, copy));
+}
+
+static void use_generated_key(CK_SESSION_HANDLE session) {
+    CK_MECHANISM generation = mechanism_of(CKM_GENERIC_SECRET_KEY_GEN);
+    CK_BBOOL no = CK_FALSE;
+    CK_ULONG key_length = 32;
+    CK_BYTE value[33];
+    CK_OBJECT_HANDLE key = 0;
+    CK_ATTRIBUTE template[] = {
+        {CKA_PRIVATE, &no, sizeof no},
+        {CKA_VALUE_LEN, &key_length, sizeof key_length},
+    };
+    EXPECT(CKR_OK, p11->C_GenerateKey(session, &generation, template, 2, &key));
+    CK_ATTRIBUTE query = {CKA_VALUE, value, sizeof value};
+    EXPECT(CKR_OK, p11->C_GetAttributeValue(session, key, &query, 1));
+    CHECK(query.ulValueLen == 32);
+    EXPECT(CKR_OK, p11->C_DestroyObject(session, key));
+}
+
+static void ask_of_token(CK_SESSION_HANDLE session) {
+    CK_TOKEN_INFO token;
+    CK_SESSION_INFO info;
+    CK_MECHANISM_TYPE types[13];
+    CK_ULONG count = 13;
+    CK_BYTE bytes[100];
+    EXPECT(CKR_OK, p11->C_GetTokenInfo(0, &token));
+    CHECK(memcmp(token.label, token_label, sizeof token.label) == 0);
+    EXPECT(CKR_OK, p11->C_GetMechanismList(0, types, &count));
+    CHECK(count == 13 && types[0] == CKM_SHA256);
+    EXPECT(CKR_OK, p11->C_GetSessionInfo(session, &info));
+    CHECK(info.flags == read_write);
+    EXPECT(CKR_OK, p11->C_GenerateRandom(session, bytes, sizeof bytes));
+}
+
+static void make_round(CK_SESSION_HANDLE session, CK_OBJECT_HANDLE key, char *label) {
+    digest_at_once(session);
+    digest_in_pieces(session);
+    sign_and_verify(session, key);
+    use_objects(session, label);
+    use_generated_key(session);
+    ask_of_token(session);
+}
+
+/* ---- Threads */
+
+static void *work_in_own_session(void *argument) {
+    int number = *(int *)argument;
+    char label[64];
+    for (int round = 0; round < rounds; round++) {
+        CK_SESSION_HANDLE session = 0;
+        snprintf(label, sizeof label, "own %d, round %d", number, round);
+        EXPECT(CKR_OK, p11->C_OpenSession(0, read_write, NULL, NULL, &session));
+        make_round(session, create_key(session, "Jefe"), label);
+        EXPECT(CKR_OK, p11->C_CloseSession(session));
+        EXPECT(CKR_SESSION_HANDLE_INVALID, p11->C_CloseSession(session));
+    }
+    return NULL;
+}
+
+static void *work_in_shared_session(void *argument) {
+    int number = *(int *)argument;
+    char label[64];
+    for (int round = 0; round < rounds; round++) {
+        snprintf(label, sizeof label, "shared %d, round %d", number, round);
+        make_round(shared[number % SHARED_SESSIONS], shared_key, label);
+    }
+    return NULL;
+}
+
+static atomic_int logins, logouts;
+
+static void *log_in_and_out(void *argument) {
+    CK_SESSION_HANDLE session = shared[*(int *)argument % SHARED_SESSIONS];
+    for (int round = 0; round < rounds; round++) {
+        CK_RV code = p11->C_Login(session, CKU_USER, user_pin, sizeof user_pin);
+        check(code == CKR_OK || code == CKR_USER_ALREADY_LOGGED_IN, "C_Login");
+        logins += code == CKR_OK;
+        code = p11->C_Logout(session);
+        check(code == CKR_OK || code == CKR_USER_NOT_LOGGED_IN, "C_Logout");
+        logouts += code == CKR_OK;
+    }
+    return NULL;
+}
+
+/* The child has this thread only, and begins anew. */
+static int see_as_child(void) {
+    CK_INFO info;
+    unsetenv("OSPREYRACK_JOURNAL");
+    if (p11->C_GetInfo(&info) != CKR_CRYPTOKI_NOT_INITIALIZED)
+        return 1;
+    if (p11->C_Initialize(NULL) != CKR_OK || p11->C_GetInfo(&info) != CKR_OK)
+        return 2;
+    return p11->C_Finalize(NULL) == CKR_OK ? 0 : 3;
+}
+
+static void *fork_children(void *ignored) {
+    for (int i = 0; i < 2; i++) {
+        int status = -1;
+        pid_t child = fork();
+        if (child == 0)
+            _exit(see_as_child());
+        waitpid(child, &status, 0);
+        check(WIFEXITED(status) && WEXITSTATUS(status) == 0, "a child begins anew");
+    }
+    return ignored;
+}
+
+/* ---- The application's mutex functions */
+
+static bool has_mutexes;
+
+static CK_RV create_mutex(CK_VOID_PTR_PTR mutex) {
+    *mutex = malloc(sizeof(pthread_mutex_t));
+    if (*mutex == NULL)
+        return CKR_HOST_MEMORY;
+    return pthread_mutex_init(*mutex, NULL) == 0 ? CKR_OK : CKR_GENERAL_ERROR;
+}
+
+static CK_RV destroy_mutex(CK_VOID_PTR mutex) {
+    pthread_mutex_destroy(mutex);
+    free(mutex);
+    return CKR_OK;
+}
+
+static CK_RV lock_mutex(CK_VOID_PTR mutex) {
+    return pthread_mutex_lock(mutex) == 0 ? CKR_OK : CKR_MUTEX_BAD;
+}
+
+static CK_RV unlock_mutex(CK_VOID_PTR mutex) {
+    return pthread_mutex_unlock(mutex) == 0 ? CKR_OK : CKR_MUTEX_BAD;
+}
+
+static atomic_int initialized;
+
+static void *initialize(void *argument) {
+    CK_C_INITIALIZE_ARGS mutexes = {
+        .CreateMutex = create_mutex,
+        .DestroyMutex = destroy_mutex,
+        .LockMutex = lock_mutex,
+        .UnlockMutex = unlock_mutex,
+    };
+    (void)argument;
+    CK_RV code = p11->C_Initialize(has_mutexes ? &mutexes : NULL);
+    check(code == CKR_OK || code == CKR_CRYPTOKI_ALREADY_INITIALIZED, "C_Initialize");
+    initialized += code == CKR_OK;
+    return NULL;
+}
+
+/* The first half of the threads does the one, and the second half the other. */
+static void run_threads(void *(*first)(void *), void *(*second)(void *)) {
+    static int numbers[MOST_THREADS];
+    pthread_t started[MOST_THREADS];
+    for (int i = 0; i < threads; i++) {
+        numbers[i] = i;
+        if (pthread_create(&started[i], NULL, i < threads / 2 ? first : second, &numbers[i]) != 0)
+            exit(2);
+    }
+    for (int i = 0; i < threads; i++)
+        pthread_join(started[i], NULL);
+}
+
+/* ---- Tests. The library stays initialized from the first to the last. */
+
+static void test_initialize(void) {
+    run_threads(initialize, initialize);
+    CHECK(initialized == 1);
+    shared[0] = log_in();
+    for (int i = 1; i < SHARED_SESSIONS; i++)
+        EXPECT(CKR_OK, p11->C_OpenSession(0, read_write, NULL, NULL, &shared[i]));
+    shared_key = create_key(shared[0], "Jefe");
+}
+
+static void test_own_sessions(void) {
+    run_threads(work_in_own_session, work_in_own_session);
+}
+
+static void test_shared_sessions(void) {
+    run_threads(work_in_shared_session, work_in_shared_session);
+}
+
+static void test_both(void) {
+    run_threads(work_in_own_session, work_in_shared_session);
+}
+
+static void test_forks(void) {
+    run_threads(work_in_own_session, fork_children);
+}
+
+static void test_logins(void) {
+    EXPECT(CKR_OK, p11->C_Logout(shared[0]));
+    run_threads(log_in_and_out, log_in_and_out);
+    CHECK(logins == logouts && logins > 0);
+    CK_TOKEN_INFO info;
+    EXPECT(CKR_OK, p11->C_GetTokenInfo(0, &info));
+    CHECK(info.ulSessionCount == SHARED_SESSIONS);
+    end_token();
+}
+
+static const struct test tests[] = {
+    {"threads initialize at once, and one of them does it", test_initialize},
+    {"threads in sessions of their own", test_own_sessions},
+    {"threads in sessions that they share", test_shared_sessions},
+    {"threads in their own sessions and in shared ones", test_both},
+    {"threads make calls, and others fork", test_forks},
+    {"threads log in and out; C_Finalize", test_logins},
+};
+
+int main(int count, char **arguments) {
+    char name[64];
+    has_mutexes = count == 5 && strcmp(arguments[4], "mutexes") == 0;
+    if (count != 4 && !has_mutexes) {
+        fprintf(stderr, "threads MODULE THREADS ROUNDS [mutexes]\n");
+        return 2;
+    }
+    threads = atoi(arguments[2]);
+    rounds = atoi(arguments[3]);
+    if (threads < 2 || threads > MOST_THREADS)
+        return 2;
+    snprintf(name, sizeof name, "threads, %d%s%s", threads,
+             getenv("OSPREYRACK_JOURNAL") == NULL ? "" : " with a journal",
+             has_mutexes ? " with the application's mutexes" : "");
+    load_module(arguments[1]);
+    return run_tests(name, tests, sizeof tests / sizeof *tests);
+}
