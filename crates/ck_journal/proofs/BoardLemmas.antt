@@ -21,7 +21,8 @@ use Rattle.ck_journal.specs.declared.replies.Body.TheVariants as body
 use Rattle.ck_journal.specs.declared.replies.Reply.{Reply}
 use Rattle.ck_journal.specs.Answers.{answer, flags_of_token, ok, refusal, unless}
 use Rattle.ck_journal.specs.Boards.{BoardState, board_of, login_status, LeavesBoard}
-use Rattle.ck_journal.specs.Histories.{History, ◌◁◌, done, is_ok, is_wrong_pin, effects_of, effects}
+use Rattle.ck_journal.specs.Histories.{History, ◌◁◌, done, is_ok, is_wrong_pin}
+use Rattle.ck_journal.specs.Effects.{effects_of, effects}
 use Rattle.ck_journal.specs.Pins.{about, is_about, is_user, tries}
 use Rattle.ck_journal.specs.Sessions.{is_open, flags_of, open_sessions, rw_sessions}
 use Rattle.ck_journal.specs.Sessions.{has_rw_flag, login, state_of}

@@ -10,6 +10,7 @@ use Rattle.std.proofs.lemmas.Option.{same_Some}
 use Rattle.ck_types.specs.Checks.{error_if}
 use Rattle.ck_objects.specs.Records.{is_set}
 use Rattle.ck_types.specs.TokenLimits.{Ranges}
+use Rattle.ck_types.specs.Users.{same_user}
 use Rattle.ck_objects.specs.declared.attributes.Attribute.TheVariants as attribute
 use Rattle.ck_types.specs.declared.errors.RvError.TheVariants as rv_error
 use Rattle.ck_objects.specs.declared.items.Item.{Item}
@@ -27,7 +28,7 @@ use Rattle.ck_journal.specs.Histories.{History, start, ◌◁◌, start_of}
 use Rattle.ck_journal.specs.Laws.{IsSoundHistory}
 use Rattle.ck_journal.specs.Objects.{creations, object_at, session_of, is_session_object}
 use Rattle.ck_journal.specs.Operations.{is_active}
-use Rattle.ck_journal.specs.Pins.{is_initialized, initializes, named_owner, pin_owner, present_pin}
+use Rattle.ck_journal.specs.Pins.{is_about, is_initialized, initializes, pin_owner, present_pin}
 use Rattle.ck_journal.specs.Pins.{so_pin, so_pin_after, tries}
 use Rattle.ck_journal.specs.Searches.{is_searching}
 use Rattle.ck_journal.specs.Sessions.{numbers, openings, is_open, open_sessions, is_read_write, state_of}
@@ -46,14 +47,15 @@ use Rattle.ck_journal.proofs.SessionMoves.{is_open-within}
 
 -- ---- the security officer has a PIN exactly where the token is initialized
 
-initialized-so : (pin : Pin) (owner : UserType) (before : Option Pin)
-    → is_some (so_pin_after (Some (call.InitToken pin)) owner before) ≡ true
-initialized-so pin owner None = refl
-initialized-so pin owner (Some other) = refl
+initialized-so : (pin : Pin) (about_so : Bool) (before : Option Pin)
+    → is_some (so_pin_after (Some (call.InitToken pin)) about_so before) ≡ true
+initialized-so pin about_so None = refl
+initialized-so pin about_so (Some other) = refl
 
 set-so : (session : ℕ) (old new : Pin) (h : History) (owner : UserType)
     → is_none (present_pin owner h) ≡ false → is_some (so_pin h) ≡ is_initialized h
-    → is_some (so_pin_after (Some (call.SetPin session old new)) owner (so_pin h)) ≡ is_initialized h
+    → is_some (so_pin_after (Some (call.SetPin session old new)) (same_user user.So owner) (so_pin h))
+    ≡ is_initialized h
 set-so session old new h user.So present before = has-pin (so_pin h) present ∙ before
   where
     has-pin : (o : Option Pin) → is_none o ≡ false → true ≡ is_some o
@@ -63,9 +65,9 @@ set-so session old new h user.User present before = before
 
 so-after : (limits : Ranges) (h : History) → is_some (so_pin h) ≡ is_initialized h → (c : Call)
     → call_error limits h c ≡ None
-    → is_some (so_pin_after (Some c) (named_owner h (Some c)) (so_pin h))
+    → is_some (so_pin_after (Some c) (is_about user.So h (Some c)) (so_pin h))
     ≡ initializes (Some c) || is_initialized h
-so-after limits h before (call.InitToken pin) p = initialized-so pin user.User (so_pin h)
+so-after limits h before (call.InitToken pin) p = initialized-so pin true (so_pin h)
 so-after limits h before (call.SetPin session old new) p =
     let owner = pin_owner (state_of h session) in
     set-so session old new h owner
@@ -82,7 +84,8 @@ so-initialized limits (start b) sound legal = sound.so_pin
 so-initialized limits (e ◁ h) sound legal =
     let before = so-initialized limits h sound legal.1 in
     by-done limits e h legal
-    (λ d. is_some (so_pin_after d (named_owner h d) (so_pin h)) ≡ initializes d || is_initialized h)
+    (λ d. is_some (so_pin_after d (is_about user.So h d) (so_pin h))
+    ≡ initializes d || is_initialized h)
     before (so-after limits h before)
 
 -- ---- kept objects

@@ -11,6 +11,7 @@ use Rattle.ck_types.specs.declared.errors.RvError.{RvError}
 use Rattle.ck_types.specs.declared.errors.RvError.TheVariants as rv_error
 use Rattle.ck_objects.specs.declared.items.Item.{Item}
 use Rattle.ck_types.specs.declared.users.UserType.{UserType}
+use Rattle.ck_types.specs.declared.users.UserType.TheVariants as user
 use Rattle.ck_types.proofs.CheckLemmas.{or_else-none}
 use Rattle.ck_journal.specs.declared.calls.Call.{Call}
 use Rattle.ck_journal.specs.declared.calls.Call.TheVariants as call
@@ -26,7 +27,7 @@ use Rattle.ck_journal.specs.Objects.{attributes_named, object_named, is_session_
 use Rattle.ck_journal.specs.Operations.{starts, ends, is_active, started_computation}
 use Rattle.ck_journal.specs.Operations.{computation_in, hmac_with, init_key, key_in, piece_of}
 use Rattle.ck_journal.specs.Operations.{pieces_in}
-use Rattle.ck_journal.specs.Pins.{about, is_user, initializes, named_owner, so_pin, so_pin_after}
+use Rattle.ck_journal.specs.Pins.{about, is_about, is_user, initializes, so_pin, so_pin_after}
 use Rattle.ck_journal.specs.Pins.{user_pin, user_pin_after, pin_owner, tries}
 use Rattle.ck_journal.specs.Searches.{starts_search, ends_search, is_searching, matching_objects}
 use Rattle.ck_journal.specs.Searches.{search_template, found_objects, last_or, last_number}
@@ -65,13 +66,6 @@ unsessioned d view n creator other attributes t = refl
 module _ (h g : History) (a : Alike h g) where
   -- ---- whose PIN a call is about
 
-  owner-passed : (limits : Ranges) (c : Call) → call_error limits h c ≡ None
-      → named_owner g (Some c) ≡ named_owner h (Some c)
-  owner-passed limits (call.SetPin session old new) p =
-      let o = session-open h session (or_else-none (session_error h session) _ p).0 in
-      ap pin_owner (state-alike h g a session o)
-  owner-passed limits other p = refl
-
   about-passed : (limits : Ranges) (c : Call) → call_error limits h c ≡ None
       → about g (Some c) ≡ about h (Some c)
   about-passed limits (call.SetPin session old new) p =
@@ -106,10 +100,6 @@ module _ (h g : History) (a : Alike h g) where
       cases false t = unsessioned d (view_of h) n (session_of h n) (session_of g n) x t
 
   module _ (limits : Ranges) (e : Entry) (sound : IsSound (start_of h)) (legal : IsLegal limits (e ◁ h)) where
-    owner-done : named_owner g (done e) ≡ named_owner h (done e)
-    owner-done =
-        by-done limits e h legal (λ d. named_owner g d ≡ named_owner h d) refl (owner-passed limits)
-
     about-done : about g (done e) ≡ about h (done e)
     about-done = by-done limits e h legal (λ d. about g d ≡ about h d) refl (about-passed limits)
 
@@ -190,10 +180,10 @@ module _ (h g : History) (a : Alike h g) where
     pub alike-after : Alike (e ◁ h) (e ◁ g)
     alike-after = record {
       initialized_too = ap (λ t. initializes (done e) || t) a.initialized_too;
-      so = ap (λ o. so_pin_after (done e) o (so_pin g)) owner-done
-          ∙ ap (so_pin_after (done e) (named_owner h (done e))) a.so;
-      user = ap (λ o. user_pin_after (done e) o (user_pin g)) owner-done
-          ∙ ap (user_pin_after (done e) (named_owner h (done e))) a.user;
+      so = ap (λ who. so_pin_after (done e) (is_user user.So who) (so_pin g)) about-done
+          ∙ ap (so_pin_after (done e) (is_about user.So h (done e))) a.so;
+      user = ap (λ who. user_pin_after (done e) (is_user user.User who) (user_pin g)) about-done
+          ∙ ap (user_pin_after (done e) (is_about user.User h (done e))) a.user;
       tried = tried-after;
       opened = opened-after;
       created = ap (λ n. cond (creates (done e)) (suc n) n) a.created;

@@ -5,11 +5,12 @@ use Rattle.std.specs.Prelude.{◌==◌, nat_le, nat_lt, filter, option_and_then,
 use Rattle.std.specs.Prelude.{if◌then◌else◌}
 use Rattle.std.specs.List.{list_any, concat}
 use Rattle.std.specs.Option.{option_map_or}
+use Rattle.std.proofs.Math.Path.{fun_ext}
 use Rattle.std.proofs.lemmas.Bool.{not-false}
 use Rattle.ck_types.specs.Checks.{error_if, or_else, first_of}
 use Rattle.ck_types.specs.Pins.{fits_a_pin}
-use Rattle.ck_types.specs.Computations.{tag_of}
-use Rattle.ck_types.specs.Macs.{signature_error}
+use Rattle.ck_mac.specs.Computations.{tag_of}
+use Rattle.ck_mac.specs.Macs.{signature_error}
 use Rattle.ck_objects.specs.Records.{created_items, generated_items, with_given, is_key}
 use Rattle.ck_objects.specs.Records.{placement_of}
 use Rattle.ck_types.specs.TokenLimits.{Ranges}
@@ -33,6 +34,8 @@ use Rattle.ck_journal.specs.Answers.{ok, unless, new_handle, session_error, pin_
 use Rattle.ck_journal.specs.Answers.{read_only_error, logins_error, user_login_error}
 use Rattle.ck_journal.specs.Answers.{known_login_error, placement_error, creations_error}
 use Rattle.ck_journal.specs.Answers.{call_error, allowed_reply, answer}
+use Rattle.ck_journal.specs.Answers.{object_error, copy_error, change_error, destruction_error}
+use Rattle.ck_journal.specs.Answers.{key_error, state_change_error}
 use Rattle.ck_journal.specs.Answers.{operation_error, search_error, present_key_error}
 use Rattle.ck_journal.specs.Answers.{key_state_error, message_error, update_error, final_error}
 use Rattle.ck_journal.specs.Answers.{verify_error, verify_final_error, tag_in, hmac_init_error}
@@ -333,6 +336,24 @@ module _ (h g : History) (a : Alike h g) where
     hmac_init-alike k s mechanism key =
         in-session s _ _ (λ o. rw (b.active k, key_named-alike key) refl)
 
+    -- ---- checks of the object or the key that a handle names, where they are alike
+
+    object_error-alike : (handle : ℕ) (late early : List Item → Option RvError)
+        → ((attributes : List Item) → late attributes ≡ early attributes)
+        → or_else (object_error g handle late) None ≡ or_else (object_error h handle early) None
+    object_error-alike handle late early same =
+        ap (λ found. or_else (option_map_or late found (Some rv_error.ObjectHandleInvalid)) None)
+        (named-alike handle)
+        ∙ ap (λ checks. or_else (object_error h handle checks) None) (fun_ext same)
+
+    key_error-alike : (handle : ℕ) (late early : List Item → Option RvError)
+        → ((attributes : List Item) → late attributes ≡ early attributes)
+        → or_else (key_error g handle late) None ≡ or_else (key_error h handle early) None
+    key_error-alike handle late early same =
+        ap (λ found. or_else (option_map_or late found (Some rv_error.KeyHandleInvalid)) None)
+        (key_named-alike handle)
+        ∙ ap (λ checks. or_else (key_error h handle checks) None) (fun_ext same)
+
     -- ---- the error of a call
 
     call_error-alike : (limits : Ranges) (c : Call) → call_error limits g c ≡ call_error limits h c
@@ -388,15 +409,23 @@ module _ (h g : History) (a : Alike h g) where
         ) refl)
     call_error-alike limits (call.CopyObject session object template) =
         in-session session _ _
-        (λ o. rw (named-alike object, a.flags session o, a.who, a.created) refl)
+        (λ o. object_error-alike object (copy_error limits g session template.items)
+        (copy_error limits h session template.items)
+        (λ source. rw (a.flags session o, a.who, a.created) refl))
     call_error-alike limits (call.GetAttributeValue session object queries) =
         in-session session _ _ (λ o. rw (named-alike object) refl)
     call_error-alike limits (call.SetAttributeValue session object template) =
-        in-session session _ _ (λ o. rw (named-alike object, a.flags session o) refl)
+        in-session session _ _
+        (λ o. object_error-alike object (change_error g session template.items)
+        (change_error h session template.items) (λ attributes. rw (a.flags session o) refl))
     call_error-alike limits (call.SetKeyState session key number) =
-        in-session session _ _ (λ o. rw (key_named-alike key, a.flags session o) refl)
+        in-session session _ _
+        (λ o. key_error-alike key (state_change_error g session number)
+        (state_change_error h session number) (λ attributes. rw (a.flags session o) refl))
     call_error-alike limits (call.DestroyObject session object) =
-        in-session session _ _ (λ o. rw (named-alike object, a.flags session o) refl)
+        in-session session _ _
+        (λ o. object_error-alike object (destruction_error g session)
+        (destruction_error h session) (λ attributes. rw (a.flags session o) refl))
     call_error-alike limits (call.FindObjectsInit session template) =
         in-session session _ _ (λ o. rw b.searching refl)
     call_error-alike limits (call.FindObjects session max) = search-alike session

@@ -7,12 +7,13 @@ use Rattle.ck_types.specs.declared.pins.Pin.{Pin}
 use Rattle.ck_types.specs.declared.return_codes.Rv.{Rv}
 use Rattle.ck_types.specs.declared.return_codes.Rv.TheVariants as rv
 use Rattle.ck_types.specs.declared.users.UserType.{UserType}
+use Rattle.ck_types.specs.declared.users.UserType.TheVariants as user
 use Rattle.ck_journal.specs.declared.calls.Call.{Call}
 use Rattle.ck_journal.specs.declared.calls.Call.TheVariants as call
 use Rattle.ck_journal.specs.declared.calls.Entry.{Entry}
 use Rattle.ck_journal.specs.Histories.{History, start, ◌◁◌, done, wrong_try, is_ok, is_wrong_pin}
-use Rattle.ck_journal.specs.Histories.{effects_of, effects}
-use Rattle.ck_journal.specs.Pins.{so_pin, so_pin_after, user_pin, user_pin_after, named_owner}
+use Rattle.ck_journal.specs.Effects.{effects_of, effects}
+use Rattle.ck_journal.specs.Pins.{so_pin, so_pin_after, user_pin, user_pin_after}
 use Rattle.ck_journal.specs.Pins.{is_initialized, initializes, is_about, resets, tries}
 use Rattle.ck_journal.proofs.SessionMoves.{session_rows, session_rows-same, openings-later, open_sessions-rows}
 use Rattle.ck_journal.specs.Sessions.{opens, openings, closes, open_sessions, login, login_after}
@@ -71,12 +72,13 @@ module _ (e : Entry) (h : History) where
 
   -- ---- PINs
 
-  pub so_pin-step : (o : Option Call) → done e ≡ o → so_pin (e ◁ h) ≡ so_pin_after o (named_owner h o) (so_pin h)
-  so_pin-step o d = ap (λ x. so_pin_after x (named_owner h x) (so_pin h)) d
+  pub so_pin-step : (o : Option Call) → done e ≡ o
+      → so_pin (e ◁ h) ≡ so_pin_after o (is_about user.So h o) (so_pin h)
+  so_pin-step o d = ap (λ x. so_pin_after x (is_about user.So h x) (so_pin h)) d
 
   pub user_pin-step : (o : Option Call) → done e ≡ o
-      → user_pin (e ◁ h) ≡ user_pin_after o (named_owner h o) (user_pin h)
-  user_pin-step o d = ap (λ x. user_pin_after x (named_owner h x) (user_pin h)) d
+      → user_pin (e ◁ h) ≡ user_pin_after o (is_about user.User h o) (user_pin h)
+  user_pin-step o d = ap (λ x. user_pin_after x (is_about user.User h x) (user_pin h)) d
 
   -- ---- tries
 
@@ -112,18 +114,18 @@ logs_user_in-left : (c : Option Call) → (effects_of c).sessions ≡ false → 
 logs_user_in-left (Some (call.Login session user pin)) l = cc
 logs_user_in-left other l = refl
 
-so_pin_after-left : (c : Option Call) (owner : UserType) (before : Option Pin) → (effects_of c).sessions ≡ false
-    → so_pin_after c owner before ≡ before
-so_pin_after-left (Some (call.InitToken pin)) owner before l = cc
-so_pin_after-left (Some (call.SetPin session old new)) owner before l = cc
-so_pin_after-left other owner before l = refl
+so_pin_after-left : (c : Option Call) (about_so : Bool) (before : Option Pin)
+    → (effects_of c).sessions ≡ false → so_pin_after c about_so before ≡ before
+so_pin_after-left (Some (call.InitToken pin)) about_so before l = cc
+so_pin_after-left (Some (call.SetPin session old new)) about_so before l = cc
+so_pin_after-left other about_so before l = refl
 
-user_pin_after-left : (c : Option Call) (owner : UserType) (before : Option Pin) → (effects_of c).sessions ≡ false
-    → user_pin_after c owner before ≡ before
-user_pin_after-left (Some (call.InitToken pin)) owner before l = cc
-user_pin_after-left (Some (call.InitPin session pin)) owner before l = cc
-user_pin_after-left (Some (call.SetPin session old new)) owner before l = cc
-user_pin_after-left other owner before l = refl
+user_pin_after-left : (c : Option Call) (about_user : Bool) (before : Option Pin)
+    → (effects_of c).sessions ≡ false → user_pin_after c about_user before ≡ before
+user_pin_after-left (Some (call.InitToken pin)) about_user before l = cc
+user_pin_after-left (Some (call.InitPin session pin)) about_user before l = cc
+user_pin_after-left (Some (call.SetPin session old new)) about_user before l = cc
+user_pin_after-left other about_user before l = refl
 
 initializes-left : (c : Option Call) → (effects_of c).sessions ≡ false → initializes c ≡ false
 initializes-left (Some (call.InitToken pin)) l = cc
@@ -155,10 +157,10 @@ module _ (e : Entry) (h : History) (l : (effects e).sessions ≡ false) where
   user_logins-left = ap (λ t. cond t (suc (user_logins h)) (user_logins h)) (logs_user_in-left (done e) l)
 
   pub so_pin-left : so_pin (e ◁ h) ≡ so_pin h
-  so_pin-left = so_pin_after-left (done e) (named_owner h (done e)) (so_pin h) l
+  so_pin-left = so_pin_after-left (done e) (is_about user.So h (done e)) (so_pin h) l
 
   pub user_pin-left : user_pin (e ◁ h) ≡ user_pin h
-  user_pin-left = user_pin_after-left (done e) (named_owner h (done e)) (user_pin h) l
+  user_pin-left = user_pin_after-left (done e) (is_about user.User h (done e)) (user_pin h) l
 
   pub is_initialized-left : is_initialized (e ◁ h) ≡ is_initialized h
   is_initialized-left = ap (λ t. t || is_initialized h) (initializes-left (done e) l)

@@ -12,7 +12,8 @@ use Rattle.ck_journal.specs.declared.calls.Call.TheVariants as call
 use Rattle.ck_journal.specs.declared.calls.Entry.{Entry}
 use Rattle.ck_journal.specs.declared.views.View.{View}
 use Rattle.ck_journal.specs.Bases.{IsCreated, IsSound}
-use Rattle.ck_journal.specs.Histories.{History, start, ◌◁◌, start_of, done, effects, effects_of}
+use Rattle.ck_journal.specs.Histories.{History, start, ◌◁◌, start_of, done}
+use Rattle.ck_journal.specs.Effects.{effects, effects_of}
 use Rattle.ck_journal.specs.Objects.{creates, creations, creation_session, session_of}
 use Rattle.ck_journal.specs.Objects.{creation_attributes, object_after, object_at, view_of}
 use Rattle.ck_journal.specs.Objects.{attributes_named}

@@ -7,7 +7,8 @@ use Rattle.ck_journal.specs.declared.calls.Call.TheVariants as call
 use Rattle.ck_journal.specs.declared.calls.Entry.{Entry}
 use Rattle.ck_journal.specs.declared.operations.OperationKind.{OperationKind}
 use Rattle.ck_journal.specs.declared.replies.Reply.{Reply}
-use Rattle.ck_journal.specs.Histories.{done, is_ok, effects_of, effects}
+use Rattle.ck_journal.specs.Histories.{done, is_ok}
+use Rattle.ck_journal.specs.Effects.{effects_of, effects}
 use Rattle.ck_journal.specs.OperationCalls.{OperationStep, operation_step, step_in, piece_in}
 use Rattle.ck_journal.specs.Operations.{starts, ends, finishes, cancels, piece_of}
 use Rattle.ck_journal.specs.Operations.{is_initialization, ends_by}

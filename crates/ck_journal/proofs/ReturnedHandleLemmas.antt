@@ -28,7 +28,8 @@ use Rattle.ck_journal.specs.Answers.{call_error, allowed_reply, ok, new_handle}
 use Rattle.ck_journal.specs.Answers.{session_error, object_error, placement_error}
 use Rattle.ck_journal.specs.Answers.{read_only_session_error, prohibited_error}
 use Rattle.ck_journal.specs.Answers.{parameter_error}
-use Rattle.ck_journal.specs.Histories.{History, ◌◁◌, done, effects_of}
+use Rattle.ck_journal.specs.Histories.{History, ◌◁◌, done}
+use Rattle.ck_journal.specs.Effects.{effects_of}
 use Rattle.ck_journal.specs.Laws.{IsSoundHistory, IsPrivate, searches, handle_in}
 use Rattle.ck_journal.specs.Laws.{PrivateHandlesAreReturnedToTheUser}
 use Rattle.ck_journal.specs.Objects.{creates, creations, creation_attributes, object_at}

@@ -8,7 +8,8 @@ use Rattle.ck_journal.specs.declared.calls.Call.{Call}
 use Rattle.ck_journal.specs.declared.calls.Call.TheVariants as call
 use Rattle.ck_journal.specs.declared.calls.Entry.{Entry}
 use Rattle.ck_journal.specs.declared.views.View.{View}
-use Rattle.ck_journal.specs.Histories.{History, ◌◁◌, done, effects_of, effects}
+use Rattle.ck_journal.specs.Histories.{History, ◌◁◌, done}
+use Rattle.ck_journal.specs.Effects.{effects_of, effects}
 use Rattle.ck_journal.specs.Objects.{creations, object_at, is_some_with, view_of}
 use Rattle.ck_journal.specs.Pins.{is_user}
 use Rattle.ck_journal.specs.Searches.{starts_search, ends_search, asks_search, is_searching}

@@ -31,8 +31,8 @@ use Rattle.ck_types.specs.declared.users.SessionState.{SessionState}
 use Rattle.ck_types.specs.declared.users.SessionState.TheVariants as state
 use Rattle.ck_types.specs.declared.users.UserType.{UserType}
 use Rattle.ck_types.specs.declared.users.UserType.TheVariants as user
-use Rattle.ck_types.specs.Computations.{tag_of}
-use Rattle.ck_types.specs.Macs.{signature_error}
+use Rattle.ck_mac.specs.Computations.{tag_of}
+use Rattle.ck_mac.specs.Macs.{signature_error}
 use Rattle.ck_journal.specs.declared.calls.Call.{Call}
 use Rattle.ck_journal.specs.declared.calls.Call.TheVariants as call
 use Rattle.ck_journal.specs.declared.operations.OperationKind.{OperationKind}
@@ -198,15 +198,19 @@ object_error h handle checks =
 abbrev pub prohibited_error : Attribute → List Item → Option RvError
 prohibited_error flag attributes = error_if (not (is_set attributes flag)) rv_error.ActionProhibited
 
-abbrev pub copy_object_error : Ranges → History → ℕ → ℕ → List Item → Option RvError
-copy_object_error limits h session object template = first_of (
-    session_error h session
-    ∷ object_error h object (λ source. first_of (
+-- a copy of an object with these attributes
+abbrev pub copy_error : Ranges → History → ℕ → List Item → List Item → Option RvError
+copy_error limits h session template source = first_of (
     prohibited_error attribute.Copyable source
     ∷ copied_error (class_of source) (protections_of source) template
     ∷ placement_error h session (placement_of (with_given template source))
     ∷ creations_error limits h
-    ∷ []))
+    ∷ [])
+
+abbrev pub copy_object_error : Ranges → History → ℕ → ℕ → List Item → Option RvError
+copy_object_error limits h session object template = first_of (
+    session_error h session
+    ∷ object_error h object (copy_error limits h session template)
     ∷ [])
 
 abbrev pub get_attribute_value_error : History → ℕ → ℕ → Option RvError
@@ -215,23 +219,31 @@ get_attribute_value_error h session object = first_of (
     ∷ object_error h object (λ attributes. None)
     ∷ [])
 
-abbrev pub set_attribute_value_error : History → ℕ → ℕ → List Item → Option RvError
-set_attribute_value_error h session object template = first_of (
-    session_error h session
-    ∷ object_error h object (λ attributes. first_of (
+-- a change of an object with these attributes
+abbrev pub change_error : History → ℕ → List Item → List Item → Option RvError
+change_error h session template attributes = first_of (
     read_only_session_error h session (placement_of attributes)
     ∷ prohibited_error attribute.Modifiable attributes
     ∷ changed_error (class_of attributes) (protections_of attributes) template
-    ∷ []))
+    ∷ [])
+
+abbrev pub set_attribute_value_error : History → ℕ → ℕ → List Item → Option RvError
+set_attribute_value_error h session object template = first_of (
+    session_error h session
+    ∷ object_error h object (change_error h session template)
+    ∷ [])
+
+-- the end of an object with these attributes
+abbrev pub destruction_error : History → ℕ → List Item → Option RvError
+destruction_error h session attributes = first_of (
+    read_only_session_error h session (placement_of attributes)
+    ∷ prohibited_error attribute.Destroyable attributes
     ∷ [])
 
 abbrev pub destroy_object_error : History → ℕ → ℕ → Option RvError
 destroy_object_error h session object = first_of (
     session_error h session
-    ∷ object_error h object (λ attributes. first_of (
-    read_only_session_error h session (placement_of attributes)
-    ∷ prohibited_error attribute.Destroyable attributes
-    ∷ []))
+    ∷ object_error h object (destruction_error h session)
     ∷ [])
 
 abbrev pub find_objects_init_error : History → ℕ → Option RvError
@@ -383,13 +395,17 @@ transition_error before (Some after) =
     error_if (not (option_map_or (λ s. may_become s after) before false))
     rv_error.ActionProhibited
 
+-- the change of the state of a key with these attributes
+abbrev pub state_change_error : History → ℕ → ℕ → List Item → Option RvError
+state_change_error h session number attributes = first_of (
+    read_only_session_error h session (placement_of attributes)
+    ∷ transition_error (state_in attributes) (state_of_number number)
+    ∷ [])
+
 abbrev pub set_key_state_error : History → ℕ → ℕ → ℕ → Option RvError
 set_key_state_error h session key number = first_of (
     session_error h session
-    ∷ key_error h key (λ attributes. first_of (
-    read_only_session_error h session (placement_of attributes)
-    ∷ transition_error (state_in attributes) (state_of_number number)
-    ∷ []))
+    ∷ key_error h key (state_change_error h session number)
     ∷ [])
 
 -- ---- the answer
@@ -463,32 +479,52 @@ bytes_reply (Some room) bytes =
 
 -- the reply to a call that passes its checks
 abbrev pub allowed_reply : Ranges → History → Call → Reply
+allowed_reply limits h (call.InitToken pin) = ok body.Empty
+allowed_reply limits h (call.InitPin session pin) = ok body.Empty
+allowed_reply limits h (call.SetPin session old new) = ok body.Empty
 allowed_reply limits h (call.OpenSession flags) = ok (body.Handle (suc (openings h)))
+allowed_reply limits h (call.CloseSession session) = ok body.Empty
+allowed_reply limits h call.CloseAllSessions = ok body.Empty
+allowed_reply limits h (call.Login session user pin) = ok body.Empty
+allowed_reply limits h (call.Logout session) = ok body.Empty
 allowed_reply limits h (call.GetSessionInfo session) =
     ok (body.Session (state_of h session) (flags_of h session))
+allowed_reply limits h (call.SessionCancel session flags) = ok body.Empty
 allowed_reply limits h call.GetTokenInfo =
     ok (body.Token (flags_of_token h) limits.sessions (length (open_sessions h))
     (length (rw_sessions h)))
+allowed_reply limits h call.GetMechanismList = ok (body.Mechanisms mechanism_types)
 allowed_reply limits h (call.CreateObject session template) =
     ok (body.Handle (new_handle h (created_items template.items)))
-allowed_reply limits h call.GetMechanismList = ok (body.Mechanisms mechanism_types)
 allowed_reply limits h (call.GenerateKey session mechanism template random) =
     ok (body.Handle (new_handle h (generated_items template.items random)))
 allowed_reply limits h (call.CopyObject session object template) =
     ok (body.Handle (new_handle h (with_given template.items (named_attributes h object))))
 allowed_reply limits h (call.GetAttributeValue session object queries) =
     queries_reply (named_attributes h object) queries
+allowed_reply limits h (call.SetAttributeValue session object template) = ok body.Empty
+allowed_reply limits h (call.SetKeyState session key number) = ok body.Empty
+allowed_reply limits h (call.DestroyObject session object) = ok body.Empty
+allowed_reply limits h (call.FindObjectsInit session template) = ok body.Empty
 allowed_reply limits h (call.FindObjects session max) =
     ok (body.Handles (map (handle_of h) (take max (search_rest h session))))
+allowed_reply limits h (call.FindObjectsFinal session) = ok body.Empty
+allowed_reply limits h (call.DigestInit session mechanism) = ok body.Empty
 allowed_reply limits h (call.Digest session bytes room) =
     bytes_reply room (tag_in kind.Digest h session bytes)
+allowed_reply limits h (call.DigestUpdate session bytes) = ok body.Empty
 allowed_reply limits h (call.DigestFinal session room) =
     bytes_reply room (tag_in kind.Digest h session (message_in kind.Digest h session))
+allowed_reply limits h (call.SignInit session mechanism key) = ok body.Empty
 allowed_reply limits h (call.Sign session bytes room) =
     bytes_reply room (tag_in kind.Sign h session bytes)
+allowed_reply limits h (call.SignUpdate session bytes) = ok body.Empty
 allowed_reply limits h (call.SignFinal session room) =
     bytes_reply room (tag_in kind.Sign h session (message_in kind.Sign h session))
-allowed_reply limits h other = ok body.Empty
+allowed_reply limits h (call.VerifyInit session mechanism key) = ok body.Empty
+allowed_reply limits h (call.Verify session bytes signature) = ok body.Empty
+allowed_reply limits h (call.VerifyUpdate session bytes) = ok body.Empty
+allowed_reply limits h (call.VerifyFinal session signature) = ok body.Empty
 
 abbrev pub answer : Ranges → History → Call → Reply
 answer limits h c = unless (call_error limits h c) (allowed_reply limits h c)

@@ -3,6 +3,7 @@ pub mod Bases
 pub mod Boards
 pub mod Callers
 pub mod Cuts
+pub mod Effects
 pub mod Fronts
 pub mod Histories
 pub mod HistoryCode

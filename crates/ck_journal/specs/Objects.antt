@@ -127,7 +127,8 @@ object_after (Some (call.Logout session)) view n creator attributes =
     else Some attributes
 object_after other view n creator attributes = Some attributes
 
--- the attributes of the object of this number, where it has been created and hasn't ended since
+-- the attributes of the object of this number, where it has been created and hasn't ended since. A
+-- copy's source is `attributes_named h` below, written out here, since that rests on this.
 abbrev pub object_at : History → ℕ → Option (List Item)
 object_at (start b) n = kept_attributes b n
 object_at (e ◁ h) n =

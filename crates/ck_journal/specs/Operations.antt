@@ -12,7 +12,7 @@ use Rattle.ck_types.specs.declared.hashes.Hash.TheVariants as hash
 use Rattle.ck_types.specs.declared.mechanisms.Mechanism.{Mechanism}
 use Rattle.ck_types.specs.declared.return_codes.Rv.{Rv}
 use Rattle.ck_types.specs.declared.return_codes.Rv.TheVariants as rv
-use Rattle.ck_types.specs.Computations.{Computation, digest_by, hmac_by}
+use Rattle.ck_mac.specs.Computations.{Computation, digest_by, hmac_by}
 use Rattle.ck_journal.specs.declared.calls.Call.{Call}
 use Rattle.ck_journal.specs.declared.calls.Call.TheVariants as call
 use Rattle.ck_journal.specs.declared.calls.Entry.{Entry}
@@ -36,7 +36,8 @@ is_initialization other = false
 
 -- the call starts an operation of the kind in the session
 abbrev pub starts : Option Call → OperationKind → ℕ → Bool
-starts c k s = option_map_or (λ made. is_initialization (step_of made k s)) c false
+starts None k s = false
+starts (Some c) k s = is_initialization (step_of c k s)
 
 -- a call that would finish an operation leaves it active by this code and body: the room is too
 -- small, or a length was asked for

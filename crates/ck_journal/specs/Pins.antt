@@ -2,7 +2,7 @@
 -- functions)
 use Rattle.std.specs.Prelude.{ℕ, suc, Bool, true, false, Option, Some, None, ◌==◌, ◌||◌, ◌&&◌}
 use Rattle.std.specs.Prelude.{if◌then◌else◌}
-use Rattle.ck_types.specs.Numbers.{same_bytes}
+use Rattle.ck_types.specs.Pins.{same_pin}
 use Rattle.ck_types.specs.Users.{user_of, same_user}
 use Rattle.ck_types.specs.declared.pins.Pin.{Pin}
 use Rattle.ck_types.specs.declared.users.SessionState.{SessionState}
@@ -14,10 +14,6 @@ use Rattle.ck_journal.specs.declared.calls.Call.TheVariants as call
 use Rattle.ck_journal.specs.Bases.{base_tries}
 use Rattle.ck_journal.specs.Histories.{History, start, ◌◁◌, done, wrong_try}
 use Rattle.ck_journal.specs.Sessions.{state_of}
-
--- two PINs are the same where their lengths and tags agree
-abbrev pub same_pin : Pin → Pin → Bool
-same_pin a b = a.len == b.len && same_bytes a.tag b.tag
 
 -- this is the PIN, if there is one
 abbrev pub is_pin : Option Pin → Pin → Bool
@@ -58,32 +54,28 @@ abbrev pub is_initialized : History → Bool
 is_initialized (start b) = b.initialized
 is_initialized (e ◁ h) = initializes (done e) || is_initialized h
 
--- the security officer's PIN after a call, by whose PIN a C_SetPIN changes: the first
--- initialization sets it, a later one keeps it
-abbrev pub so_pin_after : Option Call → UserType → Option Pin → Option Pin
-so_pin_after (Some (call.InitToken pin)) owner None = Some pin
-so_pin_after (Some (call.SetPin session old new)) user.So before = Some new
-so_pin_after other owner before = before
+-- the security officer's PIN after a call, where the call is about the security officer or not: the
+-- first initialization sets it, a later one keeps it
+abbrev pub so_pin_after : Option Call → Bool → Option Pin → Option Pin
+so_pin_after (Some (call.InitToken pin)) about_so None = Some pin
+so_pin_after (Some (call.SetPin session old new)) true before = Some new
+so_pin_after other about_so before = before
 
--- the user's PIN after a call: an initialization takes it away
-abbrev pub user_pin_after : Option Call → UserType → Option Pin → Option Pin
-user_pin_after (Some (call.InitToken pin)) owner before = None
-user_pin_after (Some (call.InitPin session pin)) owner before = Some pin
-user_pin_after (Some (call.SetPin session old new)) user.User before = Some new
-user_pin_after other owner before = before
-
--- whose PIN a call changes in the session that it names
-abbrev pub named_owner : History → Option Call → UserType
-named_owner h (Some (call.SetPin session old new)) = pin_owner (state_of h session)
-named_owner h other = user.User
+-- the user's PIN after a call, where the call is about the user or not: an initialization takes it
+-- away
+abbrev pub user_pin_after : Option Call → Bool → Option Pin → Option Pin
+user_pin_after (Some (call.InitToken pin)) about_user before = None
+user_pin_after (Some (call.InitPin session pin)) about_user before = Some pin
+user_pin_after (Some (call.SetPin session old new)) true before = Some new
+user_pin_after other about_user before = before
 
 abbrev pub so_pin : History → Option Pin
 so_pin (start b) = b.so
-so_pin (e ◁ h) = so_pin_after (done e) (named_owner h (done e)) (so_pin h)
+so_pin (e ◁ h) = so_pin_after (done e) (is_about user.So h (done e)) (so_pin h)
 
 abbrev pub user_pin : History → Option Pin
 user_pin (start b) = b.user
-user_pin (e ◁ h) = user_pin_after (done e) (named_owner h (done e)) (user_pin h)
+user_pin (e ◁ h) = user_pin_after (done e) (is_about user.User h (done e)) (user_pin h)
 
 abbrev pub present_pin : UserType → History → Option Pin
 present_pin user.So h = so_pin h

@@ -228,7 +228,7 @@ impl Clone for Call {
 impl Call {
     ghost use Rattle.std.specs.Prelude.{◌≡◌, not, Some, IsTrue};
     ghost use Rattle.ck_journal.specs.Boards.{LeavesBoard};
-    ghost use Rattle.ck_journal.specs.Histories.{effects_of};
+    ghost use Rattle.ck_journal.specs.Effects.{effects_of};
     ghost use Rattle.ck_journal.specs.Operations.{added_bytes};
 
     /// The bytes that an update adds to the message of its operation; none for every other call.

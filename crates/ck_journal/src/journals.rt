@@ -91,7 +91,7 @@ impl Journal {
         ensures history { self.new.history ≡ entry ◁ self.old.history }
         ensures spare { self.old.spare ≤ self.new.spare + 1 }
     {
-        self.entries.push(entry).unwrap();
+        self.entries.push_reserved(entry);
     }
 
     /// The entry of this number, from 1.
@@ -102,14 +102,14 @@ impl Journal {
         if number == 0 {
             return None;
         }
-        item_at(self.entries.as_slice(), (number - 1) as usize)
+        item_at(&self.entries, (number - 1) as usize)
     }
 
     /// The entries, the oldest first.
     pub fn entries(&self) -> &[Entry]
         ensures { self.now.history ≡ history_of (start_of self.now.history) result.now }
     {
-        self.entries.as_slice()
+        &self.entries
     }
 
     /// The newest entry.

@@ -14,8 +14,10 @@ use Rattle.ck_objects.specs.Templates.{value_at, value_or, flag_at, flag_of, for
 use Rattle.ck_objects.specs.Templates.{permission_error, created_error, generated_error, has_conflict}
 use Rattle.ck_objects.specs.Templates.{gives_other_class, is_key_length, given_length, new_key_error}
 use Rattle.ck_objects.specs.Templates.{new_object_error}
-use Rattle.ck_objects.specs.Records.{keeps, KeepsKey, data_items, key_items, with_given, blank_data}
-use Rattle.ck_objects.specs.Records.{blank_key, created_items, generated_items, new_item, placement_of}
+use Rattle.ck_objects.specs.Records.{with_given}
+use Rattle.ck_objects.specs.Structs.{keeps, KeepsKey, data_items, key_items, blank_data}
+use Rattle.ck_objects.specs.Records.{created_items, generated_items, new_item, placement_of}
+use Rattle.ck_objects.specs.Structs.{blank_key}
 use Rattle.ck_objects.specs.Records.{is_key_class, is_set}
 use Rattle.ck_objects.specs.declared.attributes.Attribute.{Attribute}
 use Rattle.ck_objects.specs.declared.attributes.Attribute.TheVariants as attribute

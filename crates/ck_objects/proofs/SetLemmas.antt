@@ -6,8 +6,9 @@ use Rattle.ck_objects.specs.Attributes.{type_of, permission, flag_bytes}
 use Rattle.ck_types.specs.Checks.{first_error}
 use Rattle.ck_objects.specs.KeyStates.{state_number}
 use Rattle.ck_objects.specs.Templates.{value_or, flag_at, form_error, template_error}
-use Rattle.ck_objects.specs.Records.{keeps, KeepsKey, data_items, key_items, with_given}
-use Rattle.ck_objects.specs.Records.{changed_data, changed_key}
+use Rattle.ck_objects.specs.Records.{with_given}
+use Rattle.ck_objects.specs.Structs.{keeps, KeepsKey, data_items, key_items}
+use Rattle.ck_objects.specs.Structs.{changed_data, changed_key}
 use Rattle.ck_objects.specs.declared.attributes.Attribute.{Attribute}
 use Rattle.ck_objects.specs.declared.attributes.Attribute.TheVariants as attribute
 use Rattle.ck_objects.specs.declared.attributes.Class.TheVariants as class

@@ -1,5 +1,3 @@
-ghost use Rattle.std.specs.Prelude.{◌≡◌, IfOk};
-
 use ck_types::NoMemory;
 use smallvec::SmallVec;
 use std::alloc::{AllocError, Global};
@@ -19,16 +17,6 @@ impl Model for AttributeValue {
     ghost Value = { List ℕ };
 
     ghost view = { λ v. v.bytes.items };
-}
-
-/// Copies of two values.
-pub(crate) fn copies_of(
-    first: &AttributeValue,
-    second: &AttributeValue,
-) -> Result<(AttributeValue, AttributeValue), AllocError>
-    ensures { IfOk result (λ copies. copies ≡ (first.now, second.now)) }
-{
-    Ok((first.clone()?, second.clone()?))
 }
 
 /// A copy of a value of at most 16 bytes takes no memory.

@@ -1,4 +1,4 @@
-use crate::attribute_values::{AttributeValue, copies_of};
+use crate::attribute_values::AttributeValue;
 use crate::attributes::Attribute;
 use crate::fields::Field;
 use crate::items::{Item, copied_items, flag_or, take_value};
@@ -28,18 +28,16 @@ impl Clone for Data {
     ghost is_clone = { λ object copy. copy ≡ object };
 
     fn clone(&self) -> Result<Data, AllocError> {
-        let (label, application) = copies_of(&self.label, &self.application)?;
-        let (value, object_id) = copies_of(&self.value, &self.object_id)?;
         Ok(Data {
-            label,
+            label: self.label.clone()?,
             token: self.token,
             private: self.private,
             modifiable: self.modifiable,
             copyable: self.copyable,
             destroyable: self.destroyable,
-            application,
-            value,
-            object_id,
+            application: self.application.clone()?,
+            value: self.value.clone()?,
+            object_id: self.object_id.clone()?,
         })
     }
 }
@@ -51,8 +49,9 @@ impl Data {
     ghost use Rattle.ck_types.specs.Checks.{first_error};
     ghost use Rattle.ck_objects.specs.Templates.{value_at, form_error, flag_at};
     ghost use Rattle.ck_objects.specs.declared.attributes.Attribute.TheVariants as attribute;
-    ghost use Rattle.ck_objects.specs.Records.{data_items, with_given, placement_of, blank_data};
-    ghost use Rattle.ck_objects.specs.Records.{keeps, changed_data};
+    ghost use Rattle.ck_objects.specs.Records.{with_given, placement_of};
+    ghost use Rattle.ck_objects.specs.Structs.{data_items, blank_data};
+    ghost use Rattle.ck_objects.specs.Structs.{keeps, changed_data};
     ghost use Rattle.ck_objects.specs.Records.{created_items, is_set};
     ghost use Rattle.ck_objects.specs.Templates.{created_error, class_of};
     ghost use Rattle.ck_objects.specs.declared.attributes.Class.TheVariants as class;
@@ -66,7 +65,7 @@ impl Data {
     {
         let mut values = copied_items(alloc, items)?;
         let mut data = Data::blank(alloc);
-        data.set(values.as_mut_slice());
+        data.set(&mut values);
         Ok(data)
     }
 

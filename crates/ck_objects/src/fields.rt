@@ -42,10 +42,8 @@ impl<'a> Field<'a> {
         ensures { IfOk result (λ value. value ≡ field_bytes self.now) }
     {
         match self {
-            Field::Flag(flag) => { AttributeValue::from_slice(alloc, [u8::from(*flag)].as_slice()) }
-            Field::Number(number) => {
-                AttributeValue::from_slice(alloc, number.to_le_bytes().as_slice())
-            }
+            Field::Flag(flag) => AttributeValue::from_slice(alloc, &[u8::from(*flag)]),
+            Field::Number(number) => AttributeValue::from_slice(alloc, &number.to_le_bytes()),
             Field::Bytes(value) => AttributeValue::from_slice(alloc, value.as_slice()),
         }
     }

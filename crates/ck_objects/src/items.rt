@@ -242,5 +242,5 @@ pub(crate) fn has_conflict(items: &[Item]) -> bool
     requires well_formed { first_error form_error items.now ≡ None }
     ensures { result ≡ has_conflict items.now }
 {
-    has_conflict_in(Attribute::ALL.as_slice(), items)
+    has_conflict_in(&Attribute::ALL, items)
 }

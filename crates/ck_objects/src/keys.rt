@@ -1,4 +1,4 @@
-use crate::attribute_values::{AttributeValue, copies_of};
+use crate::attribute_values::AttributeValue;
 use crate::attributes::Attribute;
 use crate::fields::Field;
 use crate::forms::{GENERIC_SECRET, SECRET_KEY};
@@ -51,7 +51,6 @@ impl Clone for Key {
     ghost is_clone = { λ key copy. copy ≡ key };
 
     fn clone(&self) -> Result<Key, AllocError> {
-        let (value, id) = copies_of(&self.value, &self.id)?;
         Ok(Key {
             label: self.label.clone()?,
             token: self.token,
@@ -62,8 +61,8 @@ impl Clone for Key {
             sensitive: self.sensitive,
             extractable: self.extractable,
             state: self.state,
-            value,
-            id,
+            value: self.value.clone()?,
+            id: self.id.clone()?,
             encrypt: self.encrypt,
             decrypt: self.decrypt,
             wrap: self.wrap,
@@ -82,10 +81,13 @@ impl Key {
     ghost use Rattle.ck_types.specs.Checks.{first_error};
     ghost use Rattle.ck_objects.specs.Templates.{value_at, flag_at, form_error, class_of};
     ghost use Rattle.ck_objects.specs.Templates.{created_error, generated_error};
-    ghost use Rattle.ck_objects.specs.Records.{key_items, placement_of, is_revealable, blank_key};
-    ghost use Rattle.ck_objects.specs.Records.{with_given, KeepsKey, created_items};
+    ghost use Rattle.ck_objects.specs.Records.{placement_of, is_revealable};
+    ghost use Rattle.ck_objects.specs.Structs.{key_items, blank_key};
+    ghost use Rattle.ck_objects.specs.Records.{with_given, created_items};
+    ghost use Rattle.ck_objects.specs.Structs.{KeepsKey};
     ghost use Rattle.ck_objects.specs.Records.{generated_items};
-    ghost use Rattle.ck_objects.specs.Records.{changed_key, is_set};
+    ghost use Rattle.ck_objects.specs.Records.{is_set};
+    ghost use Rattle.ck_objects.specs.Structs.{changed_key};
     ghost use Rattle.ck_objects.specs.Fields.{field_bytes, flag_field};
     ghost use Rattle.ck_objects.specs.declared.attributes.Class.TheVariants as class;
 
@@ -166,7 +168,7 @@ impl Key {
             value,
             ..Key::blank(alloc, origin)
         };
-        key.set(values.as_mut_slice());
+        key.set(&mut values);
         Ok(key)
     }
 

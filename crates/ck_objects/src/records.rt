@@ -30,7 +30,7 @@ impl Model for Record {
 
     ghost Value = { List Item };
 
-    ghost use Rattle.ck_objects.specs.Records.{object_items};
+    ghost use Rattle.ck_objects.specs.Structs.{object_items};
 
     ghost view = { λ r. object_items r.object };
 }
@@ -52,10 +52,9 @@ impl Record {
     ghost use Rattle.std.specs.Prelude.{Some, true};
     ghost use Rattle.std.specs.Result.{result_err};
     ghost use Rattle.ck_objects.specs.Templates.{value_at, created_error, generated_error};
-    ghost use Rattle.ck_objects.specs.Templates.{template_error};
     ghost use Rattle.ck_objects.specs.declared.attributes.Attribute.TheVariants as attribute;
-    ghost use Rattle.ck_objects.specs.declared.attributes.Purpose.TheVariants as purpose;
-    ghost use Rattle.ck_objects.specs.Records.{generated_items, data_items, key_items};
+    ghost use Rattle.ck_objects.specs.Records.{generated_items};
+    ghost use Rattle.ck_objects.specs.Structs.{data_items, key_items};
     ghost use Rattle.ck_objects.specs.Records.{readable_value, read_error, state_in, key_value};
     ghost use Rattle.ck_objects.specs.Records.{with_state};
     ghost use Rattle.ck_objects.specs.Records.{created_items, with_given};
@@ -161,8 +160,8 @@ impl Record {
         let mut values = copied_items(alloc, template.items.as_slice())?;
         let mut copy = self.clone()?;
         match &mut copy.object {
-            Object::Data(data) => data.set(values.as_mut_slice()),
-            Object::Key(key) => key.set(values.as_mut_slice()),
+            Object::Data(data) => data.set(&mut values),
+            Object::Key(key) => key.set(&mut values),
         }
         Ok(copy)
     }
@@ -181,18 +180,19 @@ impl Record {
         )
     }
 
-    /// Gives the object the values of a template that passes the checks of a change. They are moved
-    /// into the object, so this takes no memory. Whatever the template gives, CKA_PRIVATE stays as
-    /// it was.
+    /// Gives the object the values of a template of C_SetAttributeValue, which passes
+    /// `check_change` (PKCS #11 Base 3.0, Object management functions). They are moved into the
+    /// object, so this takes no memory. CKA_PRIVATE stays as it was.
     pub fn change(&mut self, values: Template)
-        ensures given { template_error (class_of self.old) purpose.Set values.items ≡ None
-            → self.new ≡ with_given values.items self.old }
+        requires { changed_error (class_of self.old) (protections_of self.old) values.items
+            ≡ None }
+        ensures given { self.new ≡ with_given values.items self.old }
         ensures private { is_set self.new attribute.Private ≡ is_set self.old attribute.Private }
     {
         let mut items = values.items.into_vec();
         match &mut self.object {
-            Object::Data(data) => data.change(items.as_mut_slice()),
-            Object::Key(key) => key.change(items.as_mut_slice()),
+            Object::Data(data) => data.change(&mut items),
+            Object::Key(key) => key.change(&mut items),
         }
     }
 

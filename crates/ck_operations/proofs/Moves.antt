@@ -15,8 +15,8 @@ use Rattle.ck_journal.specs.OperationCalls.{same_kind}
 use Rattle.ck_journal.specs.Operations.{is_active, computation_in, key_in, pieces_in}
 use Rattle.ck_journal.specs.Operations.{started_computation, init_key, names_kind}
 use Rattle.ck_journal.proofs.NumberTests.{eqb-swap}
-use Rattle.ck_types.specs.Computations.{Computation, HoldsTag}
-use Rattle.ck_types.specs.declared.running_tags.RunningTag.{RunningTag}
+use Rattle.ck_mac.specs.Computations.{Computation, HoldsTag}
+use Rattle.ck_mac.specs.declared.running_tags.RunningTag.{RunningTag}
 use Rattle.ck_operations.specs.Agreement.{OperationsState, ActiveOperation, operation_at, OptionAgrees}
 use Rattle.ck_operations.specs.Agreement.{OperationAgrees, OperationsAgree}
 use Rattle.ck_operations.specs.Moves.{Move, Stay, Start, Add, End, Does, OnlyIn, OnlyInSession}

@@ -8,7 +8,7 @@ use Rattle.ck_journal.specs.Objects.{object_named}
 use Rattle.ck_journal.specs.OperationCalls.{same_kind}
 use Rattle.ck_journal.specs.Operations.{starts, ends, piece_of, names_kind}
 use Rattle.ck_journal.specs.Operations.{started_computation, init_key}
-use Rattle.ck_types.specs.Computations.{Computation}
+use Rattle.ck_mac.specs.Computations.{Computation}
 
 -- nothing, a start, one more piece, or the end
 pub data Move : Type 0 where

@@ -4,8 +4,8 @@ use Rattle.std.specs.Prelude.{◌&&◌, find}
 use Rattle.ck_journal.specs.OperationCalls.{same_kind}
 use Rattle.ck_journal.specs.Operations.{names_kind}
 use Rattle.ck_journal.specs.declared.operations.OperationKind.{OperationKind}
-use Rattle.ck_types.specs.Computations.{Computation, HoldsTag}
-use Rattle.ck_types.specs.declared.running_tags.RunningTag.{RunningTag}
+use Rattle.ck_mac.specs.Computations.{Computation, HoldsTag}
+use Rattle.ck_mac.specs.declared.running_tags.RunningTag.{RunningTag}
 use Rattle.ck_operations.specs.declared.active_operations.Operation.{Operation}
 
 abbrev pub is_of_session : ℕ → Operation → Bool

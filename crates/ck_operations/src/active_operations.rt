@@ -1,10 +1,10 @@
 ghost use Rattle.std.specs.Prelude.{◌≡◌, ℕ, List, ◌++◌};
-ghost use Rattle.ck_types.specs.Computations.{Computation, tag_of, tag_size};
+ghost use Rattle.ck_mac.specs.Computations.{Computation, tag_of, tag_size};
 ghost use Rattle.ck_operations.specs.Rows.{is_operation, is_of_session, is_named, IsUpdateOf};
 ghost use Rattle.ck_operations.specs.Rows.{HoldsMessage, operation_key, has_update, new_operation};
 
 use ck_journal::OperationKind;
-use ck_types::{RunningTag, Tag};
+use ck_mac::{RunningTag, Tag};
 
 /// An active operation of a session: a message that comes in pieces (PKCS #11 Base 3.0, Message
 /// digesting functions, Signing and MACing functions, Functions for verifying signatures and MACs).

@@ -1,7 +1,8 @@
 use crate::active_operations::Operation;
 use crate::rows::{add_piece, find_operation, remove_named, remove_operation, remove_session};
 use ck_journal::OperationKind;
-use ck_types::{NoMemory, RunningTag};
+use ck_mac::RunningTag;
+use ck_types::NoMemory;
 use std::alloc::Global;
 use std::marker::Model;
 
@@ -33,7 +34,7 @@ impl Operations {
     ghost use Rattle.ck_journal.specs.Operations.{is_active};
     ghost use Rattle.ck_journal.specs.declared.calls.Entry.{Entry};
     ghost use Rattle.ck_operations.specs.Agreement.{OperationsAgree, OptionAgrees, operation_at};
-    ghost use Rattle.ck_types.specs.Computations.{Computation, HoldsTag};
+    ghost use Rattle.ck_mac.specs.Computations.{Computation, HoldsTag};
     ghost use Rattle.ck_operations.specs.Moves.{Start, Add, End, OnlyIn, OnlyInSession, OnlyNamed};
     ghost use Rattle.ck_operations.specs.Moves.{InAll, IsStartOf};
 

@@ -21,7 +21,7 @@ use Rattle.ck_journal.specs.Histories.{History, done}
 use Rattle.ck_journal.specs.Pins.{pin_owner, present_pin}
 use Rattle.ck_journal.specs.Sessions.{is_read_write, state_of}
 use Rattle.ck_journal.proofs.LegalLemmas.{passed-done, creation-free, user_logins-bound, openings-bound}
-use Rattle.ck_journal.proofs.LegalLemmas.{tries-bound}
+use Rattle.ck_journal.proofs.LegalLemmas.{creations-bound, tries-bound}
 use Rattle.ck_sessions.specs.Agreement.{SessionsState, SessionsAgree, CredentialAgrees, credential_of}
 use Rattle.ck_parts.proofs.Inversions.{of-effect}
 use Rattle.ck_parts.specs.Agreement.{PartsAgree, IsCounted}
@@ -29,7 +29,8 @@ use Rattle.ck_parts.specs.Changes.{effect}
 use Rattle.ck_parts.specs.declared.changes.Change.{Change}
 use Rattle.ck_parts.specs.declared.changes.Change.TheVariants as change
 use Rattle.ck_parts.specs.declared.parts.Parts.{Parts}
-use Rattle.ck_parts.proofs.PartMoves.{hmac-passed}
+use Rattle.ck_parts.proofs.PartMoves.{change-passed, hmac-passed}
+use Rattle.ck_store.proofs.Readings.{named-row}
 
 credential-agrees : (u : UserType) (h : History) (s : SessionsState) → SessionsAgree h s
     → CredentialAgrees u h (credential_of u s)
@@ -94,6 +95,15 @@ module _ (limits : Ranges) (in_range : AreInRange limits.sessions limits.opening
       let below = tries-bound limits h agree.objects.sound legal u in
       let same = (credential-agrees u h p.sessions agree.sessions).tries in
       omega arith
+  counted (change.SetAttributes number values) is = λ row found.
+      let d = of-effect h answered_entry (change.SetAttributes number values) is refl in
+      let of = d.1 in
+      let passed = change-passed limits h of.0 of.1 values
+      (passed-done limits answered_entry h (answered, legal) _ (d.0 ∙ ap Some of.2)) in
+      let below = creations-bound limits in_range h agree.objects.sound legal in
+      let same = agree.objects.creations in
+      rw (named-row h _ agree.objects of.1 (omega arith) number (passed.0 ∙ ap Some (sym of.3)) row
+      found) at passed.1
   counted (change.StartHmac k session hash key len) is =
       let d = of-effect h answered_entry (change.StartHmac k session hash key len) is refl in
       let of = d.1 limits in

@@ -36,7 +36,8 @@ use Rattle.ck_journal.specs.declared.replies.Body.{Body}
 use Rattle.ck_journal.specs.Answers.{call_error, session_error, object_error, key_error}
 use Rattle.ck_journal.specs.Answers.{read_only_session_error, prohibited_error, known_login_error}
 use Rattle.ck_journal.specs.Answers.{transition_error, hmac_init_error}
-use Rattle.ck_journal.specs.Histories.{History, ◌◁◌, done, wrong_try, is_ok, is_wrong_pin, effects_of}
+use Rattle.ck_journal.specs.Histories.{History, ◌◁◌, done, wrong_try, is_ok, is_wrong_pin}
+use Rattle.ck_journal.specs.Effects.{effects_of}
 use Rattle.ck_journal.specs.Objects.{creates, named_attributes, object_named, object_at}
 use Rattle.ck_journal.specs.Pins.{about, is_about, is_user}
 use Rattle.ck_journal.specs.Sessions.{is_open}
@@ -48,7 +49,7 @@ use Rattle.ck_store.proofs.Moves.{objects-left}
 use Rattle.ck_store.specs.Agreement.{StoreState, StoreAgrees}
 use Rattle.ck_journal.specs.OperationCalls.{OperationStep, operation_step}
 use Rattle.ck_journal.specs.Operations.{is_active, hmac_with}
-use Rattle.ck_types.specs.Computations.{hmac_by}
+use Rattle.ck_mac.specs.Computations.{hmac_by}
 use Rattle.ck_parts.proofs.OperationMoves.{nobody-tried, IsStepAlone, step-alone, reading-alone, step-no_try}
 use Rattle.ck_parts.proofs.OperationMoves.{of-done}
 use Rattle.ck_parts.specs.Changes.{change_of, wrong_try_change, refused_by, effect, effect_by}

@@ -1,11 +1,13 @@
 -- When a token's parts are what its history says, and what a change needs of them
-use Rattle.std.specs.Prelude.{◌≡◌, ◌+◌, ◌<◌, ◌≤◌, ◌^◌, Bool, true, false, is_some}
+use Rattle.std.specs.Prelude.{◌≡◌, ◌+◌, ◌<◌, ◌≤◌, ◌^◌, Bool, true, false, Some, find}
+use Rattle.std.specs.Prelude.{is_some}
 use Rattle.ck_types.specs.Hashes.{digest_length}
 use Rattle.ck_types.specs.declared.users.UserType.TheVariants as user
 use Rattle.ck_journal.specs.Histories.{History}
 use Rattle.ck_operations.specs.Agreement.{OperationsAgree}
 use Rattle.ck_sessions.specs.Agreement.{SessionsAgree, credential_of}
 use Rattle.ck_store.specs.Agreement.{StoreAgrees}
+use Rattle.ck_store.specs.Rows.{ObjectRow, PassesChange, has_number}
 use Rattle.ck_parts.specs.declared.changes.Change.{Change}
 use Rattle.ck_parts.specs.declared.changes.Change.TheVariants as change
 use Rattle.ck_parts.specs.declared.parts.Parts.{Parts}
@@ -33,13 +35,17 @@ HasRoom p (change.StartDigest session hash) = 0 < p.operations.spare
 HasRoom p (change.StartHmac kind session hash key len) = 0 < p.operations.spare
 HasRoom p other = Unit {0}
 
--- the count that it raises stays in range, a PIN that is changed is there, and a signature has at
--- least one byte and at most as many as the HMAC
+-- the count that it raises stays in range, a PIN that is changed is there, the values that an
+-- object is given pass the checks of a change of it, and a signature has at least one byte and at
+-- most as many as the HMAC
 abbrev pub IsCounted : Parts → Change → Type 0
 IsCounted p (change.OpenSession flags) = p.sessions.openings + 1 < 2 ^ 64
 IsCounted p (change.CreateObject session attributes) = p.objects.creations + 1 < 2 ^ 32
 IsCounted p (change.LogIn user.User) = p.sessions.logins + 1 < 2 ^ 64
 IsCounted p (change.SetPin owner pin) = is_some (credential_of owner p.sessions).pin ≡ true
 IsCounted p (change.WrongTry u) = (credential_of u p.sessions).tries + 1 < 2 ^ 64
+IsCounted p (change.SetAttributes number values) =
+    (row : ObjectRow) → find (has_number number) p.objects.rows ≡ Some row
+    → PassesChange values.items row
 IsCounted p (change.StartHmac kind session hash key len) = (1 ≤ len) × (len ≤ digest_length hash)
 IsCounted p other = Unit {0}

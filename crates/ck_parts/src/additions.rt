@@ -5,7 +5,7 @@ ghost use Rattle.std.specs.Prelude.{◌≡◌, ◌+◌, ◌<◌, ◌≤◌, ◌^
 ghost use Rattle.std.specs.Prelude.{unwrap_or};
 ghost use Rattle.ck_types.specs.Hashes.{digest_length};
 ghost use Rattle.ck_objects.specs.Records.{key_value};
-ghost use Rattle.ck_types.specs.Computations.{digest_by, hmac_by};
+ghost use Rattle.ck_mac.specs.Computations.{digest_by, hmac_by};
 ghost use Rattle.ck_journal.specs.Histories.{History, ◌◁◌, done};
 ghost use Rattle.ck_journal.specs.Objects.{attributes_named, object_at};
 ghost use Rattle.ck_journal.specs.Objects.{creates, creation_session, creation_attributes};
@@ -19,10 +19,11 @@ ghost use Rattle.ck_store.specs.Agreement.{StoreAgrees};
 
 use crate::boxed::Boxed;
 use ck_journal::OperationKind;
+use ck_mac::{Mac, Running, RunningTag};
 use ck_objects::Record;
 use ck_operations::Operations;
 use ck_store::Store;
-use ck_types::{Hash, Mac, Running, RunningTag};
+use ck_types::Hash;
 
 /// Adds an object that the session creates or copies.
 #[inline(never)]

@@ -4,7 +4,8 @@ use ck_types::NoMemory;
 use std::alloc::Global;
 use std::marker::Model;
 
-/// A value on the heap, so that what holds it is small and moves fast. Contracts see the value.
+/// A value on the heap, so that what holds it is small and moves fast. Contracts see only the
+/// value; of a `Box` they would see the address too.
 #[derive(Drop)]
 pub struct Boxed<T> {
     inner: Box<T>,

@@ -13,10 +13,11 @@ use Rattle.ck_types.specs.declared.users.UserType.TheVariants as user
 use Rattle.ck_journal.specs.declared.calls.Call.{Call}
 use Rattle.ck_journal.specs.declared.calls.Call.TheVariants as call
 use Rattle.ck_journal.specs.declared.calls.Entry.{Entry}
-use Rattle.ck_journal.specs.Histories.{History, ◌◁◌, done, wrong_try, effects_of, effects}
+use Rattle.ck_journal.specs.Histories.{History, ◌◁◌, done, wrong_try}
+use Rattle.ck_journal.specs.Effects.{effects_of, effects}
 use Rattle.ck_journal.specs.Lists.{change_first}
 use Rattle.ck_journal.specs.Searches.{is_searching, handles_in, number_of_handle, last_or, last_number}
-use Rattle.ck_journal.specs.Pins.{so_pin, so_pin_after, user_pin, user_pin_after, named_owner}
+use Rattle.ck_journal.specs.Pins.{so_pin, so_pin_after, user_pin, user_pin_after}
 use Rattle.ck_journal.specs.Pins.{pin_owner, is_initialized, initializes, about, is_about, is_user}
 use Rattle.ck_journal.specs.Pins.{resets, tries}
 use Rattle.ck_journal.specs.Sessions.{opens, openings, closes, is_open, open_sessions, login}
@@ -44,13 +45,13 @@ so_pin_of h = so_pin h
 
 -- the first initialization sets the PIN of the security officer
 pub Some-unwrap_or : (pin : Pin) (before : Option Pin)
-    → Some (unwrap_or before pin) ≡ so_pin_after (Some (call.InitToken pin)) user.User before
+    → Some (unwrap_or before pin) ≡ so_pin_after (Some (call.InitToken pin)) true before
 Some-unwrap_or pin None = refl
 Some-unwrap_or pin (Some before) = refl
 
 -- an initialized token has a PIN of the security officer
 some_after : (pin : Pin) (before : Option Pin)
-    → is_some (so_pin_after (Some (call.InitToken pin)) user.User before) ≡ true
+    → is_some (so_pin_after (Some (call.InitToken pin)) true before) ≡ true
 some_after pin None = refl
 some_after pin (Some before) = refl
 
@@ -113,18 +114,18 @@ module _ (h : History) (old : SessionsState) (agree : SessionsAgree h old) (e : 
 
   -- a credential that a call leaves
   so-stays : (c : Call) → done e ≡ Some c
-      → ((owner : UserType) (before : Option Pin) → so_pin_after (Some c) (named_owner h (Some c)) before ≡ before)
+      → ((before : Option Pin) → so_pin_after (Some c) (is_about user.So h (Some c)) before ≡ before)
       → resets user.So h (Some c) ≡ false → CredentialAgrees user.So (e ◁ h) old.so
   so-stays c d pin r = record {
-    pin = agree.so.pin ∙ sym (so_pin-step e h (Some c) d ∙ pin user.So (so_pin h));
+    pin = agree.so.pin ∙ sym (so_pin-step e h (Some c) d ∙ pin (so_pin h));
     tries = agree.so.tries ∙ sym (tries-done e h user.So c d ∙ ap (λ t. cond t 0 (tries user.So h)) r);
   }
 
   user-stays : (c : Call) → done e ≡ Some c
-      → ((owner : UserType) (before : Option Pin) → user_pin_after (Some c) (named_owner h (Some c)) before ≡ before)
+      → ((before : Option Pin) → user_pin_after (Some c) (is_about user.User h (Some c)) before ≡ before)
       → resets user.User h (Some c) ≡ false → CredentialAgrees user.User (e ◁ h) old.user
   user-stays c d pin r = record {
-    pin = agree.user.pin ∙ sym (user_pin-step e h (Some c) d ∙ pin user.User (user_pin h));
+    pin = agree.user.pin ∙ sym (user_pin-step e h (Some c) d ∙ pin (user_pin h));
     tries = agree.user.tries ∙ sym (tries-done e h user.User c d ∙ ap (λ t. cond t 0 (tries user.User h)) r);
   }
 
@@ -234,8 +235,8 @@ module _ (h : History) (old : SessionsState) (agree : SessionsAgree h old) (e : 
         openings = count ∙ rw (agree.openings, add-one) (sym (openings-opened e h flags d));
         login = log ∙ agree.login ∙ sym (login-open e h (Some c) d some);
         logins = logs ∙ logins-stay c d refl;
-        so = rw so (so-stays c d (λ owner before. refl) refl);
-        user = rw us (user-stays c d (λ owner before. refl) refl);
+        so = rw so (so-stays c d (λ before. refl) refl);
+        user = rw us (user-stays c d (λ before. refl) refl);
         initialized = ap (λ (c : Credential). is_some c.pin) so ∙ initialized-stays c d refl;
       }
 
@@ -269,8 +270,8 @@ module _ (h : History) (old : SessionsState) (agree : SessionsAgree h old) (e : 
         openings = count ∙ openings-stay c d refl;
         login = closed c new d refl (λ before. refl) all count log;
         logins = logs ∙ logins-stay c d refl;
-        so = rw so (so-stays c d (λ owner before. refl) refl);
-        user = rw us (user-stays c d (λ owner before. refl) refl);
+        so = rw so (so-stays c d (λ before. refl) refl);
+        user = rw us (user-stays c d (λ before. refl) refl);
         initialized = ap (λ (c : Credential). is_some c.pin) so ∙ initialized-stays c d refl;
       }
 
@@ -291,8 +292,8 @@ module _ (h : History) (old : SessionsState) (agree : SessionsAgree h old) (e : 
         openings = count ∙ openings-stay c d refl;
         login = log ∙ sym (login-none (e ◁ h) none);
         logins = logs ∙ logins-stay c d refl;
-        so = rw so (so-stays c d (λ owner before. refl) refl);
-        user = rw us (user-stays c d (λ owner before. refl) refl);
+        so = rw so (so-stays c d (λ before. refl) refl);
+        user = rw us (user-stays c d (λ before. refl) refl);
         initialized = ap (λ (c : Credential). is_some c.pin) so ∙ initialized-stays c d refl;
       }
 
@@ -340,7 +341,7 @@ module _ (h : History) (old : SessionsState) (agree : SessionsAgree h old) (e : 
   pub SessionsAgree-initialized : (pin : Pin) (new : SessionsState) → done e ≡ Some (call.InitToken pin)
       → new.rows ≡ old.rows → new.openings ≡ old.openings
       → new.login ≡ old.login → new.logins ≡ old.logins
-      → new.so.pin ≡ so_pin_after (Some (call.InitToken pin)) user.User old.so.pin → new.so.tries ≡ 0
+      → new.so.pin ≡ so_pin_after (Some (call.InitToken pin)) true old.so.pin → new.so.tries ≡ 0
       → new.user.pin ≡ None → new.user.tries ≡ 0 → SessionsAgree (e ◁ h) new
   SessionsAgree-initialized pin new d rows count log logs so_pin so_tries user_pin user_tries =
       let c = call.InitToken pin in
@@ -376,7 +377,7 @@ module _ (h : History) (old : SessionsState) (agree : SessionsAgree h old) (e : 
         openings = count ∙ openings-stay c d refl;
         login = log ∙ login-stays c d refl (λ s. refl) refl (λ before. refl);
         logins = logs ∙ logins-stay c d refl;
-        so = rw so (so-stays c d (λ owner before. refl) refl);
+        so = rw so (so-stays c d (λ before. refl) refl);
         user =
             record {
               pin = user_pin ∙ sym (user_pin-step e h (Some c) d);
@@ -402,7 +403,7 @@ module _ (h : History) (old : SessionsState) (agree : SessionsAgree h old) (e : 
       login = log ∙ login-stays c d refl (λ s. refl) refl (λ b. refl);
       logins = logs ∙ logins-stay c d refl;
       so = record {
-        pin = so_pin ∙ sym (so_pin-step e h (Some c) d ∙ ap (λ o. so_pin_after (Some c) o (so_pin_of h)) owner);
+        pin = so_pin ∙ sym (so_pin-step e h (Some c) d ∙ ap (λ o. so_pin_after (Some c) (same_user user.So o) (so_pin_of h)) owner);
         tries = so_tries
             ∙ sym (tries-done e h user.So c d ∙ ap (λ o. cond (is_user user.So (Some o) || false) 0
             (tries user.So h)) owner);
@@ -410,7 +411,7 @@ module _ (h : History) (old : SessionsState) (agree : SessionsAgree h old) (e : 
       user = rw us (record {
         pin =
             agree.user.pin
-            ∙ sym (user_pin-step e h (Some c) d ∙ ap (λ o. user_pin_after (Some c) o (user_pin h)) owner);
+            ∙ sym (user_pin-step e h (Some c) d ∙ ap (λ o. user_pin_after (Some c) (same_user user.User o) (user_pin h)) owner);
         tries = agree.user.tries
             ∙ sym (tries-done e h user.User c d ∙ ap (λ o. cond (is_user user.User (Some o) || false) 0
             (tries user.User h)) owner);
@@ -426,13 +427,13 @@ module _ (h : History) (old : SessionsState) (agree : SessionsAgree h old) (e : 
       login = log ∙ login-stays c d refl (λ s. refl) refl (λ b. refl);
       logins = logs ∙ logins-stay c d refl;
       so = rw so (record {
-        pin = agree.so.pin ∙ sym (so_pin-step e h (Some c) d ∙ ap (λ o. so_pin_after (Some c) o (so_pin_of h)) owner);
+        pin = agree.so.pin ∙ sym (so_pin-step e h (Some c) d ∙ ap (λ o. so_pin_after (Some c) (same_user user.So o) (so_pin_of h)) owner);
         tries = agree.so.tries
             ∙ sym (tries-done e h user.So c d ∙ ap (λ o. cond (is_user user.So (Some o) || false) 0
             (tries user.So h)) owner);
       });
       user = record {
-        pin = us_pin ∙ sym (user_pin-step e h (Some c) d ∙ ap (λ o. user_pin_after (Some c) o (user_pin h)) owner);
+        pin = us_pin ∙ sym (user_pin-step e h (Some c) d ∙ ap (λ o. user_pin_after (Some c) (same_user user.User o) (user_pin h)) owner);
         tries = us_tries
             ∙ sym (tries-done e h user.User c d ∙ ap (λ o. cond (is_user user.User (Some o) || false) 0
             (tries user.User h)) owner);
@@ -479,7 +480,7 @@ module _ (h : History) (old : SessionsState) (agree : SessionsAgree h old) (e : 
         openings = count ∙ openings-stay c d refl;
         login = log ∙ sym (login-logged_out e h session d);
         logins = logs ∙ logins-stay c d refl;
-        so = rw so (so-stays c d (λ owner before. refl) refl);
-        user = rw us (user-stays c d (λ owner before. refl) refl);
+        so = rw so (so-stays c d (λ before. refl) refl);
+        user = rw us (user-stays c d (λ before. refl) refl);
         initialized = ap (λ (c : Credential). is_some c.pin) so ∙ initialized-stays c d refl;
       }

@@ -7,7 +7,8 @@ use Rattle.std.proofs.lemmas.List.{append-nil, length-map, take_all, drop_all}
 use Rattle.ck_journal.specs.declared.calls.Call.{Call}
 use Rattle.ck_journal.specs.declared.calls.Call.TheVariants as call
 use Rattle.ck_journal.specs.declared.calls.Entry.{Entry}
-use Rattle.ck_journal.specs.Histories.{History, ◌◁◌, done, effects_of, effects}
+use Rattle.ck_journal.specs.Histories.{History, ◌◁◌, done}
+use Rattle.ck_journal.specs.Effects.{effects_of, effects}
 use Rattle.ck_journal.specs.Lists.{change_first}
 use Rattle.ck_journal.specs.Searches.{starts_search, ends_search, asks_search, is_searching}
 use Rattle.ck_journal.specs.Searches.{matching_objects, search_template, found_objects}

@@ -1,7 +1,8 @@
 -- Calls that set a session's search
 use Rattle.std.specs.Prelude.{◌≡◌, ℕ, false, ◌==◌, ◌&&◌, List, Option, Some, None, is_some, is_none}
 use Rattle.ck_journal.specs.declared.calls.Call.{Call}
-use Rattle.ck_journal.specs.Histories.{History, effects_of}
+use Rattle.ck_journal.specs.Histories.{History}
+use Rattle.ck_journal.specs.Effects.{effects_of}
 use Rattle.ck_journal.specs.OperationCalls.{operation_step}
 use Rattle.ck_journal.specs.Searches.{starts_search, ends_search, asks_search}
 use Rattle.ck_journal.specs.Searches.{matching_objects, search_template}

@@ -11,7 +11,7 @@ use Rattle.slab.specs.Slab.{Slab, get, with_value, Updates}
 use Rattle.slab.proofs.SlabLemmas.{Contains-cons_cases, Updates-with_value}
 use Rattle.ck_types.specs.Numbers.{same_bytes}
 use Rattle.ck_objects.specs.Attributes.{type_of}
-use Rattle.ck_objects.specs.Templates.{value_at, value_or, class_of, template_error}
+use Rattle.ck_objects.specs.Templates.{value_at, value_or}
 use Rattle.ck_objects.specs.Records.{readable_value, has_item, matches}
 use Rattle.ck_objects.specs.declared.attributes.Attribute.TheVariants as attribute
 use Rattle.ck_objects.specs.declared.items.Item.{Item}
@@ -19,7 +19,6 @@ use Rattle.ck_journal.specs.Objects.{is_visible_with}
 use Rattle.ck_journal.specs.declared.views.View.{View}
 use Rattle.ck_journal.proofs.NumberTests.{same_number}
 use Rattle.ck_objects.specs.Records.{with_given, with_state, state_item}
-use Rattle.ck_objects.specs.declared.attributes.Purpose.TheVariants as purpose
 use Rattle.ck_objects.specs.declared.key_states.KeyState.{KeyState}
 use Rattle.ck_store.specs.Index.{object_at, IsChanged, IsGiven, IsKeyOf}
 use Rattle.ck_store.specs.Labels.{label_mark, IsMarkOf, IsWanted, IsMarked, has_other_label}
@@ -285,17 +284,14 @@ module _ (number : ℕ) (values : List Item) (objects : Slab ObjectRow) (key : �
           other (sym (same_Some key k (is_key.only k row e t)))))))
           ∙ sym (ap (option_map (with_attributes number new.attributes)) e)
 
-  pub IsGiven-under : (template_error (class_of old.attributes) purpose.Set values ≡ None
-      → new.attributes ≡ with_given values old.attributes)
+  pub IsGiven-under : new.attributes ≡ with_given values old.attributes
       → is_private_row new ≡ is_private_row old
       → IsGiven number values objects (with_value objects key new)
   IsGiven-under given private = record {
     attributes = new.attributes;
     changed = changed_under;
-    given = λ k row is numbered passes.
-        let same = is_it k row is numbered in
-        subst (λ (r : ObjectRow). new.attributes ≡ with_given values r.attributes) same
-        (given (subst (λ (r : ObjectRow). template_error (class_of r.attributes) purpose.Set values
-        ≡ None) (sym same) passes));
+    given = λ k row is numbered.
+        subst (λ (r : ObjectRow). new.attributes ≡ with_given values r.attributes)
+        (is_it k row is numbered) given;
     private = λ k row is numbered. private ∙ ap is_private_row (is_it k row is numbered);
   }

@@ -15,7 +15,8 @@ use Rattle.ck_objects.proofs.ChangeLemmas.{token-in_state, token-kept}
 use Rattle.ck_journal.specs.declared.calls.Call.{Call}
 use Rattle.ck_journal.specs.declared.calls.Call.TheVariants as call
 use Rattle.ck_journal.specs.declared.calls.Entry.{Entry}
-use Rattle.ck_journal.specs.Histories.{History, ◌◁◌, done, effects}
+use Rattle.ck_journal.specs.Histories.{History, ◌◁◌, done}
+use Rattle.ck_journal.specs.Effects.{effects}
 use Rattle.ck_journal.specs.Objects.{creates, creations, creation_session, session_of}
 use Rattle.ck_journal.specs.Objects.{creation_attributes, object_at, object_after, view_of}
 use Rattle.ck_journal.specs.Objects.{in_state}

@@ -5,9 +5,7 @@ use Rattle.std.specs.Prelude.{None, if◌then◌else◌, ◌&&◌}
 use Rattle.std.specs.Bool.{beq}
 use Rattle.slab.specs.Slab.{Slab, get}
 use Rattle.ck_objects.specs.Records.{is_set, with_given}
-use Rattle.ck_objects.specs.Templates.{class_of, template_error}
 use Rattle.ck_objects.specs.declared.attributes.Attribute.TheVariants as attribute
-use Rattle.ck_objects.specs.declared.attributes.Purpose.TheVariants as purpose
 use Rattle.ck_objects.specs.declared.items.Item.{Item}
 use Rattle.ck_store.specs.Rows.{ObjectRow, has_number, is_private_row, with_attributes}
 use Rattle.ck_store.specs.declared.places.Place.{Place}
@@ -92,13 +90,12 @@ pub record IsKeyOf (objects : Slab ObjectRow) (number : ℕ) (found : Option ℕ
 abbrev pub IsChanged : (ObjectRow → ObjectRow) → Slab ObjectRow → Slab ObjectRow → Type 0
 IsChanged change old new = (key : ℕ) → get new key ≡ option_map change (get old key)
 
--- the object of the number has other attributes: where the values pass the checks of a template
--- that changes it, the old ones with the values; it is private exactly where it was
+-- the object of the number has other attributes, the old ones with the values; it is private
+-- exactly where it was
 pub record IsGiven (number : ℕ) (values : List Item) (old new : Slab ObjectRow) : Type 0 where
   pub attributes : List Item
   pub changed : IsChanged (with_attributes number attributes) old new
   pub given : (key : ℕ) (row : ObjectRow) → get old key ≡ Some row → has_number number row ≡ true
-      → template_error (class_of row.attributes) purpose.Set values ≡ None
       → attributes ≡ with_given values row.attributes
   pub private : (key : ℕ) (row : ObjectRow) → get old key ≡ Some row → has_number number row ≡ true
       → is_set attributes attribute.Private ≡ is_private_row row

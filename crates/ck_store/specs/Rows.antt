@@ -1,8 +1,9 @@
 -- An object as the store has it
-use Rattle.std.specs.Prelude.{ℕ, Bool, true, false, List, Option, Some, None, ◌==◌, ◌&&◌}
+use Rattle.std.specs.Prelude.{◌≡◌, ℕ, Bool, true, false, List, Option, Some, None, ◌==◌, ◌&&◌}
 use Rattle.std.specs.Prelude.{filter, is_some, map, option_and_then, if◌then◌else◌}
 use Rattle.std.specs.Option.{option_map_or}
-use Rattle.ck_objects.specs.Records.{is_set, with_state}
+use Rattle.ck_objects.specs.Records.{is_set, with_state, changed_error, protections_of}
+use Rattle.ck_objects.specs.Templates.{class_of}
 use Rattle.ck_objects.specs.declared.attributes.Attribute.TheVariants as attribute
 use Rattle.ck_objects.specs.declared.items.Item.{Item}
 use Rattle.ck_objects.specs.declared.key_states.KeyState.{KeyState}
@@ -62,6 +63,11 @@ concerns ending.Logout session private = private
 -- it is visible and matches the template
 abbrev pub is_match : View → List Item → ObjectRow → Bool
 is_match view template row = is_match_with view template row.attributes
+
+-- the values pass the checks of a change of the object
+abbrev pub PassesChange : List Item → ObjectRow → Type 0
+PassesChange values row =
+    changed_error (class_of row.attributes) (protections_of row.attributes) values ≡ None
 
 -- ---- readings of an object
 

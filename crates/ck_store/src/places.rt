@@ -2,7 +2,7 @@ ghost use Rattle.std.specs.Prelude.{◌≡◌, ◌<◌, ℕ, length, find, filte
 ghost use Rattle.std.specs.Prelude.{IfOk, IfSome, Contains, Some};
 ghost use Rattle.std.specs.Option.{option_copied};
 ghost use Rattle.slab.specs.Slab.{get};
-ghost use Rattle.ck_store.specs.Rows.{ObjectRow, has_number, matching_numbers};
+ghost use Rattle.ck_store.specs.Rows.{ObjectRow, PassesChange, has_number, matching_numbers};
 ghost use Rattle.ck_store.specs.Rows.{with_key_state, matching_number};
 ghost use Rattle.ck_store.specs.Labels.{IsMarked, IsMarkOf, IsWanted};
 ghost use Rattle.ck_store.specs.Index.{place, is_at, object_at, objects_at, is_there, IsIndex};
@@ -158,6 +158,7 @@ pub(crate) fn find_matching(
 
 /// Gives the object under the key the values of a change. The result is the mark of its label.
 pub(crate) fn change_at(objects: &mut Slab<StoredObject>, key: usize, values: Template) -> u32
+    requires { (row : ObjectRow) → get objects.old key ≡ Some row → PassesChange values.items row }
     ensures given { (number : ℕ) → IsKeyOf objects.old number (Some key)
         → IsGiven number values.items objects.old objects.new }
     ensures mark { (row : ObjectRow) → get objects.new key ≡ Some row

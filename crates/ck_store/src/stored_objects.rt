@@ -32,11 +32,9 @@ impl Model for StoredObject {
 impl StoredObject {
     ghost use Rattle.std.specs.Prelude.{◌≡◌, ◌<◌, ◌^◌, None, IfOk};
     ghost use Rattle.ck_objects.specs.Records.{with_given, with_state};
-    ghost use Rattle.ck_objects.specs.Templates.{class_of, template_error};
-    ghost use Rattle.ck_objects.specs.declared.attributes.Purpose.TheVariants as purpose;
     ghost use Rattle.ck_journal.specs.Objects.{is_visible_with};
     ghost use Rattle.ck_store.specs.Rows.{object_row, is_private_row, is_match, visible_handle};
-    ghost use Rattle.ck_store.specs.Rows.{is_ended_by, kept_of};
+    ghost use Rattle.ck_store.specs.Rows.{is_ended_by, kept_of, PassesChange};
 
     /// An object that the session creates.
     pub(crate) fn new(number: u64, session: u64, attributes: Record) -> StoredObject
@@ -69,9 +67,9 @@ impl StoredObject {
 
     /// Gives the object the values of a change.
     pub(crate) fn change(&mut self, values: Template)
+        requires { PassesChange values.items self.old }
         ensures others { self.new ≡ record self.old { attributes = self.new.attributes } }
-        ensures given { template_error (class_of self.old.attributes) purpose.Set values.items
-            ≡ None → self.new.attributes ≡ with_given values.items self.old.attributes }
+        ensures given { self.new.attributes ≡ with_given values.items self.old.attributes }
         ensures private { is_private_row self.new ≡ is_private_row self.old }
     {
         self.attributes.change(values);

@@ -54,8 +54,9 @@ impl Model for Store {
 
 impl Store {
     ghost use Rattle.std.specs.Prelude.{◌≡◌, ◌+◌, ◌<◌, ◌^◌, ℕ, true, None, Some};
-    ghost use Rattle.std.specs.Prelude.{filter, not, [], ◌∷◌, ◌++◌};
-    ghost use Rattle.ck_store.specs.Rows.{is_ended_by, object_row};
+    ghost use Rattle.std.specs.Prelude.{filter, find, not, [], ◌∷◌, ◌++◌};
+    ghost use Rattle.ck_store.specs.Rows.{ObjectRow, PassesChange, has_number, is_ended_by};
+    ghost use Rattle.ck_store.specs.Rows.{object_row};
     ghost use Rattle.std.specs.Prelude.{IfNone, IfOk, IfSome, OnOk};
     ghost use Rattle.std.specs.Option.{option_copied};
     ghost use Rattle.ck_objects.specs.KeyStates.{state_of_number};
@@ -238,6 +239,8 @@ impl Store {
     /// Moves the values of a template of C_SetAttributeValue, which passes the checks of a change,
     /// into the object that has the number. This takes no memory.
     pub fn change(&mut self, number: u64, values: Template)
+        requires { (row : ObjectRow) → find (has_number number) self.old.rows ≡ Some row
+            → PassesChange values.items row }
         ensures agree { (h : History) (e : Entry) (session object : ℕ)
             → done e ≡ Some (call.SetAttributeValue session object values)
             → object_named h object ≡ Some number

@@ -16,7 +16,7 @@ use Rattle.ck_types.specs.declared.users.UserType.{UserType}
 use Rattle.ck_journal.specs.declared.calls.Call.TheVariants as call
 use Rattle.ck_journal.specs.declared.replies.Body.{Body}
 use Rattle.ck_journal.specs.declared.replies.Reply.{Reply}
-use Rattle.ck_types.specs.Macs.{signature_error}
+use Rattle.ck_mac.specs.Macs.{signature_error}
 use Rattle.ck_types.specs.Numbers.{same_bytes}
 use Rattle.ck_objects.specs.Records.{state_in}
 use Rattle.ck_journal.specs.declared.operations.OperationKind.{OperationKind}
@@ -42,9 +42,9 @@ use Rattle.ck_parts.specs.Changes.{refused_by, refused_step, effect, effect_by}
 use Rattle.ck_token.specs.Decisions.{IsDecided, IsDecision, takes_memory, may_run_out, reply_of}
 use Rattle.ck_parts.specs.declared.changes.Change.{Change}
 use Rattle.ck_parts.specs.declared.changes.Change.TheVariants as change
-use Rattle.ck_parts.specs.declared.decisions.Decision.{Decision}
-use Rattle.ck_parts.specs.declared.decisions.Refused.{Refused}
-use Rattle.ck_parts.specs.declared.decisions.Refused.TheVariants as refused
+use Rattle.ck_token.specs.declared.decisions.Decision.{Decision}
+use Rattle.ck_token.specs.declared.decisions.Refused.{Refused}
+use Rattle.ck_token.specs.declared.decisions.Refused.TheVariants as refused
 
 -- a refusal of a call that is about nobody's PIN changes nothing
 wrong_try_change-nobody : (code : RvError) → wrong_try_change code None ≡ change.Nothing

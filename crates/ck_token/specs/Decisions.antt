@@ -13,9 +13,9 @@ use Rattle.ck_journal.specs.Histories.{History}
 use Rattle.ck_journal.specs.Pins.{about}
 use Rattle.ck_parts.specs.Changes.{change_of, wrong_try_change, refused_change}
 use Rattle.ck_parts.specs.declared.changes.Change.{Change}
-use Rattle.ck_parts.specs.declared.decisions.Decision.{Decision}
-use Rattle.ck_parts.specs.declared.decisions.Refused.{Refused}
-use Rattle.ck_parts.specs.declared.decisions.Refused.TheVariants as refused
+use Rattle.ck_token.specs.declared.decisions.Decision.{Decision}
+use Rattle.ck_token.specs.declared.decisions.Refused.{Refused}
+use Rattle.ck_token.specs.declared.decisions.Refused.TheVariants as refused
 
 -- the calls that may take memory beside that of their entry: for a session, an object, a search, an
 -- operation or a list in the reply, which a call that asks for a length doesn't have

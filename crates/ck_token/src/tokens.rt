@@ -4,8 +4,9 @@ ghost use Rattle.ck_journal.specs.Replies.{has_list};
 ghost use Rattle.ck_parts.specs.Agreement.{PartsAgree, adds, HasRoom};
 
 use crate::cuts::Uncut;
+use crate::decisions::{Decision, Refused};
 use ck_journal::{Base, Body, Call, Entry, Journal, OperationKind, Reply, TokenBoard};
-use ck_parts::{Change, Decision, Parts, Refused};
+use ck_parts::{Change, Parts};
 use ck_types::{Limits, NoMemory, Rv};
 use std::alloc::Global;
 use std::marker::Model;

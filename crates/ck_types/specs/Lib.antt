@@ -1,11 +1,7 @@
 pub mod Checks
-pub mod Computations
-pub mod Digests
 pub mod Hashes
-pub mod Macs
 pub mod Mechanisms
 pub mod Numbers
-pub mod Padding
 pub mod Pins
 pub mod ReturnCodes
 pub mod TokenFlagBits

@@ -1,6 +1,7 @@
 -- What the token knows of a PIN
-use Rattle.std.specs.Prelude.{ℕ, Bool, List, length, nat_le, ◌&&◌}
+use Rattle.std.specs.Prelude.{ℕ, Bool, List, length, nat_le, ◌==◌, ◌&&◌}
 use Rattle.sha2.specs.Sha256.{sha256}
+use Rattle.ck_types.specs.Numbers.{same_bytes}
 use Rattle.ck_types.specs.declared.pins.Pin.{Pin}
 
 -- the length and the SHA-256 digest of a PIN's bytes
@@ -10,3 +11,7 @@ pin_of bytes = record { len = length bytes; tag = sha256 bytes }
 -- a PIN has 4 to 64 bytes
 abbrev pub fits_a_pin : Pin → Bool
 fits_a_pin pin = nat_le 4 pin.len && nat_le pin.len 64
+
+-- two PINs are the same where their lengths and digests agree
+abbrev pub same_pin : Pin → Pin → Bool
+same_pin a b = a.len == b.len && same_bytes a.tag b.tag

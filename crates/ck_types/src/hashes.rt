@@ -25,7 +25,7 @@ impl Hash {
     }
 
     /// The length in bytes of the blocks that a message is taken in.
-    pub(crate) fn block(self) -> u64
+    pub fn block(self) -> u64
         ensures { result ≡ block_length self }
     {
         match self {

@@ -1,29 +1,24 @@
-//! Return codes, mechanisms, users, PINs and limits of a PKCS #11 token; the digests (FIPS 180-4)
-//! and HMACs (FIPS 198-1) of messages that come in pieces, which take no memory.
+//! Return codes, mechanisms, users, PINs and limits of a PKCS #11 token.
 #![tactic(auto)]
 
 mod checks;
-mod digests;
+mod comparisons;
 mod errors;
 mod hashes;
-mod macs;
 mod mechanisms;
 mod memory;
 mod numbers;
 mod pins;
 mod return_codes;
-mod running_tags;
 mod sequences;
-mod tags;
 mod token_flags;
 mod token_limits;
 mod users;
 
 pub use checks::error_if;
-pub use digests::Running;
+pub use comparisons::constant_time_eq;
 pub use errors::RvError;
 pub use hashes::Hash;
-pub use macs::Mac;
 pub use mechanisms::{
     GENERIC_SECRET_KEY_GEN, Mechanism, digest_of, is_key_generator, mac_of, mechanism_types,
 };
@@ -31,9 +26,7 @@ pub use memory::NoMemory;
 pub use numbers::number_of;
 pub use pins::Pin;
 pub use return_codes::Rv;
-pub use running_tags::RunningTag;
 pub use sequences::{Bytes, Sequence};
-pub use tags::Tag;
 pub use token_flags::TokenFlags;
 pub use token_limits::{Limits, MOST_SESSIONS};
 pub use users::{SessionState, UserType};

@@ -1,5 +1,6 @@
 ghost use Rattle.std.specs.Prelude.{◌≡◌};
 
+use crate::comparisons::constant_time_eq;
 use sha2::{Digest, Sha256};
 
 /// The fewest bytes of a PIN that the token takes.
@@ -19,7 +20,7 @@ pub struct Pin {
 }
 
 impl Pin {
-    ghost use Rattle.ck_types.specs.Pins.{pin_of, fits_a_pin};
+    ghost use Rattle.ck_types.specs.Pins.{pin_of, fits_a_pin, same_pin};
 
     /// The PIN of these bytes, of whatever length. Takes no memory.
     pub fn of(bytes: &[u8]) -> Pin
@@ -37,5 +38,12 @@ impl Pin {
         ensures { result ≡ fits_a_pin self.now }
     {
         SHORTEST_PIN <= self.len && self.len <= LONGEST_PIN
+    }
+
+    /// Whether the two PINs are the same. The time doesn't say where their digests differ.
+    pub fn matches(&self, other: &Pin) -> bool
+        ensures { result ≡ same_pin self.now other.now }
+    {
+        self.len == other.len && constant_time_eq(&self.tag, &other.tag)
     }
 }

@@ -61,7 +61,7 @@ impl<T> Sequence<T> {
     pub fn as_slice(&self) -> &[T]
         ensures { result.now ≡ self.now }
     {
-        self.items.as_slice()
+        &self.items
     }
 }
 

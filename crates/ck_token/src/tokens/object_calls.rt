@@ -5,10 +5,11 @@ ghost use Rattle.ck_objects.specs.Records.{state_in};
 ghost use Rattle.ck_journal.specs.Answers.{prohibited_error, parameter_error, transition_error};
 
 use super::Token;
+use crate::decisions::{Decision, Refused};
 use crate::queries::queries_reply;
 use ck_journal::{AttributeQuery, Body};
 use ck_objects::{Attribute, KeyState, Placement, Record, Template};
-use ck_parts::{Boxed, Change, Decision, Refused};
+use ck_parts::{Boxed, Change};
 use ck_sessions::Session;
 use ck_types::{Mechanism, Rv, RvError, error_if, is_key_generator};
 use std::alloc::Global;

@@ -6,15 +6,17 @@ ghost use Rattle.ck_journal.specs.Answers.{usage_error};
 ghost use Rattle.ck_journal.specs.declared.replies.Body.TheVariants as body;
 ghost use Rattle.ck_parts.specs.Changes.{finish_change};
 ghost use Rattle.ck_parts.specs.declared.changes.Change.TheVariants as change;
-ghost use Rattle.ck_parts.specs.declared.decisions.Refused.TheVariants as refused;
+ghost use Rattle.ck_token.specs.declared.decisions.Refused.TheVariants as refused;
 
 use super::Token;
 use super::object_calls::check_no_parameter;
+use crate::decisions::{Decision, Refused};
 use ck_journal::{Body, OperationKind, is_long_piece};
+use ck_mac::Tag;
 use ck_objects::{Attribute, KeyState, Record};
 use ck_operations::Operation;
-use ck_parts::{Change, Decision, Refused};
-use ck_types::{Bytes, Mechanism, NoMemory, Rv, RvError, Tag, digest_of, error_if, mac_of};
+use ck_parts::Change;
+use ck_types::{Bytes, Mechanism, NoMemory, Rv, RvError, digest_of, error_if, mac_of};
 use std::alloc::Global;
 
 /// What the reply makes of the session's operation.

@@ -6,7 +6,8 @@ ghost use Rattle.ck_journal.specs.Pins.{is_pin, pin_owner};
 ghost use Rattle.ck_token.specs.Decisions.{IsCheckAbout};
 
 use super::Token;
-use ck_parts::{Change, Decision, Refused};
+use crate::decisions::{Decision, Refused};
+use ck_parts::Change;
 use ck_sessions::Credential;
 use ck_types::{Pin, RvError, SessionState, UserType, error_if};
 
@@ -19,7 +20,7 @@ fn is_pin(known: Option<Pin>, given: Pin) -> bool
 {
     match known {
         None => false,
-        Some(pin) => pin.len == given.len && pin.tag.as_slice() == given.tag.as_slice(),
+        Some(pin) => pin.matches(&given),
     }
 }
 

@@ -1,7 +1,8 @@
 use super::Token;
+use crate::decisions::{Decision, Refused};
 use ck_journal::{Body, number_of_handle};
 use ck_objects::Template;
-use ck_parts::{Change, Decision, Refused};
+use ck_parts::Change;
 use ck_types::{NoMemory, Rv, RvError, Sequence};
 use std::alloc::Global;
 

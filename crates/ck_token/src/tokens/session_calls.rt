@@ -1,8 +1,9 @@
 ghost use Rattle.std.specs.Prelude.{◌≡◌};
 
 use super::Token;
+use crate::decisions::{Decision, Refused};
 use ck_journal::{Body, READ_WRITE, SERIAL_SESSION, is_read_write};
-use ck_parts::{Change, Decision, Refused};
+use ck_parts::Change;
 use ck_types::{Rv, RvError, Sequence, TokenFlags, UserType, mechanism_types};
 use std::alloc::Global;
 

@@ -5,5 +5,4 @@ use Rattle.ck_objects.proofs.items.has_conflict.Goals as goal
 -- an item with no fault in form is of one of the attributes
 pub returns : goal.returns
 returns c =
-    let any = rw c.as_slice.ensures at c.has_conflict_in.ensures in
-    any ∙ has_conflict-attributes c.args.items.now c.requires.well_formed
+    c.has_conflict_in.ensures ∙ has_conflict-attributes c.args.items.now c.requires.well_formed

@@ -1,4 +1,4 @@
-use Rattle.ck_types.specs.Computations.{digest_by}
+use Rattle.ck_mac.specs.Computations.{digest_by}
 use Rattle.ck_parts.proofs.additions.start_digest.Goals as goal
 
 pub returns : goal.returns

@@ -1,6 +1,6 @@
 use Rattle.std.proofs.Common.{[]}
 use Rattle.std.specs.Prelude.{unwrap_or}
-use Rattle.ck_types.specs.Computations.{hmac_by}
+use Rattle.ck_mac.specs.Computations.{hmac_by}
 use Rattle.ck_objects.specs.Records.{key_value}
 use Rattle.ck_journal.specs.Objects.{object_at}
 use Rattle.ck_parts.proofs.additions.start_hmac.Goals as goal

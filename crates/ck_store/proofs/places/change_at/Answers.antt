@@ -7,6 +7,9 @@ use Rattle.ck_store.specs.Rows.{ObjectRow}
 use Rattle.ck_store.proofs.LabelLemmas.{IsGiven-under}
 use Rattle.ck_store.proofs.places.change_at.Goals as goal
 
+pub change-requires : goal.change-requires
+change-requires c = c.requires c.in-Some.object.now (sym c.in-Some.ensures.value)
+
 pub returns-in-Some : goal.returns-in-Some
 returns-in-Some c =
     let is_old : get c.args.objects.now c.args.key ≡ Some c.in-Some.object.now =

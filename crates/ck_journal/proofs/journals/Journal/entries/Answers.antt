@@ -10,6 +10,6 @@ pub returns : goal.returns
 returns c =
     let base = c.self.inside.base in
     let items = c.self.inside.entries.items in
-    rw (← c.self.view_is, c.as_slice.ensures.value)
+    rw (← c.self.view_is, c.deref.ensures.value)
     (sym (ap (λ b. history_of b items) (start_of-followed_by base (reverse items))
     ∙ extended_by-reverse (start base) items))

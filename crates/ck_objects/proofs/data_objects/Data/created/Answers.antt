@@ -5,18 +5,18 @@ use Rattle.ck_objects.proofs.data_objects.Data.created.Goals as goal
 -- a template that passes the checks has no fault in form
 pub set-requires-clause-well_formed : goal.set-requires-clause-well_formed
 set-requires-clause-well_formed c =
-    rw (c.as_mut_slice.ensures.value, c.in_ok-values.ensures)
+    rw (c.deref_mut.ensures.value, c.in_ok-values.ensures)
     (form-created c.args.items.now c.requires.passes)
 
 -- and gives no class but that of data objects
 pub set-requires-clause-class : goal.set-requires-clause-class
 set-requires-clause-class c =
-    rw (c.as_mut_slice.ensures.value, c.in_ok-values.ensures)
+    rw (c.deref_mut.ensures.value, c.in_ok-values.ensures)
     (data-created c.args.items.now c.requires.class c.requires.passes)
 
 -- the defaults with its values are what it creates
 pub returns : goal.returns
 returns c =
     let made = created-data c.args.items.now c.requires.class c.requires.passes in
-    rw (c.as_mut_slice.ensures.value, c.in_ok-values.ensures, c.blank-data.ensures, made)
+    rw (c.deref_mut.ensures.value, c.in_ok-values.ensures, c.blank-data.ensures, made)
     at c.set.ensures

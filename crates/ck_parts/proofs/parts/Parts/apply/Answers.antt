@@ -2,7 +2,7 @@ use Rattle.std.proofs.Common.{◌≡◌, [], sym, ap, ◌∙◌, refl, Some, sub
 use Rattle.std.specs.Prelude.{option_and_then, unwrap_or}
 use Rattle.std.proofs.lemmas.Option.{cond_some}
 use Rattle.ck_objects.specs.Records.{key_value}
-use Rattle.ck_types.specs.Computations.{digest_by}
+use Rattle.ck_mac.specs.Computations.{digest_by}
 use Rattle.ck_journal.specs.Histories.{is_ok}
 use Rattle.ck_journal.specs.Objects.{object_named, object_at, named_attributes}
 use Rattle.ck_journal.specs.OperationCalls.{initialize, add_piece, operation_step}
@@ -11,6 +11,7 @@ use Rattle.ck_journal.specs.declared.operations.OperationKind.TheVariants as kin
 use Rattle.ck_journal.proofs.LegalLemmas.{passed-done, is_searching-next}
 use Rattle.ck_operations.specs.Moves.{Add, OnlyIn}
 use Rattle.ck_operations.proofs.Moves.{operations-left}
+use Rattle.ck_parts.specs.Agreement.{IsCounted}
 use Rattle.ck_parts.specs.declared.changes.Change.TheVariants as change
 use Rattle.ck_parts.proofs.Counts.{started-injected}
 use Rattle.ck_parts.proofs.OperationMoves.{operations-kept, operations-created, closed-one, closed-all}
@@ -161,6 +162,10 @@ returns-in-CreateObject c = record {
         operations = operations-created e e.call made.0 of.0 h _ agree.operations;
       };
 }
+
+pub change-requires : goal.change-requires
+change-requires c =
+    subst (λ made. IsCounted c.args.self.now made) c.in-SetAttributes.is c.requires.counted
 
 pub returns-in-SetAttributes : goal.returns-in-SetAttributes
 returns-in-SetAttributes c = record {

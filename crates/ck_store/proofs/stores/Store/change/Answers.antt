@@ -1,8 +1,5 @@
 use Rattle.std.proofs.Common.{◌≡◌, ◌∙◌, None, Some, refl, sym}
 use Rattle.ck_objects.specs.Records.{with_given}
-use Rattle.ck_objects.specs.declared.attributes.Purpose.TheVariants as purpose
-use Rattle.ck_objects.specs.Templates.{class_of, template_error}
-use Rattle.ck_types.proofs.CheckLemmas.{or_else-none}
 use Rattle.ck_journal.specs.Objects.{named_attributes}
 use Rattle.ck_store.specs.Rows.{with_attributes}
 use Rattle.ck_store.proofs.LabelLemmas.{IsChanged-none, with_attributes-other, IsMarked-changed}
@@ -28,6 +25,14 @@ returns-in_default c = record {
       (with_attributes-other c.args.number given) is_key)
       (with_attributes-number c.args.number given) c.self.inside.index.items));
 }
+
+-- the object under the key is the one of the number
+pub change_at-mark-requires : goal.change_at-mark-requires
+change_at-mark-requires c = λ row is.
+    let is_key = (rw c.as_slice.ensures.value at c.in-Some.ensures) c.self.invariant.0.indexed in
+    let asked = rw (← c.self.view_is) at c.requires in
+    asked row (sym (find-key c.self.inside.objects c.self.inside.index.items
+    c.self.invariant.0.indexed c.args.number (Some c.in-Some.key) is_key) ∙ is)
 
 pub invariant_of-self : goal.invariant_of-self
 invariant_of-self c =
@@ -55,10 +60,7 @@ returns c = record {
       c.self.invariant.0.indexed c.args.number (Some c.in-Some.key) is_key) ∙ has.1 in
       let own = named-row h _ here object c.self.invariant.1 c.args.number named has.0
       found in
-      let set : template_error (class_of (named_attributes h object)) purpose.Set c.args.values.items ≡ None =
-      (or_else-none (template_error (class_of (named_attributes h object)) purpose.Set
-      c.args.values.items) _ passes).0 in
-      let changed = given.given c.in-Some.key has.0 has.1 has.2 (rw own at set) in
+      let changed = given.given c.in-Some.key has.0 has.1 has.2 in
       StoreAgrees-changed h _ here e _ refl session object c.args.number named c.self.invariant.1
       c.args.values given.attributes (rw own changed) passes d
       (objects_at-changed (with_attributes c.args.number given.attributes) c.self.inside.objects

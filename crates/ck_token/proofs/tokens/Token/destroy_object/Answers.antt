@@ -4,7 +4,7 @@ use Rattle.ck_objects.specs.declared.object_flags.Placement.{Placement}
 use Rattle.ck_types.proofs.CheckLemmas.{check_of-ok, check_of-err}
 use Rattle.ck_journal.specs.Answers.{read_only_session_error, prohibited_error}
 use Rattle.ck_journal.specs.declared.calls.Call.TheVariants as call
-use Rattle.ck_parts.specs.declared.decisions.Decision.{Decision}
+use Rattle.ck_token.specs.declared.decisions.Decision.{Decision}
 use Rattle.ck_token.specs.Decisions.{reply_of}
 use Rattle.ck_token.proofs.DecisionLemmas.{refused-decision, object-checks, hit, second-fails, two-pass}
 use Rattle.ck_token.proofs.tokens.Token.destroy_object.Goals as goal

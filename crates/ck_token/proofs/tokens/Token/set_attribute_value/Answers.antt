@@ -10,7 +10,7 @@ use Rattle.ck_journal.specs.Objects.{object_named}
 use Rattle.ck_journal.specs.declared.calls.Call.TheVariants as call
 use Rattle.ck_parts.specs.declared.changes.Change.TheVariants as change
 use Rattle.ck_token.specs.Decisions.{reply_of}
-use Rattle.ck_parts.specs.declared.decisions.Decision.{Decision}
+use Rattle.ck_token.specs.declared.decisions.Decision.{Decision}
 use Rattle.ck_token.proofs.DecisionLemmas.{refused-decision, memory-decision, object-checks, hit}
 use Rattle.ck_token.proofs.DecisionLemmas.{second-fails, third-fails, three-pass}
 use Rattle.ck_token.proofs.tokens.Token.set_attribute_value.Goals as goal

@@ -5,7 +5,7 @@ use Rattle.ck_types.proofs.CheckLemmas.{check_of-ok, check_of-err}
 use Rattle.ck_journal.specs.Answers.{read_only_session_error}
 use Rattle.ck_journal.specs.Objects.{key_named}
 use Rattle.ck_journal.specs.declared.calls.Call.TheVariants as call
-use Rattle.ck_parts.specs.declared.decisions.Decision.{Decision}
+use Rattle.ck_token.specs.declared.decisions.Decision.{Decision}
 use Rattle.ck_token.specs.Decisions.{reply_of}
 use Rattle.ck_token.proofs.DecisionLemmas.{refused-decision, named-checks, hit, second-fails, two-pass}
 use Rattle.ck_token.proofs.tokens.Token.set_key_state.Goals as goal

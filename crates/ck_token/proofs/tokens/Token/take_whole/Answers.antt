@@ -1,8 +1,8 @@
 use Rattle.std.proofs.Common.{sym, ap, ◌∙◌, ◌++◌}
 use Rattle.std.specs.Prelude.{is_some}
 use Rattle.ck_types.specs.declared.return_codes.Rv.TheVariants as rv
-use Rattle.ck_types.specs.Computations.{tag_of}
-use Rattle.ck_types.proofs.LengthLemmas.{length-tag_of}
+use Rattle.ck_mac.specs.Computations.{tag_of}
+use Rattle.ck_mac.proofs.LengthLemmas.{length-tag_of}
 use Rattle.ck_journal.specs.Answers.{message_error, bytes_reply}
 use Rattle.ck_journal.specs.Operations.{computation_in, message_in}
 use Rattle.ck_journal.specs.declared.replies.Body.TheVariants as body

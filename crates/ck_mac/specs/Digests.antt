@@ -5,9 +5,9 @@ use Rattle.sha2.specs.Sha512.{sha384, sha512}
 use Rattle.sha2.specs.Hashers.{Holds224, Holds256, Holds384, Holds512}
 use Rattle.ck_types.specs.declared.hashes.Hash.{Hash}
 use Rattle.ck_types.specs.declared.hashes.Hash.TheVariants as hash
-use Rattle.ck_types.specs.declared.digests.Hasher.{Hasher}
-use Rattle.ck_types.specs.declared.digests.Hasher.TheVariants as hasher
-use Rattle.ck_types.specs.declared.digests.Running.{Running}
+use Rattle.ck_mac.specs.declared.digests.Hasher.{Hasher}
+use Rattle.ck_mac.specs.declared.digests.Hasher.TheVariants as hasher
+use Rattle.ck_mac.specs.declared.digests.Running.{Running}
 
 -- the digest of a message
 abbrev pub digest_of : Hash → List ℕ → List ℕ

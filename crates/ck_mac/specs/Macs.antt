@@ -6,9 +6,9 @@ use Rattle.ck_types.specs.Hashes.{block_length, digest_length}
 use Rattle.ck_types.specs.declared.hashes.Hash.{Hash}
 use Rattle.ck_types.specs.declared.errors.RvError.{RvError}
 use Rattle.ck_types.specs.declared.errors.RvError.TheVariants as rv_error
-use Rattle.ck_types.specs.Digests.{digest_of, Holds}
-use Rattle.ck_types.specs.Padding.{with_zeros}
-use Rattle.ck_types.specs.declared.macs.Mac.{Mac}
+use Rattle.ck_mac.specs.Digests.{digest_of, Holds}
+use Rattle.ck_mac.specs.Padding.{with_zeros}
+use Rattle.ck_mac.specs.declared.macs.Mac.{Mac}
 
 -- the key, or its digest where it is longer than a block, followed by zeros up to the block
 -- (K0, section 4, steps 1 to 3)

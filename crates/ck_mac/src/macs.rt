@@ -1,12 +1,12 @@
 ghost use Rattle.std.specs.Prelude.{◌≡◌, ⊤, ◌≤◌, ℕ, List, [], ◌++◌, take};
-ghost use Rattle.ck_types.specs.Digests.{Holds};
+ghost use Rattle.ck_mac.specs.Digests.{Holds};
 ghost use Rattle.ck_types.specs.Hashes.{block_length, digest_length};
-ghost use Rattle.ck_types.specs.Macs.{block_key, xor_each};
+ghost use Rattle.ck_mac.specs.Macs.{block_key, xor_each};
 ghost use Rattle.ck_types.specs.declared.hashes.Hash.{Hash};
 
 use crate::digests::{Running, digest};
-use crate::hashes::Hash;
 use crate::tags::{Tag, with_zeros};
+use ck_types::{Hash, RvError};
 use std::alloc::AllocError;
 
 /// The length in bytes of the longest block.
@@ -29,7 +29,15 @@ pub struct Mac {
 }
 
 impl Mac {
-    ghost use Rattle.ck_types.specs.Macs.{HoldsMac, hmac};
+    ghost use Rattle.ck_types.specs.Checks.{check_of};
+    ghost use Rattle.ck_mac.specs.Macs.{HoldsMac, hmac, signature_error};
+
+    /// The HMAC of the empty message under this key, of any length.
+    pub fn new(hash: Hash, key: &[u8]) -> Mac
+        ensures { HoldsMac hash key.now (digest_length hash) result [] }
+    {
+        Mac::general(hash, key, hash.len())
+    }
 
     /// The first `n` bytes of the HMAC of the empty message under this key, of any length.
     #[tactic(auto, unfolding(crate::specs::Macs::HoldsMac))]
@@ -79,6 +87,16 @@ impl Mac {
         let mut tag = outer.finish();
         tag.truncate(len as usize);
         tag
+    }
+
+    /// Checks a signature against the HMAC of the message, or its first bytes:
+    /// CKR_SIGNATURE_LEN_RANGE for one of another length, CKR_SIGNATURE_INVALID for other bytes.
+    pub fn check(self, signature: &[u8]) -> Result<(), RvError>
+        ensures { (hash : Hash) (key : List ℕ) (n : ℕ) (message : List ℕ)
+            → HoldsMac hash key n self message
+            → result ≡ check_of (signature_error (take n (hmac hash key message)) signature.now) }
+    {
+        self.finish().check(signature)
     }
 }
 

@@ -1,5 +1,5 @@
-use Rattle.ck_types.specs.Macs.{HoldsMac, hmac}
-use Rattle.ck_types.proofs.macs.Mac.finish.Goals as goal
+use Rattle.ck_mac.specs.Macs.{HoldsMac, hmac}
+use Rattle.ck_mac.proofs.macs.Mac.finish.Goals as goal
 
 pub returns : goal.returns
 unfolding hmac HoldsMac

@@ -1,7 +1,7 @@
 ghost use Rattle.std.specs.Prelude.{◌≡◌};
 
-use crate::changes::Change;
 use ck_journal::Body;
+use ck_parts::Change;
 use ck_types::{NoMemory, Rv, RvError};
 use std::alloc::AllocError;
 
@@ -25,7 +25,7 @@ pub enum Refused {
 
 impl From<RvError> for Refused {
     ghost use Rattle.ck_parts.specs.declared.changes.Change.TheVariants as change;
-    ghost use Rattle.ck_parts.specs.declared.decisions.Refused.TheVariants as refused;
+    ghost use Rattle.ck_token.specs.declared.decisions.Refused.TheVariants as refused;
 
     ghost from_gives = { λ code made. made ≡ refused.Error code change.Nothing };
 
@@ -39,7 +39,7 @@ impl From<RvError> for Refused {
 }
 
 impl From<NoMemory> for Refused {
-    ghost use Rattle.ck_parts.specs.declared.decisions.Refused.TheVariants as refused;
+    ghost use Rattle.ck_token.specs.declared.decisions.Refused.TheVariants as refused;
 
     ghost from_gives = { λ _ made. made ≡ refused.Memory };
 
@@ -50,7 +50,7 @@ impl From<NoMemory> for Refused {
 }
 
 impl From<AllocError> for Refused {
-    ghost use Rattle.ck_parts.specs.declared.decisions.Refused.TheVariants as refused;
+    ghost use Rattle.ck_token.specs.declared.decisions.Refused.TheVariants as refused;
 
     ghost from_gives = { λ _ made. made ≡ refused.Memory };
 

@@ -6,12 +6,12 @@ use Rattle.sha2.proofs.Facts512.{length-sha384, length-sha512}
 use Rattle.ck_types.specs.declared.hashes.Hash.{Hash}
 use Rattle.ck_types.specs.declared.hashes.Hash.TheVariants as hash
 use Rattle.ck_types.specs.Hashes.{block_length, digest_length}
-use Rattle.ck_types.specs.Computations.{Computation, digest_by, hmac_by, tag_of, tag_size, HoldsTag}
-use Rattle.ck_types.specs.Digests.{digest_of}
-use Rattle.ck_types.specs.Macs.{hmac, HoldsMac}
-use Rattle.ck_types.specs.declared.macs.Mac.{Mac}
-use Rattle.ck_types.specs.declared.running_tags.RunningTag.{RunningTag}
-use Rattle.ck_types.specs.declared.running_tags.RunningTag.TheVariants as running_tag
+use Rattle.ck_mac.specs.Computations.{Computation, digest_by, hmac_by, tag_of, tag_size, HoldsTag}
+use Rattle.ck_mac.specs.Digests.{digest_of}
+use Rattle.ck_mac.specs.Macs.{hmac, HoldsMac}
+use Rattle.ck_mac.specs.declared.macs.Mac.{Mac}
+use Rattle.ck_mac.specs.declared.running_tags.RunningTag.{RunningTag}
+use Rattle.ck_mac.specs.declared.running_tags.RunningTag.TheVariants as running_tag
 
 pub length-digest_of : (h : Hash) (message : List ℕ)
     → length (digest_of h message) ≡ digest_length h

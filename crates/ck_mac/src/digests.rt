@@ -1,8 +1,8 @@
 ghost use Rattle.std.specs.Prelude.{◌≡◌, ⊤, ℕ, List, [], ◌++◌};
-ghost use Rattle.ck_types.specs.Digests.{digest_of};
+ghost use Rattle.ck_mac.specs.Digests.{digest_of};
 
-use crate::hashes::Hash;
 use crate::tags::Tag;
+use ck_types::Hash;
 use sha2::{Digest, Sha224, Sha256, Sha384, Sha512};
 use std::alloc::AllocError;
 
@@ -22,7 +22,7 @@ pub struct Running {
 
 impl Running {
     ghost use Rattle.ck_types.specs.declared.hashes.Hash.{Hash};
-    ghost use Rattle.ck_types.specs.Digests.{Holds};
+    ghost use Rattle.ck_mac.specs.Digests.{Holds};
 
     /// The digest of the empty message.
     pub fn new(hash: Hash) -> Running

@@ -1,6 +1,6 @@
 use Rattle.std.proofs.Common.{◌≡◌, ◌==◌, length, take}
 use Rattle.ck_types.specs.Numbers.{same_bytes}
-use Rattle.ck_types.proofs.tags.constant_time_eq.Given as goal
+use Rattle.ck_types.proofs.comparisons.constant_time_eq.Given as goal
 
 -- no byte differed so far where the first bytes are the same
 abbrev pub invariant-loop-a : goal.invariant-loop-a

@@ -2,10 +2,10 @@
 use Rattle.std.specs.Prelude.{ℕ, List, take}
 use Rattle.ck_types.specs.Hashes.{digest_length}
 use Rattle.ck_types.specs.declared.hashes.Hash.{Hash}
-use Rattle.ck_types.specs.Digests.{digest_of, Holds}
-use Rattle.ck_types.specs.Macs.{hmac, HoldsMac}
-use Rattle.ck_types.specs.declared.running_tags.RunningTag.{RunningTag}
-use Rattle.ck_types.specs.declared.running_tags.RunningTag.TheVariants as running_tag
+use Rattle.ck_mac.specs.Digests.{digest_of, Holds}
+use Rattle.ck_mac.specs.Macs.{hmac, HoldsMac}
+use Rattle.ck_mac.specs.declared.running_tags.RunningTag.{RunningTag}
+use Rattle.ck_mac.specs.declared.running_tags.RunningTag.TheVariants as running_tag
 
 pub data Computation : Type 0 where
   digest_by : Hash → Computation

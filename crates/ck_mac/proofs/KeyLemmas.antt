@@ -7,11 +7,11 @@ use Rattle.std.proofs.lemmas.List.{replicate-append-replicate, take_at}
 use Rattle.std.proofs.lemmas.Bool.Decides.{nat_tests}
 use Rattle.ck_types.specs.declared.hashes.Hash.{Hash}
 use Rattle.ck_types.specs.Hashes.{block_length}
-use Rattle.ck_types.specs.Digests.{digest_of}
-use Rattle.ck_types.specs.Macs.{block_key}
-use Rattle.ck_types.specs.Padding.{with_zeros}
-use Rattle.ck_types.proofs.LengthLemmas.{length-digest_of, digest_length-le-block_length}
-use Rattle.ck_types.proofs.LengthLemmas.{block_length_le_128}
+use Rattle.ck_mac.specs.Digests.{digest_of}
+use Rattle.ck_mac.specs.Macs.{block_key}
+use Rattle.ck_mac.specs.Padding.{with_zeros}
+use Rattle.ck_mac.proofs.LengthLemmas.{length-digest_of, digest_length-le-block_length}
+use Rattle.ck_mac.proofs.LengthLemmas.{block_length_le_128}
 
 -- the first n bytes of one that is followed by more zeros
 pub take-with_zeros : (n m : ℕ) (bytes : List ℕ) → length bytes ≤ n → n ≤ m →

@@ -1,6 +1,6 @@
 use Rattle.std.proofs.Common.{◌≡◌, ◌++◌, take, drop}
-use Rattle.ck_types.specs.Macs.{xor_each}
-use Rattle.ck_types.proofs.macs.xor_each.Given as goal
+use Rattle.ck_mac.specs.Macs.{xor_each}
+use Rattle.ck_mac.proofs.macs.xor_each.Given as goal
 
 abbrev pub invariant-loop-byte : goal.invariant-loop-byte
 invariant-loop-byte l =

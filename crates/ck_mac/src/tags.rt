@@ -1,10 +1,9 @@
 ghost use Rattle.std.specs.Prelude.{◌≡◌, ◌≤◌, length, take};
-ghost use Rattle.ck_types.specs.Numbers.{same_bytes};
 ghost use Rattle.ck_types.specs.Checks.{check_of};
-ghost use Rattle.ck_types.specs.Macs.{signature_error};
-ghost use Rattle.ck_types.specs.Padding.{with_zeros};
+ghost use Rattle.ck_mac.specs.Macs.{signature_error};
+ghost use Rattle.ck_mac.specs.Padding.{with_zeros};
 
-use crate::errors::RvError;
+use ck_types::{RvError, constant_time_eq};
 use std::marker::Model;
 
 /// The length in bytes of the longest digest.
@@ -78,18 +77,4 @@ pub(crate) fn with_zeros<const N: usize>(bytes: &[u8]) -> [u8; N]
     let mut all = [0; N];
     all[..bytes.len()].copy_from_slice(bytes);
     all
-}
-
-/// Whether these are the same bytes. Every byte is looked at whatever differs, so that the time
-/// doesn't say how much of a guessed signature is right.
-#[tactic(auto, using(crate::proofs::DifferenceLemmas::same_so_far_more))]
-fn constant_time_eq(left: &[u8], right: &[u8]) -> bool
-    requires { length left.now ≡ length right.now }
-    ensures { result ≡ same_bytes left.now right.now }
-{
-    let mut difference = 0;
-    for (a, b) in left.iter().zip(right) {
-        difference |= a ^ b;
-    }
-    difference == 0
 }

@@ -1,0 +1,4 @@
+pub mod Computations
+pub mod Digests
+pub mod Macs
+pub mod Padding
