@@ -7,6 +7,7 @@ mod digests;
 mod errors;
 mod hashes;
 mod macs;
+mod mechanism_numbers;
 mod mechanisms;
 mod memory;
 mod numbers;
@@ -24,16 +25,19 @@ pub use digests::Running;
 pub use errors::RvError;
 pub use hashes::Hash;
 pub use macs::Mac;
-pub use mechanisms::{
-    GENERIC_SECRET_KEY_GEN, Mechanism, digest_of, is_key_generator, mac_of, mechanism_types,
+pub use mechanism_numbers::{
+    GENERIC_SECRET_KEY_GEN, SHA224, SHA224_HMAC, SHA224_HMAC_GENERAL, SHA256, SHA256_HMAC,
+    SHA256_HMAC_GENERAL, SHA384, SHA384_HMAC, SHA384_HMAC_GENERAL, SHA512, SHA512_HMAC,
+    SHA512_HMAC_GENERAL,
 };
+pub use mechanisms::{Mechanism, digest_of, is_key_generator, mac_of, mechanism_types};
 pub use memory::NoMemory;
 pub use numbers::number_of;
 pub use pins::Pin;
 pub use return_codes::Rv;
 pub use running_tags::RunningTag;
 pub use sequences::{Bytes, Sequence};
-pub use tags::Tag;
+pub use tags::{Tag, constant_time_eq};
 pub use token_flags::TokenFlags;
 pub use token_limits::{Limits, MOST_SESSIONS};
 pub use users::{SessionState, UserType};

@@ -83,7 +83,7 @@ pub(crate) fn with_zeros<const N: usize>(bytes: &[u8]) -> [u8; N]
 /// Whether these are the same bytes. Every byte is looked at whatever differs, so that the time
 /// doesn't say how much of a guessed signature is right.
 #[tactic(auto, using(crate::proofs::DifferenceLemmas::same_so_far_more))]
-fn constant_time_eq(left: &[u8], right: &[u8]) -> bool
+pub fn constant_time_eq(left: &[u8], right: &[u8]) -> bool
     requires { length left.now ≡ length right.now }
     ensures { result ≡ same_bytes left.now right.now }
 {
