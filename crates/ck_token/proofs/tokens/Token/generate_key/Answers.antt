@@ -9,7 +9,8 @@ use Rattle.ck_journal.specs.Answers.{ok, new_handle, parameter_error, placement_
 use Rattle.ck_journal.specs.declared.replies.Body.TheVariants as body
 use Rattle.ck_journal.specs.declared.calls.Call.TheVariants as call
 use Rattle.ck_parts.specs.declared.changes.Change.TheVariants as change
-use Rattle.ck_token.proofs.DecisionLemmas.{refused-decision, memory-decision, skip, hit, session-passes}
+use Rattle.ck_token.proofs.DecisionLemmas.{refused-decision, memory-decision, skip, hit}
+use Rattle.ck_token.proofs.DecisionLemmas.{session-passes}
 use Rattle.ck_token.proofs.tokens.Token.generate_key.Goals as goal
 
 pub returns-in_err-error_if : goal.returns-in_err-error_if
@@ -37,7 +38,8 @@ returns-in_err-check_no_parameter c =
     let code = c.in_err-check_no_parameter.field-0.0 in
     let fails = check_of-err (parameter_error mechanism) code
     (sym c.check_no_parameter.ensures ∙ c.in_err-check_no_parameter.was) in
-    refused-decision c.args.self.now.limits h made _ code c.from_residual-in_err-check_no_parameter.ensures.1
+    refused-decision c.args.self.now.limits h made _ code
+    c.from_residual-in_err-check_no_parameter.ensures.1
     (skip _ _ is_open ∙ skip _ _ generates ∙ hit _ _ code fails) refl
 
 pub returns-in_err-check_generation : goal.returns-in_err-check_generation
@@ -56,7 +58,8 @@ returns-in_err-check_generation c =
     let code = c.in_err-check_generation.field-0.0 in
     let fails = check_of-err (generated_error items random) code
     (sym c.check_generation.ensures ∙ c.in_err-check_generation.was) in
-    refused-decision c.args.self.now.limits h made _ code c.from_residual-in_err-check_generation.ensures.1
+    refused-decision c.args.self.now.limits h made _ code
+    c.from_residual-in_err-check_generation.ensures.1
     (skip _ _ is_open ∙ skip _ _ generates ∙ skip _ _ bare ∙ hit _ _ code fails) refl
 
 pub returns-in_err-check_placement : goal.returns-in_err-check_placement
@@ -76,11 +79,15 @@ returns-in_err-check_placement c =
     (sym c.check_generation.ensures ∙ c.in_ok-check_generation.was) in
     let code = c.in_err-check_placement.field-0.0 in
     let fails =
-    ap (λ (p : Placement). placement_error h c.args.session p) (sym (c.generation_placement.ensures random))
+    ap (λ (p : Placement). placement_error h c.args.session p)
+    (sym (c.generation_placement.ensures random))
     ∙ check_of-err (placement_error h c.args.session c.generation_placement.result) code
-    (sym (c.check_placement.ensures c.args.session c.in_ok-row.ensures.row) ∙ c.in_err-check_placement.was) in
-    refused-decision c.args.self.now.limits h made _ code c.from_residual-in_err-check_placement.ensures.1
-    (skip _ _ is_open ∙ skip _ _ generates ∙ skip _ _ bare ∙ skip _ _ template ∙ hit _ _ code fails) refl
+    (sym (c.check_placement.ensures c.args.session c.in_ok-row.ensures.row)
+    ∙ c.in_err-check_placement.was) in
+    refused-decision c.args.self.now.limits h made _ code
+    c.from_residual-in_err-check_placement.ensures.1
+    (skip _ _ is_open ∙ skip _ _ generates ∙ skip _ _ bare ∙ skip _ _ template ∙ hit _ _ code fails)
+    refl
 
 pub returns-in_err-number : goal.returns-in_err-number
 returns-in_err-number c =
@@ -98,9 +105,11 @@ returns-in_err-number c =
     let template = check_of-ok (generated_error items random) _
     (sym c.check_generation.ensures ∙ c.in_ok-check_generation.was) in
     let placed =
-    ap (λ (p : Placement). placement_error h c.args.session p) (sym (c.generation_placement.ensures random))
+    ap (λ (p : Placement). placement_error h c.args.session p)
+    (sym (c.generation_placement.ensures random))
     ∙ check_of-ok (placement_error h c.args.session c.generation_placement.result) _
-    (sym (c.check_placement.ensures c.args.session c.in_ok-row.ensures.row) ∙ c.in_ok-check_placement.was) in
+    (sym (c.check_placement.ensures c.args.session c.in_ok-row.ensures.row)
+    ∙ c.in_ok-check_placement.was) in
     let code = c.in_err-number.field-0.0 in
     refused-decision c.args.self.now.limits h made _ code c.from_residual-in_err-number.ensures.1
     (skip _ _ is_open ∙ skip _ _ generates ∙ skip _ _ bare ∙ skip _ _ template ∙ skip _ _ placed
@@ -122,9 +131,11 @@ returns-in_err-made c =
     let template = check_of-ok (generated_error items random) _
     (sym c.check_generation.ensures ∙ c.in_ok-check_generation.was) in
     let placed =
-    ap (λ (p : Placement). placement_error h c.args.session p) (sym (c.generation_placement.ensures random))
+    ap (λ (p : Placement). placement_error h c.args.session p)
+    (sym (c.generation_placement.ensures random))
     ∙ check_of-ok (placement_error h c.args.session c.generation_placement.result) _
-    (sym (c.check_placement.ensures c.args.session c.in_ok-row.ensures.row) ∙ c.in_ok-check_placement.was) in
+    (sym (c.check_placement.ensures c.args.session c.in_ok-row.ensures.row)
+    ∙ c.in_ok-check_placement.was) in
     memory-decision c.args.self.now.limits h made _ c.from_residual-in_err-made.ensures.1
     (skip _ _ is_open ∙ skip _ _ generates ∙ skip _ _ bare ∙ skip _ _ template ∙ skip _ _ placed
     ∙ skip _ _ c.in_ok-number.ensures.free) refl
@@ -145,9 +156,11 @@ returns-in_err-attributes c =
     let template = check_of-ok (generated_error items random) _
     (sym c.check_generation.ensures ∙ c.in_ok-check_generation.was) in
     let placed =
-    ap (λ (p : Placement). placement_error h c.args.session p) (sym (c.generation_placement.ensures random))
+    ap (λ (p : Placement). placement_error h c.args.session p)
+    (sym (c.generation_placement.ensures random))
     ∙ check_of-ok (placement_error h c.args.session c.generation_placement.result) _
-    (sym (c.check_placement.ensures c.args.session c.in_ok-row.ensures.row) ∙ c.in_ok-check_placement.was) in
+    (sym (c.check_placement.ensures c.args.session c.in_ok-row.ensures.row)
+    ∙ c.in_ok-check_placement.was) in
     memory-decision c.args.self.now.limits h made _ c.from_residual-in_err-attributes.ensures.1
     (skip _ _ is_open ∙ skip _ _ generates ∙ skip _ _ bare ∙ skip _ _ template ∙ skip _ _ placed
     ∙ skip _ _ c.in_ok-number.ensures.free) refl
@@ -168,9 +181,11 @@ returns c =
     let template = check_of-ok (generated_error items random) _
     (sym c.check_generation.ensures ∙ c.in_ok-check_generation.was) in
     let placed =
-    ap (λ (p : Placement). placement_error h c.args.session p) (sym (c.generation_placement.ensures random))
+    ap (λ (p : Placement). placement_error h c.args.session p)
+    (sym (c.generation_placement.ensures random))
     ∙ check_of-ok (placement_error h c.args.session c.generation_placement.result) _
-    (sym (c.check_placement.ensures c.args.session c.in_ok-row.ensures.row) ∙ c.in_ok-check_placement.was) in
+    (sym (c.check_placement.ensures c.args.session c.in_ok-row.ensures.row)
+    ∙ c.in_ok-check_placement.was) in
     let same = c.in_ok-attributes.ensures ∙ c.in_ok-made.ensures in (
       skip _ _ is_open ∙ skip _ _ generates ∙ skip _ _ bare ∙ skip _ _ template ∙ skip _ _ placed
           ∙ skip _ _ c.in_ok-number.ensures.free,
