@@ -8,7 +8,7 @@ ghost use Rattle.ck_token.specs.Decisions.{IsCheckAbout};
 use super::Token;
 use ck_parts::{Change, Decision, Refused};
 use ck_sessions::Credential;
-use ck_types::{Pin, RvError, SessionState, UserType, error_if};
+use ck_types::{Pin, RvError, SessionState, UserType, constant_time_eq, error_if};
 
 /// How many wrong tries lock a user.
 const MOST_TRIES: u64 = 3;
@@ -19,7 +19,7 @@ fn is_pin(known: Option<Pin>, given: Pin) -> bool
 {
     match known {
         None => false,
-        Some(pin) => pin.len == given.len && pin.tag.as_slice() == given.tag.as_slice(),
+        Some(pin) => pin.len == given.len && constant_time_eq(&pin.tag, &given.tag),
     }
 }
 
