@@ -1,5 +1,6 @@
 pub mod Answers
 pub mod Bases
+pub mod Bodies
 pub mod Boards
 pub mod Callers
 pub mod Cuts

@@ -6,6 +6,7 @@ use crate::calls::Entry;
 use ck_types::NoMemory;
 use std::alloc::Global;
 use std::marker::Model;
+use std::slice;
 
 /// The answered calls since a base, numbered from 1 in the order of their answers.
 #[derive(Drop)]
@@ -38,6 +39,7 @@ impl Journal {
     ghost use Rattle.std.specs.Prelude.{◌+◌, ◌<◌, ◌≤◌, ◌↔◌, IsTrue, IsOk, OnOk};
     ghost use Rattle.ck_journal.specs.Bases.{empty_base, IsSound};
     ghost use Rattle.ck_journal.specs.Histories.{start, ◌◁◌, start_of, entry_at, entry_count};
+    ghost use Rattle.std.specs.Slice.Iter.{iter_rest};
     ghost use Rattle.ck_journal.specs.Fronts.{history_of, newest_entry};
 
     /// The journal of a new token, which has no entries and takes no memory.
@@ -110,6 +112,14 @@ impl Journal {
         ensures { self.now.history ≡ history_of (start_of self.now.history) result.now }
     {
         &self.entries
+    }
+
+    /// The entries one by one, the oldest first.
+    pub fn iter(&self) -> slice::Iter<'_, Entry>
+        ensures { self.now.history
+            ≡ history_of (start_of self.now.history) (iter_rest result) }
+    {
+        self.entries().iter()
     }
 
     /// The newest entry.

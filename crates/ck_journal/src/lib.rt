@@ -8,6 +8,7 @@ mod calls;
 mod cuts;
 mod journals;
 pub mod laws;
+mod made_calls;
 mod operations;
 mod replies;
 mod session_flags;

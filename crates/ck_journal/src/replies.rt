@@ -1,5 +1,9 @@
+ghost use Rattle.std.specs.Prelude.{◌≡◌};
+ghost use Rattle.ck_journal.specs.Bodies.{body_handle, body_handles, body_bytes, body_length};
+ghost use Rattle.ck_journal.specs.Bodies.{body_attributes, result_of};
+
 use ck_objects::AttributeValue;
-use ck_types::{Bytes, Rv, Sequence, SessionState, TokenFlags};
+use ck_types::{Bytes, Rv, RvError, Sequence, SessionState, TokenFlags};
 
 /// What one query of an attribute is answered.
 #[derive(Clone, Drop)]
@@ -49,4 +53,69 @@ pub enum Body {
 pub struct Reply {
     pub rv: Rv,
     pub body: Body,
+}
+
+impl Reply {
+    /// The body where the call was answered CKR_OK, else the error, so that `?` looks at the code.
+    /// The body that some errors have is let go.
+    pub fn ok(self) -> Result<Body, RvError>
+        ensures { result ≡ result_of self }
+    {
+        match self.rv {
+            Rv::Ok => Ok(self.body),
+            Rv::Error(error) => Err(error),
+        }
+    }
+}
+
+impl Body {
+    /// The handle of a new session or a new object, if the body is one.
+    pub fn handle(self) -> Option<u64>
+        ensures { result ≡ body_handle self }
+    {
+        match self {
+            Body::Handle(handle) => Some(handle),
+            _ => None,
+        }
+    }
+
+    /// The handles that a search returns, if the body has them.
+    pub fn handles(self) -> Option<Sequence<u64>>
+        ensures { result ≡ body_handles self }
+    {
+        match self {
+            Body::Handles(handles) => Some(handles),
+            _ => None,
+        }
+    }
+
+    /// A digest or a signature, if the body is one.
+    pub fn bytes(self) -> Option<Bytes>
+        ensures { result ≡ body_bytes self }
+    {
+        match self {
+            Body::Bytes(bytes) => Some(bytes),
+            _ => None,
+        }
+    }
+
+    /// The length in bytes of what the call would give, if the body is one.
+    pub fn length(self) -> Option<u64>
+        ensures { result ≡ body_length self }
+    {
+        match self {
+            Body::Length(length) => Some(length),
+            _ => None,
+        }
+    }
+
+    /// The answers to queries of attributes, if the body has them.
+    pub fn attributes(self) -> Option<Sequence<Answer>>
+        ensures { result ≡ body_attributes self }
+    {
+        match self {
+            Body::Attributes(answers) => Some(answers),
+            _ => None,
+        }
+    }
 }

@@ -1,11 +1,14 @@
 ghost use Rattle.std.specs.Prelude.{◌≡◌};
 ghost use Rattle.ck_types.specs.Numbers.{same_bytes, number_bytes};
 
-/// CKO_SECRET_KEY, the class of keys. CKO_DATA is 0.
-pub(crate) const SECRET_KEY: u64 = 4;
+/// CKO_DATA, the class of data objects.
+pub const DATA: u64 = 0;
+
+/// CKO_SECRET_KEY, the class of keys.
+pub const SECRET_KEY: u64 = 4;
 
 /// CKK_GENERIC_SECRET, the type of all keys of the token.
-pub(crate) const GENERIC_SECRET: u64 = 16;
+pub const GENERIC_SECRET: u64 = 16;
 
 /// What an attribute's value looks like.
 #[derive(Clone, Copy, Debug, PartialEq, Eq)]
@@ -34,7 +37,7 @@ impl Form {
         match self {
             Form::Flag => value == [0].as_slice() || value == [1].as_slice(),
             Form::Number => value.len() == 8,
-            Form::Class => is_number(value, 0) || is_number(value, SECRET_KEY),
+            Form::Class => is_number(value, DATA) || is_number(value, SECRET_KEY),
             Form::KeyType => is_number(value, GENERIC_SECRET),
             Form::KeyState => is_number(value, 0) || is_number(value, 1),
             Form::Bytes => true,

@@ -62,7 +62,7 @@ impl Operations {
         ensures { (h : History) → OperationsAgree h self.now
             → OptionAgrees (option_copied result) (operation_at kind h session) }
     {
-        find_operation(self.rows.as_slice(), kind, session)
+        find_operation(&self.rows, kind, session)
     }
 
     // ---- changes, each by what the entry of an answered call does to operations
@@ -83,7 +83,7 @@ impl Operations {
             → OperationsAgree h self.old → OperationsAgree (e ◁ h) self.new }
     {
         let operation = Operation::new(kind, session, running, key);
-        self.rows.push(operation).unwrap();
+        self.rows.push_reserved(operation);
     }
 
     /// Adds a piece to the message of the session's operation of the kind.

@@ -26,7 +26,7 @@ fn place_of(rows: &[Operation], kind: OperationKind, session: u64) -> Option<usi
 pub(crate) fn add_piece(rows: &mut Vec<Operation>, kind: OperationKind, session: u64, bytes: &[u8])
     ensures { IsUpdateOfRows kind session bytes.now rows.old.items rows.new.items }
 {
-    if let Some(place) = place_of(rows.as_slice(), kind, session) {
+    if let Some(place) = place_of(rows, kind, session) {
         let row = &mut rows[place];
         row.add_piece(bytes);
     }

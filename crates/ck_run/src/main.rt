@@ -11,6 +11,8 @@ mod plays;
 #[cfg(test)]
 mod programs;
 #[cfg(test)]
+mod signing;
+#[cfg(test)]
 mod texts;
 #[cfg(test)]
 mod token;

@@ -1,7 +1,7 @@
 //! What the cases of ck_cases don't show: of a token an empty journal, room for entries and a run,
 //! and that a long template is checked in time.
 use ck_journal::Call;
-use ck_objects::{AttributeValue, Item, Template};
+use ck_objects::{Attribute, AttributeValue, Item, Template};
 use ck_token::{Token, run};
 use ck_types::{Limits, NoMemory, RvError, Sequence};
 use std::alloc::Global;
@@ -31,11 +31,13 @@ fn a_run_enters_its_calls(rt: HostRuntime) -> Result<(), Fail> {
     check_run(&rt, rt.alloc(), &mut token)
 }
 
-/// Adds 300,000 items of this type, without values.
-fn add_items(alloc: Global, items: &mut Vec<Item>, kind: u64) -> Result<(), NoMemory> {
+/// Adds 300,000 items of this attribute, without values.
+fn add_items(alloc: Global, items: &mut Vec<Item>, attribute: Attribute) -> Result<(), NoMemory> {
     for _ in 0..300_000 {
-        let value = AttributeValue::new(alloc);
-        items.push(Item { kind, value })?;
+        items.push(Item {
+            kind: attribute.number(),
+            value: AttributeValue::new(alloc),
+        })?;
     }
     Ok(())
 }
@@ -45,8 +47,8 @@ fn add_items(alloc: Global, items: &mut Vec<Item>, kind: u64) -> Result<(), NoMe
 #[test]
 fn many_items(rt: HostRuntime) -> Result<(), Fail> {
     let mut items = Vec::new(rt.alloc());
-    add_items(rt.alloc(), &mut items, 0x3)?;
-    add_items(rt.alloc(), &mut items, 0x12)?;
+    add_items(rt.alloc(), &mut items, Attribute::Label)?;
+    add_items(rt.alloc(), &mut items, Attribute::ObjectId)?;
     let items = Sequence::from_vec(items);
     let refused = Template { items }.check_creation();
     assert!(rt; refused == Err(RvError::TemplateIncomplete));

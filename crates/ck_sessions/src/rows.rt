@@ -48,7 +48,7 @@ pub(crate) fn set_search(rows: &mut Vec<Session>, session: u64, search: Option<S
     ensures { rows.new.items
         ≡ change_first (is_session session) (with_search search) rows.old.items }
 {
-    if let Some(place) = place_of(rows.as_slice(), session) {
+    if let Some(place) = place_of(rows, session) {
         let row = &mut rows[place];
         row.set_search(search);
     }
@@ -59,7 +59,7 @@ pub(crate) fn set_last_found(rows: &mut Vec<Session>, session: u64, number: u64)
     ensures { rows.new.items
         ≡ change_first (is_session session) (with_last_found number) rows.old.items }
 {
-    if let Some(place) = place_of(rows.as_slice(), session) {
+    if let Some(place) = place_of(rows, session) {
         let row = &mut rows[place];
         row.set_last_found(number);
     }

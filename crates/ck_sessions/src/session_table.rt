@@ -132,7 +132,7 @@ impl Sessions {
     pub fn read_write_count(&self) -> u64
         ensures { (h : History) → SessionsAgree h self.now → result ≡ length (rw_sessions h) }
     {
-        count_read_write(self.rows.as_slice())
+        count_read_write(&self.rows)
     }
 
     /// Whether a read-only session is open.
@@ -140,7 +140,7 @@ impl Sessions {
         ensures { (h : History) → SessionsAgree h self.now
             → result ≡ list_any (λ s. not (is_read_write h s)) (open_sessions h) }
     {
-        has_read_only(self.rows.as_slice())
+        has_read_only(&self.rows)
     }
 
     /// How many sessions have been opened.
@@ -156,7 +156,7 @@ impl Sessions {
         ensures { (h : History) → SessionsAgree h self.now
             → option_copied result ≡ session_at h session }
     {
-        find_session(self.rows.as_slice(), session)
+        find_session(&self.rows, session)
     }
 
     /// Who is logged in.
@@ -224,7 +224,7 @@ impl Sessions {
             → limit ≡ limits.sessions → result ≡ board_of limits h }
     {
         let mut board = TokenBoard::new(limit, self.login_status());
-        add_to_board(self.rows.as_slice(), &mut board);
+        add_to_board(&self.rows, &mut board);
         board
     }
 
@@ -274,7 +274,7 @@ impl Sessions {
     {
         self.openings += 1;
         let session = Session::new(self.openings, flags);
-        self.rows.push(session).unwrap();
+        self.rows.push_reserved(session);
     }
 
     /// Closes a session; with the last one the login ends.
@@ -283,7 +283,7 @@ impl Sessions {
             → SessionsAgree h self.old → SessionsAgree (e ◁ h) self.new }
     {
         remove_session(&mut self.rows, session);
-        if self.rows.as_slice().is_empty() {
+        if self.rows.is_empty() {
             self.login = None;
         }
     }

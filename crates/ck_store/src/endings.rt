@@ -65,7 +65,7 @@ pub(crate) fn end_listed(objects: &mut Slab<StoredObject>, lists: &[SessionList]
 {
     for list in lists {
         if ending.concerns(list.session, list.private) {
-            end_objects(objects, list.places.as_slice(), ending);
+            end_objects(objects, &list.places, ending);
         }
     }
 }

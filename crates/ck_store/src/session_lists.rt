@@ -96,7 +96,7 @@ fn add_to_list(
     ensures only { (s : ℕ) (m : Bool) (p : Place) → IsListed lists.new.items s m p
         → IsListed lists.old.items s m p ⊎ ((s ≡ session) × (m ≡ private) × (p ≡ place)) }
 {
-    if let Some(i) = position_of(lists.as_slice(), session, private) {
+    if let Some(i) = position_of(lists, session, private) {
         return lists[i].push(objects, place);
     }
     let mut list = SessionList::new(alloc, session, private);

@@ -124,7 +124,7 @@ impl Store {
             → IfSome result (λ found. attributes_named h handle ≡ Some found.1.now) }
     {
         let number = number_of_handle(handle);
-        let object = find_numbered(&self.objects, self.index.as_slice(), number)?;
+        let object = find_numbered(&self.objects, &self.index, number)?;
         if object.handle(view) == Some(handle) {
             Some((number, object.attributes()))
         } else {
@@ -137,7 +137,7 @@ impl Store {
         ensures { (h : History) → StoreAgrees h self.now
             → option_copied result ≡ object_at h number }
     {
-        let object = find_numbered(&self.objects, self.index.as_slice(), number)?;
+        let object = find_numbered(&self.objects, &self.index, number)?;
         Some(object.attributes())
     }
 
@@ -147,7 +147,7 @@ impl Store {
         ensures { (h : History) → StoreAgrees h self.now → view ≡ view_of h
             → result ≡ handle_at h number }
     {
-        find_numbered(&self.objects, self.index.as_slice(), number)?.handle(view)
+        find_numbered(&self.objects, &self.index, number)?.handle(view)
     }
 
     /// The numbers, which rise, of the objects that are visible and match the template.
@@ -155,12 +155,11 @@ impl Store {
         ensures { IfOk result (λ numbers. (h : History) → StoreAgrees h self.now
             → view ≡ view_of h → numbers.items ≡ matching_objects h template.now.items) }
     {
-        let index = self.index.as_slice();
         find_matching(
             alloc,
             &self.objects,
-            index,
-            self.marks.as_slice(),
+            &self.index,
+            &self.marks,
             view,
             template,
         )
@@ -171,7 +170,7 @@ impl Store {
         ensures { IfOk result (λ kept. (h : History) → StoreAgrees h self.now
             → kept ≡ kept_objects h) }
     {
-        let kept = copy_objects(alloc, &self.objects, self.index.as_slice())?;
+        let kept = copy_objects(alloc, &self.objects, &self.index)?;
         Ok(Sequence::from_vec(kept))
     }
 
@@ -231,7 +230,7 @@ impl Store {
         let key = self.objects.insert_reserved(object);
         set_mark(&mut self.marks, key, mark);
         let place = Place { number, key };
-        self.index.push(place).unwrap();
+        self.index.push_reserved(place);
         self.unlisted = Some(place);
         self.creations = number;
     }
@@ -248,7 +247,7 @@ impl Store {
             (protections_of (named_attributes h object)) values.items ≡ None
             → StoreAgrees h self.old → StoreAgrees (e ◁ h) self.new }
     {
-        let Some(key) = key_of(&self.objects, self.index.as_slice(), number) else {
+        let Some(key) = key_of(&self.objects, &self.index, number) else {
             return;
         };
         let mark = change_at(&mut self.objects, key, values);
@@ -263,7 +262,7 @@ impl Store {
             → object_named h key ≡ Some number
             → StoreAgrees h self.old → StoreAgrees (e ◁ h) self.new }
     {
-        if let Some(key) = key_of(&self.objects, self.index.as_slice(), number) {
+        if let Some(key) = key_of(&self.objects, &self.index, number) {
             set_state_at(&mut self.objects, key, state);
         }
     }
@@ -275,7 +274,7 @@ impl Store {
             → object_named h object ≡ Some number
             → StoreAgrees h self.old → StoreAgrees (e ◁ h) self.new }
     {
-        remove_numbered(&mut self.objects, self.index.as_slice(), number);
+        remove_numbered(&mut self.objects, &self.index, number);
         compact(&self.objects, &mut self.index);
     }
 
@@ -321,7 +320,7 @@ impl Store {
             ≡ filter (λ row. not (is_ended_by ending row)) self.old.rows }
         ensures creations { self.new.creations ≡ self.old.creations }
     {
-        end_listed(&mut self.objects, self.lists.as_slice(), ending);
+        end_listed(&mut self.objects, &self.lists, ending);
         end_newest(&mut self.objects, self.unlisted, ending);
         self.lists
             .retain(|list| !ending.concerns(list.session, list.private));

@@ -14,7 +14,8 @@ use Rattle.ck_journal.proofs.CutBases.{closed, token-object, kept-object, base-s
 use Rattle.ck_journal.proofs.KeyUseLemmas.{is_active-open}
 use Rattle.ck_journal.proofs.LoginMoves.{login-none}
 use Rattle.ck_journal.proofs.Selections.{selected-none, filter_map-same}
-use Rattle.ck_operations.specs.Agreement.{OperationsState, OperationsAgree, OptionAgrees, active_operation}
+use Rattle.ck_operations.specs.Agreement.{OperationsState, OperationsAgree, OptionAgrees}
+use Rattle.ck_operations.specs.Agreement.{active_operation}
 use Rattle.ck_operations.specs.Rows.{is_operation}
 use Rattle.ck_sessions.specs.Agreement.{SessionsState, SessionsAgree, session_row}
 use Rattle.ck_store.specs.Agreement.{StoreState, StoreAgrees, row_at}
@@ -27,11 +28,13 @@ pub good-history : (limits : Ranges) (h : History) (p : Parts) → TokenAgrees l
 good-history limits h p agree =
     record { in_range = agree.ranges; sound = agree.parts.objects.sound; legal = agree.legal }
 
-module _ (limits : Ranges) (h : History) (good : IsSoundHistory limits h) (none : open_sessions h ≡ []) where
+module _ (limits : Ranges) (h : History) (good : IsSoundHistory limits h)
+    (none : open_sessions h ≡ []) where
   sessions-cut : (s : SessionsState) → SessionsAgree h s → SessionsAgree (start (base_of h)) s
   sessions-cut s agree = record {
     rows = agree.rows ∙ ap (map (session_row h)) none
-        ∙ sym (selected-none (is_open (start (base_of h))) (session_row (start (base_of h))) (openings h)
+        ∙ sym (selected-none (is_open (start (base_of h))) (session_row (start (base_of h)))
+        (openings h)
         (λ k below. refl));
     openings = agree.openings;
     login = agree.login ∙ login-none h (ap (λ ss. length ss == 0) none);
@@ -57,10 +60,12 @@ module _ (limits : Ranges) (h : History) (good : IsSoundHistory limits h) (none 
     creations = agree.creations;
   }
 
-  operations-cut : (o : OperationsState) → OperationsAgree h o → OperationsAgree (start (base_of h)) o
+  operations-cut : (o : OperationsState) → OperationsAgree h o
+      → OperationsAgree (start (base_of h)) o
   operations-cut o agree = record {
     each = λ k s.
-        subst (λ t. OptionAgrees (find (is_operation k s) o.rows) (cond t (Some (active_operation k h s)) None))
+        subst (λ t. OptionAgrees (find (is_operation k s) o.rows)
+        (cond t (Some (active_operation k h s)) None))
         (sym (closed limits h good none (is_active k h) (is_active-open limits k h good.legal) s))
         (agree.each k s);
   }

@@ -1,5 +1,6 @@
 -- Decisions by the checks of a call, one after the other
-use Rattle.std.proofs.Common.{◌≡◌, ℕ, Bool, true, false, cond, not, List, Option, Some, None, Result}
+use Rattle.std.proofs.Common.{◌≡◌, ℕ, Bool, true, false, cond, not, List, Option, Some, None}
+use Rattle.std.proofs.Common.{Result}
 use Rattle.std.proofs.Common.{Ok, Err, length, refl, sym, ap, ◌∙◌, subst}
 use Rattle.std.specs.Prelude.{◌==◌, ◌&&◌, is_none, is_some, nat_lt}
 use Rattle.std.specs.List.{list_any}
@@ -24,12 +25,14 @@ use Rattle.ck_journal.specs.declared.operations.OperationKind.TheVariants as kin
 use Rattle.ck_journal.specs.declared.replies.Body.TheVariants as body
 use Rattle.ck_journal.specs.OperationCalls.{Step, initialize, take_whole, add_piece, finish}
 use Rattle.ck_journal.specs.OperationCalls.{OperationStep, operation_step}
-use Rattle.ck_journal.specs.Operations.{leaves_active, message_in, is_active, is_updated, is_long_piece}
+use Rattle.ck_journal.specs.Operations.{leaves_active, message_in, is_active, is_updated}
+use Rattle.ck_journal.specs.Operations.{is_long_piece}
 use Rattle.ck_journal.specs.Operations.{key_in}
 use Rattle.ck_journal.specs.Answers.{ok, too_small, bytes_reply, unless, answer, allowed_reply}
 use Rattle.ck_journal.specs.Answers.{call_error, session_error, object_error, operation_error}
 use Rattle.ck_journal.specs.Answers.{present_key_error, key_state_error, may_serve, message_error}
-use Rattle.ck_journal.specs.Answers.{final_error, piece_error, verify_error, verify_final_error, tag_in}
+use Rattle.ck_journal.specs.Answers.{final_error, piece_error, verify_error, verify_final_error}
+use Rattle.ck_journal.specs.Answers.{tag_in}
 use Rattle.ck_journal.specs.Queries.{asks_hidden, is_missing, lacks_room}
 use Rattle.ck_journal.specs.Replies.{has_list}
 use Rattle.ck_journal.specs.Histories.{History}
@@ -52,9 +55,12 @@ wrong_try_change-nobody rv_error.PinIncorrect = refl
 wrong_try_change-nobody other = refl
 
 -- such a call that a check refuses
-pub refused-decision : (limits : Ranges) (h : History) (c : Call) (result : Result Decision Refused) (code : RvError)
-    → IsErrAnd result (λ made. made ≡ refused.Error code change.Nothing) → call_error limits h c ≡ Some code
-    → refused_change c code (about h (Some c)) ≡ wrong_try_change code None → IsDecision limits h c result
+pub refused-decision : (limits : Ranges) (h : History) (c : Call) (result : Result Decision Refused)
+    (code : RvError)
+    → IsErrAnd result (λ made. made ≡ refused.Error code change.Nothing)
+    → call_error limits h c ≡ Some code
+    → refused_change c code (about h (Some c)) ≡ wrong_try_change code None
+    → IsDecision limits h c result
 refused-decision limits h c (Ok decision) code made fails nobody = absurd made
 refused-decision limits h c (Err reason) code made fails nobody =
     subst (λ (reason : Refused). IsDecision limits h c (Err reason)) (sym made)
@@ -68,13 +74,16 @@ of-err (Err made) code P is holds = subst P (sym is) holds
 
 -- a check fails, and the refusal changes this
 pub refusing-decided : (error : Option RvError) (reply : Reply) (made : Body → Change)
-    (refusing : RvError → Change) (memory : Bool) (reason : Refused) (code : RvError) (change : Change)
+    (refusing : RvError → Change) (memory : Bool) (reason : Refused) (code : RvError)
+    (change : Change)
     → reason ≡ refused.Error code change → error ≡ Some code → change ≡ refusing code
     → IsDecided error reply made refusing memory (Err reason)
-refusing-decided error reply made refusing memory reason code change is fails changes = rw is (fails, changes)
+refusing-decided error reply made refusing memory reason code change is fails changes =
+    rw is (fails, changes)
 
 -- a call that a check refuses, and what the refusal changes
-pub refusing-decision : (limits : Ranges) (h : History) (c : Call) (reason : Refused) (code : RvError) (made : Change)
+pub refusing-decision : (limits : Ranges) (h : History) (c : Call) (reason : Refused)
+    (code : RvError) (made : Change)
     → reason ≡ refused.Error code made → call_error limits h c ≡ Some code
     → made ≡ refused_change c code (about h (Some c)) → IsDecision limits h c (Err reason)
 refusing-decision limits h c reason code made is fails changes = rw is (fails, changes)
@@ -90,7 +99,8 @@ memory-decided error reply made refusing memory (Err reason) is passes takes =
     (rw (passes, takes) refl)
 
 pub memory-decision : (limits : Ranges) (h : History) (c : Call) (result : Result Decision Refused)
-    → IsErrAnd result (λ made. made ≡ refused.Memory) → call_error limits h c ≡ None → takes_memory c ≡ true
+    → IsErrAnd result (λ made. made ≡ refused.Memory) → call_error limits h c ≡ None
+    → takes_memory c ≡ true
     → IsDecision limits h c result
 memory-decision limits h c =
     memory-decided (call_error limits h c) (allowed_reply limits h c) (λ b. change_of h c b)
@@ -99,7 +109,8 @@ memory-decision limits h c =
 -- a reply that gives bytes or their length
 by_room : (h : History) (c : Call) (k : OperationKind) (session : ℕ)
     → ((b : Body) → change_of h c b ≡ finish_change k session rv.Ok b)
-    → refused_change c rv_error.BufferTooSmall (about h (Some c)) ≡ change.FinishOperation k session false
+    → refused_change c rv_error.BufferTooSmall (about h (Some c))
+    ≡ change.FinishOperation k session false
     → (room : Option ℕ) (bytes : List ℕ)
     → change_of h c (bytes_reply room bytes).body ≡ effect h c (bytes_reply room bytes)
 by_room h c k session of stays None bytes = refl
@@ -122,7 +133,8 @@ allowed-effect limits h (call.GetAttributeValue session object queries) =
   where
     by_code : (hidden missing longer : Bool) (body : Body)
         → change.Nothing ≡ effect_by h (call.GetAttributeValue session object queries)
-        (cond hidden (rv.Error rv_error.AttributeSensitive) (cond missing (rv.Error rv_error.AttributeTypeInvalid)
+        (cond hidden (rv.Error rv_error.AttributeSensitive)
+        (cond missing (rv.Error rv_error.AttributeTypeInvalid)
         (cond longer (rv.Error rv_error.BufferTooSmall) rv.Ok))) body
     by_code true missing longer body = refl
     by_code false true longer body = refl
@@ -155,7 +167,8 @@ no_list limits h c r answered free =
     by_error (Some code) free = refl
     by_error None free = by_call c free
       where
-        by_call : (c : Call) → takes_memory c ≡ false → has_list (allowed_reply limits h c).body ≡ false
+        by_call : (c : Call) → takes_memory c ≡ false
+            → has_list (allowed_reply limits h c).body ≡ false
         by_call (call.GetAttributeValue session object queries) free = cc
         by_call (call.FindObjects session max) free = cc
         by_call (call.Digest session bytes None) free = refl
@@ -170,11 +183,13 @@ no_list limits h c r answered free =
         by_call other free = refl
 
 -- and adds nothing
-pub adds_nothing : (limits : Ranges) (h : History) (c : Call) (r : Reply) (made : Change) → r ≡ answer limits h c
+pub adds_nothing : (limits : Ranges) (h : History) (c : Call) (r : Reply) (made : Change)
+    → r ≡ answer limits h c
     → made ≡ effect h c r
     → may_run_out limits h c ≡ false → adds made ≡ false
 adds_nothing limits h c r made answered is free =
-    ap adds is ∙ ap (λ (r : Reply). adds (effect h c r)) answered ∙ by_error (call_error limits h c) free
+    ap adds is ∙ ap (λ (r : Reply). adds (effect h c r)) answered
+    ∙ by_error (call_error limits h c) free
   where
     by_pin : (code : RvError) (who : Option UserType) → adds (wrong_try_change code who) ≡ false
     by_pin rv_error.PinIncorrect None = refl
@@ -197,7 +212,8 @@ adds_nothing limits h c r made answered is free =
     by_error : (error : Option RvError) → (is_none error && takes_memory c) ≡ false
         → adds (effect h c (unless error (allowed_reply limits h c))) ≡ false
     by_error (Some code) free = by_refusal (operation_step c) code (about h (Some c))
-    by_error None free = ap adds (sym (allowed-effect limits h c)) ∙ by_call c (allowed_reply limits h c).body free
+    by_error None free = ap adds (sym (allowed-effect limits h c))
+        ∙ by_call c (allowed_reply limits h c).body free
       where
         by_call : (c : Call) (b : Body) → takes_memory c ≡ false → adds (change_of h c b) ≡ false
         by_call (call.OpenSession flags) b free = cc
@@ -216,40 +232,20 @@ pub skip : (first later : Option RvError) → first ≡ None → or_else first l
 skip first later passes = rw passes refl
 
 -- a check that fails, whatever comes later
-pub hit : (first later : Option RvError) (code : RvError) → first ≡ Some code → or_else first later ≡ Some code
+pub hit : (first later : Option RvError) (code : RvError) → first ≡ Some code
+    → or_else first later ≡ Some code
 hit first later code fails = rw fails refl
 
-pub second-fails : (a b later : Option RvError) (code : RvError) → a ≡ None → b ≡ Some code
-    → or_else a (or_else b later) ≡ Some code
-second-fails a b later code first fails = rw (first, fails)
-
-pub third-fails : (a b d later : Option RvError) (code : RvError) → a ≡ None → b ≡ None → d ≡ Some code
-    → or_else a (or_else b (or_else d later)) ≡ Some code
-third-fails a b d later code first second fails = rw (first, second, fails)
-
-pub fourth-fails : (a b d e later : Option RvError) (code : RvError) → a ≡ None → b ≡ None → d ≡ None → e ≡ Some code
-    → or_else a (or_else b (or_else d (or_else e later))) ≡ Some code
-fourth-fails a b d e later code first second third fails = rw (first, second, third, fails)
-
-pub two-pass : (a b : Option RvError) → a ≡ None → b ≡ None → or_else a (or_else b None) ≡ None
-two-pass a b first second = rw (first, second)
-
-pub three-pass : (a b d : Option RvError) → a ≡ None → b ≡ None → d ≡ None
-    → or_else a (or_else b (or_else d None)) ≡ None
-three-pass a b d first second third = rw (first, second, third)
-
-pub four-pass : (a b d e : Option RvError) → a ≡ None → b ≡ None → d ≡ None → e ≡ None
-    → or_else a (or_else b (or_else d (or_else e None))) ≡ None
-four-pass a b d e first second third fourth = rw (first, second, third, fourth)
-
-pub session-passes : (h : History) (session : ℕ) → is_open h session ≡ true → session_error h session ≡ None
+pub session-passes : (h : History) (session : ℕ) → is_open h session ≡ true
+    → session_error h session ≡ None
 session-passes h session is_so = ap (λ t. error_if (not t) rv_error.SessionHandleInvalid) is_so
 
 -- a session that is open, and then the checks of what a handle names
 pub named-checks : (h : History) (session : ℕ) (found : Option (List Item)) (unnamed : RvError)
     (checks : List Item → Option RvError) (attributes : List Item) (error : Option RvError)
     → is_open h session ≡ true → found ≡ Some attributes → checks attributes ≡ error
-    → or_else (session_error h session) (or_else (option_map_or checks found (Some unnamed)) None) ≡ error
+    → or_else (session_error h session) (or_else (option_map_or checks found (Some unnamed)) None)
+    ≡ error
 named-checks h session found unnamed checks attributes error is_so named is =
     ap (λ first. or_else first (or_else (option_map_or checks found (Some unnamed)) None))
     (session-passes h session is_so)
@@ -263,9 +259,11 @@ named-checks h session found unnamed checks attributes error is_so named is =
 -- the same of the object that a handle names
 pub object-checks : (h : History) (session object : ℕ) (checks : List Item → Option RvError)
     (attributes : List Item) (error : Option RvError)
-    → is_open h session ≡ true → attributes_named h object ≡ Some attributes → checks attributes ≡ error
+    → is_open h session ≡ true → attributes_named h object ≡ Some attributes
+    → checks attributes ≡ error
     → or_else (session_error h session) (or_else (object_error h object checks) None) ≡ error
-object-checks h session object = named-checks h session (attributes_named h object) rv_error.ObjectHandleInvalid
+object-checks h session object =
+    named-checks h session (attributes_named h object) rv_error.ObjectHandleInvalid
 
 -- ---- a reply that gives bytes
 
@@ -278,8 +276,13 @@ room-given None bytes e = absurd (no_bytes (length bytes) bytes (ap (λ (r : Rep
     no_bytes n bytes e = cc
 room-given (Some room) bytes e = refl
 
-pub gives-bytes : (k : OperationKind) (session : ℕ) (d : Decision) (tag bytes : List ℕ) (expected : Reply)
-    → d ≡ record { rv = rv.Ok; body = body.Bytes tag; change = change.FinishOperation k session true }
+pub gives-bytes : (k : OperationKind) (session : ℕ) (d : Decision) (tag bytes : List ℕ)
+    (expected : Reply)
+    → d ≡ record {
+      rv = rv.Ok;
+      body = body.Bytes tag;
+      change = change.FinishOperation k session true;
+    }
     → expected ≡ ok (body.Bytes bytes) → tag ≡ bytes
     → (reply_of d ≡ expected) × (d.change ≡ finish_change k session rv.Ok d.body)
 gives-bytes k session d tag bytes expected is given same =
@@ -289,7 +292,8 @@ gives-bytes k session d tag bytes expected is given same =
 pub ends-decision : (session : ℕ) (d : Decision) (made : Change) (error : Option RvError)
     → d ≡ record { rv = rv.Ok; body = body.Empty; change = made }
     → made ≡ change.FinishOperation kind.Verify session true → error ≡ None
-    → (error ≡ None) × (reply_of d ≡ ok body.Empty) × (d.change ≡ finish_change kind.Verify session rv.Ok d.body)
+    → (error ≡ None) × (reply_of d ≡ ok body.Empty)
+    × (d.change ≡ finish_change kind.Verify session rv.Ok d.body)
 ends-decision session d made error is ends passes = rw (is, ends) (passes, refl, refl)
 
 -- ---- refusals that end an operation
@@ -299,32 +303,38 @@ abbrev pub is_final : Option RvError → Bool
 is_final None = true
 is_final (Some code) = not (leaves_active (rv.Error code) body.Empty)
 
-final-or_else : (a b : Option RvError) → is_final a ≡ true → is_final b ≡ true → is_final (or_else a b) ≡ true
+final-or_else : (a b : Option RvError) → is_final a ≡ true → is_final b ≡ true
+    → is_final (or_else a b) ≡ true
 final-or_else None b first later = later
 final-or_else (Some code) b first later = first
 
-final-if : (t : Bool) (code : RvError) → is_final (Some code) ≡ true → is_final (error_if t code) ≡ true
+final-if : (t : Bool) (code : RvError) → is_final (Some code) ≡ true
+    → is_final (error_if t code) ≡ true
 final-if true code is = is
 final-if false code is = refl
 
 final-session : (h : History) (session : ℕ) → is_final (session_error h session) ≡ true
 final-session h session = final-if (not (is_open h session)) rv_error.SessionHandleInvalid refl
 
-final-operation : (k : OperationKind) (h : History) (session : ℕ) → is_final (operation_error k h session) ≡ true
+final-operation : (k : OperationKind) (h : History) (session : ℕ)
+    → is_final (operation_error k h session) ≡ true
 final-operation k h session =
     final-or_else (session_error h session) _ (final-session h session)
     (final-or_else _ None
     (final-if (not (is_active k h session)) rv_error.OperationNotInitialized refl) refl)
 
-final-key : (k : OperationKind) (h : History) (key : Option ℕ) → is_final (present_key_error k h key) ≡ true
+final-key : (k : OperationKind) (h : History) (key : Option ℕ)
+    → is_final (present_key_error k h key) ≡ true
 final-key k h None = refl
 final-key k h (Some n) = cases (object_at h n)
   where
     cases : (object : Option (List Item))
-        → is_final (option_map_or (key_state_error k) object (Some rv_error.KeyHandleInvalid)) ≡ true
+        → is_final (option_map_or (key_state_error k) object (Some rv_error.KeyHandleInvalid))
+        ≡ true
     cases None = refl
     cases (Some a) =
-        final-if (not (option_map_or (may_serve k) (state_in a) false)) rv_error.KeyFunctionNotPermitted refl
+        final-if (not (option_map_or (may_serve k) (state_in a) false))
+        rv_error.KeyFunctionNotPermitted refl
 
 final-message : (k : OperationKind) (h : History) (session : ℕ) (bytes : List ℕ)
     → is_final (message_error k h session bytes) ≡ true
@@ -335,7 +345,8 @@ final-message k h session bytes =
     (final-or_else (piece_error bytes) _ (final-if (is_long_piece bytes) rv_error.DataLenRange refl)
     (final-or_else _ None (final-key k h (key_in k h session)) refl)))
 
-final-final : (k : OperationKind) (h : History) (session : ℕ) → is_final (final_error k h session) ≡ true
+final-final : (k : OperationKind) (h : History) (session : ℕ)
+    → is_final (final_error k h session) ≡ true
 final-final k h session =
     final-or_else (operation_error k h session) _ (final-operation k h session)
     (final-or_else _ None (final-key k h (key_in k h session)) refl)
@@ -365,17 +376,21 @@ message-ends k h session bytes code =
 
 pub verify-ends : (h : History) (session : ℕ) (bytes signature : List ℕ) (code : RvError)
     → verify_error h session bytes signature ≡ Some code
-    → change.FinishOperation kind.Verify session true ≡ finish_change kind.Verify session (rv.Error code) body.Empty
+    → change.FinishOperation kind.Verify session true
+    ≡ finish_change kind.Verify session (rv.Error code) body.Empty
 verify-ends h session bytes signature code =
     ends-finally kind.Verify session (verify_error h session bytes signature) code
-    (final-or_else (message_error kind.Verify h session bytes) _ (final-message kind.Verify h session bytes)
+    (final-or_else (message_error kind.Verify h session bytes) _
+    (final-message kind.Verify h session bytes)
     (final-or_else _ None (final-signature (tag_in kind.Verify h session bytes) signature) refl))
 
 pub verify_final-ends : (h : History) (session : ℕ) (signature : List ℕ) (code : RvError)
     → verify_final_error h session signature ≡ Some code
-    → change.FinishOperation kind.Verify session true ≡ finish_change kind.Verify session (rv.Error code) body.Empty
+    → change.FinishOperation kind.Verify session true
+    ≡ finish_change kind.Verify session (rv.Error code) body.Empty
 verify_final-ends h session signature code =
     ends-finally kind.Verify session (verify_final_error h session signature) code
     (final-or_else (final_error kind.Verify h session) _ (final-final kind.Verify h session)
     (final-or_else _ None
-    (final-signature (tag_in kind.Verify h session (message_in kind.Verify h session)) signature) refl))
+    (final-signature (tag_in kind.Verify h session (message_in kind.Verify h session)) signature)
+    refl))

@@ -17,10 +17,15 @@ pub entered-agrees : (limits : Ranges) (h : History) (p : Parts) → TokenAgrees
     (made : Change) (p' : Parts) (after : History) → reply ≡ answer limits h c → entered ≡ reply
     → made ≡ effect h c reply
     → after ≡ record { caller = caller; call = c; reply = entered } ◁ h
-    → ((e : Entry) → IsLegal limits (e ◁ h) → made ≡ effect h e.call e.reply → c ≡ e.call → PartsAgree (e ◁ h) p')
+    → ((e : Entry) → IsLegal limits (e ◁ h) → made ≡ effect h e.call e.reply → c ≡ e.call
+    → PartsAgree (e ◁ h) p')
     → TokenAgrees limits after p'
-entered-agrees limits h p agree caller c reply entered made p' after answered copied is same applied =
+entered-agrees limits h p agree caller c reply entered made p' after answered copy is same applied =
     let e : Entry = record { caller = caller; call = c; reply = entered } in
-    let legal : IsLegal limits (e ◁ h) = (copied ∙ answered, agree.legal) in
+    let legal : IsLegal limits (e ◁ h) = (copy ∙ answered, agree.legal) in
     subst (λ h. TokenAgrees limits h p') (sym same)
-    (record { ranges = agree.ranges; legal = legal; parts = applied e legal (is ∙ ap (effect h c) (sym copied)) refl })
+    (record {
+      ranges = agree.ranges;
+      legal = legal;
+      parts = applied e legal (is ∙ ap (effect h c) (sym copy)) refl;
+    })

@@ -1,5 +1,6 @@
 -- A run of a list of calls, of which some are answered and the rest is left
-use Rattle.std.proofs.Common.{◌≡◌, ℕ, suc, ◌+◌, ◌<◌, ◌≤◌, false, List, [], ◌∷◌, ◌++◌, length, get_or}
+use Rattle.std.proofs.Common.{◌≡◌, ℕ, suc, ◌+◌, ◌<◌, ◌≤◌, false, List, [], ◌∷◌, ◌++◌, length}
+use Rattle.std.proofs.Common.{get_or}
 use Rattle.std.proofs.Common.{refl, sym, ap, ◌∙◌, subst, arith, append_assoc, length-append}
 use Rattle.std.specs.List.{All}
 use Rattle.std.specs.Prelude.{reverse}
@@ -23,12 +24,14 @@ pub record Answers (old : TokenState) (calls : List (ℕ × Call)) (count : ℕ)
 
 -- one more call
 pub after-last : (limits : Ranges) (h : History) (calls : List (ℕ × Call)) (c : ℕ × Call) →
-    after limits h (calls ++ c ∷ []) ≡ entry_of limits (after limits h calls) c.0 c.1 ◁ after limits h calls
+    after limits h (calls ++ c ∷ [])
+    ≡ entry_of limits (after limits h calls) c.0 c.1 ◁ after limits h calls
 after-last limits h [] c = refl
 after-last limits h (d ∷ calls) c = after-last limits (entry_of limits h d.0 d.1 ◁ h) calls c
 
 module _ (old : TokenState) (calls : List (ℕ × Call)) where
-  pub Answers-none : (left : List (ℕ × Call)) → left ≡ reverse calls → IsLegal old.limits old.history
+  pub Answers-none : (left : List (ℕ × Call)) → left ≡ reverse calls
+      → IsLegal old.limits old.history
       → Answers old calls 0 left old
   Answers-none left r legal = record {
     answered = [];
@@ -40,25 +43,28 @@ module _ (old : TokenState) (calls : List (ℕ × Call)) where
 
   pub Answers-more : (count : ℕ) (rest : List (ℕ × Call)) (c : ℕ × Call) (left : List (ℕ × Call))
       (token new : TokenState) (reply : _)
-      → left ≡ rest ++ c ∷ [] → Answers old calls count left token → IsAnswered token new c.0 c.1 reply
+      → left ≡ rest ++ c ∷ [] → Answers old calls count left token
+      → IsAnswered token new c.0 c.1 reply
       → IsLegal new.limits new.history
       → token.spare ≤ new.spare + 1 → Answers old calls (count + 1) rest new
   Answers-more count rest c left token new reply l a step legal room = record {
     answered = a.answered ++ c ∷ [];
-    parts =
-        a.parts ∙ ap (λ r. a.answered ++ r) (ap reverse l ∙ reverse-append rest (c ∷ []))
+    parts = a.parts ∙ ap (λ r. a.answered ++ r) (ap reverse l ∙ reverse-append rest (c ∷ []))
         ∙ sym (append_assoc a.answered (c ∷ []) (reverse rest));
     counted = length-append a.answered (c ∷ []) ∙ ap (λ n. n + 1) a.counted;
     has = record {
       limits = step.limits ∙ a.has.limits;
-      history = step.entered ∙ rw (a.has.limits, a.has.history) (sym (after-last old.limits old.history a.answered c));
+      history = step.entered ∙ rw (a.has.limits, a.has.history)
+          (sym (after-last old.limits old.history a.answered c));
       legal = legal;
     };
     room = let before = a.room in omega arith;
   }
 
-  -- where the journal has room for all calls and none of them takes other memory, the next one has room and takes none
-  pub Answers-free : (count : ℕ) (rest : List (ℕ × Call)) (c : ℕ × Call) (left : List (ℕ × Call)) (token : TokenState)
+  -- where the journal has room for all calls and none of them takes other memory, the next one has
+  -- room and takes none
+  pub Answers-free : (count : ℕ) (rest : List (ℕ × Call)) (c : ℕ × Call) (left : List (ℕ × Call))
+      (token : TokenState)
       → left ≡ rest ++ c ∷ [] → Answers old calls count left token → length calls ≤ old.spare
       → All (λ (c : ℕ × Call). takes_memory c.1 ≡ false) calls
       → (0 < token.spare) × (takes_memory c.1 ≡ false)
@@ -71,6 +77,7 @@ module _ (old : TokenState) (calls : List (ℕ × Call)) where
       let room = a.room in (
         omega arith,
         subst (λ (d : ℕ × Call). takes_memory d.1 ≡ false)
-            (ap (λ cs. get_or cs (length a.answered) c) parts ∙ get_or-append_seam a.answered c (reverse rest) c)
+            (ap (λ cs. get_or cs (length a.answered) c) parts
+            ∙ get_or-append_seam a.answered c (reverse rest) c)
             (free (length a.answered) c (omega arith)),
       )

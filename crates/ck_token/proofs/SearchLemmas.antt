@@ -36,7 +36,8 @@ module _ (h : History) where
       → next h room (n ∷ numbers) ≡ next h room numbers
   next-hidden room n numbers none = hidden_case (is_visible h n) refl
     where
-      hidden_case : (visible : Bool) → is_visible h n ≡ visible → next h room (n ∷ numbers) ≡ next h room numbers
+      hidden_case : (visible : Bool) → is_visible h n ≡ visible
+          → next h room (n ∷ numbers) ≡ next h room numbers
       hidden_case true v =
           let wrong : None ≡ Some (handle_of h n) = rw v at none in
           cc
@@ -47,8 +48,7 @@ module _ (h : History) where
   module _ (total handles numbers : List ℕ) (i room : ℕ)
       (is : total ≡ handles ++ next h room (drop i numbers)) (below : i < length numbers) where
     one_more : total ≡ handles ++ next h room (get_or numbers i 0 ∷ drop (i + 1) numbers)
-    one_more =
-        is ∙ ap (λ ns. handles ++ next h room ns) (drop-cons numbers i 0 below ∙ ap
+    one_more = is ∙ ap (λ ns. handles ++ next h room ns) (drop-cons numbers i 0 below ∙ ap
         (λ k. get_or numbers i 0 ∷ drop k numbers) (sym (add-one i)))
 
     -- it is visible and is given
@@ -57,30 +57,35 @@ module _ (h : History) where
         → room' ≡ room - 1 → total ≡ handles' ++ next h room' (drop (i + 1) numbers)
     given-next handles' room' handle some found more less =
         one_more
-        ∙ ap (λ hs. handles ++ hs) (next-visible room (get_or numbers i 0) handle (drop (i + 1) numbers)
+        ∙ ap (λ hs. handles ++ hs)
+        (next-visible room (get_or numbers i 0) handle (drop (i + 1) numbers)
         (omega arith) found)
         ∙ sym (append_assoc handles (handle ∷ []) (next h (room - 1) (drop (i + 1) numbers)))
         ∙ ap (λ r. (handles ++ handle ∷ []) ++ next h r (drop (i + 1) numbers)) (sym less)
         ∙ ap (λ hs. hs ++ next h room' (drop (i + 1) numbers)) (sym more)
 
     -- it isn't
-    pub passed-next : (handles' : List ℕ) (room' : ℕ) → None ≡ handle_at h (get_or numbers i 0) → handles' ≡ handles
+    pub passed-next : (handles' : List ℕ) (room' : ℕ) → None ≡ handle_at h (get_or numbers i 0)
+        → handles' ≡ handles
         → room' ≡ room → total ≡ handles' ++ next h room' (drop (i + 1) numbers)
     passed-next handles' room' hidden same same_room =
         one_more
-        ∙ ap (λ hs. handles ++ hs) (next-hidden room (get_or numbers i 0) (drop (i + 1) numbers) hidden)
+        ∙ ap (λ hs. handles ++ hs)
+        (next-hidden room (get_or numbers i 0) (drop (i + 1) numbers) hidden)
         ∙ rw (same, same_room) refl
 
 -- ---- where a search stands
 
 -- the number of the last object that is given
-pub last_or-some : (handles : List ℕ) (handle before : ℕ) → Some handle ≡ slice_get handles (length handles - 1)
+pub last_or-some : (handles : List ℕ) (handle before : ℕ)
+    → Some handle ≡ slice_get handles (length handles - 1)
     → last_or before (map number_of_handle handles) ≡ number_of_handle handle
 last_or-some [] handle before e = cc
 last_or-some (only ∷ []) handle before e = ap number_of_handle (sym (same_Some handle only e))
 last_or-some (first ∷ next ∷ handles) handle before e =
     let step : suc (suc (length handles)) - 1 ≡ suc (suc (length handles) - 1) = omega arith in
-    last_or-some (next ∷ handles) handle (number_of_handle first) (e ∙ ap (slice_get (first ∷ next ∷ handles)) step)
+    last_or-some (next ∷ handles) handle (number_of_handle first)
+    (e ∙ ap (slice_get (first ∷ next ∷ handles)) step)
 
 -- where none is given it stays
 pub last_or-none : (handles : List ℕ) (before : ℕ) → None ≡ slice_get handles (length handles - 1)
@@ -91,7 +96,8 @@ last_or-none (first ∷ next ∷ handles) before e =
     let step : suc (suc (length handles)) - 1 ≡ suc (suc (length handles) - 1) = omega arith in
     absurd (never next handles (e ∙ ap (slice_get (first ∷ next ∷ handles)) step))
   where
-    never : (handle : ℕ) (more : List ℕ) → None ≡ slice_get (handle ∷ more) (suc (length more) - 1) → ⊥
+    never : (handle : ℕ) (more : List ℕ) → None ≡ slice_get (handle ∷ more) (suc (length more) - 1)
+        → ⊥
     never handle [] e = cc
     never handle (next ∷ more) e =
         let step : suc (suc (length more)) - 1 ≡ suc (suc (length more) - 1) = omega arith in

@@ -1,5 +1,27 @@
 //! One token: each call is answered as the journal of the calls before it says, and stands in the
 //! journal itself.
+//!
+//! A program opens a session, logs in, makes a key and signs (a test of ck_run runs this):
+//!
+//! ```
+//! fn sign(alloc: Global, token: &mut Token, message: Bytes) -> anyhow::Result<Option<Bytes>> {
+//!     let (so, user) = (Pin::of(b"1234"), Pin::of(b"5678"));
+//!     token.try_call(alloc, 1, Call::InitToken { pin: so })?;
+//!     let opened = token.try_call(alloc, 1, Call::OpenSession { flags: READ_WRITE })?;
+//!     let session = opened.handle().context("no session")?;
+//!     token.try_call(alloc, 1, Call::login(session, UserType::So, so))?;
+//!     token.try_call(alloc, 1, Call::InitPin { session, pin: user })?;
+//!     token.try_call(alloc, 1, Call::Logout { session })?;
+//!     token.try_call(alloc, 1, Call::login(session, UserType::User, user))?;
+//!     let template = Template::secret_key(alloc, b"Jefe")?.flag(Attribute::Sensitive, true)?;
+//!     let created = token.try_call(alloc, 1, Call::CreateObject { session, template })?;
+//!     let key = created.handle().context("no key")?;
+//!     let mechanism = Mechanism::new(alloc, SHA256_HMAC);
+//!     token.try_call(alloc, 1, Call::sign_init(session, mechanism, key))?;
+//!     let signed = token.try_call(alloc, 1, Call::sign(session, message, 32))?;
+//!     Ok(signed.bytes())
+//! }
+//! ```
 #![tactic(auto)]
 
 mod cuts;
@@ -8,10 +30,12 @@ mod journaled;
 mod queries;
 mod runs;
 mod tokens;
+mod tries;
 
 pub use cuts::Uncut;
 pub use runs::{Stopped, run};
 pub use tokens::Token;
+pub use tries::CallError;
 
 // What users of a token need of the crates below.
 pub use ck_journal::{

@@ -11,7 +11,7 @@ use ck_types::NoMemory;
 use std::alloc::Global;
 use thiserror::Error;
 
-/// A run that found no memory for a call: so many calls before it were answered.
+/// A run that found no memory for a call, and how many calls before it were answered.
 #[derive(Clone, Copy, Debug, PartialEq, Eq, Error)]
 #[error("out of memory after {answered} calls")]
 pub struct Stopped {
@@ -40,7 +40,7 @@ pub fn run(token: &mut Token, alloc: Global, calls: Vec<(u32, Call)>) -> Result<
     Ok(())
 }
 
-/// Makes a call whose reply is read in the journal alone.
+/// Makes a call whose reply is read only in the journal.
 fn step(token: &mut Token, alloc: Global, caller: u32, call: Call) -> Result<(), NoMemory>
     ensures answered { OnOk result (IsAnswered token.old token.new caller call
         (answer token.old.limits token.old.history call)) }
@@ -50,6 +50,6 @@ fn step(token: &mut Token, alloc: Global, caller: u32, call: Call) -> Result<(),
         → may_run_out token.old.limits token.old.history call ≡ false → IsOk result }
     ensures room { OnOk result (token.old.spare ≤ token.new.spare + 1) }
 {
-    let _reply = token.call(alloc, caller, call)?;
+    token.call(alloc, caller, call)?;
     Ok(())
 }

@@ -48,9 +48,8 @@ impl Model for Token {
     ghost invariant = { λ t. TokenAgrees t.limits t.journal.history t.parts };
 }
 
-/// Drops what a call leaves that finds no memory. A compiled function clears the room of its values
-/// where it begins, so this is done by a function that stays one: other calls take no time for its
-/// values.
+/// Drops what a call leaves that finds no memory. This is done in a function of its own, since a
+/// compiled function clears the room of all that it may drop each time it begins.
 #[inline(always)]
 fn out_of_memory<T: Drop>(left: T) -> NoMemory {
     drop_apart(left);
@@ -59,9 +58,7 @@ fn out_of_memory<T: Drop>(left: T) -> NoMemory {
 
 #[cold]
 #[inline(never)]
-fn drop_apart<T: Drop>(left: T) {
-    drop(left);
-}
+fn drop_apart<T: Drop>(_left: T) {}
 
 #[inline(always)]
 fn reply_with(rv: Rv, body: Body) -> Reply
@@ -308,7 +305,7 @@ impl Token {
                 session,
                 bytes,
                 room,
-            } => self.take_whole(
+            } => self.finish_single_part(
                 alloc,
                 OperationKind::Digest,
                 *session,
@@ -316,10 +313,10 @@ impl Token {
                 *room,
             ),
             Call::DigestUpdate { session, bytes } => {
-                self.add_piece(OperationKind::Digest, *session, bytes.as_slice())
+                self.update(OperationKind::Digest, *session, bytes.as_slice())
             }
             Call::DigestFinal { session, room } => {
-                self.finish_message(alloc, OperationKind::Digest, *session, *room)
+                self.finish_multiple_part(alloc, OperationKind::Digest, *session, *room)
             }
             Call::SignInit {
                 session,
@@ -330,7 +327,7 @@ impl Token {
                 session,
                 bytes,
                 room,
-            } => self.take_whole(
+            } => self.finish_single_part(
                 alloc,
                 OperationKind::Sign,
                 *session,
@@ -338,10 +335,10 @@ impl Token {
                 *room,
             ),
             Call::SignUpdate { session, bytes } => {
-                self.add_piece(OperationKind::Sign, *session, bytes.as_slice())
+                self.update(OperationKind::Sign, *session, bytes.as_slice())
             }
             Call::SignFinal { session, room } => {
-                self.finish_message(alloc, OperationKind::Sign, *session, *room)
+                self.finish_multiple_part(alloc, OperationKind::Sign, *session, *room)
             }
             Call::VerifyInit {
                 session,
@@ -354,7 +351,7 @@ impl Token {
                 signature,
             } => self.verify(*session, bytes.as_slice(), signature.as_slice()),
             Call::VerifyUpdate { session, bytes } => {
-                self.add_piece(OperationKind::Verify, *session, bytes.as_slice())
+                self.update(OperationKind::Verify, *session, bytes.as_slice())
             }
             Call::VerifyFinal { session, signature } => {
                 self.verify_final(*session, signature.as_slice())

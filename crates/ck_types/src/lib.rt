@@ -5,6 +5,7 @@ mod checks;
 mod comparisons;
 mod errors;
 mod hashes;
+mod mechanism_numbers;
 mod mechanisms;
 mod memory;
 mod numbers;
@@ -19,9 +20,12 @@ pub use checks::error_if;
 pub use comparisons::constant_time_eq;
 pub use errors::RvError;
 pub use hashes::Hash;
-pub use mechanisms::{
-    GENERIC_SECRET_KEY_GEN, Mechanism, digest_of, is_key_generator, mac_of, mechanism_types,
+pub use mechanism_numbers::{
+    GENERIC_SECRET_KEY_GEN, SHA224, SHA224_HMAC, SHA224_HMAC_GENERAL, SHA256, SHA256_HMAC,
+    SHA256_HMAC_GENERAL, SHA384, SHA384_HMAC, SHA384_HMAC_GENERAL, SHA512, SHA512_HMAC,
+    SHA512_HMAC_GENERAL,
 };
+pub use mechanisms::{Mechanism, digest_of, is_key_generator, mac_of, mechanism_types};
 pub use memory::NoMemory;
 pub use numbers::number_of;
 pub use pins::Pin;

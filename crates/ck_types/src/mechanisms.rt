@@ -3,9 +3,15 @@ ghost use Rattle.ck_types.specs.Mechanisms.{digest_hash, hmac_hash, is_key_gener
 ghost use Rattle.ck_types.specs.Mechanisms.{given_tag_length, algorithm_of, mechanism_types};
 
 use crate::hashes::Hash;
+use crate::mechanism_numbers::{
+    GENERIC_SECRET_KEY_GEN, SHA224, SHA224_HMAC, SHA224_HMAC_GENERAL, SHA256, SHA256_HMAC,
+    SHA256_HMAC_GENERAL, SHA384, SHA384_HMAC, SHA384_HMAC_GENERAL, SHA512, SHA512_HMAC,
+    SHA512_HMAC_GENERAL,
+};
+use crate::memory::NoMemory;
 use crate::numbers::number_of;
 use crate::sequences::Bytes;
-use std::alloc::AllocError;
+use std::alloc::{AllocError, Global};
 
 /// A mechanism with its parameter (CK_MECHANISM; PKCS #11 Base 3.0, Data types for mechanisms).
 #[derive(Drop)]
@@ -29,7 +35,29 @@ impl Clone for Mechanism {
 }
 
 impl Mechanism {
+    ghost use Rattle.std.specs.Prelude.{[], IfOk};
     ghost use Rattle.ck_types.specs.Mechanisms.{tag_length};
+    ghost use Rattle.ck_types.specs.Numbers.{number_bytes};
+
+    /// The mechanism of this type without a parameter, such as `SHA256_HMAC`. It takes no memory.
+    pub fn new(alloc: Global, kind: u64) -> Mechanism
+        ensures { result ≡ record { kind = kind; parameter = [] } }
+    {
+        Mechanism {
+            kind,
+            parameter: Bytes::new(alloc),
+        }
+    }
+
+    /// The mechanism of this type with a length in bytes as its parameter (CK_MAC_GENERAL_PARAMS),
+    /// such as `SHA256_HMAC_GENERAL`.
+    pub fn with_length(alloc: Global, kind: u64, length: u64) -> Result<Mechanism, NoMemory>
+        ensures { IfOk result (λ made.
+            made ≡ record { kind = kind; parameter = number_bytes length }) }
+    {
+        let parameter = Bytes::from_slice(alloc, length.to_le_bytes().as_slice())?;
+        Ok(Mechanism { kind, parameter })
+    }
 
     /// The length in bytes of the tag that the mechanism signs with, or `None` where it doesn't
     /// sign or can't have the parameter. A whole HMAC has no parameter; one of a given length has
@@ -75,23 +103,20 @@ enum Algorithm {
     GenericSecretKey,
 }
 
-/// CKM_GENERIC_SECRET_KEY_GEN, by which keys are generated.
-pub const GENERIC_SECRET_KEY_GEN: u64 = 0x350;
-
 /// All mechanisms that the token has, in rising types.
 const MECHANISMS: [(u64, Algorithm); 13] = [
-    (0x250, Algorithm::Digest(Hash::Sha256)),
-    (0x251, Algorithm::Hmac(Hash::Sha256)),
-    (0x252, Algorithm::GeneralHmac(Hash::Sha256)),
-    (0x255, Algorithm::Digest(Hash::Sha224)),
-    (0x256, Algorithm::Hmac(Hash::Sha224)),
-    (0x257, Algorithm::GeneralHmac(Hash::Sha224)),
-    (0x260, Algorithm::Digest(Hash::Sha384)),
-    (0x261, Algorithm::Hmac(Hash::Sha384)),
-    (0x262, Algorithm::GeneralHmac(Hash::Sha384)),
-    (0x270, Algorithm::Digest(Hash::Sha512)),
-    (0x271, Algorithm::Hmac(Hash::Sha512)),
-    (0x272, Algorithm::GeneralHmac(Hash::Sha512)),
+    (SHA256, Algorithm::Digest(Hash::Sha256)),
+    (SHA256_HMAC, Algorithm::Hmac(Hash::Sha256)),
+    (SHA256_HMAC_GENERAL, Algorithm::GeneralHmac(Hash::Sha256)),
+    (SHA224, Algorithm::Digest(Hash::Sha224)),
+    (SHA224_HMAC, Algorithm::Hmac(Hash::Sha224)),
+    (SHA224_HMAC_GENERAL, Algorithm::GeneralHmac(Hash::Sha224)),
+    (SHA384, Algorithm::Digest(Hash::Sha384)),
+    (SHA384_HMAC, Algorithm::Hmac(Hash::Sha384)),
+    (SHA384_HMAC_GENERAL, Algorithm::GeneralHmac(Hash::Sha384)),
+    (SHA512, Algorithm::Digest(Hash::Sha512)),
+    (SHA512_HMAC, Algorithm::Hmac(Hash::Sha512)),
+    (SHA512_HMAC_GENERAL, Algorithm::GeneralHmac(Hash::Sha512)),
     (GENERIC_SECRET_KEY_GEN, Algorithm::GenericSecretKey),
 ];
 

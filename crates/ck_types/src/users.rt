@@ -1,4 +1,4 @@
-ghost use Rattle.std.specs.Prelude.{◌≡◌};
+ghost use Rattle.std.specs.Prelude.{◌≡◌, Some};
 ghost use Rattle.ck_types.specs.Users.{user_of, state_number};
 
 /// Who logs in (CK_USER_TYPE; PKCS #11 Base 3.0, Session types).
@@ -19,6 +19,16 @@ impl UserType {
             0 => Some(UserType::So),
             1 => Some(UserType::User),
             _ => None,
+        }
+    }
+
+    /// The number that the standard gives the user: CKU_SO is 0, CKU_USER is 1.
+    pub fn number(self) -> u64
+        ensures { user_of result ≡ Some self }
+    {
+        match self {
+            UserType::So => 0,
+            UserType::User => 1,
         }
     }
 }

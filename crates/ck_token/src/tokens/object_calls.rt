@@ -105,6 +105,9 @@ impl Token {
 
     // ---- the calls
 
+    /// C_CreateObject. Checks: CKR_SESSION_HANDLE_INVALID (b3), those of
+    /// `Template::check_creation`, CKR_SESSION_READ_ONLY (b5), CKR_USER_NOT_LOGGED_IN (101),
+    /// CKR_DEVICE_MEMORY (31).
     pub(super) fn create_object(
         &self,
         alloc: Global,
@@ -123,6 +126,9 @@ impl Token {
         Ok(self.creation(session, number, attributes))
     }
 
+    /// C_GenerateKey. Checks: CKR_SESSION_HANDLE_INVALID (b3), CKR_MECHANISM_INVALID (70),
+    /// CKR_MECHANISM_PARAM_INVALID (71), those of `Template::check_generation`,
+    /// CKR_SESSION_READ_ONLY (b5), CKR_USER_NOT_LOGGED_IN (101), CKR_DEVICE_MEMORY (31).
     pub(super) fn generate_key(
         &self,
         alloc: Global,
@@ -166,6 +172,9 @@ impl Token {
         }
     }
 
+    /// C_CopyObject. Checks: CKR_SESSION_HANDLE_INVALID (b3), CKR_OBJECT_HANDLE_INVALID (82),
+    /// CKR_ACTION_PROHIBITED (1b), those of `Record::check_copy`, CKR_SESSION_READ_ONLY (b5),
+    /// CKR_USER_NOT_LOGGED_IN (101), CKR_DEVICE_MEMORY (31).
     pub(super) fn copy_object(
         &self,
         alloc: Global,
@@ -187,6 +196,9 @@ impl Token {
         Ok(self.creation(session, number, attributes))
     }
 
+    /// C_GetAttributeValue. Checks: CKR_SESSION_HANDLE_INVALID (b3), CKR_OBJECT_HANDLE_INVALID
+    /// (82). The queries, which are all answered, may have faults: CKR_ATTRIBUTE_SENSITIVE (11),
+    /// CKR_ATTRIBUTE_TYPE_INVALID (12), CKR_BUFFER_TOO_SMALL (150).
     pub(super) fn get_attribute_value(
         &self,
         alloc: Global,
@@ -207,6 +219,9 @@ impl Token {
         })
     }
 
+    /// C_SetAttributeValue. Checks: CKR_SESSION_HANDLE_INVALID (b3), CKR_OBJECT_HANDLE_INVALID
+    /// (82), CKR_SESSION_READ_ONLY (b5), CKR_ACTION_PROHIBITED (1b), those of
+    /// `Record::check_change`.
     pub(super) fn set_attribute_value(
         &self,
         alloc: Global,
@@ -226,6 +241,9 @@ impl Token {
         Ok(Decision::of_change(Change::SetAttributes { number, values }))
     }
 
+    /// Setting a key's state, for which the standard has no function. Checks:
+    /// CKR_SESSION_HANDLE_INVALID (b3), CKR_KEY_HANDLE_INVALID (60), CKR_SESSION_READ_ONLY (b5),
+    /// CKR_ARGUMENTS_BAD (7), CKR_ACTION_PROHIBITED (1b).
     pub(super) fn set_key_state(
         &self,
         session: u64,
@@ -242,6 +260,8 @@ impl Token {
         Ok(Decision::of_change(Change::SetKeyState { number, state }))
     }
 
+    /// C_DestroyObject. Checks: CKR_SESSION_HANDLE_INVALID (b3), CKR_OBJECT_HANDLE_INVALID (82),
+    /// CKR_SESSION_READ_ONLY (b5), CKR_ACTION_PROHIBITED (1b).
     pub(super) fn destroy_object(&self, session: u64, object: u64) -> Result<Decision, Refused>
         ensures { IsDecision self.now.limits self.now.history
             (call.DestroyObject session object) result }

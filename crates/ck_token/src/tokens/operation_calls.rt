@@ -19,8 +19,8 @@ use ck_parts::Change;
 use ck_types::{Bytes, Mechanism, NoMemory, Rv, RvError, digest_of, error_if, mac_of};
 use std::alloc::Global;
 
-/// What the reply makes of the session's operation.
-fn finish(kind: OperationKind, session: u64, ends: bool) -> Change
+/// What a reply makes of the session's operation: it ends, or stays as it is.
+fn finish_operation(kind: OperationKind, session: u64, ends: bool) -> Change
     ensures { result ≡ change.FinishOperation kind session ends }
 {
     Change::FinishOperation {
@@ -30,9 +30,14 @@ fn finish(kind: OperationKind, session: u64, ends: bool) -> Change
     }
 }
 
-/// Gives the length alone, where it is asked for and where the room is too small; else `None`. The
-/// operation stays.
-fn give_length(kind: OperationKind, session: u64, len: u64, room: Option<u64>) -> Option<Decision>
+/// The reply that has only a length, where it is asked for (CKR_OK) or where the room is too small
+/// (CKR_BUFFER_TOO_SMALL); else `None`. The operation stays.
+fn length_decision(
+    kind: OperationKind,
+    session: u64,
+    len: u64,
+    room: Option<u64>,
+) -> Option<Decision>
     ensures { (bytes : List ℕ) → length bytes ≡ len → MatchOption result
         (bytes_reply room bytes ≡ ok (body.Bytes bytes))
         (λ d. (bytes_reply room bytes ≡ record { rv = d.rv; body = d.body })
@@ -46,12 +51,17 @@ fn give_length(kind: OperationKind, session: u64, len: u64, room: Option<u64>) -
     Some(Decision {
         rv,
         body: Body::Length(len),
-        change: finish(kind, session, false),
+        change: finish_operation(kind, session, false),
     })
 }
 
-/// Gives a digest or a signature, which ends the session's operation.
-fn give(alloc: Global, kind: OperationKind, session: u64, tag: &Tag) -> Result<Decision, NoMemory>
+/// The reply that has a digest or a signature, which ends the session's operation.
+fn bytes_decision(
+    alloc: Global,
+    kind: OperationKind,
+    session: u64,
+    tag: &Tag,
+) -> Result<Decision, NoMemory>
     ensures { IfOk result (λ decision. decision ≡ record {
       rv = rv.Ok;
       body = body.Bytes tag.now;
@@ -62,17 +72,17 @@ fn give(alloc: Global, kind: OperationKind, session: u64, tag: &Tag) -> Result<D
     Ok(Decision {
         rv: Rv::Ok,
         body: Body::Bytes(bytes),
-        change: finish(kind, session, true),
+        change: finish_operation(kind, session, true),
     })
 }
 
 /// A refusal that ends the session's operation, where one is active.
-fn refused(kind: OperationKind, session: u64, error: RvError) -> Refused
+fn ending_refusal(kind: OperationKind, session: u64, error: RvError) -> Refused
     ensures { result ≡ refused.Error error (change.FinishOperation kind session true) }
 {
     Refused::Error {
         error,
-        change: finish(kind, session, true),
+        change: finish_operation(kind, session, true),
     }
 }
 
@@ -120,7 +130,7 @@ fn check_usage(kind: OperationKind, key: &Record) -> Result<(), RvError>
     check_key_state(kind, key)
 }
 
-/// Digests, signatures and their checks: messages as a whole and in pieces.
+/// Digests, signatures and their checks: single-part and multiple-part operations.
 impl Token {
     ghost use Rattle.std.specs.Prelude.{false, Some, None, IfErr, is_some};
     ghost use Rattle.ck_journal.specs.Answers.{operation_error, key_error};
@@ -136,6 +146,8 @@ impl Token {
 
     // ---- starts
 
+    /// C_DigestInit. Checks: CKR_SESSION_HANDLE_INVALID (b3), CKR_OPERATION_ACTIVE (90),
+    /// CKR_MECHANISM_INVALID (70), CKR_MECHANISM_PARAM_INVALID (71).
     pub(super) fn digest_init(
         &self,
         session: u64,
@@ -145,10 +157,8 @@ impl Token {
             (call.DigestInit session mechanism.now) result }
     {
         self.session(session)?;
-        let active = self.operation(OperationKind::Digest, session).is_ok();
-        if active {
-            return Err(Refused::from(RvError::OperationActive));
-        }
+        let is_active = self.operation(OperationKind::Digest, session).is_ok();
+        error_if(is_active, RvError::OperationActive)?;
         let Some(hash) = digest_of(mechanism.kind) else {
             return Err(Refused::from(RvError::MechanismInvalid));
         };
@@ -156,8 +166,9 @@ impl Token {
         Ok(Decision::of_change(Change::StartDigest { session, hash }))
     }
 
-    /// The number of the key that the handle names, where its flag and its state let operations of
-    /// the kind have it (else CKR_KEY_HANDLE_INVALID or CKR_KEY_FUNCTION_NOT_PERMITTED).
+    /// The number of the key that the handle names, where operations of the kind may have it.
+    /// Checks: CKR_KEY_HANDLE_INVALID (60), CKR_KEY_FUNCTION_NOT_PERMITTED (68) for its flag or its
+    /// state.
     fn usable_key(&self, kind: OperationKind, handle: u64) -> Result<u64, RvError>
         ensures number { IfOk result (λ number.
             object_named self.now.history handle ≡ Some number) }
@@ -171,7 +182,8 @@ impl Token {
         Ok(number)
     }
 
-    /// The start of a signing or a verifying.
+    /// C_SignInit and C_VerifyInit. Checks: CKR_SESSION_HANDLE_INVALID (b3), CKR_OPERATION_ACTIVE
+    /// (90), CKR_MECHANISM_INVALID (70), CKR_MECHANISM_PARAM_INVALID (71), those of `usable_key`.
     pub(super) fn hmac_init(
         &self,
         kind: OperationKind,
@@ -185,10 +197,8 @@ impl Token {
             (λ code. change.Nothing) true result }
     {
         self.session(session)?;
-        let active = self.operation(kind, session).is_ok();
-        if active {
-            return Err(Refused::from(RvError::OperationActive));
-        }
+        let is_active = self.operation(kind, session).is_ok();
+        error_if(is_active, RvError::OperationActive)?;
         let Some(hash) = mac_of(mechanism.kind) else {
             return Err(Refused::from(RvError::MechanismInvalid));
         };
@@ -207,8 +217,9 @@ impl Token {
 
     // ---- checks of an active operation
 
-    /// The session's active operation of the kind, else the code of the first check that fails.
-    fn active(&self, kind: OperationKind, session: u64) -> Result<&Operation, RvError>
+    /// The session's active operation of the kind. Checks: CKR_SESSION_HANDLE_INVALID (b3),
+    /// CKR_OPERATION_NOT_INITIALIZED (91).
+    fn check_active(&self, kind: OperationKind, session: u64) -> Result<&Operation, RvError>
         ensures passes { IfOk result (λ operation.
             operation_error kind self.now.history session ≡ None) }
         ensures agrees { IfOk result (λ operation.
@@ -220,8 +231,9 @@ impl Token {
         self.operation(kind, session)
     }
 
-    /// The key of an operation, if it has one, hasn't ended (CKR_KEY_HANDLE_INVALID) and its state
-    /// doesn't forbid the operation (CKR_KEY_FUNCTION_NOT_PERMITTED).
+    /// The checks of the key of an operation, if it has one: it hasn't ended
+    /// (CKR_KEY_HANDLE_INVALID, 60), and its state lets the operation have it
+    /// (CKR_KEY_FUNCTION_NOT_PERMITTED, 68).
     fn check_present_key(&self, kind: OperationKind, key: Option<u64>) -> Result<(), RvError>
         ensures { result ≡ check_of (present_key_error kind self.now.history key) }
     {
@@ -234,8 +246,15 @@ impl Token {
         }
     }
 
-    /// The session's operation, where it may take in this message as a whole.
-    fn unused(&self, kind: OperationKind, session: u64, bytes: &[u8]) -> Result<&Operation, RvError>
+    /// The session's active operation, where it may take in this message as its single part.
+    /// Checks: those of `check_active`, CKR_OPERATION_NOT_INITIALIZED (91) where there was an
+    /// update, CKR_DATA_LEN_RANGE (21), those of `check_present_key`.
+    fn check_unused(
+        &self,
+        kind: OperationKind,
+        session: u64,
+        bytes: &[u8],
+    ) -> Result<&Operation, RvError>
         ensures passes { IfOk result (λ operation.
             message_error kind self.now.history session bytes.now ≡ None) }
         ensures agrees { IfOk result (λ operation.
@@ -245,15 +264,16 @@ impl Token {
         ensures fails { IfErr result (λ code.
             message_error kind self.now.history session bytes.now ≡ Some code) }
     {
-        let operation = self.active(kind, session)?;
+        let operation = self.check_active(kind, session)?;
         error_if(operation.is_updated(), RvError::OperationNotInitialized)?;
         error_if(is_long_piece(bytes), RvError::DataLenRange)?;
         self.check_present_key(kind, operation.key())?;
         Ok(operation)
     }
 
-    /// The session's operation, where its message may end.
-    fn ending(&self, kind: OperationKind, session: u64) -> Result<&Operation, RvError>
+    /// The session's active operation, where its multiple-part message may end. Checks: those of
+    /// `check_active`, those of `check_present_key`.
+    fn check_may_finish(&self, kind: OperationKind, session: u64) -> Result<&Operation, RvError>
         ensures passes { IfOk result (λ operation.
             final_error kind self.now.history session ≡ None) }
         ensures agrees { IfOk result (λ operation.
@@ -261,15 +281,17 @@ impl Token {
         ensures fails { IfErr result (λ code.
             final_error kind self.now.history session ≡ Some code) }
     {
-        let operation = self.active(kind, session)?;
+        let operation = self.check_active(kind, session)?;
         self.check_present_key(kind, operation.key())?;
         Ok(operation)
     }
 
     // ---- messages
 
-    /// A digest or a signature of a message as a whole.
-    pub(super) fn take_whole(
+    /// C_Digest and C_Sign, of a single-part message. Checks: those of `check_unused`, and then
+    /// CKR_BUFFER_TOO_SMALL (150). Each reply ends the operation, except one that has only a
+    /// length.
+    pub(super) fn finish_single_part(
         &self,
         alloc: Global,
         kind: OperationKind,
@@ -282,18 +304,19 @@ impl Token {
             (λ b. finish_change kind session rv.Ok b)
             (λ code. finish_change kind session (rv.Error code) body.Empty) (is_some room) result }
     {
-        let operation = match self.unused(kind, session, bytes) {
-            Err(error) => return Err(refused(kind, session, error)),
+        let operation = match self.check_unused(kind, session, bytes) {
+            Err(error) => return Err(ending_refusal(kind, session, error)),
             Ok(operation) => operation,
         };
-        if let Some(length) = give_length(kind, session, operation.len(), room) {
+        if let Some(length) = length_decision(kind, session, operation.len(), room) {
             return Ok(length);
         }
-        Ok(give(alloc, kind, session, &operation.tag_with(bytes))?)
+        Ok(bytes_decision(alloc, kind, session, &operation.tag_with(bytes))?)
     }
 
-    /// One more piece of a message.
-    pub(super) fn add_piece(
+    /// C_DigestUpdate, C_SignUpdate and C_VerifyUpdate. Checks: those of `check_active`, and
+    /// CKR_DATA_LEN_RANGE (21), which ends the operation.
+    pub(super) fn update(
         &self,
         kind: OperationKind,
         session: u64,
@@ -302,15 +325,17 @@ impl Token {
         ensures { IsDecided (update_error kind self.now.history session bytes.now) (ok body.Empty)
             (λ b. change.AddPiece kind session) (end_if_too_long kind session) false result }
     {
-        self.active(kind, session)?;
+        self.check_active(kind, session)?;
         if is_long_piece(bytes) {
-            return Err(refused(kind, session, RvError::DataLenRange));
+            return Err(ending_refusal(kind, session, RvError::DataLenRange));
         }
         Ok(Decision::of_change(Change::AddPiece { kind, session }))
     }
 
-    /// The digest or the signature of a message in pieces.
-    pub(super) fn finish_message(
+    /// C_DigestFinal and C_SignFinal, of a multiple-part message. Checks: those of
+    /// `check_may_finish`, and then CKR_BUFFER_TOO_SMALL (150). Each reply ends the operation,
+    /// except one that has only a length.
+    pub(super) fn finish_multiple_part(
         &self,
         alloc: Global,
         kind: OperationKind,
@@ -323,35 +348,36 @@ impl Token {
             (λ b. finish_change kind session rv.Ok b)
             (λ code. finish_change kind session (rv.Error code) body.Empty) (is_some room) result }
     {
-        let operation = match self.ending(kind, session) {
-            Err(error) => return Err(refused(kind, session, error)),
+        let operation = match self.check_may_finish(kind, session) {
+            Err(error) => return Err(ending_refusal(kind, session, error)),
             Ok(operation) => operation,
         };
-        if let Some(length) = give_length(kind, session, operation.len(), room) {
+        if let Some(length) = length_decision(kind, session, operation.len(), room) {
             return Ok(length);
         }
-        Ok(give(alloc, kind, session, &operation.tag())?)
+        Ok(bytes_decision(alloc, kind, session, &operation.tag())?)
     }
 
-    // ---- checks of a signature, each of which ends the session's operation
-
-    /// The checks of C_Verify.
-    fn check_whole(&self, session: u64, bytes: &[u8], signature: &[u8]) -> Result<(), RvError>
+    /// The checks of C_Verify: those of `check_unused`, CKR_SIGNATURE_LEN_RANGE (c1),
+    /// CKR_SIGNATURE_INVALID (c0).
+    fn check_verify(&self, session: u64, bytes: &[u8], signature: &[u8]) -> Result<(), RvError>
         ensures { result
             ≡ check_of (verify_error self.now.history session bytes.now signature.now) }
     {
-        let operation = self.unused(OperationKind::Verify, session, bytes)?;
+        let operation = self.check_unused(OperationKind::Verify, session, bytes)?;
         operation.tag_with(bytes).check(signature)
     }
 
-    /// The checks of C_VerifyFinal.
-    fn check_final(&self, session: u64, signature: &[u8]) -> Result<(), RvError>
+    /// The checks of C_VerifyFinal: those of `check_may_finish`, CKR_SIGNATURE_LEN_RANGE (c1),
+    /// CKR_SIGNATURE_INVALID (c0).
+    fn check_verify_final(&self, session: u64, signature: &[u8]) -> Result<(), RvError>
         ensures { result ≡ check_of (verify_final_error self.now.history session signature.now) }
     {
-        let operation = self.ending(OperationKind::Verify, session)?;
+        let operation = self.check_may_finish(OperationKind::Verify, session)?;
         operation.tag().check(signature)
     }
 
+    /// C_Verify. Checks: those of `check_verify`. Each reply ends the operation.
     pub(super) fn verify(
         &self,
         session: u64,
@@ -361,19 +387,28 @@ impl Token {
         ensures { IsDecision self.now.limits self.now.history
             (call.Verify session bytes.now signature.now) result }
     {
-        match self.check_whole(session, bytes, signature) {
-            Err(error) => Err(refused(OperationKind::Verify, session, error)),
-            Ok(()) => Ok(Decision::of_change(finish(OperationKind::Verify, session, true))),
+        match self.check_verify(session, bytes, signature) {
+            Err(error) => Err(ending_refusal(OperationKind::Verify, session, error)),
+            Ok(()) => Ok(Decision::of_change(finish_operation(
+                OperationKind::Verify,
+                session,
+                true,
+            ))),
         }
     }
 
+    /// C_VerifyFinal. Checks: those of `check_verify_final`. Each reply ends the operation.
     pub(super) fn verify_final(&self, session: u64, signature: &[u8]) -> Result<Decision, Refused>
         ensures { IsDecision self.now.limits self.now.history
             (call.VerifyFinal session signature.now) result }
     {
-        match self.check_final(session, signature) {
-            Err(error) => Err(refused(OperationKind::Verify, session, error)),
-            Ok(()) => Ok(Decision::of_change(finish(OperationKind::Verify, session, true))),
+        match self.check_verify_final(session, signature) {
+            Err(error) => Err(ending_refusal(OperationKind::Verify, session, error)),
+            Ok(()) => Ok(Decision::of_change(finish_operation(
+                OperationKind::Verify,
+                session,
+                true,
+            ))),
         }
     }
 }

@@ -14,7 +14,7 @@ use ck_types::{Pin, RvError, SessionState, UserType, error_if};
 /// How many wrong tries lock a user.
 const MOST_TRIES: u64 = 3;
 
-/// Whether a PIN is the known one, if there is one.
+/// Whether a PIN is the known one, if there is one. The time doesn't tell where digests differ.
 fn is_pin(known: Option<Pin>, given: Pin) -> bool
     ensures { result ≡ is_pin known given }
 {
@@ -74,57 +74,55 @@ impl Token {
     ghost use Rattle.ck_journal.specs.declared.calls.Call.TheVariants as call;
     ghost use Rattle.ck_token.specs.Decisions.{IsDecision};
 
+    /// C_InitToken. Checks: CKR_SESSION_EXISTS (b6); of a token that isn't initialized
+    /// CKR_PIN_LEN_RANGE (a2), else CKR_PIN_LOCKED (a4), CKR_PIN_INCORRECT (a0).
     pub(super) fn init_token(&self, pin: Pin) -> Result<Decision, Refused>
         ensures { IsDecision self.now.limits self.now.history (call.InitToken pin) result }
     {
-        if self.session_count() != 0 {
-            return Err(Refused::from(RvError::SessionExists));
-        }
+        error_if(self.session_count() != 0, RvError::SessionExists)?;
         if self.is_initialized() {
             let so = self.credential(UserType::So);
             check_lock(so)?;
             check_pin(UserType::So, so, pin)?;
         } else {
-            if !pin.fits() {
-                return Err(Refused::from(RvError::PinLenRange));
-            }
+            error_if(!pin.fits(), RvError::PinLenRange)?;
         }
         Ok(Decision::of_change(Change::InitToken { pin }))
     }
 
+    /// C_InitPIN. Checks: CKR_SESSION_HANDLE_INVALID (b3), CKR_USER_NOT_LOGGED_IN (101),
+    /// CKR_PIN_LEN_RANGE (a2).
     pub(super) fn init_pin(&self, session: u64, pin: Pin) -> Result<Decision, Refused>
         ensures { IsDecision self.now.limits self.now.history (call.InitPin session pin) result }
     {
         let row = self.session(session)?;
-        if !matches!(self.state(row), SessionState::RwSo) {
-            return Err(Refused::from(RvError::UserNotLoggedIn));
-        }
-        if !pin.fits() {
-            return Err(Refused::from(RvError::PinLenRange));
-        }
+        error_if(
+            !matches!(self.state(row), SessionState::RwSo),
+            RvError::UserNotLoggedIn,
+        )?;
+        error_if(!pin.fits(), RvError::PinLenRange)?;
         Ok(Decision::of_change(Change::InitPin { pin }))
     }
 
+    /// C_SetPIN. Checks: CKR_SESSION_HANDLE_INVALID (b3), CKR_SESSION_READ_ONLY (b5),
+    /// CKR_USER_PIN_NOT_INITIALIZED (102), CKR_PIN_LOCKED (a4), CKR_PIN_LEN_RANGE (a2),
+    /// CKR_PIN_INCORRECT (a0).
     pub(super) fn set_pin(&self, session: u64, old: Pin, new: Pin) -> Result<Decision, Refused>
         ensures { IsDecision self.now.limits self.now.history (call.SetPin session old new) result }
     {
         let row = self.session(session)?;
-        if !row.is_read_write() {
-            return Err(Refused::from(RvError::SessionReadOnly));
-        }
+        error_if(!row.is_read_write(), RvError::SessionReadOnly)?;
         let owner = pin_owner(self.state(row));
         let credential = self.credential(owner);
-        if credential.pin.is_none() {
-            return Err(Refused::from(RvError::UserPinNotInitialized));
-        }
+        error_if(credential.pin.is_none(), RvError::UserPinNotInitialized)?;
         check_lock(credential)?;
-        if !new.fits() {
-            return Err(Refused::from(RvError::PinLenRange));
-        }
+        error_if(!new.fits(), RvError::PinLenRange)?;
         check_pin(owner, credential, old)?;
         Ok(Decision::of_change(Change::SetPin { owner, pin: new }))
     }
 
+    /// C_Login. Checks: CKR_SESSION_HANDLE_INVALID (b3), CKR_USER_TYPE_INVALID (103), those of
+    /// `check_login`.
     pub(super) fn login(&self, session: u64, user: u64, pin: Pin) -> Result<Decision, Refused>
         ensures { IsDecision self.now.limits self.now.history (call.Login session user pin) result }
     {
@@ -136,6 +134,10 @@ impl Token {
         Ok(Decision::of_change(Change::LogIn { user }))
     }
 
+    /// The checks of C_Login that are about this user: CKR_USER_ALREADY_LOGGED_IN (100) or
+    /// CKR_USER_ANOTHER_ALREADY_LOGGED_IN (104), CKR_SESSION_READ_ONLY_EXISTS (b7),
+    /// CKR_USER_PIN_NOT_INITIALIZED (102), CKR_PIN_LOCKED (a4), CKR_PIN_INCORRECT (a0),
+    /// CKR_DEVICE_MEMORY (31).
     fn check_login(&self, user: UserType, pin: Pin) -> Result<(), Refused>
         ensures { IsCheckAbout (Some user)
             (user_login_error self.now.limits self.now.history user pin) result }
@@ -143,9 +145,7 @@ impl Token {
         check_not_logged_in(user, self.logged_in())?;
         self.check_read_write(user)?;
         let credential = self.credential(user);
-        if credential.pin.is_none() {
-            return Err(Refused::from(RvError::UserPinNotInitialized));
-        }
+        error_if(credential.pin.is_none(), RvError::UserPinNotInitialized)?;
         check_lock(credential)?;
         check_pin(user, credential, pin)?;
         self.check_login_count(user)?;
@@ -175,13 +175,12 @@ impl Token {
         }
     }
 
+    /// C_Logout. Checks: CKR_SESSION_HANDLE_INVALID (b3), CKR_USER_NOT_LOGGED_IN (101).
     pub(super) fn logout(&self, session: u64) -> Result<Decision, Refused>
         ensures { IsDecision self.now.limits self.now.history (call.Logout session) result }
     {
         self.session(session)?;
-        if self.logged_in().is_none() {
-            return Err(Refused::from(RvError::UserNotLoggedIn));
-        }
+        error_if(self.logged_in().is_none(), RvError::UserNotLoggedIn)?;
         Ok(Decision::of_change(Change::LogOut))
     }
 }

@@ -3,7 +3,7 @@ use crate::decisions::{Decision, Refused};
 use ck_journal::{Body, number_of_handle};
 use ck_objects::Template;
 use ck_parts::Change;
-use ck_types::{NoMemory, Rv, RvError, Sequence};
+use ck_types::{NoMemory, Rv, RvError, Sequence, error_if};
 use std::alloc::Global;
 
 /// Searching for objects.
@@ -13,6 +13,7 @@ impl Token {
     ghost use Rattle.ck_journal.specs.declared.calls.Call.TheVariants as call;
     ghost use Rattle.ck_token.specs.Decisions.{IsDecision};
 
+    /// C_FindObjectsInit. Checks: CKR_SESSION_HANDLE_INVALID (b3), CKR_OPERATION_ACTIVE (90).
     pub(super) fn find_objects_init(
         &self,
         alloc: Global,
@@ -23,14 +24,13 @@ impl Token {
             (call.FindObjectsInit session template.now) result }
     {
         let row = self.session(session)?;
-        if row.is_searching() {
-            return Err(Refused::from(RvError::OperationActive));
-        }
+        error_if(row.is_searching(), RvError::OperationActive)?;
         let found = self.parts.objects.find(alloc, self.view(), template)?;
         let found = Some(Sequence::from_vec(found));
         Ok(Decision::of_change(Change::SetSearch { session, found }))
     }
 
+    /// C_FindObjects. Checks: CKR_SESSION_HANDLE_INVALID (b3), CKR_OPERATION_NOT_INITIALIZED (91).
     pub(super) fn find_objects(
         &self,
         alloc: Global,
@@ -82,14 +82,14 @@ impl Token {
         Ok(handles)
     }
 
+    /// C_FindObjectsFinal. Checks: CKR_SESSION_HANDLE_INVALID (b3), CKR_OPERATION_NOT_INITIALIZED
+    /// (91).
     pub(super) fn find_objects_final(&self, session: u64) -> Result<Decision, Refused>
         ensures { IsDecision self.now.limits self.now.history
             (call.FindObjectsFinal session) result }
     {
         let row = self.session(session)?;
-        if !row.is_searching() {
-            return Err(Refused::from(RvError::OperationNotInitialized));
-        }
+        error_if(!row.is_searching(), RvError::OperationNotInitialized)?;
         let found = None;
         Ok(Decision::of_change(Change::SetSearch { session, found }))
     }

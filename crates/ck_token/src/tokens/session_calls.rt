@@ -4,7 +4,7 @@ use super::Token;
 use crate::decisions::{Decision, Refused};
 use ck_journal::{Body, READ_WRITE, SERIAL_SESSION, is_read_write};
 use ck_parts::Change;
-use ck_types::{Rv, RvError, Sequence, TokenFlags, UserType, mechanism_types};
+use ck_types::{Rv, RvError, Sequence, TokenFlags, UserType, error_if, mechanism_types};
 use std::alloc::Global;
 
 /// All flags by which operations are cancelled: CKF_DIGEST, CKF_SIGN and CKF_VERIFY.
@@ -18,28 +18,28 @@ impl Token {
     ghost use Rattle.ck_token.specs.Decisions.{IsDecision, reply_of};
     ghost use Rattle.ck_parts.specs.declared.changes.Change.TheVariants as change;
 
+    /// C_OpenSession. Checks: CKR_TOKEN_NOT_RECOGNIZED (e1), CKR_SESSION_PARALLEL_NOT_SUPPORTED
+    /// (b4), CKR_ARGUMENTS_BAD (7), CKR_SESSION_READ_WRITE_SO_EXISTS (b8), CKR_SESSION_COUNT (b1),
+    /// CKR_DEVICE_MEMORY (31).
     pub(super) fn open_session(&self, flags: u64) -> Result<Decision, Refused>
         ensures { IsDecision self.now.limits self.now.history (call.OpenSession flags) result }
     {
-        if !self.is_initialized() {
-            return Err(Refused::from(RvError::TokenNotRecognized));
-        }
-        if flags & SERIAL_SESSION == 0 {
-            return Err(Refused::from(RvError::SessionParallelNotSupported));
-        }
-        if flags & READ_WRITE != flags {
-            return Err(Refused::from(RvError::ArgumentsBad));
-        }
-        if !is_read_write(flags) && self.logged_in() == Some(UserType::So) {
-            return Err(Refused::from(RvError::SessionReadWriteSoExists));
-        }
-        if self.limits.sessions() <= self.session_count() {
-            return Err(Refused::from(RvError::SessionCount));
-        }
+        error_if(!self.is_initialized(), RvError::TokenNotRecognized)?;
+        error_if(
+            flags & SERIAL_SESSION == 0,
+            RvError::SessionParallelNotSupported,
+        )?;
+        error_if(flags & READ_WRITE != flags, RvError::ArgumentsBad)?;
+        error_if(
+            !is_read_write(flags) && self.logged_in() == Some(UserType::So),
+            RvError::SessionReadWriteSoExists,
+        )?;
+        error_if(
+            self.limits.sessions() <= self.session_count(),
+            RvError::SessionCount,
+        )?;
         let openings = self.openings();
-        if self.limits.openings() <= openings {
-            return Err(Refused::from(RvError::DeviceMemory));
-        }
+        error_if(self.limits.openings() <= openings, RvError::DeviceMemory)?;
         Ok(Decision {
             rv: Rv::Ok,
             body: Body::Handle(openings + 1),
@@ -47,6 +47,7 @@ impl Token {
         })
     }
 
+    /// C_CloseSession. Check: CKR_SESSION_HANDLE_INVALID (b3).
     pub(super) fn close_session(&self, session: u64) -> Result<Decision, Refused>
         ensures { IsDecision self.now.limits self.now.history (call.CloseSession session) result }
     {
@@ -54,6 +55,7 @@ impl Token {
         Ok(Decision::of_change(Change::CloseSession { session }))
     }
 
+    /// C_GetSessionInfo. Check: CKR_SESSION_HANDLE_INVALID (b3).
     pub(super) fn get_session_info(&self, session: u64) -> Result<Decision, Refused>
         ensures { IsDecision self.now.limits self.now.history (call.GetSessionInfo session) result }
     {
@@ -64,6 +66,7 @@ impl Token {
         }))
     }
 
+    /// C_GetTokenInfo, which is never refused.
     pub(super) fn get_token_info(&self) -> Decision
         ensures reply { reply_of result
             ≡ allowed_reply self.now.limits self.now.history call.GetTokenInfo }
@@ -84,17 +87,17 @@ impl Token {
         })
     }
 
+    /// C_SessionCancel. Checks: CKR_SESSION_HANDLE_INVALID (b3), CKR_ARGUMENTS_BAD (7).
     pub(super) fn session_cancel(&self, session: u64, flags: u64) -> Result<Decision, Refused>
         ensures { IsDecision self.now.limits self.now.history
             (call.SessionCancel session flags) result }
     {
         self.session(session)?;
-        if flags & CANCEL_FLAGS != flags {
-            return Err(Refused::from(RvError::ArgumentsBad));
-        }
+        error_if(flags & CANCEL_FLAGS != flags, RvError::ArgumentsBad)?;
         Ok(Decision::of_change(Change::CancelOperations { session, flags }))
     }
 
+    /// C_GetMechanismList, which is never refused.
     pub(super) fn get_mechanism_list(&self, alloc: Global) -> Result<Decision, Refused>
         ensures { IsDecision self.now.limits self.now.history call.GetMechanismList result }
     {

@@ -7,8 +7,8 @@ use Rattle.ck_store.proofs.session_lists.add_to_list.Goals as goal
 pub returns-in-Some-clause-kept : goal.returns-in-Some-clause-kept
 returns-in-Some-clause-kept c = λ s m p row listed is.
     let found =
-    found_list c.args.lists.now.items c.as_slice.result.now c.args.session c.args.private c.in-Some.i
-    c.index_mut.result.now c.as_slice.ensures.value c.in-Some.ensures.within c.in-Some.ensures.position
+    found_list c.args.lists.now.items c.deref.result.now c.args.session c.args.private c.in-Some.i
+    c.index_mut.result.now c.deref.ensures.value c.in-Some.ensures.within c.in-Some.ensures.position
     c.index_mut.ensures.value in
     IsListed-kept c.args.lists.now.items c.args.session c.args.private c.args.place c.in-Some.i
     c.index_mut.result.now c.push.new.self found.0 c.index_mut.ensures.value found.1
@@ -17,8 +17,8 @@ returns-in-Some-clause-kept c = λ s m p row listed is.
 pub returns-in-Some-clause-added : goal.returns-in-Some-clause-added
 returns-in-Some-clause-added c =
     let found =
-    found_list c.args.lists.now.items c.as_slice.result.now c.args.session c.args.private c.in-Some.i
-    c.index_mut.result.now c.as_slice.ensures.value c.in-Some.ensures.within c.in-Some.ensures.position
+    found_list c.args.lists.now.items c.deref.result.now c.args.session c.args.private c.in-Some.i
+    c.index_mut.result.now c.deref.ensures.value c.in-Some.ensures.within c.in-Some.ensures.position
     c.index_mut.ensures.value in
     on_ok_weaker c.push.result
     (IsListed-taken c.args.lists.now.items c.args.session c.args.private c.args.place c.in-Some.i
@@ -28,8 +28,8 @@ returns-in-Some-clause-added c =
 pub returns-in-Some-clause-only : goal.returns-in-Some-clause-only
 returns-in-Some-clause-only c = λ s m p.
     let found =
-    found_list c.args.lists.now.items c.as_slice.result.now c.args.session c.args.private c.in-Some.i
-    c.index_mut.result.now c.as_slice.ensures.value c.in-Some.ensures.within c.in-Some.ensures.position
+    found_list c.args.lists.now.items c.deref.result.now c.args.session c.args.private c.in-Some.i
+    c.index_mut.result.now c.deref.ensures.value c.in-Some.ensures.within c.in-Some.ensures.position
     c.index_mut.ensures.value in
     IsListed-only c.args.lists.now.items c.args.session c.args.private c.args.place c.in-Some.i
     c.index_mut.result.now c.push.new.self found.0 c.index_mut.ensures.value found.1

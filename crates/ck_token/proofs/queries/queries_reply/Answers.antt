@@ -1,5 +1,6 @@
 use Rattle.std.proofs.lemmas.Grind.{common_steps}
-use Rattle.std.proofs.Common.{◌+◌, ◌<◌, ◌≡◌, suc, [], ◌∷◌, ◌++◌, None, take, map, length, get_or, sym, ap, ◌∙◌, arith}
+use Rattle.std.proofs.Common.{◌+◌, ◌<◌, ◌≡◌, suc, [], ◌∷◌, ◌++◌, None, take, map, length, get_or}
+use Rattle.std.proofs.Common.{sym, ap, ◌∙◌, arith}
 use Rattle.std.proofs.Math.Seq.{take-suc}
 use Rattle.std.proofs.lemmas.List.{map-append}
 use Rattle.ck_journal.specs.Queries.{query_answer, queries_code}
@@ -18,8 +19,10 @@ loop-query-preserved c =
     let next : index + 1 ≡ suc index = omega arith in (
       c.in_ok-push.ensures.items
           ∙ ap (λ answers. answers ++ (c.in_ok-answer.answer ∷ [])) c.loop-query.invariant.0
-          ∙ ap (λ answer. map (query_answer items) (take index queries) ++ (answer ∷ [])) c.in_ok-answer.ensures.answer
-          ∙ sym (map-append (query_answer items) (take index queries) (get_or queries index other ∷ []))
+          ∙ ap (λ answer. map (query_answer items) (take index queries) ++ (answer ∷ []))
+          c.in_ok-answer.ensures.answer
+          ∙ sym (map-append (query_answer items) (take index queries)
+          (get_or queries index other ∷ []))
           ∙ sym (ap (map (query_answer items)) (take-suc queries index other within))
           ∙ sym (ap (λ k. map (query_answer items) (take k queries)) next),
       c.graver-rv.ensures

@@ -6,5 +6,5 @@ returns c = record {
   agree = λ h e computation holds of does idle agree.
       operations-started h _ (rw (← c.self.view_is) at agree) e c.args.kind c.args.session c.args.running c.args.key
       computation holds of does idle _
-      (rw (c.unwrap.ensures, c.new-operation.ensures) at c.push.ensures.items);
+      (rw c.new-operation.ensures at c.push_reserved.ensures.items);
 }

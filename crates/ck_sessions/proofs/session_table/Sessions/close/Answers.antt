@@ -1,19 +1,25 @@
-use Rattle.std.proofs.Common.{◌∙◌, sym, ap, refl, cond, None}
+use Rattle.std.proofs.Common.{◌≡◌, ◌==◌, ◌∙◌, sym, ap, refl, cond, None, length, vec_len, arith}
 use Rattle.ck_sessions.proofs.Moves.{SessionsAgree-closed}
 use Rattle.ck_sessions.proofs.session_table.Sessions.close.Goals as goal
 
 pub returns-then-is_empty : goal.returns-then-is_empty
-returns-then-is_empty c = record {
-  agree = λ h e d agree. SessionsAgree-closed h _
-      (rw (← c.self.view_is) at agree) e c.args.session _ d c.remove_session.ensures refl
-      (sym (ap (λ t. cond t None c.self.inside.login) (rw c.as_slice.ensures.value at
-      (sym c.is_empty.ensures ∙ c.if-is_empty.true)))) refl refl refl;
-}
+returns-then-is_empty c =
+    let rows = c.remove_session.new.rows in
+    let same : length rows.items ≡ vec_len rows = omega arith in
+    record {
+      agree = λ h e d agree. SessionsAgree-closed h _
+          (rw (← c.self.view_is) at agree) e c.args.session _ d c.remove_session.ensures refl
+          (sym (ap (λ t. cond t None c.self.inside.login)
+          (ap (λ n. n == 0) same ∙ sym c.is_empty.ensures ∙ c.if-is_empty.true))) refl refl refl;
+    }
 
 pub returns-else-is_empty : goal.returns-else-is_empty
-returns-else-is_empty c = record {
-  agree = λ h e d agree. SessionsAgree-closed h _
-      (rw (← c.self.view_is) at agree) e c.args.session _ d c.remove_session.ensures refl
-      (sym (ap (λ t. cond t None c.self.inside.login) (rw c.as_slice.ensures.value at
-      (sym c.is_empty.ensures ∙ c.if-is_empty.false)))) refl refl refl;
-}
+returns-else-is_empty c =
+    let rows = c.remove_session.new.rows in
+    let same : length rows.items ≡ vec_len rows = omega arith in
+    record {
+      agree = λ h e d agree. SessionsAgree-closed h _
+          (rw (← c.self.view_is) at agree) e c.args.session _ d c.remove_session.ensures refl
+          (sym (ap (λ t. cond t None c.self.inside.login)
+          (ap (λ n. n == 0) same ∙ sym c.is_empty.ensures ∙ c.if-is_empty.false))) refl refl refl;
+    }

@@ -6,5 +6,5 @@ pub returns : goal.returns
 returns c = record {
   agree = λ h e d none agree.
       SessionsAgree-opened h _ (rw (← c.self.view_is) at agree) e c.args.flags _ d none
-      (rw (c.unwrap.ensures, c.new-session.ensures) at c.push.ensures.items) refl refl refl refl refl;
+      (rw c.new-session.ensures at c.push_reserved.ensures.items) refl refl refl refl refl;
 }

@@ -13,7 +13,7 @@ invariant_of-self c =
     let sound =
     subst (λ u. IsSound c.self.inside.objects c.self.inside.index.items c.self.inside.lists.items u
     c.self.inside.creations) none c.self.invariant.0 in
-    let items = rw c.unwrap.ensures at c.push.ensures.items in (
+    let items = c.push_reserved.ensures.items in (
       subst (λ ps. IsSound c.insert_reserved-key.new.self ps c.self.inside.lists.items
           (Some (place c.args.number c.insert_reserved-key.result)) c.args.number) (sym items)
           (IsSound-created c.self.inside.objects c.insert_reserved-key.new.self
@@ -43,7 +43,7 @@ returns-clause-rows c =
     let sound =
     subst (λ u. IsSound c.self.inside.objects c.self.inside.index.items c.self.inside.lists.items u
     c.self.inside.creations) none c.self.invariant.0 in
-    let pushed = rw c.unwrap.ensures at c.push.ensures.items in
+    let pushed = c.push_reserved.ensures.items in
     ap (objects_at c.insert_reserved-key.new.self) pushed
     ∙ objects_at-created c.self.inside.objects c.insert_reserved-key.new.self
     c.self.inside.index.items c.self.inside.lists.items c.self.inside.creations c.args.number

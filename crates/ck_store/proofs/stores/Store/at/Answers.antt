@@ -8,7 +8,7 @@ use Rattle.ck_store.proofs.stores.Store.at.Goals as goal
 pub returns-in_err-object : goal.returns-in_err-object
 returns-in_err-object c = λ h agree.
     let here = rw (← c.self.view_is) at agree in
-    let missing = rw c.as_slice.ensures.value at c.in_err-object.ensures in
+    let missing = rw c.deref.ensures.value at c.in_err-object.ensures in
     ap option_copied c.from_residual.ensures
     ∙ ap (option_map (λ (row : ObjectRow). row.attributes))
     (missing c.self.invariant.0.indexed ∙ find-numbered h _ here c.args.number)
@@ -17,7 +17,7 @@ returns-in_err-object c = λ h agree.
 pub returns : goal.returns
 returns c = λ h agree.
     let here = rw (← c.self.view_is) at agree in
-    let found = rw c.as_slice.ensures.value at c.in_ok-object.ensures in
+    let found = rw c.deref.ensures.value at c.in_ok-object.ensures in
     ap Some c.attributes.ensures
     ∙ ap (option_map (λ (row : ObjectRow). row.attributes))
     (found c.self.invariant.0.indexed ∙ find-numbered h _ here c.args.number)

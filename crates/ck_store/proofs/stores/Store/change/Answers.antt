@@ -13,7 +13,7 @@ pub returns-in_default : goal.returns-in_default
 returns-in_default c = record {
   agree = λ h e session object d named passes agree.
       let here = rw (← c.self.view_is) at agree in
-      let is_key = (rw c.as_slice.ensures.value at c.in_default.ensures) c.self.invariant.0.indexed in
+      let is_key = (rw c.deref.ensures.value at c.in_default.ensures) c.self.invariant.0.indexed in
       let values = c.args.values.items in
       let given = with_given values (named_attributes h object) in
       rw (← c.self.view_is)
@@ -36,7 +36,7 @@ change_at-mark-requires c = λ row is.
 
 pub invariant_of-self : goal.invariant_of-self
 invariant_of-self c =
-    let is_key = (rw c.as_slice.ensures.value at c.in-Some.ensures) c.self.invariant.0.indexed in
+    let is_key = (rw c.deref.ensures.value at c.in-Some.ensures) c.self.invariant.0.indexed in
     let given = c.change_at-mark.ensures.given c.args.number is_key in (
       IsSound-changed c.self.inside.objects c.change_at-mark.new.objects c.args.number given.attributes
           given.changed c.self.inside.index.items c.self.inside.lists.items
@@ -53,7 +53,7 @@ pub returns : goal.returns
 returns c = record {
   agree = λ h e session object d named passes agree.
       let here = rw (← c.self.view_is) at agree in
-      let is_key = (rw c.as_slice.ensures.value at c.in-Some.ensures) c.self.invariant.0.indexed in
+      let is_key = (rw c.deref.ensures.value at c.in-Some.ensures) c.self.invariant.0.indexed in
       let given = c.change_at-mark.ensures.given c.args.number is_key in
       let has = is_key.has c.in-Some.key refl in
       let found = sym (find-key c.self.inside.objects c.self.inside.index.items

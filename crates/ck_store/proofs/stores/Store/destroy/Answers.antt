@@ -8,7 +8,7 @@ use Rattle.ck_store.proofs.stores.Store.destroy.Goals as goal
 
 pub invariant_of-self : goal.invariant_of-self
 invariant_of-self c =
-    let left = (rw c.as_slice.ensures.value at c.remove_numbered.ensures.left) c.self.invariant.0.indexed in (
+    let left = (rw c.deref.ensures.value at c.remove_numbered.ensures.left) c.self.invariant.0.indexed in (
       IsSound-reindexed c.remove_numbered.new.objects c.self.inside.index.items
           c.compact.new.index.items c.self.inside.lists.items c.self.inside.unlisted
           c.self.inside.creations
@@ -27,9 +27,9 @@ returns c = record {
   agree = λ h e session object d named agree.
       let here = rw (← c.self.view_is) at agree in
       let left =
-      (rw c.as_slice.ensures.value at c.remove_numbered.ensures.left) c.self.invariant.0.indexed in
+      (rw c.deref.ensures.value at c.remove_numbered.ensures.left) c.self.invariant.0.indexed in
       let ended =
-      (rw c.as_slice.ensures.value at c.remove_numbered.ensures.ended) c.self.invariant.0.indexed in
+      (rw c.deref.ensures.value at c.remove_numbered.ensures.ended) c.self.invariant.0.indexed in
       StoreAgrees-destroyed h _ here e _ refl session object c.args.number named c.self.invariant.1 d
       (c.compact.ensures.objects
       ∙ objects_at-left (has_number c.args.number) c.self.inside.objects

@@ -11,7 +11,7 @@ invariant_of-self c =
     let left =
     IsLeft-then (is_ended_by c.args.ending) c.self.inside.objects c.end_listed.new.objects
     c.end_newest.new.objects c.end_listed.ensures.left c.end_newest.ensures.left in
-    let walked = rw c.as_slice.ensures.value at c.end_listed.ensures.ended in
+    let walked = rw c.deref.ensures.value at c.end_listed.ensures.ended in
     let are : c.retain.new.self.items
     ≡ filter (is_kept c.args.ending) c.self.inside.lists.items =
     filter_same _ _ _ (λ x b f' k. search rules) _ _ c.retain.ensures.filtered in (
@@ -37,7 +37,7 @@ returns-clause-rows c =
     let left =
     IsLeft-then (is_ended_by c.args.ending) c.self.inside.objects c.end_listed.new.objects
     c.end_newest.new.objects c.end_listed.ensures.left c.end_newest.ensures.left in
-    let walked = rw c.as_slice.ensures.value at c.end_listed.ensures.ended in
+    let walked = rw c.deref.ensures.value at c.end_listed.ensures.ended in
     c.compact.ensures.objects
     ∙ objects_at-left (is_ended_by c.args.ending) c.self.inside.objects c.end_newest.new.objects left
     (EndsAll-walked c.args.ending c.self.inside.objects c.end_newest.new.objects

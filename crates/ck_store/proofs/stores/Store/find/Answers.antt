@@ -7,9 +7,9 @@ use Rattle.ck_store.proofs.stores.Store.find.Goals as goal
 pub returns : goal.returns
 returns c =
     let marked =
-    subst (IsMarked c.self.inside.objects) (sym c.as_slice.ensures.value) c.self.invariant.2 in
+    subst (IsMarked c.self.inside.objects) (sym c.deref-2.ensures.value) c.self.invariant.2 in
     IfOk-weaker c.find_matching.result _ _
     (λ numbers found h agree view. found marked
-    ∙ rw (c.as_slice-index.ensures.value, view)
+    ∙ rw (c.deref.ensures.value, view)
     (matching-agree h _ (rw (← c.self.view_is) at agree) c.args.template.now.items))
     c.find_matching.ensures

@@ -8,7 +8,7 @@ pub returns-in_err-object-clause-none : goal.returns-in_err-object-clause-none
 returns-in_err-object-clause-none c = λ h agree view.
     let here = rw (← c.self.view_is) at agree in
     let missing =
-    rw (c.as_slice.ensures.value, c.number_of_handle-number.ensures) at c.in_err-object.ensures in
+    rw (c.deref.ensures.value, c.number_of_handle-number.ensures) at c.in_err-object.ensures in
     rw c.from_residual.ensures
     (get-none h _ here c.args.handle c.self.invariant.1
     (missing c.self.invariant.0.indexed ∙ find-numbered h _ here _))
@@ -17,7 +17,7 @@ pub returns-then-eq-clause-number : goal.returns-then-eq-clause-number
 returns-then-eq-clause-number c = λ h agree view.
     let here = rw (← c.self.view_is) at agree in
     let found =
-    rw (c.as_slice.ensures.value, c.number_of_handle-number.ensures) at c.in_ok-object.ensures in
+    rw (c.deref.ensures.value, c.number_of_handle-number.ensures) at c.in_ok-object.ensures in
     let named =
     names_with-handle (view_of h) c.in_ok-object.object.now c.args.handle c.handle.result
     c.eq.result (rw view at c.handle.ensures) c.eq.ensures in
@@ -29,7 +29,7 @@ pub returns-then-eq-clause-attributes : goal.returns-then-eq-clause-attributes
 returns-then-eq-clause-attributes c = λ h agree view.
     let here = rw (← c.self.view_is) at agree in
     let found =
-    rw (c.as_slice.ensures.value, c.number_of_handle-number.ensures) at c.in_ok-object.ensures in
+    rw (c.deref.ensures.value, c.number_of_handle-number.ensures) at c.in_ok-object.ensures in
     let named =
     names_with-handle (view_of h) c.in_ok-object.object.now c.args.handle c.handle.result
     c.eq.result (rw view at c.handle.ensures) c.eq.ensures in
@@ -41,7 +41,7 @@ pub returns-else-eq-clause-none : goal.returns-else-eq-clause-none
 returns-else-eq-clause-none c = λ h agree view.
     let here = rw (← c.self.view_is) at agree in
     let found =
-    rw (c.as_slice.ensures.value, c.number_of_handle-number.ensures) at c.in_ok-object.ensures in
+    rw (c.deref.ensures.value, c.number_of_handle-number.ensures) at c.in_ok-object.ensures in
     let named =
     names_with-handle (view_of h) c.in_ok-object.object.now c.args.handle c.handle.result
     c.eq.result (rw view at c.handle.ensures) c.eq.ensures in

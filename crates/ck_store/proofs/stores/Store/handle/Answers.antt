@@ -8,7 +8,7 @@ use Rattle.ck_store.proofs.stores.Store.handle.Goals as goal
 pub returns-in_err-find_numbered : goal.returns-in_err-find_numbered
 returns-in_err-find_numbered c = λ h agree view.
     let here = rw (← c.self.view_is) at agree in
-    let missing = rw c.as_slice.ensures.value at c.in_err-find_numbered.ensures in
+    let missing = rw c.deref.ensures.value at c.in_err-find_numbered.ensures in
     c.from_residual.ensures
     ∙ ap (option_and_then (visible_handle (view_of h)))
     (missing c.self.invariant.0.indexed ∙ find-numbered h _ here c.args.number)
@@ -17,7 +17,7 @@ returns-in_err-find_numbered c = λ h agree view.
 pub returns : goal.returns
 returns c = λ h agree view.
     let here = rw (← c.self.view_is) at agree in
-    let found = rw c.as_slice.ensures.value at c.in_ok-find_numbered.ensures in
+    let found = rw c.deref.ensures.value at c.in_ok-find_numbered.ensures in
     (rw view at c.handle.ensures)
     ∙ ap (option_and_then (visible_handle (view_of h)))
     (found c.self.invariant.0.indexed ∙ find-numbered h _ here c.args.number)

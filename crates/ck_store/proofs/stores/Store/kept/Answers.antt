@@ -6,5 +6,5 @@ use Rattle.ck_store.proofs.stores.Store.kept.Goals as goal
 
 pub returns : goal.returns
 returns c = λ h agree.
-    c.from_vec.ensures ∙ (rw c.as_slice.ensures.value at c.in_ok-kept.ensures)
+    c.from_vec.ensures ∙ (rw c.deref.ensures.value at c.in_ok-kept.ensures)
     ∙ ap (λ s. map kept_of s.rows) c.self.view_is ∙ kept_of-agree h c.args.self.now agree

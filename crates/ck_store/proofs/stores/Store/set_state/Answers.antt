@@ -9,7 +9,7 @@ use Rattle.ck_store.proofs.stores.Store.set_state.Goals as goal
 
 pub invariant_of-self : goal.invariant_of-self
 invariant_of-self c =
-    let is_key = (rw c.as_slice.ensures.value at c.in-Some.ensures) c.self.invariant.0.indexed in
+    let is_key = (rw c.deref.ensures.value at c.in-Some.ensures) c.self.invariant.0.indexed in
     let changed = c.set_state_at.ensures c.args.number is_key in (
       IsSound-was c.self.inside.objects c.set_state_at.new.objects c.self.inside.index.items
           c.self.inside.lists.items c.self.inside.unlisted c.self.inside.creations
@@ -31,7 +31,7 @@ pub returns-in-Some : goal.returns-in-Some
 returns-in-Some c = record {
   agree = λ h e session key n d is_state named agree.
       let here = rw (← c.self.view_is) at agree in
-      let is_key = (rw c.as_slice.ensures.value at c.in-Some.ensures) c.self.invariant.0.indexed in
+      let is_key = (rw c.deref.ensures.value at c.in-Some.ensures) c.self.invariant.0.indexed in
       StoreAgrees-state_set h _ here e _ refl session key c.args.number named c.self.invariant.1 n
       c.args.state is_state d
       (objects_at-changed (with_key_state c.args.number c.args.state) c.self.inside.objects
@@ -43,7 +43,7 @@ pub returns-in_default : goal.returns-in_default
 returns-in_default c = record {
   agree = λ h e session key n d is_state named agree.
       let here = rw (← c.self.view_is) at agree in
-      let is_key = (rw c.as_slice.ensures.value at c.in_default.ensures) c.self.invariant.0.indexed in
+      let is_key = (rw c.deref.ensures.value at c.in_default.ensures) c.self.invariant.0.indexed in
       rw (← c.self.view_is)
       (StoreAgrees-state_set h _ here e _ refl session key c.args.number named c.self.invariant.1 n
       c.args.state is_state d

@@ -12,7 +12,8 @@ board-requires c =
     let h = c.self.inside.journal.history in
     let rows : length c.self.inside.parts.sessions.rows ≡ length (open_sessions h) =
     ap length agree.parts.sessions.rows ∙ length-map (open_sessions h) (session_row h) in
-    let few : length (open_sessions h) ≤ c.self.inside.limits.sessions = open-bound c.self.inside.limits h
+    let few : length (open_sessions h) ≤ c.self.inside.limits.sessions =
+    open-bound c.self.inside.limits h
     agree.legal in
     let most : c.self.inside.limits.sessions ≤ 64 = agree.ranges.1 in
     omega (arith, rows, few, most)

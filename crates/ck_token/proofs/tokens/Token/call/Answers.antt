@@ -17,7 +17,8 @@ returns-in_default-prepare-clause-succeeds c = λ room free.
     let d = c.in-Ok.field-0 in
     let wrong = c.prepare.ensures.succeeds (rw (← c.self.view_is) at room)
     (no_list limits h c.args.call (reply_of d) c.in-Ok.ensures.reply free)
-    (adds_nothing limits h c.args.call (reply_of d) d.change c.in-Ok.ensures.reply c.in-Ok.ensures.change free) in
+    (adds_nothing limits h c.args.call (reply_of d) d.change c.in-Ok.ensures.reply
+    c.in-Ok.ensures.change free) in
     cc
 
 pub apply-requires-clause-counted : goal.apply-requires-clause-counted
@@ -27,7 +28,8 @@ apply-requires-clause-counted c =
     let is = rw (← c.self.view_is) at c.in-Ok.ensures.change in
     let h = c.self.inside.journal.history in
     let d = c.in-Ok.field-0 in
-    counted c.self.inside.limits agree.ranges h c.prepare.new.parts agree.legal (c.prepare.ensures.agree h agree.parts)
+    counted c.self.inside.limits agree.ranges h c.prepare.new.parts agree.legal
+    (c.prepare.ensures.agree h agree.parts)
     c.args.call (reply_of d) answered d.change is
 
 whole : (c : goal.After-reply_with-2)
@@ -39,7 +41,8 @@ whole c =
     let is = rw (← c.self.view_is) at c.in-Ok.ensures.change in
     let d = c.in-Ok.field-0 in
     let with_body : Body → Reply = λ b. record { rv = d.rv; body = b } in
-    entered-agrees c.self.inside.limits h c.self.inside.parts agree c.args.caller c.args.call (reply_of d)
+    entered-agrees c.self.inside.limits h c.self.inside.parts agree c.args.caller c.args.call
+    (reply_of d)
     c.reply_with.result
     d.change c.apply.new.self c.push_reserved.new.self.history answered
     (c.reply_with.ensures ∙ ap with_body c.in-Ok-prepare.ensures.copy) is

@@ -7,8 +7,8 @@ use Rattle.ck_journal.specs.Answers.{ok, new_handle, placement_error}
 use Rattle.ck_journal.specs.declared.replies.Body.TheVariants as body
 use Rattle.ck_journal.specs.declared.calls.Call.TheVariants as call
 use Rattle.ck_parts.specs.declared.changes.Change.TheVariants as change
-use Rattle.ck_token.proofs.DecisionLemmas.{refused-decision, memory-decision, second-fails, third-fails}
-use Rattle.ck_token.proofs.DecisionLemmas.{fourth-fails, four-pass, session-passes}
+use Rattle.ck_token.proofs.DecisionLemmas.{refused-decision, memory-decision, skip, hit}
+use Rattle.ck_token.proofs.DecisionLemmas.{session-passes}
 use Rattle.ck_token.proofs.tokens.Token.create_object.Goals as goal
 
 pub returns-in_err-check_creation : goal.returns-in_err-check_creation
@@ -17,9 +17,10 @@ returns-in_err-check_creation c =
     let code = c.in_err-check_creation.field-0.0 in
     let fails = check_of-err (created_error c.args.template.now.items) code
     (sym c.check_creation.ensures ∙ c.in_err-check_creation.was) in
-    refused-decision c.args.self.now.limits h (call.CreateObject c.args.session c.args.template.now) _ code
+    refused-decision c.args.self.now.limits h (call.CreateObject c.args.session c.args.template.now)
+    _ code
     c.from_residual-in_err-check_creation.ensures.1
-    (second-fails _ _ _ code (session-passes h c.args.session c.in_ok-row.ensures.open) fails) refl
+    (skip _ _ (session-passes h c.args.session c.in_ok-row.ensures.open) ∙ hit _ _ code fails) refl
 
 pub returns-in_err-check_placement : goal.returns-in_err-check_placement
 returns-in_err-check_placement c =
@@ -28,11 +29,15 @@ returns-in_err-check_placement c =
     let made = check_of-ok (created_error c.args.template.now.items) _
     (sym c.check_creation.ensures ∙ c.in_ok-check_creation.was) in
     let fails = check_of-err (placement_error h c.args.session c.creation_placement.result) code
-    (sym (c.check_placement.ensures c.args.session c.in_ok-row.ensures.row) ∙ c.in_err-check_placement.was) in
-    refused-decision c.args.self.now.limits h (call.CreateObject c.args.session c.args.template.now) _ code
+    (sym (c.check_placement.ensures c.args.session c.in_ok-row.ensures.row)
+    ∙ c.in_err-check_placement.was) in
+    refused-decision c.args.self.now.limits h (call.CreateObject c.args.session c.args.template.now)
+    _ code
     c.from_residual-in_err-check_placement.ensures.1
-    (third-fails _ _ _ _ code (session-passes h c.args.session c.in_ok-row.ensures.open) made
-    (ap (λ (p : Placement). placement_error h c.args.session p) (sym c.creation_placement.ensures) ∙ fails)) refl
+    (skip _ _ (session-passes h c.args.session c.in_ok-row.ensures.open) ∙ skip _ _ made
+    ∙ hit _ _ code (ap (λ (p : Placement). placement_error h c.args.session p)
+    (sym c.creation_placement.ensures)
+    ∙ fails)) refl
 
 pub returns-in_err-number : goal.returns-in_err-number
 returns-in_err-number c =
@@ -40,13 +45,16 @@ returns-in_err-number c =
     let made = check_of-ok (created_error c.args.template.now.items) _
     (sym c.check_creation.ensures ∙ c.in_ok-check_creation.was) in
     let placed = check_of-ok (placement_error h c.args.session c.creation_placement.result) _
-    (sym (c.check_placement.ensures c.args.session c.in_ok-row.ensures.row) ∙ c.in_ok-check_placement.was) in
+    (sym (c.check_placement.ensures c.args.session c.in_ok-row.ensures.row)
+    ∙ c.in_ok-check_placement.was) in
     let code = c.in_err-number.field-0.0 in
-    refused-decision c.args.self.now.limits h (call.CreateObject c.args.session c.args.template.now) _ code
+    refused-decision c.args.self.now.limits h (call.CreateObject c.args.session c.args.template.now)
+    _ code
     c.from_residual-in_err-number.ensures.1
-    (fourth-fails _ _ _ _ _ code (session-passes h c.args.session c.in_ok-row.ensures.open) made
-    (ap (λ (p : Placement). placement_error h c.args.session p) (sym c.creation_placement.ensures) ∙ placed)
-    c.in_err-number.ensures.used_up) refl
+    (skip _ _ (session-passes h c.args.session c.in_ok-row.ensures.open) ∙ skip _ _ made
+    ∙ skip _ _ (ap (λ (p : Placement). placement_error h c.args.session p)
+    (sym c.creation_placement.ensures)
+    ∙ placed) ∙ hit _ _ code c.in_err-number.ensures.used_up) refl
 
 pub returns-in_err-made : goal.returns-in_err-made
 returns-in_err-made c =
@@ -54,12 +62,15 @@ returns-in_err-made c =
     let made = check_of-ok (created_error c.args.template.now.items) _
     (sym c.check_creation.ensures ∙ c.in_ok-check_creation.was) in
     let placed = check_of-ok (placement_error h c.args.session c.creation_placement.result) _
-    (sym (c.check_placement.ensures c.args.session c.in_ok-row.ensures.row) ∙ c.in_ok-check_placement.was) in
-    memory-decision c.args.self.now.limits h (call.CreateObject c.args.session c.args.template.now) _
+    (sym (c.check_placement.ensures c.args.session c.in_ok-row.ensures.row)
+    ∙ c.in_ok-check_placement.was) in
+    memory-decision c.args.self.now.limits h (call.CreateObject c.args.session c.args.template.now)
+    _
     c.from_residual-in_err-made.ensures.1
-    (four-pass _ _ _ _ (session-passes h c.args.session c.in_ok-row.ensures.open) made
-    (ap (λ (p : Placement). placement_error h c.args.session p) (sym c.creation_placement.ensures) ∙ placed)
-    c.in_ok-number.ensures.free) refl
+    (skip _ _ (session-passes h c.args.session c.in_ok-row.ensures.open) ∙ skip _ _ made
+    ∙ skip _ _ (ap (λ (p : Placement). placement_error h c.args.session p)
+    (sym c.creation_placement.ensures)
+    ∙ placed) ∙ skip _ _ c.in_ok-number.ensures.free) refl
 
 pub returns-in_err-attributes : goal.returns-in_err-attributes
 returns-in_err-attributes c =
@@ -67,12 +78,15 @@ returns-in_err-attributes c =
     let made = check_of-ok (created_error c.args.template.now.items) _
     (sym c.check_creation.ensures ∙ c.in_ok-check_creation.was) in
     let placed = check_of-ok (placement_error h c.args.session c.creation_placement.result) _
-    (sym (c.check_placement.ensures c.args.session c.in_ok-row.ensures.row) ∙ c.in_ok-check_placement.was) in
-    memory-decision c.args.self.now.limits h (call.CreateObject c.args.session c.args.template.now) _
+    (sym (c.check_placement.ensures c.args.session c.in_ok-row.ensures.row)
+    ∙ c.in_ok-check_placement.was) in
+    memory-decision c.args.self.now.limits h (call.CreateObject c.args.session c.args.template.now)
+    _
     c.from_residual-in_err-attributes.ensures.1
-    (four-pass _ _ _ _ (session-passes h c.args.session c.in_ok-row.ensures.open) made
-    (ap (λ (p : Placement). placement_error h c.args.session p) (sym c.creation_placement.ensures) ∙ placed)
-    c.in_ok-number.ensures.free) refl
+    (skip _ _ (session-passes h c.args.session c.in_ok-row.ensures.open) ∙ skip _ _ made
+    ∙ skip _ _ (ap (λ (p : Placement). placement_error h c.args.session p)
+    (sym c.creation_placement.ensures)
+    ∙ placed) ∙ skip _ _ c.in_ok-number.ensures.free) refl
 
 pub returns : goal.returns
 returns c =
@@ -80,10 +94,12 @@ returns c =
     let made = check_of-ok (created_error c.args.template.now.items) _
     (sym c.check_creation.ensures ∙ c.in_ok-check_creation.was) in
     let placed = check_of-ok (placement_error h c.args.session c.creation_placement.result) _
-    (sym (c.check_placement.ensures c.args.session c.in_ok-row.ensures.row) ∙ c.in_ok-check_placement.was) in (
-      four-pass _ _ _ _ (session-passes h c.args.session c.in_ok-row.ensures.open) made
-          (ap (λ (p : Placement). placement_error h c.args.session p) (sym c.creation_placement.ensures) ∙
-          placed) c.in_ok-number.ensures.free,
+    (sym (c.check_placement.ensures c.args.session c.in_ok-row.ensures.row)
+    ∙ c.in_ok-check_placement.was) in (
+      skip _ _ (session-passes h c.args.session c.in_ok-row.ensures.open) ∙ skip _ _ made
+          ∙ skip _ _ (ap (λ (p : Placement). placement_error h c.args.session p)
+          (sym c.creation_placement.ensures)
+          ∙ placed) ∙ skip _ _ c.in_ok-number.ensures.free,
       c.creation.ensures.reply
           ∙ ap (λ (a : List Item). ok (body.Handle (new_handle h a)))
           (c.in_ok-attributes.ensures ∙ c.in_ok-made.ensures),

@@ -19,7 +19,8 @@ from_base-journal-requires c =
     let none = nil_from_length (open_sessions h)
     (sym (c.count.ensures h agree.parts.sessions) ∙ c.if-count-ne0.false) in
     let is = c.base-base.ensures h agree.parts.sessions
-    (c.creations.ensures.creations h agree.parts.objects) (c.in_ok-objects.ensures h agree.parts.objects) in
+    (c.creations.ensures.creations h agree.parts.objects)
+    (c.in_ok-objects.ensures h agree.parts.objects) in
     subst IsSound (sym is) (base-sound t.limits h (good-history t.limits h t.parts agree) none)
 
 pub invariant_of-self : goal.invariant_of-self
@@ -30,7 +31,8 @@ invariant_of-self c =
     let none = nil_from_length (open_sessions h)
     (sym (c.count.ensures h agree.parts.sessions) ∙ c.if-count-ne0.false) in
     let is = c.base-base.ensures h agree.parts.sessions
-    (c.creations.ensures.creations h agree.parts.objects) (c.in_ok-objects.ensures h agree.parts.objects) in
+    (c.creations.ensures.creations h agree.parts.objects)
+    (c.in_ok-objects.ensures h agree.parts.objects) in
     let new = ap (λ (j : JournalState). j.history) c.replace.ensures.after
     ∙ c.from_base-journal.ensures ∙ ap start is in
     subst (λ g. TokenAgrees t.limits g t.parts) (sym new)

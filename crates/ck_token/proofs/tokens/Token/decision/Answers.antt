@@ -5,7 +5,8 @@ returns-in-CopyObject c = rw c.in-CopyObject.is c.copy_object.ensures
 
 pub returns-in-GetAttributeValue : goal.returns-in-GetAttributeValue
 returns-in-GetAttributeValue c =
-    rw (c.in-GetAttributeValue.is, ← c.as_slice-in-GetAttributeValue.ensures) c.get_attribute_value.ensures
+    rw (c.in-GetAttributeValue.is, ← c.as_slice-in-GetAttributeValue.ensures)
+    c.get_attribute_value.ensures
 
 pub returns-in-SetAttributeValue : goal.returns-in-SetAttributeValue
 returns-in-SetAttributeValue c = rw c.in-SetAttributeValue.is c.set_attribute_value.ensures

@@ -6,7 +6,7 @@ use Rattle.ck_journal.specs.Answers.{read_only_session_error, prohibited_error}
 use Rattle.ck_journal.specs.declared.calls.Call.TheVariants as call
 use Rattle.ck_token.specs.declared.decisions.Decision.{Decision}
 use Rattle.ck_token.specs.Decisions.{reply_of}
-use Rattle.ck_token.proofs.DecisionLemmas.{refused-decision, object-checks, hit, second-fails, two-pass}
+use Rattle.ck_token.proofs.DecisionLemmas.{refused-decision, object-checks, hit, skip}
 use Rattle.ck_token.proofs.tokens.Token.destroy_object.Goals as goal
 
 pub returns-in_err-check_writable : goal.returns-in_err-check_writable
@@ -18,8 +18,10 @@ returns-in_err-check_writable c =
     (sym (c.check_writable.ensures s c.in_ok-row.ensures.row) ∙ c.in_err-check_writable.was) in
     refused-decision c.args.self.now.limits h (call.DestroyObject s c.args.object) _ code
     c.from_residual-in_err-check_writable.ensures.1
-    (object-checks h s c.args.object _ _ _ c.in_ok-row.ensures.open c.in_ok-number.ensures.attributes
-    (hit _ _ code (ap (λ (p : Placement). read_only_session_error h s p) (sym c.placement.ensures) ∙ fails))) refl
+    (object-checks h s c.args.object _ _ _ c.in_ok-row.ensures.open
+    c.in_ok-number.ensures.attributes
+    (hit _ _ code (ap (λ (p : Placement). read_only_session_error h s p) (sym c.placement.ensures)
+    ∙ fails))) refl
 
 pub returns-in_err-check_flag : goal.returns-in_err-check_flag
 returns-in_err-check_flag c =
@@ -33,9 +35,10 @@ returns-in_err-check_flag c =
     (sym c.check_flag.ensures ∙ c.in_err-check_flag.was) in
     refused-decision c.args.self.now.limits h (call.DestroyObject s c.args.object) _ code
     c.from_residual-in_err-check_flag.ensures.1
-    (object-checks h s c.args.object _ attributes _ c.in_ok-row.ensures.open c.in_ok-number.ensures.attributes
-    (second-fails _ _ _ code (ap (λ (p : Placement). read_only_session_error h s p) (sym c.placement.ensures) ∙ writable)
-    fails)) refl
+    (object-checks h s c.args.object _ attributes _ c.in_ok-row.ensures.open
+    c.in_ok-number.ensures.attributes
+    (skip _ _ (ap (λ (p : Placement). read_only_session_error h s p)
+    (sym c.placement.ensures) ∙ writable) ∙ hit _ _ code fails)) refl
 
 pub returns : goal.returns
 returns c =
@@ -46,9 +49,10 @@ returns c =
     (sym (c.check_writable.ensures s c.in_ok-row.ensures.row) ∙ c.in_ok-check_writable.was) in
     let allowed = check_of-ok (prohibited_error attribute.Destroyable attributes) _
     (sym c.check_flag.ensures ∙ c.in_ok-check_flag.was) in (
-      object-checks h s c.args.object _ attributes _ c.in_ok-row.ensures.open c.in_ok-number.ensures.attributes
-          (two-pass _ _ (ap (λ (p : Placement). read_only_session_error h s p) (sym c.placement.ensures) ∙ writable)
-          allowed),
+      object-checks h s c.args.object _ attributes _ c.in_ok-row.ensures.open
+          c.in_ok-number.ensures.attributes
+          (skip _ _ (ap (λ (p : Placement). read_only_session_error h s p)
+          (sym c.placement.ensures) ∙ writable) ∙ skip _ _ allowed),
       ap reply_of c.of_change.ensures,
       ap (λ (d : Decision). d.change) c.of_change.ensures ∙ rw c.in_ok-number.ensures.number refl,
     )

@@ -12,7 +12,7 @@ use Rattle.ck_parts.specs.declared.changes.Change.TheVariants as change
 use Rattle.ck_token.specs.Decisions.{reply_of}
 use Rattle.ck_token.specs.declared.decisions.Decision.{Decision}
 use Rattle.ck_token.proofs.DecisionLemmas.{refused-decision, memory-decision, object-checks, hit}
-use Rattle.ck_token.proofs.DecisionLemmas.{second-fails, third-fails, three-pass}
+use Rattle.ck_token.proofs.DecisionLemmas.{skip}
 use Rattle.ck_token.proofs.tokens.Token.set_attribute_value.Goals as goal
 
 pub returns-in_err-check_writable : goal.returns-in_err-check_writable
@@ -21,11 +21,13 @@ returns-in_err-check_writable c =
     let code = c.in_err-check_writable.field-0.0 in
     let present = c.in_ok-number.present.now in
     let fails = check_of-err (read_only_session_error h c.args.session c.placement.result) code
-    (sym (c.check_writable.ensures c.args.session c.in_ok-row.ensures.row) ∙ c.in_err-check_writable.was) in
+    (sym (c.check_writable.ensures c.args.session c.in_ok-row.ensures.row)
+    ∙ c.in_err-check_writable.was) in
     refused-decision c.args.self.now.limits h (call.SetAttributeValue c.args.session c.args.object
     c.args.template.now) _ code
     c.from_residual-in_err-check_writable.ensures.1
-    (object-checks h c.args.session c.args.object _ present _ c.in_ok-row.ensures.open c.in_ok-number.ensures.attributes
+    (object-checks h c.args.session c.args.object _ present _ c.in_ok-row.ensures.open
+    c.in_ok-number.ensures.attributes
     (hit _ _ code (ap (λ (p : Placement). read_only_session_error h c.args.session p)
     (sym c.placement.ensures) ∙ fails))) refl
 
@@ -35,15 +37,17 @@ returns-in_err-check_flag c =
     let code = c.in_err-check_flag.field-0.0 in
     let present = c.in_ok-number.present.now in
     let writable = check_of-ok (read_only_session_error h c.args.session c.placement.result) _
-    (sym (c.check_writable.ensures c.args.session c.in_ok-row.ensures.row) ∙ c.in_ok-check_writable.was) in
+    (sym (c.check_writable.ensures c.args.session c.in_ok-row.ensures.row)
+    ∙ c.in_ok-check_writable.was) in
     let fails = check_of-err (prohibited_error attribute.Modifiable present) code
     (sym c.check_flag.ensures ∙ c.in_err-check_flag.was) in
     refused-decision c.args.self.now.limits h (call.SetAttributeValue c.args.session c.args.object
     c.args.template.now) _ code
     c.from_residual-in_err-check_flag.ensures.1
-    (object-checks h c.args.session c.args.object _ present _ c.in_ok-row.ensures.open c.in_ok-number.ensures.attributes
-    (second-fails _ _ _ code (ap (λ (p : Placement). read_only_session_error h c.args.session p)
-    (sym c.placement.ensures) ∙ writable) fails)) refl
+    (object-checks h c.args.session c.args.object _ present _ c.in_ok-row.ensures.open
+    c.in_ok-number.ensures.attributes
+    (skip _ _ (ap (λ (p : Placement). read_only_session_error h c.args.session p)
+    (sym c.placement.ensures) ∙ writable) ∙ hit _ _ code fails)) refl
 
 pub returns-in_err-check_change : goal.returns-in_err-check_change
 returns-in_err-check_change c =
@@ -51,48 +55,57 @@ returns-in_err-check_change c =
     let code = c.in_err-check_change.field-0.0 in
     let present = c.in_ok-number.present.now in
     let writable = check_of-ok (read_only_session_error h c.args.session c.placement.result) _
-    (sym (c.check_writable.ensures c.args.session c.in_ok-row.ensures.row) ∙ c.in_ok-check_writable.was) in
+    (sym (c.check_writable.ensures c.args.session c.in_ok-row.ensures.row)
+    ∙ c.in_ok-check_writable.was) in
     let allowed = check_of-ok (prohibited_error attribute.Modifiable present) _
     (sym c.check_flag.ensures ∙ c.in_ok-check_flag.was) in
-    let fails = check_of-err (changed_error (class_of present) (protections_of present) c.args.template.now.items) code
+    let fails = check_of-err (changed_error (class_of present) (protections_of present)
+    c.args.template.now.items) code
     (sym c.check_change.ensures ∙ c.in_err-check_change.was) in
     refused-decision c.args.self.now.limits h (call.SetAttributeValue c.args.session c.args.object
     c.args.template.now) _ code
     c.from_residual-in_err-check_change.ensures.1
-    (object-checks h c.args.session c.args.object _ present _ c.in_ok-row.ensures.open c.in_ok-number.ensures.attributes
-    (third-fails _ _ _ _ code (ap (λ (p : Placement). read_only_session_error h c.args.session p)
-    (sym c.placement.ensures) ∙ writable) allowed fails)) refl
+    (object-checks h c.args.session c.args.object _ present _ c.in_ok-row.ensures.open
+    c.in_ok-number.ensures.attributes
+    (skip _ _ (ap (λ (p : Placement). read_only_session_error h c.args.session p)
+    (sym c.placement.ensures) ∙ writable) ∙ skip _ _ allowed ∙ hit _ _ code fails)) refl
 
 pub returns-in_err-values : goal.returns-in_err-values
 returns-in_err-values c =
     let h = c.args.self.now.history in
     let present = c.in_ok-number.present.now in
     let writable = check_of-ok (read_only_session_error h c.args.session c.placement.result) _
-    (sym (c.check_writable.ensures c.args.session c.in_ok-row.ensures.row) ∙ c.in_ok-check_writable.was) in
+    (sym (c.check_writable.ensures c.args.session c.in_ok-row.ensures.row)
+    ∙ c.in_ok-check_writable.was) in
     let allowed = check_of-ok (prohibited_error attribute.Modifiable present) _
     (sym c.check_flag.ensures ∙ c.in_ok-check_flag.was) in
-    let changed = check_of-ok (changed_error (class_of present) (protections_of present) c.args.template.now.items) _
+    let changed = check_of-ok (changed_error (class_of present) (protections_of present)
+    c.args.template.now.items) _
     (sym c.check_change.ensures ∙ c.in_ok-check_change.was) in
-    memory-decision c.args.self.now.limits h (call.SetAttributeValue c.args.session c.args.object c.args.template.now) _
+    memory-decision c.args.self.now.limits h
+    (call.SetAttributeValue c.args.session c.args.object c.args.template.now) _
     c.from_residual-in_err-values.ensures.1
-    (object-checks h c.args.session c.args.object _ present _ c.in_ok-row.ensures.open c.in_ok-number.ensures.attributes
-    (three-pass _ _ _ (ap (λ (p : Placement). read_only_session_error h c.args.session p)
-    (sym c.placement.ensures) ∙ writable) allowed changed)) refl
+    (object-checks h c.args.session c.args.object _ present _ c.in_ok-row.ensures.open
+    c.in_ok-number.ensures.attributes
+    (skip _ _ (ap (λ (p : Placement). read_only_session_error h c.args.session p)
+    (sym c.placement.ensures) ∙ writable) ∙ skip _ _ allowed ∙ skip _ _ changed)) refl
 
 pub returns : goal.returns
 returns c =
     let h = c.args.self.now.history in
     let present = c.in_ok-number.present.now in
     let writable = check_of-ok (read_only_session_error h c.args.session c.placement.result) _
-    (sym (c.check_writable.ensures c.args.session c.in_ok-row.ensures.row) ∙ c.in_ok-check_writable.was) in
+    (sym (c.check_writable.ensures c.args.session c.in_ok-row.ensures.row)
+    ∙ c.in_ok-check_writable.was) in
     let allowed = check_of-ok (prohibited_error attribute.Modifiable present) _
     (sym c.check_flag.ensures ∙ c.in_ok-check_flag.was) in
-    let changed = check_of-ok (changed_error (class_of present) (protections_of present) c.args.template.now.items) _
+    let changed = check_of-ok (changed_error (class_of present) (protections_of present)
+    c.args.template.now.items) _
     (sym c.check_change.ensures ∙ c.in_ok-check_change.was) in
     let checks = object-checks h c.args.session c.args.object _ present _ c.in_ok-row.ensures.open
     c.in_ok-number.ensures.attributes
-    (three-pass _ _ _ (ap (λ (p : Placement). read_only_session_error h c.args.session p)
-    (sym c.placement.ensures) ∙ writable) allowed changed) in
+    (skip _ _ (ap (λ (p : Placement). read_only_session_error h c.args.session p)
+    (sym c.placement.ensures) ∙ writable) ∙ skip _ _ allowed ∙ skip _ _ changed) in
     let number = ap (λ found. unwrap_or found 0) (sym c.in_ok-number.ensures.number) in (
       checks,
       ap reply_of c.of_change.ensures,

@@ -11,6 +11,7 @@ returns-in-Err c =
     let session = c.args.session in
     let signature = c.args.signature.now in
     let fails = check_of-err (verify_final_error h session signature) c.in-Err.error
-    (sym c.check_final.ensures ∙ c.in-Err.is) in
-    refusing-decision c.args.self.now.limits h (call.VerifyFinal session signature) c.refused.result c.in-Err.error _
-    c.refused.ensures fails (verify_final-ends h session signature c.in-Err.error fails)
+    (sym c.check_verify_final.ensures ∙ c.in-Err.is) in
+    refusing-decision c.args.self.now.limits h (call.VerifyFinal session signature)
+    c.ending_refusal.result c.in-Err.error _
+    c.ending_refusal.ensures fails (verify_final-ends h session signature c.in-Err.error fails)

@@ -13,13 +13,16 @@ loop-number-preserved c =
     let is = rw (← c.self.view_is) at c.loop-number.invariant in
     rw (← c.self.view_is) (elim c.match-handle.branch [
       | in-Some+in_ok-push w ↦
-          given-next h (next h c.args.max c.args.numbers.now) c.loop-number.handles.items c.args.numbers.now
+          given-next h (next h c.args.max c.args.numbers.now) c.loop-number.handles.items
+          c.args.numbers.now
           c.loop-number.number-index c.loop-number.room is c.loop-number-test.true
           c.match-handle.handles.items c.match-handle.room w.in-Some.handle c.if-room-eq0.false
-          (w.in-Some.ensures h agree view) (ap (λ v. v.items) w.handles-is ∙ w.in_ok-push.ensures.items)
+          (w.in-Some.ensures h agree view)
+          (ap (λ v. v.items) w.handles-is ∙ w.in_ok-push.ensures.items)
           w.room-is
       | in_default w ↦
-          passed-next h (next h c.args.max c.args.numbers.now) c.loop-number.handles.items c.args.numbers.now
+          passed-next h (next h c.args.max c.args.numbers.now) c.loop-number.handles.items
+          c.args.numbers.now
           c.loop-number.number-index c.loop-number.room is c.loop-number-test.true
           c.match-handle.handles.items c.match-handle.room (w.in_default.ensures h agree view)
           (ap (λ v. v.items) w.handles-is) w.room-is

@@ -8,7 +8,7 @@ use Rattle.ck_journal.specs.Operations.{computation_in, message_in}
 use Rattle.ck_journal.specs.declared.replies.Body.TheVariants as body
 use Rattle.ck_parts.specs.Changes.{finish_change}
 use Rattle.ck_token.proofs.DecisionLemmas.{gives-bytes, memory-decided, room-given}
-use Rattle.ck_token.proofs.tokens.Token.finish_message.Goals as goal
+use Rattle.ck_token.proofs.tokens.Token.finish_multiple_part.Goals as goal
 
 pub returns-in-Some : goal.returns-in-Some
 returns-in-Some c =
@@ -19,7 +19,8 @@ returns-in-Some c =
     let holds = c.in-Ok.ensures.agrees.message in
     let tag = tag_of computation message in
     let len =
-    length-tag_of computation _ message holds message ∙ sym (c.len.ensures computation message holds) in
+    length-tag_of computation _ message holds message
+    ∙ sym (c.len.ensures computation message holds) in
     let given = c.in-Some.ensures tag len in
     (c.in-Ok.ensures.passes, sym given.0, given.1)
 
@@ -32,14 +33,16 @@ returns c =
     let holds = c.in-Ok.ensures.agrees.message in
     let tag = tag_of computation message in
     let len =
-    length-tag_of computation _ message holds message ∙ sym (c.len.ensures computation message holds) in
+    length-tag_of computation _ message holds message
+    ∙ sym (c.len.ensures computation message holds) in
     let given =
-    gives-bytes k c.args.session _ _ _ _ c.in_ok-give.ensures (c.in_default.ensures tag len)
+    gives-bytes k c.args.session _ _ _ _ c.in_ok-bytes_decision.ensures
+    (c.in_default.ensures tag len)
     (c.tag.ensures computation message holds) in
     (c.in-Ok.ensures.passes, given.0, given.1)
 
-pub returns-in_err-give : goal.returns-in_err-give
-returns-in_err-give c =
+pub returns-in_err-bytes_decision : goal.returns-in_err-bytes_decision
+returns-in_err-bytes_decision c =
     let h = c.args.self.now.history in
     let k = c.args.kind in
     let computation = computation_in k h c.args.session in
@@ -47,7 +50,8 @@ returns-in_err-give c =
     let holds = c.in-Ok.ensures.agrees.message in
     let tag = tag_of computation message in
     let len =
-    length-tag_of computation _ message holds message ∙ sym (c.len.ensures computation message holds) in
+    length-tag_of computation _ message holds message
+    ∙ sym (c.len.ensures computation message holds) in
     memory-decided (final_error k h c.args.session) (bytes_reply c.args.room tag)
     (λ b. finish_change k c.args.session rv.Ok b)
     (λ code. finish_change k c.args.session (rv.Error code) body.Empty) (is_some c.args.room) _

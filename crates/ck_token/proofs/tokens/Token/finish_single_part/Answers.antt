@@ -10,7 +10,7 @@ use Rattle.ck_parts.specs.Changes.{finish_change}
 use Rattle.ck_token.proofs.DecisionLemmas.{gives-bytes, memory-decided, room-given}
 use Rattle.ck_token.proofs.DecisionLemmas.{refusing-decided, message-ends}
 use Rattle.ck_parts.proofs.OperationMoves.{unused-message}
-use Rattle.ck_token.proofs.tokens.Token.take_whole.Goals as goal
+use Rattle.ck_token.proofs.tokens.Token.finish_single_part.Goals as goal
 
 pub returns-in-Some : goal.returns-in-Some
 returns-in-Some c =
@@ -21,7 +21,8 @@ returns-in-Some c =
     let holds = c.in-Ok.ensures.agrees.message in
     let tag = tag_of computation c.args.bytes.now in
     let len =
-    length-tag_of computation _ message holds c.args.bytes.now ∙ sym (c.len.ensures computation message holds) in
+    length-tag_of computation _ message holds c.args.bytes.now
+    ∙ sym (c.len.ensures computation message holds) in
     let given = c.in-Some.ensures tag len in
     (c.in-Ok.ensures.passes, sym given.0, given.1)
 
@@ -34,16 +35,18 @@ returns c =
     let holds = c.in-Ok.ensures.agrees.message in
     let tag = tag_of computation c.args.bytes.now in
     let len =
-    length-tag_of computation _ message holds c.args.bytes.now ∙ sym (c.len.ensures computation message holds) in
+    length-tag_of computation _ message holds c.args.bytes.now
+    ∙ sym (c.len.ensures computation message holds) in
     let given =
-    gives-bytes k c.args.session _ _ _ _ c.in_ok-give.ensures (c.in_default.ensures tag len)
+    gives-bytes k c.args.session _ _ _ _ c.in_ok-bytes_decision.ensures
+    (c.in_default.ensures tag len)
     (c.tag_with.ensures computation message holds
     ∙ ap (λ m. tag_of computation (m ++ c.args.bytes.now))
     (unused-message k h c.args.session c.in-Ok.ensures.unused)) in
     (c.in-Ok.ensures.passes, given.0, given.1)
 
-pub returns-in_err-give : goal.returns-in_err-give
-returns-in_err-give c =
+pub returns-in_err-bytes_decision : goal.returns-in_err-bytes_decision
+returns-in_err-bytes_decision c =
     let h = c.args.self.now.history in
     let k = c.args.kind in
     let computation = computation_in k h c.args.session in
@@ -51,7 +54,8 @@ returns-in_err-give c =
     let holds = c.in-Ok.ensures.agrees.message in
     let tag = tag_of computation c.args.bytes.now in
     let len =
-    length-tag_of computation _ message holds c.args.bytes.now ∙ sym (c.len.ensures computation message holds) in
+    length-tag_of computation _ message holds c.args.bytes.now
+    ∙ sym (c.len.ensures computation message holds) in
     memory-decided (message_error k h c.args.session c.args.bytes.now) (bytes_reply c.args.room tag)
     (λ b. finish_change k c.args.session rv.Ok b)
     (λ code. finish_change k c.args.session (rv.Error code) body.Empty) (is_some c.args.room) _
@@ -66,6 +70,8 @@ returns-in-Err c =
     let bytes = c.args.bytes.now in
     let fails = c.in-Err.ensures.fails in
     refusing-decided (message_error k h session bytes)
-    (bytes_reply c.args.room (tag_of (computation_in k h session) bytes)) (λ b. finish_change k session rv.Ok b)
-    (λ code. finish_change k session (rv.Error code) body.Empty) (is_some c.args.room) c.refused.result c.in-Err.error _
-    c.refused.ensures fails (message-ends k h session bytes c.in-Err.error fails)
+    (bytes_reply c.args.room (tag_of (computation_in k h session) bytes))
+    (λ b. finish_change k session rv.Ok b)
+    (λ code. finish_change k session (rv.Error code) body.Empty) (is_some c.args.room)
+    c.ending_refusal.result c.in-Err.error _
+    c.ending_refusal.ensures fails (message-ends k h session bytes c.in-Err.error fails)

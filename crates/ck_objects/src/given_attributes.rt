@@ -1,0 +1,74 @@
+use crate::attribute_values::AttributeValue;
+use crate::attributes::Attribute;
+use crate::forms::{GENERIC_SECRET, SECRET_KEY};
+use crate::items::Item;
+use crate::templates::Template;
+use ck_types::{NoMemory, Sequence};
+use std::alloc::Global;
+
+/// Templates that are made attribute by attribute.
+impl Template {
+    ghost use Rattle.std.specs.Prelude.{◌≡◌, ◌++◌, ◌∷◌, [], IfOk};
+    ghost use Rattle.ck_types.specs.Numbers.{number_bytes};
+    ghost use Rattle.ck_objects.specs.Attributes.{type_of, flag_bytes};
+    ghost use Rattle.ck_objects.specs.declared.attributes.Attribute.TheVariants as attribute;
+
+    /// A template that gives no attribute. It takes no memory.
+    pub fn new(alloc: Global) -> Template
+        ensures { result.items ≡ [] }
+    {
+        Template {
+            items: Sequence::new(alloc),
+        }
+    }
+
+    /// The template that creates a generic secret key of these bytes (CKO_SECRET_KEY,
+    /// CKK_GENERIC_SECRET), and gives nothing else.
+    pub fn secret_key(alloc: Global, value: &[u8]) -> Result<Template, NoMemory>
+        ensures { IfOk result (λ template. template.items ≡ record {
+          kind = type_of attribute.Class;
+          value = number_bytes 4;
+        } ∷ record {
+          kind = type_of attribute.KeyType;
+          value = number_bytes 16;
+        } ∷ record { kind = type_of attribute.Value; value = value.now } ∷ []) }
+    {
+        Template::new(alloc)
+            .number(Attribute::Class, SECRET_KEY)?
+            .number(Attribute::KeyType, GENERIC_SECRET)?
+            .bytes(Attribute::Value, value)
+    }
+
+    /// The template, which gives this attribute too, with these bytes as its value.
+    pub fn bytes(self, attribute: Attribute, value: &[u8]) -> Result<Template, NoMemory>
+        ensures { IfOk result (λ template. template.items ≡ self.items
+            ++ record { kind = type_of attribute; value = value.now } ∷ []) }
+    {
+        let mut items = self.items.into_vec();
+        let value = AttributeValue::from_slice(*items.allocator(), value)?;
+        items.push(Item {
+            kind: attribute.number(),
+            value,
+        })?;
+        Ok(Template {
+            items: Sequence::from_vec(items),
+        })
+    }
+
+    /// The template, which gives this attribute too, with a flag as its value (CK_BBOOL).
+    pub fn flag(self, attribute: Attribute, value: bool) -> Result<Template, NoMemory>
+        ensures { IfOk result (λ template. template.items ≡ self.items
+            ++ record { kind = type_of attribute; value = flag_bytes value } ∷ []) }
+    {
+        self.bytes(attribute, [u8::from(value)].as_slice())
+    }
+
+    /// The template, which gives this attribute too, with a number as its value (CK_ULONG), such as
+    /// `SECRET_KEY` for the class or `GENERIC_SECRET` for the key type.
+    pub fn number(self, attribute: Attribute, value: u64) -> Result<Template, NoMemory>
+        ensures { IfOk result (λ template. template.items ≡ self.items
+            ++ record { kind = type_of attribute; value = number_bytes value } ∷ []) }
+    {
+        self.bytes(attribute, value.to_le_bytes().as_slice())
+    }
+}
