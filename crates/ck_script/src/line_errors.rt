@@ -9,7 +9,7 @@ use std::alloc::{AllocError, AllocFailed};
 use thiserror::Error;
 
 /// Why a text is no number.
-#[derive(Clone, Copy, Debug, Error)]
+#[derive(Clone, Copy, Debug, PartialEq, Eq, Error)]
 pub enum NumberError {
     #[error("a number is written in decimal digits")]
     NotDecimal,
@@ -22,7 +22,7 @@ pub enum NumberError {
 }
 
 /// Why a line is not a line of a script. Where a line has several faults, one of them is named.
-#[derive(Clone, Copy, Debug, Error)]
+#[derive(Clone, Copy, Debug, PartialEq, Eq, Error)]
 pub enum BadLine {
     #[error("a line has at most {LONGEST_LINE} bytes")]
     TooLong,
@@ -67,7 +67,7 @@ impl From<NumberError> for BadLine {
 }
 
 /// Why a line wasn't read.
-#[derive(Clone, Copy, Debug, Error)]
+#[derive(Clone, Copy, Debug, PartialEq, Eq, Error)]
 pub enum LineError {
     #[error("out of memory")]
     Memory,
