@@ -144,7 +144,7 @@ fn add_account<K: TokenId>(
             count: 0,
             share,
         };
-        accounts.push(account).unwrap();
+        accounts.push_reserved(account);
     }
 }
 

@@ -48,7 +48,7 @@ impl<K: TokenId, S: Drop, A: Drop> Script<K, S, A> {
     pub fn replies(&self) -> &[A]
         ensures { result.now ≡ self.now.replies.items }
     {
-        self.replies.as_slice()
+        &self.replies
     }
 
     /// The caller, and the replies to its steps.
