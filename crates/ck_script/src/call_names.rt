@@ -27,7 +27,7 @@ impl fmt::Display for Arity {
     }
 }
 
-/// The functions that a script calls: all but `SetKeyState` are the standard's.
+/// The functions that a script calls: all except `SetKeyState` are the standard's.
 #[derive(Clone, Copy, Debug, PartialEq, Eq)]
 pub enum Function {
     InitToken,

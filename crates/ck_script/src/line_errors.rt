@@ -38,7 +38,7 @@ pub enum BadLine {
     NoCall,
     #[error("the caller is a number from 1 to {MOST_CALLERS}")]
     UnknownCaller,
-    /// A caller above so many, who play the script.
+    /// A caller above this number, up to which callers play the script.
     #[error("the caller is a number from 1 to {0}")]
     CallerAbove(u32),
     #[error("no call has this name")]
