@@ -37,6 +37,7 @@ DATA = os.path.join(CRATES, "ck_cases", "data", "*.cases")
 LONG = os.path.join(CRATES, "ck_cases", "data", "many_objects.cases")
 LARGEST = "limits largest"
 BAD_LINE = " -> bad script: "
+MEMORY_ERRORS = (b"Error: out of memory\n", b"Error: memory allocation failed\n")
 
 Ended = collections.namedtuple("Ended", "status output errors growths")
 
@@ -107,8 +108,9 @@ def is_case_right(ended, name, plain):
     """The case passes, or the program itself is out of memory."""
     if ended.output in (plain.output, plain.output[:-1] + b", 1 made again\n"):
         return ended.status == 0
-    without_memory = (b"", f"{name}: out of memory\n".encode(), b"out of memory\n")
-    return ended.status == 1 and ended.output in without_memory
+    without_memory = (f"{name}: out of memory\n".encode(), b"out of memory\n")
+    is_said = ended.output in without_memory or ended.errors in MEMORY_ERRORS
+    return ended.status == 1 and (is_said or not ended.output + ended.errors)
 
 
 def is_script_right(ended, plain):

@@ -1,30 +1,27 @@
 //! Measures calls of a token. A script is read from standard input; a line `#measure NAME` begins a
 //! section of it, and for each section it is written how many calls it has and how many of them
-//! were refused. With the argument `alone` the calls are made of a token alone, whose journal is
-//! audited then, with `locked` by the one caller of a shared token; what they take is written too,
-//! in processor time. With `threads` and a number nothing is read: callers of a shared token ask so
-//! often without the lock, and others change the token, each in a thread of its own, and what the
-//! slowest takes is written, by the clock. All of these are done several times. With no argument
-//! each is done once, the last with few asks, and no times are written.
+//! were refused. With the argument `alone` the calls are made of a token that isn't shared, whose
+//! journal is audited then, with `locked` by the one caller of a shared token; what they take is
+//! written too, in processor time. With `threads` and a number nothing is read: callers of a shared
+//! token ask this often without the lock, and others change the token, each in a thread of its own,
+//! and what the slowest takes is written, by the clock. All of these are done several times. With
+//! no argument each is done once, the last with few asks, and no times are written.
 #![tactic(auto)]
 
-mod errors;
-mod plays;
+mod measures;
 mod sections;
 mod threads;
 
-use errors::BenchError;
-use plays::{play_alone, play_locked};
+use anyhow::bail;
+use ck_shared::Runtime;
+use measures::{measure_alone, measure_locked};
 use sections::{Section, sections_in};
 use std::alloc::Global;
 use std::env::Env;
 use std::io::Input;
-use std::process::ExitCode;
-use std::sync::Wait;
-use std::thread::Threads;
 use std::time::{Clock, CpuClock};
 use std::{env, io};
-use threads::play_together;
+use threads::measure_together;
 
 /// How often callers ask where no number is given.
 const FEW_ASKS: u64 = 300;
@@ -52,7 +49,7 @@ impl Request {
 }
 
 /// What the arguments ask for.
-fn request_of<R: Env + AllocGlobal>(rt: &R) -> Result<Request, BenchError> {
+fn request_of<R: Env + AllocGlobal>(rt: &R) -> anyhow::Result<Request> {
     let mut words = env::args(rt)?.skip(1);
     let Some(word) = words.next() else {
         return Ok(Request::All);
@@ -62,69 +59,46 @@ fn request_of<R: Env + AllocGlobal>(rt: &R) -> Result<Request, BenchError> {
         ("locked", None, None) => Ok(Request::Locked),
         ("threads", Some(number), None) => match number.as_str().parse() {
             Ok(asks) => Ok(Request::Threads(asks)),
-            Err(_) => Err(BenchError::Arguments),
+            Err(_) => bail!("{number} is no number of asks"),
         },
-        _ => Err(BenchError::Arguments),
+        _ => bail!("the arguments are `locked`, `alone` or `threads` and a number"),
     }
 }
 
-/// The script on standard input, none where threads alone are asked for.
-fn script_for<R: Input + AllocGlobal>(rt: &R, request: Request) -> Result<String, BenchError> {
+/// The script on standard input, none where only threads are asked for.
+fn script_for<R: Input + AllocGlobal>(rt: &R, request: Request) -> io::Result<String> {
     let alloc = rt.alloc();
     match request {
         Request::Threads(_) => Ok(String::new(alloc)),
-        _ => Ok(io::read_to_string(alloc, rt.reader())?),
+        _ => io::read_to_string(alloc, rt.reader()),
     }
 }
 
 /// Does once what is asked for.
-fn play_once<R: Clock + CpuClock + Print + Threads + Wait + Copy + Drop + Send + Sync>(
+fn measure_once<R: Clock + CpuClock + Print + Runtime>(
     rt: R,
     alloc: Global,
     request: Request,
     sections: &[Section],
-) -> Result<(), BenchError> {
+) -> anyhow::Result<()> {
     match request {
-        Request::Alone => play_alone(&rt, alloc, sections, true),
-        Request::Locked => play_locked(rt, alloc, sections, true),
-        Request::Threads(asks) => play_together(rt, alloc, asks, true),
+        Request::Alone => measure_alone(&rt, alloc, sections, true),
+        Request::Locked => measure_locked(rt, alloc, sections, true),
+        Request::Threads(asks) => measure_together(rt, alloc, asks, true),
         Request::All => {
-            play_alone(&rt, alloc, sections, false)?;
-            play_locked(rt, alloc, sections, false)?;
-            play_together(rt, alloc, FEW_ASKS, false)
+            measure_alone(&rt, alloc, sections, false)?;
+            measure_locked(rt, alloc, sections, false)?;
+            measure_together(rt, alloc, FEW_ASKS, false)
         }
     }
 }
 
-fn run<
-    R: Env
-        + Input
-        + Clock
-        + CpuClock
-        + Print
-        + AllocGlobal
-        + Threads
-        + Wait
-        + Copy
-        + Drop
-        + Send
-        + Sync,
->(rt: R) -> Result<(), BenchError> {
+fn main(rt: HostRuntime) -> anyhow::Result<()> {
     let request = request_of(&rt)?;
     let script = script_for(&rt, request)?;
     let sections = sections_in(rt.alloc(), script.as_str())?;
     for _ in 0..request.tries() {
-        play_once(rt, rt.alloc(), request, sections.as_slice())?;
+        measure_once(rt, rt.alloc(), request, &sections)?;
     }
     Ok(())
-}
-
-fn main(rt: HostRuntime) -> ExitCode {
-    match run(rt) {
-        Ok(()) => ExitCode::SUCCESS,
-        Err(error) => {
-            let _ = eprintln!(rt; "ck_bench: {error}");
-            ExitCode::FAILURE
-        }
-    }
 }

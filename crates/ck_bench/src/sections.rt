@@ -1,6 +1,6 @@
 //! A script in sections. A line `#measure NAME` begins one; the calls before the first line of this
 //! kind prepare the token. The callers of lines are passed over.
-use crate::errors::BenchError;
+use anyhow::bail;
 use ck_journal::Call;
 use ck_script::{Line, LineError};
 use ck_types::NoMemory;
@@ -26,10 +26,10 @@ fn begin<'a>(
 
 /// Adds a call to the newest section.
 fn add_call(sections: &mut [Section], call: Call) -> Result<(), NoMemory> {
-    match sections.last_mut() {
-        Some(section) => Ok(section.calls.push(call)?),
-        None => Ok(drop(call)),
+    if let Some(section) = sections.last_mut() {
+        section.calls.push(call)?;
     }
+    Ok(())
 }
 
 /// Adds what a line says to the sections.
@@ -37,23 +37,20 @@ fn add_line<'a>(
     alloc: Global,
     sections: &mut Vec<Section<'a>>,
     text: &'a str,
-) -> Result<(), BenchError> {
+) -> anyhow::Result<()> {
     if let Some(name) = text.strip_prefix("#measure ") {
         return Ok(begin(alloc, sections, name)?);
     }
     match Line::parse(alloc, text.as_bytes()) {
         Ok(Line::Skipped) => Ok(()),
-        Ok(Line::Called { call, .. }) => Ok(add_call(sections.as_mut_slice(), call)?),
-        Err(LineError::Memory) => Err(BenchError::Memory),
-        Err(LineError::Bad(_)) => Err(BenchError::BadLine),
+        Ok(Line::Called { call, .. }) => Ok(add_call(sections, call)?),
+        Err(LineError::Memory) => Err(NoMemory.into()),
+        Err(LineError::Bad(reason)) => bail!("a line is bad: {reason}"),
     }
 }
 
 /// The sections of a script.
-pub(crate) fn sections_in<'a>(
-    alloc: Global,
-    text: &'a str,
-) -> Result<Vec<Section<'a>>, BenchError> {
+pub(crate) fn sections_in<'a>(alloc: Global, text: &'a str) -> anyhow::Result<Vec<Section<'a>>> {
     let mut sections = Vec::new(alloc);
     begin(alloc, &mut sections, "first calls")?;
     for line in text.lines() {

@@ -2,25 +2,23 @@
 ghost use Rattle.std.specs.Prelude.{◌≡◌, ◌≤◌, OnOk, length};
 ghost use Rattle.ck_journal.specs.Histories.{start, start_of};
 
-use crate::errors::BenchError;
-use ck_callers::{Ask, Caller, Gate, Status, TokenId};
+use anyhow::{bail, ensure};
 use ck_journal::{AttributeQuery, Body, Call, READ_WRITE, Reply};
 use ck_objects::{Attribute, AttributeValue, Item, Template};
-use ck_shared::{CallerWork, share};
-use ck_token::{Token, Uncut};
+use ck_shared::{Ask, Caller, CallerWork, Gate, Runtime, Status, TokenId, share};
+use ck_token::Token;
 use ck_types::{Limits, NoMemory, Pin, Rv, Sequence};
 use std::alloc::Global;
 use std::sync::Wait;
 use std::sync::atomic::{AtomicBool, Ordering};
-use std::thread::Threads;
 use std::time::{Clock, Instant};
 
 /// What a caller does.
 #[derive(Clone, Copy)]
 enum Task {
-    /// Asks so often for the state of its session, without the lock.
+    /// Asks this often for the state of its session, without the lock.
     Ask(u64),
-    /// Creates an object, reads its label and destroys it, so often.
+    /// Creates an object, reads its label and destroys it, this often.
     Change(u64),
     /// The same until another caller is done.
     ChangeBeside,
@@ -35,31 +33,16 @@ struct Tasks<'a> {
 }
 
 /// Makes a call, which must be answered CKR_OK, and gives its body.
-fn answered<K: TokenId, G: Gate<K>, R: Wait>(
+fn body_of<K: TokenId, G: Gate<K>, R: Wait>(
     rt: &R,
     alloc: Global,
     gate: &G,
     caller: &mut Caller<K>,
     call: Call,
-) -> Result<Body, BenchError> {
+) -> anyhow::Result<Body> {
     let Reply { rv, body } = gate.call(rt, alloc, caller, call)?;
-    if rv == Rv::Ok {
-        return Ok(body);
-    }
-    drop(body);
-    Err(BenchError::Answered)
-}
-
-/// Makes a call, which must be answered CKR_OK.
-fn make<K: TokenId, G: Gate<K>, R: Wait>(
-    rt: &R,
-    alloc: Global,
-    gate: &G,
-    caller: &mut Caller<K>,
-    call: Call,
-) -> Result<(), BenchError> {
-    drop(answered(rt, alloc, gate, caller, call)?);
-    Ok(())
+    ensure!(rv == Rv::Ok, "a call is answered {rv}");
+    Ok(body)
 }
 
 /// Makes a call that gives a handle.
@@ -69,10 +52,10 @@ fn handle_of<K: TokenId, G: Gate<K>, R: Wait>(
     gate: &G,
     caller: &mut Caller<K>,
     call: Call,
-) -> Result<u64, BenchError> {
-    match answered(rt, alloc, gate, caller, call)? {
+) -> anyhow::Result<u64> {
+    match body_of(rt, alloc, gate, caller, call)? {
         Body::Handle(handle) => Ok(handle),
-        _ => Err(BenchError::Answered),
+        _ => bail!("a call gives no handle"),
     }
 }
 
@@ -91,17 +74,16 @@ fn is_open(status: Option<Status>) -> bool {
     }
 }
 
-/// Asks so often for the state of a session, which must be open.
+/// Asks `count` times for the state of a session, which must be open.
 fn ask<K: TokenId, G: Gate<K>>(
     gate: &G,
     caller: &mut Caller<K>,
     session: u64,
     count: u64,
-) -> Result<(), BenchError> {
+) -> anyhow::Result<()> {
     for _ in 0..count {
-        if !is_open(gate.status(caller, Ask::Session(session))) {
-            return Err(BenchError::Answered);
-        }
+        let status = gate.status(caller, Ask::Session(session));
+        ensure!(is_open(status), "a session isn't open");
     }
     Ok(())
 }
@@ -142,11 +124,12 @@ fn change<K: TokenId, G: Gate<K>, R: Wait>(
     gate: &G,
     caller: &mut Caller<K>,
     session: u64,
-) -> Result<(), BenchError> {
+) -> anyhow::Result<()> {
     let object = handle_of(rt, alloc, gate, caller, creation(alloc, session)?)?;
-    make(rt, alloc, gate, caller, reading(alloc, session, object)?)?;
+    body_of(rt, alloc, gate, caller, reading(alloc, session, object)?)?;
     let destruction = Call::DestroyObject { session, object };
-    make(rt, alloc, gate, caller, destruction)
+    body_of(rt, alloc, gate, caller, destruction)?;
+    Ok(())
 }
 
 impl<'a> Tasks<'a> {
@@ -165,7 +148,7 @@ impl<'a> Tasks<'a> {
         gate: &G,
         caller: &mut Caller<K>,
         session: u64,
-    ) -> Result<(), BenchError> {
+    ) -> anyhow::Result<()> {
         // Each loop must be seen to end.
         for _ in 0..u64::MAX {
             if self.is_done.load(Ordering::SeqCst) {
@@ -184,9 +167,9 @@ impl<'a> Tasks<'a> {
         gate: &G,
         caller: &mut Caller<K>,
         session: u64,
-    ) -> Result<(), BenchError> {
-        let place = (caller.number() as usize).saturating_sub(1);
-        match self.tasks.get(place) {
+    ) -> anyhow::Result<()> {
+        let index = (caller.number() as usize).saturating_sub(1);
+        match self.tasks.get(index) {
             Some(Task::Ask(count)) => ask(gate, caller, session, *count),
             Some(Task::Change(count)) => {
                 for _ in 0..*count {
@@ -195,7 +178,7 @@ impl<'a> Tasks<'a> {
                 Ok(())
             }
             Some(Task::ChangeBeside) => self.change_until_done(rt, alloc, gate, caller, session),
-            None => Err(BenchError::Answered),
+            None => bail!("a caller has no task"),
         }
     }
 }
@@ -204,7 +187,7 @@ impl<'a, R: Wait + Clock> CallerWork<R> for Tasks<'a> {
     ghost use Rattle.std.specs.Prelude.{⊤};
 
     /// The nanoseconds of the caller's task.
-    type Output = Result<u128, BenchError>;
+    type Output = anyhow::Result<u128>;
 
     ghost holds = { λ work caller time. ⊤ };
 
@@ -215,7 +198,7 @@ impl<'a, R: Wait + Clock> CallerWork<R> for Tasks<'a> {
         alloc: Global,
         gate: &G,
         caller: &mut Caller<K>,
-    ) -> Result<u128, BenchError> {
+    ) -> anyhow::Result<u128> {
         let opening = Call::OpenSession { flags: READ_WRITE };
         let session = handle_of(rt, alloc, gate, caller, opening)?;
         let before = Instant::now(rt)?;
@@ -227,59 +210,44 @@ impl<'a, R: Wait + Clock> CallerWork<R> for Tasks<'a> {
 }
 
 /// Initializes a token, and cuts its journal.
-fn initialize(alloc: Global, token: &mut Token) -> Result<(), BenchError>
+fn initialize(alloc: Global, token: &mut Token) -> anyhow::Result<()>
     ensures { OnOk result (token.new.history ≡ start (start_of token.new.history)) }
 {
     let pin = Pin::of(b"1234");
-    token.call(alloc, 1, Call::InitToken { pin })?;
-    match token.cut(alloc) {
-        Ok(_) => Ok(()),
-        Err(Uncut::Memory) => Err(BenchError::Memory),
-        Err(Uncut::Session) => Err(BenchError::Answered),
-    }
+    let reply = token.call(alloc, 1, Call::InitToken { pin })?;
+    ensure!(reply.rv == Rv::Ok, "InitToken is answered {}", reply.rv);
+    token.cut(alloc)?;
+    Ok(())
 }
 
-/// Callers do these tasks on a token that they initialize and share, each in a thread. Gives the
-/// nanoseconds of the slowest.
-fn time_on<R: Clock + Threads + Wait + Copy + Drop + Send + Sync>(
-    rt: R,
-    alloc: Global,
-    token: &mut Token,
-    tasks: &[Task],
-) -> Result<u128, BenchError>
+/// Callers do these tasks on a new token, each in a thread. Gives the nanoseconds of the slowest.
+fn time_of<R: Clock + Runtime>(rt: R, alloc: Global, tasks: &[Task]) -> anyhow::Result<u128>
     requires { (1 ≤ length tasks.now) × (length tasks.now ≤ 8) }
 {
-    initialize(alloc, token)?;
+    let mut token = Token::new(alloc, Limits::largest());
+    initialize(alloc, &mut token)?;
     let mut slowest = 0;
-    for time in share(rt, alloc, token, tasks.len() as u32, &Tasks::new(tasks))? {
+    for time in share(
+        rt,
+        alloc,
+        &mut token,
+        tasks.len() as u32,
+        &Tasks::new(tasks),
+    )? {
         slowest = time?.max(slowest);
     }
     Ok(slowest)
 }
 
-/// The same on a new token.
-fn time_of<R: Clock + Threads + Wait + Copy + Drop + Send + Sync>(
-    rt: R,
-    alloc: Global,
-    tasks: &[Task],
-) -> Result<u128, BenchError>
-    requires { (1 ≤ length tasks.now) × (length tasks.now ≤ 8) }
-{
-    let mut token = Token::new(alloc, Limits::largest());
-    let time = time_on(rt, alloc, &mut token, tasks);
-    drop(token);
-    time
-}
-
 /// Callers do these tasks on a new token. Writes what the slowest takes, by the clock where that is
 /// asked for.
-fn play_tasks<R: Clock + Print + Threads + Wait + Copy + Drop + Send + Sync>(
+fn measure_tasks<R: Clock + Print + Runtime>(
     rt: R,
     alloc: Global,
     name: &str,
     tasks: &[Task],
     is_timed: bool,
-) -> Result<(), BenchError>
+) -> anyhow::Result<()>
     requires { (1 ≤ length tasks.now) × (length tasks.now ≤ 8) }
 {
     let time = time_of(rt, alloc, tasks)?;
@@ -291,18 +259,18 @@ fn play_tasks<R: Clock + Print + Threads + Wait + Copy + Drop + Send + Sync>(
     Ok(())
 }
 
-/// Writes what callers take, by the clock where that is asked for: one asks so often, all of four
-/// do, one asks beside another that changes the token, and four change it a hundredth as often.
-pub(crate) fn play_together<R: Clock + Print + Threads + Wait + Copy + Drop + Send + Sync>(
+/// Writes what callers take, by the clock where that is asked for: one asks `asks` times, all of
+/// four do, one asks beside another that changes the token, and four change it a hundredth as often.
+pub(crate) fn measure_together<R: Clock + Print + Runtime>(
     rt: R,
     alloc: Global,
     asks: u64,
     is_timed: bool,
-) -> Result<(), BenchError> {
+) -> anyhow::Result<()> {
     let (ask, change) = (Task::Ask(asks), Task::Change(asks / 100));
-    play_tasks(rt, alloc, "asks of one caller", &[ask], is_timed)?;
-    play_tasks(rt, alloc, "asks of four callers", &[ask; 4], is_timed)?;
+    measure_tasks(rt, alloc, "asks of one caller", &[ask], is_timed)?;
+    measure_tasks(rt, alloc, "asks of four callers", &[ask; 4], is_timed)?;
     let beside = [ask, Task::ChangeBeside];
-    play_tasks(rt, alloc, "asks beside changes", &beside, is_timed)?;
-    play_tasks(rt, alloc, "changes of four callers", &[change; 4], is_timed)
+    measure_tasks(rt, alloc, "asks beside changes", &beside, is_timed)?;
+    measure_tasks(rt, alloc, "changes of four callers", &[change; 4], is_timed)
 }

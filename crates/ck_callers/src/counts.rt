@@ -27,7 +27,7 @@ impl<K: TokenId> CallerCount<K> {
     ghost use Rattle.std.specs.Prelude.{◌≡◌};
     ghost use Rattle.ck_callers.specs.Callers.{are_all};
 
-    /// So many callers.
+    /// This number of callers.
     pub fn new(count: u32) -> CallerCount<K>
         requires { count ≡ K.callers }
         ensures { result ≡ count }

@@ -82,7 +82,7 @@ pub struct Head<K: HistoryId> {
     ghost head_is: { head ≡ head_of K.book },
 }
 
-/// A front of the one history, of which what runs has the length alone. Of two fronts the shorter
+/// A front of the one history, of which what runs has only the length. Of two fronts the shorter
 /// is a front of the longer.
 #[derive(Drop)]
 pub struct Front<K: HistoryId> {

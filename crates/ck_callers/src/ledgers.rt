@@ -55,10 +55,11 @@ impl Model for NewLedgers {
         × (l.seven.parts ≡ 1) × (l.eight.parts ≡ 1) };
 }
 
-/// How many calls of each of the callers 1 to 8 were answered. The counts are in the proofs alone:
+/// How many calls of each of the callers 1 to 8 were answered. The counts are only in the proofs:
 /// a book takes no bytes.
 #[derive(Drop)]
 pub struct CallBooks<K: TokenId> {
+    // A field for each caller, since each book has a type of its own: a ledger's name is a type.
     one: Book<CallerLedger<K, 1>>,
     two: Book<CallerLedger<K, 2>>,
     three: Book<CallerLedger<K, 3>>,
@@ -121,7 +122,7 @@ fn open_ledger<L: Ledger>(blank: Blank) -> (Book<L>, Share<L>)
     blank.open::<L>()
 }
 
-/// Adds the account of the caller that has this part of its ledger, where it is one of so many.
+/// Adds the account of the caller that has this part of its ledger, where it is one of `most`.
 /// There must be room for it.
 fn add_account<K: TokenId>(
     accounts: &mut Vec<Account<K>>,
@@ -144,7 +145,7 @@ fn add_account<K: TokenId>(
             count: 0,
             share,
         };
-        accounts.push(account).unwrap();
+        accounts.push_reserved(account);
     }
 }
 
@@ -210,7 +211,7 @@ impl NewLedgers {
     }
 }
 
-/// Shows that the book has as many calls as the caller's part, and counts so many more in both.
+/// Shows that the book has as many calls as the caller's part, and counts `calls` more in both.
 fn enter<L: Ledger>(book: &mut Book<L>, share: &mut Share<L>, calls: u64)
     requires { (L.parts ≡ 1) × (share.old.parts ≡ 1) }
     ensures parts { share.new.parts ≡ 1 }
@@ -226,7 +227,7 @@ impl<K: TokenId> CallBooks<K> {
     ghost use Rattle.std.specs.Prelude.{◌≡◌, ◌≤◌, ◌+◌, ◌-◌, ◌<◌, ◌^◌, slice_index, slice_set};
     ghost use Rattle.ck_callers.specs.Accounts.{next_call};
 
-    /// Shows that the book of a caller has as many calls as its share, and counts so many more.
+    /// Shows that the book of a caller has as many calls as its share, and counts `calls` more.
     fn enter(&mut self, share: &mut CallerShare<K>, calls: u64)
         requires { parts_of share.old ≡ 1 }
         ensures parts { parts_of share.new ≡ 1 }

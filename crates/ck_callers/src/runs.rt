@@ -30,13 +30,13 @@ fn take_steps<K: TokenId, S: Turn<K, A>, A: Drop, G: Gate<K>, W: Wait>(
 {
     for step in steps {
         let reply = step.make(rt, alloc, gate, caller)?;
-        replies.push(reply).unwrap();
+        replies.push_reserved(reply);
     }
     Ok(())
 }
 
-/// Takes the steps of a script.
-fn play<K: TokenId, S: Turn<K, A>, A: Drop, G: Gate<K>, W: Wait>(
+/// Runs one script.
+fn run_script<K: TokenId, S: Turn<K, A>, A: Drop, G: Gate<K>, W: Wait>(
     rt: &W,
     alloc: Global,
     gate: &G,
@@ -56,8 +56,8 @@ fn play<K: TokenId, S: Turn<K, A>, A: Drop, G: Gate<K>, W: Wait>(
     );
 }
 
-/// Plays all scripts, each in a thread of its own.
-fn run<
+/// Runs all scripts, each in a thread of its own.
+fn run_all<
     K: TokenId + Send + Sync,
     S: Turn<K, A> + Send,
     A: Drop + Send,
@@ -76,13 +76,13 @@ fn run<
             most,
             &|_: usize, script: &mut Script<K, S, A>|
                 ensures { HasRun S.does S.may_fail script.entry.now script.exit.now }
-            { play(rt, alloc, gate, script) },
+            { run_script(rt, alloc, gate, script) },
         );
     }
 }
 
-/// Plays all scripts of calls, each in a thread of its own. Scripts for which no thread can be made
-/// are played one after the other. It takes no memory but what the calls take.
+/// Runs all scripts of calls, each in a thread of its own. Scripts for which no thread can be made
+/// are run one after the other. It takes no memory except what the calls take.
 pub fn run_scripts<K: TokenId + Send + Sync, G: Gate<K> + Sync, R: Threads + Wait + Sync>(
     rt: &R,
     alloc: Global,
@@ -92,7 +92,7 @@ pub fn run_scripts<K: TokenId + Send + Sync, G: Gate<K> + Sync, R: Threads + Wai
     ensures { (k : ℕ) (d : _) → k < length scripts.old
         → IsPlayed (slice_index_or scripts.old k d) (slice_index_or scripts.new k d) }
 {
-    run(rt, alloc, gate, scripts);
+    run_all(rt, alloc, gate, scripts);
 }
 
 /// As `run_scripts`, for scripts of calls and questions. A question takes no memory.
@@ -105,5 +105,5 @@ pub fn run_steps<K: TokenId + Send + Sync, G: Gate<K> + Sync, R: Threads + Wait 
     ensures { (k : ℕ) (d : _) → k < length scripts.old → AreTaken K.limits
         (slice_index_or scripts.old k d) (slice_index_or scripts.new k d) }
 {
-    run(rt, alloc, gate, scripts);
+    run_all(rt, alloc, gate, scripts);
 }

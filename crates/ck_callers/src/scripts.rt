@@ -6,7 +6,7 @@ use ck_journal::{Call, Reply};
 use ck_types::NoMemory;
 use std::alloc::Global;
 
-/// What a caller is to do, step by step, with room for the replies: calls alone where no other
+/// What a caller is to do, step by step, with room for the replies: only calls, where no other
 /// types are named.
 #[derive(Drop)]
 pub struct Script<K: TokenId, S: Drop = Call, A: Drop = Reply> {
@@ -48,7 +48,7 @@ impl<K: TokenId, S: Drop, A: Drop> Script<K, S, A> {
     pub fn replies(&self) -> &[A]
         ensures { result.now ≡ self.now.replies.items }
     {
-        self.replies.as_slice()
+        &self.replies
     }
 
     /// The caller, and the replies to its steps.

@@ -8,7 +8,7 @@ use Rattle.ck_types.specs.TokenLimits.{Ranges}
 use Rattle.ck_script.specs.Lines.{lines_in}
 use Rattle.ck_journal.specs.TokenStates.{TokenState}
 use Rattle.ck_plays.specs.Devices.{Reading, Writing, end_read, failed_read, read_on}
-use Rattle.ck_plays.specs.Players.{HasAnswered, IsStopped, IsAnsweredSoFar, IsReading, IsTurn}
+use Rattle.ck_plays.specs.Players.{HasAnswered, IsStopped, IsAnsweredSoFar, IsReading, IsReadOn}
 use Rattle.ck_plays.specs.Players.{IsOfLine, onto}
 use Rattle.ck_journal.specs.Bases.{empty_base}
 use Rattle.ck_journal.specs.Histories.{start}
@@ -31,13 +31,13 @@ ended_lines-parts : (lines before : List (List ℕ)) (l : List ℕ) → lines �
 ended_lines-parts lines before l e = sym (ap ended_lines e ∙ ended_lines-push before l)
 
 -- a failed read
-pub played-read_failed : (limits : Ranges) (turns : ℕ) (read : Reading) (written : Writing)
+pub played-read_failed : (limits : Ranges) (most : ℕ) (read : Reading) (written : Writing)
     (reads : ℕ)
     (player : PlayerState) (A B : Reading → Type 0) (P : Writing → Type 0) (f : PlayFault)
-    → f ≡ fault.Read → reads < turns → IsReading limits read written reads player A P
-    → ((r : Reading) → A r → B (failed_read r)) → IsPlayed limits turns read written B P (Err f)
-played-read_failed limits turns read written reads player A B P f e lt h more =
-    subst (λ (g : PlayFault). IsPlayed limits turns read written B P (Err g)) (sym e) (record {
+    → f ≡ fault.Read → reads < most → IsReading limits read written reads player A P
+    → ((r : Reading) → A r → B (failed_read r)) → IsPlayed limits most read written B P (Err f)
+played-read_failed limits most read written reads player A B P f e lt h more =
+    subst (λ (g : PlayFault). IsPlayed limits most read written B P (Err g)) (sym e) (record {
       script = h.script;
       earlier = h.script;
       ended = false;
@@ -61,11 +61,11 @@ played-read_failed limits turns read written reads player A B P f e lt h more =
     })
 
 -- no more reads are allowed
-pub played-out : (limits : Ranges) (turns : ℕ) (read : Reading) (written : Writing) (reads : ℕ)
+pub played-out : (limits : Ranges) (most : ℕ) (read : Reading) (written : Writing) (reads : ℕ)
     (player : PlayerState) (A : Reading → Type 0) (P : Writing → Type 0)
-    → reads ≡ turns → IsReading limits read written reads player A P
-    → IsPlayed limits turns read written A P (Err fault.Turns)
-played-out limits turns read written reads player A P e h = record {
+    → reads ≡ most → IsReading limits read written reads player A P
+    → IsPlayed limits most read written A P (Err fault.Turns)
+played-out limits most read written reads player A P e h = record {
   script = h.script;
   earlier = h.earlier;
   ended = false;
@@ -91,27 +91,27 @@ of_line-reads fault.Write n h = refl
 of_line-reads fault.Memory n h = refl
 of_line-reads fault.Turns n h = absurd h
 
-of_line-within : (f : PlayFault) (turns reads : ℕ) → IsOfLine f → reads ≤ turns
-    → AreReads turns reads (Err f)
-of_line-within (fault.Line k r) turns reads h le = le
-of_line-within fault.Read turns reads h le = absurd h
-of_line-within fault.Write turns reads h le = le
-of_line-within fault.Memory turns reads h le = le
-of_line-within fault.Turns turns reads h le = absurd h
+of_line-within : (f : PlayFault) (most reads : ℕ) → IsOfLine f → reads ≤ most
+    → AreReads most reads (Err f)
+of_line-within (fault.Line k r) most reads h le = le
+of_line-within fault.Read most reads h le = absurd h
+of_line-within fault.Write most reads h le = le
+of_line-within fault.Memory most reads h le = le
+of_line-within fault.Turns most reads h le = absurd h
 
 -- playing stopped at a line of what was read
-stopped : (limits : Ranges) (turns : ℕ) (read : Reading) (written : Writing)
+stopped : (limits : Ranges) (most : ℕ) (read : Reading) (written : Writing)
     (script earlier : List ℕ)
     (lines : List (List ℕ)) (ended : Bool) (least reads : ℕ) (B : Reading → Type 0)
     (P : Writing → Type 0)
     (f d : PlayFault)
-    → f ≡ d → lines_in script ≡ lines → least ≡ ended_lines (lines_in earlier) → reads ≤ turns
+    → f ≡ d → lines_in script ≡ lines → least ≡ ended_lines (lines_in earlier) → reads ≤ most
     → B (after_reads read script earlier reads (one_if ended read.ends) read.failures)
     → IsStopped limits written lines ended least P d
-    → IsPlayed limits turns read written B P (Err f)
-stopped limits turns read written script earlier lines ended least reads B P f d same e counted le h
+    → IsPlayed limits most read written B P (Err f)
+stopped limits most read written script earlier lines ended least reads B P f d same e counted le h
     s =
-    subst (λ (g : PlayFault). IsPlayed limits turns read written B P (Err g)) (sym same) (record {
+    subst (λ (g : PlayFault). IsPlayed limits most read written B P (Err g)) (sym same) (record {
       script = script;
       earlier = earlier;
       ended = ended;
@@ -120,7 +120,7 @@ stopped limits turns read written script earlier lines ended least reads B P f d
       reader = subst (λ (n : ℕ). B (after_reads read script earlier reads
           (one_if ended read.ends) n)) (of_line-reads d read.failures s.of_line) h;
       writer = s.writer;
-      within = of_line-within d turns reads s.of_line le;
+      within = of_line-within d most reads s.of_line le;
       outcome =
           subst (λ (n : ℕ). Outcome limits (lines_in script) ended n s.output (Err d)) counted
           (subst (λ (ls : List (List ℕ)). Outcome limits ls ended least s.output (Err d))
@@ -128,15 +128,15 @@ stopped limits turns read written script earlier lines ended least reads B P f d
     })
 
 -- the end, where the last line is answered
-pub played-ended : (limits : Ranges) (turns : ℕ) (read : Reading) (written : Writing) (reads : ℕ)
+pub played-ended : (limits : Ranges) (most : ℕ) (read : Reading) (written : Writing) (reads : ℕ)
     (player : PlayerState) (token : TokenState) (number count : ℕ) (bytes : List ℕ)
     (A B : Reading → Type 0)
     (P Q : Writing → Type 0)
-    → reads < turns → count ≡ 0 → (h : IsReading limits read written reads player A P)
+    → reads < most → count ≡ 0 → (h : IsReading limits read written reads player A P)
     → ((r : Reading) → A r → B (if count == 0 then end_read r else read_on r bytes))
     → HasAnswered limits written (h.so_far.before ++ player.open_line ∷ []) token number Q
-    → IsPlayed limits turns read written B Q (Ok tt)
-played-ended limits turns read written reads player token number count bytes A B P Q lt none h more
+    → IsPlayed limits most read written B Q (Ok tt)
+played-ended limits most read written reads player token number count bytes A B P Q lt none h more
     answered = record {
       script = h.script;
       earlier = h.script;
@@ -154,37 +154,37 @@ played-ended limits turns read written reads player token number count bytes A B
     }
 
 -- the end, where the last line isn't answered
-pub played-ended_stopped : (limits : Ranges) (turns : ℕ) (read : Reading) (written : Writing)
+pub played-ended_stopped : (limits : Ranges) (most : ℕ) (read : Reading) (written : Writing)
     (reads : ℕ)
     (player : PlayerState) (count : ℕ) (bytes : List ℕ) (A B : Reading → Type 0) (P Q : Writing → Type 0)
     (f d : PlayFault)
-    → f ≡ d → reads < turns → count ≡ 0 → (h : IsReading limits read written reads player A P)
+    → f ≡ d → reads < most → count ≡ 0 → (h : IsReading limits read written reads player A P)
     → ((r : Reading) → A r → B (if count == 0 then end_read r else read_on r bytes))
     → IsStopped limits written (h.so_far.before ++ player.open_line ∷ []) true
     (length h.so_far.before) Q d
-    → IsPlayed limits turns read written B Q (Err f)
-played-ended_stopped limits turns read written reads player count bytes A B P Q f d same lt none h
+    → IsPlayed limits most read written B Q (Err f)
+played-ended_stopped limits most read written reads player count bytes A B P Q f d same lt none h
     more s =
-    stopped limits turns read written h.script h.script _ true _
+    stopped limits most read written h.script h.script _ true _
     (suc reads) B Q f d same h.so_far.parts
     (ended_lines-parts (lines_in h.script) h.so_far.before player.open_line h.so_far.parts)
     (omega arith)
     (at_end read h.script h.earlier reads count bytes A B none h.reader more) s
 
 -- further bytes, of which a line isn't answered
-pub played-fed_stopped : (limits : Ranges) (turns : ℕ) (read : Reading) (written : Writing)
+pub played-fed_stopped : (limits : Ranges) (most : ℕ) (read : Reading) (written : Writing)
     (reads : ℕ)
     (player : PlayerState) (count : ℕ) (bytes : List ℕ) (A B : Reading → Type 0) (P Q : Writing → Type 0)
     (f d : PlayFault)
-    → f ≡ d → reads < turns → (count == 0) ≡ false
+    → f ≡ d → reads < most → (count == 0) ≡ false
     → (h : IsReading limits read written reads player A P)
     → ((r : Reading) → A r → B (if count == 0 then end_read r else read_on r bytes))
     → IsStopped limits written (h.so_far.before ++ onto player.open_line (lines_in bytes))
     false (length h.so_far.before) Q d
-    → IsPlayed limits turns read written B Q (Err f)
-played-fed_stopped limits turns read written reads player count bytes A B P Q f d same lt some h
+    → IsPlayed limits most read written B Q (Err f)
+played-fed_stopped limits most read written reads player count bytes A B P Q f d same lt some h
     more s =
-    stopped limits turns read written (h.script ++ bytes) h.script _ false _
+    stopped limits most read written (h.script ++ bytes) h.script _ false _
     (suc reads) B Q f d same
     (lines_in-read_on h.script bytes h.so_far.before player.open_line h.so_far.parts)
     (ended_lines-parts (lines_in h.script) h.so_far.before player.open_line h.so_far.parts)
@@ -244,11 +244,11 @@ reading-nothing limits read written player A P same history empty number h w = r
 }
 
 -- there is no memory before anything is read
-pub played-nothing : (limits : Ranges) (turns : ℕ) (read : Reading) (written : Writing)
+pub played-nothing : (limits : Ranges) (most : ℕ) (read : Reading) (written : Writing)
     (A : Reading → Type 0) (P : Writing → Type 0) (f : PlayFault)
-    → f ≡ fault.Memory → A read → P written → IsPlayed limits turns read written A P (Err f)
-played-nothing limits turns read written A P f e h w =
-    subst (λ (g : PlayFault). IsPlayed limits turns read written A P (Err g)) (sym e) (record {
+    → f ≡ fault.Memory → A read → P written → IsPlayed limits most read written A P (Err f)
+played-nothing limits most read written A P f e h w =
+    subst (λ (g : PlayFault). IsPlayed limits most read written A P (Err g)) (sym e) (record {
       script = [];
       earlier = [];
       ended = false;
@@ -274,19 +274,19 @@ played-nothing limits turns read written A P f e h w =
     })
 
 -- a turn that found the end
-pub turn-ended : (ended : Bool) (limits : Ranges) (turns : ℕ) (read : Reading) (written : Writing)
+pub read_on-ended : (ended : Bool) (limits : Ranges) (most : ℕ) (read : Reading) (written : Writing)
     (reads : ℕ)
     (player : PlayerState) (A : Reading → Type 0) (P : Writing → Type 0)
-    → ended ≡ true → IsTurn ended limits turns read written reads player A P
-    → IsPlayed limits turns read written A P (Ok tt)
-turn-ended true limits turns read written reads player A P e h = h
-turn-ended false limits turns read written reads player A P e h = cc
+    → ended ≡ true → IsReadOn ended limits most read written reads player A P
+    → IsPlayed limits most read written A P (Ok tt)
+read_on-ended true limits most read written reads player A P e h = h
+read_on-ended false limits most read written reads player A P e h = cc
 
 -- a turn that didn't
-pub turn-on : (ended : Bool) (limits : Ranges) (turns : ℕ) (read : Reading) (written : Writing)
+pub read_on-going : (ended : Bool) (limits : Ranges) (most : ℕ) (read : Reading) (written : Writing)
     (reads : ℕ)
     (player : PlayerState) (A : Reading → Type 0) (P : Writing → Type 0)
-    → ended ≡ false → IsTurn ended limits turns read written reads player A P
+    → ended ≡ false → IsReadOn ended limits most read written reads player A P
     → IsReading limits read written (reads + 1) player A P
-turn-on true limits turns read written reads player A P e h = cc
-turn-on false limits turns read written reads player A P e h = rw add-one h
+read_on-going true limits most read written reads player A P e h = cc
+read_on-going false limits most read written reads player A P e h = rw add-one h

@@ -90,9 +90,9 @@ read-nothing read A bytes none h = record {
 }
 
 -- there was no memory for the first read
-pub read-unmade : (turns : ℕ) (read : Reading) (A : Reading → Type 0) → A read
-    → IsUnread turns read A fault.Memory
-read-unmade turns read A h = (
+pub read-unmade : (most : ℕ) (read : Reading) (A : Reading → Type 0) → A read
+    → IsUnread most read A fault.Memory
+read-unmade most read A h = (
   [],
   record {
     script = [];
@@ -118,12 +118,12 @@ read-more read A B bytes next reads after count piece some h more e f =
           (further read bytes h.earlier reads count piece A B some h.reader more);
     })
 
-pub read-failed : (turns : ℕ) (read : Reading) (A B : Reading → Type 0) (bytes : List ℕ)
+pub read-failed : (most : ℕ) (read : Reading) (A B : Reading → Type 0) (bytes : List ℕ)
     (reads : ℕ) (f : PlayFault)
-    → f ≡ fault.Read → reads < turns → HasReadSoFar read A bytes reads
-    → ((r : Reading) → A r → B (failed_read r)) → IsReadWhole turns read B bytes (Err f)
-read-failed turns read A B bytes reads f e lt h more =
-    subst (λ (g : PlayFault). IsReadWhole turns read B bytes (Err g)) (sym e) (record {
+    → f ≡ fault.Read → reads < most → HasReadSoFar read A bytes reads
+    → ((r : Reading) → A r → B (failed_read r)) → IsReadWhole most read B bytes (Err f)
+read-failed most read A B bytes reads f e lt h more =
+    subst (λ (g : PlayFault). IsReadWhole most read B bytes (Err g)) (sym e) (record {
       script = bytes;
       earlier = bytes;
       ended = false;
@@ -136,12 +136,12 @@ read-failed turns read A B bytes reads f e lt h more =
       outcome = refl;
     })
 
-pub read-unkept : (turns : ℕ) (read : Reading) (A B : Reading → Type 0) (bytes kept : List ℕ)
+pub read-unkept : (most : ℕ) (read : Reading) (A B : Reading → Type 0) (bytes kept : List ℕ)
     (reads count : ℕ) (piece : List ℕ)
-    → (count == 0) ≡ false → reads < turns → HasReadSoFar read A bytes reads
+    → (count == 0) ≡ false → reads < most → HasReadSoFar read A bytes reads
     → ((r : Reading) → A r → B (if count == 0 then end_read r else read_on r piece))
-    → IsReadWhole turns read B kept (Err fault.Memory)
-read-unkept turns read A B bytes kept reads count piece some lt h more = record {
+    → IsReadWhole most read B kept (Err fault.Memory)
+read-unkept most read A B bytes kept reads count piece some lt h more = record {
   script = bytes ++ piece;
   earlier = bytes;
   ended = false;
@@ -151,12 +151,12 @@ read-unkept turns read A B bytes kept reads count piece some lt h more = record 
   outcome = refl;
 }
 
-pub read-ended : (turns : ℕ) (read : Reading) (A B : Reading → Type 0) (bytes : List ℕ)
+pub read-ended : (most : ℕ) (read : Reading) (A B : Reading → Type 0) (bytes : List ℕ)
     (reads count : ℕ) (piece : List ℕ)
-    → count ≡ 0 → reads < turns → HasReadSoFar read A bytes reads
+    → count ≡ 0 → reads < most → HasReadSoFar read A bytes reads
     → ((r : Reading) → A r → B (if count == 0 then end_read r else read_on r piece))
-    → IsReadWhole turns read B bytes (Ok tt)
-read-ended turns read A B bytes reads count piece none lt h more = record {
+    → IsReadWhole most read B bytes (Ok tt)
+read-ended most read A B bytes reads count piece none lt h more = record {
   script = bytes;
   earlier = bytes;
   ended = true;
@@ -166,10 +166,10 @@ read-ended turns read A B bytes reads count piece none lt h more = record {
   outcome = (refl, refl);
 }
 
-pub read-out : (turns : ℕ) (read : Reading) (A : Reading → Type 0) (bytes : List ℕ) (reads : ℕ)
-    → reads ≡ turns → HasReadSoFar read A bytes reads
-    → IsReadWhole turns read A bytes (Err fault.Turns)
-read-out turns read A bytes reads e h = record {
+pub read-out : (most : ℕ) (read : Reading) (A : Reading → Type 0) (bytes : List ℕ) (reads : ℕ)
+    → reads ≡ most → HasReadSoFar read A bytes reads
+    → IsReadWhole most read A bytes (Err fault.Turns)
+read-out most read A bytes reads e h = record {
   script = bytes;
   earlier = h.earlier;
   ended = false;

@@ -57,23 +57,23 @@ IsRefusedLine callers m number other = ⊥
 -- ---- the whole script
 
 -- the whole script was read, none of its lines is bad, and these are their calls
-pub record HasGoodScript (callers turns : ℕ) (read : Reading) (is_read : Reading → Type 0)
+pub record HasGoodScript (callers most : ℕ) (read : Reading) (is_read : Reading → Type 0)
     (calls : List (ℕ × Call)) : Type 0 where
   pub script : List ℕ
-  pub whole : IsReadWhole turns read is_read script (Ok tt)
+  pub whole : IsReadWhole most read is_read script (Ok tt)
   pub lines : AreCallsOf callers (lines_in script) calls
 
 -- the whole script was read, and this is its first bad line
-pub record HasBadScript (callers turns : ℕ) (read : Reading) (is_read : Reading → Type 0)
+pub record HasBadScript (callers most : ℕ) (read : Reading) (is_read : Reading → Type 0)
     (number : ℕ) : Type 0 where
   pub script : List ℕ
-  pub whole : IsReadWhole turns read is_read script (Ok tt)
+  pub whole : IsReadWhole most read is_read script (Ok tt)
   pub bad : IsFirstBadFor callers (lines_in script) number
 
 -- why there are no calls: reading stopped, or a line is bad, or there is no memory, of which
 -- nothing more is said
 abbrev pub HasNoCalls : ℕ → ℕ → Reading → (Reading → Type 0) → PlayFault → Type 0
-HasNoCalls callers turns read is_read (fault.Line number reason) =
-    HasBadScript callers turns read is_read number
-HasNoCalls callers turns read is_read fault.Memory = Unit {0}
-HasNoCalls callers turns read is_read other = IsUnread turns read is_read other
+HasNoCalls callers most read is_read (fault.Line number reason) =
+    HasBadScript callers most read is_read number
+HasNoCalls callers most read is_read fault.Memory = Unit {0}
+HasNoCalls callers most read is_read other = IsUnread most read is_read other

@@ -146,25 +146,25 @@ StopsInChunk chunk old was_written is_written f =
     (length lines) is_written f
 
 -- after one more read playing goes on, or the end was found
-abbrev pub IsTurn : Bool → Ranges → ℕ → Reading → Writing → ℕ → PlayerState → (Reading → Type 0)
+abbrev pub IsReadOn : Bool → Ranges → ℕ → Reading → Writing → ℕ → PlayerState → (Reading → Type 0)
     → (Writing → Type 0) → Type 0
-IsTurn true limits turns read written reads player is_read is_written =
-    IsPlayed limits turns read written is_read is_written (Ok tt)
-IsTurn false limits turns read written reads player is_read is_written =
+IsReadOn true limits most read written reads player is_read is_written =
+    IsPlayed limits most read written is_read is_written (Ok tt)
+IsReadOn false limits most read written reads player is_read is_written =
     IsReading limits read written (suc reads) player is_read is_written
 
 -- one more read of those allowed is made, and what it gave is answered
-abbrev pub TakesTurn : PlayerState → (Reading → Type 0) → (Writing → Type 0) → PlayerState
+abbrev pub AnswersRead : PlayerState → (Reading → Type 0) → (Writing → Type 0) → PlayerState
     → (Reading → Type 0) → (Writing → Type 0) → Bool → Type 0
-TakesTurn old was_read was_written new is_read is_written ended =
-    (limits : Ranges) (read : Reading) (written : Writing) (reads turns : ℕ) → reads < turns
+AnswersRead old was_read was_written new is_read is_written ended =
+    (limits : Ranges) (read : Reading) (written : Writing) (reads most : ℕ) → reads < most
     → IsReading limits read written reads old was_read was_written
-    → IsTurn ended limits turns read written reads new is_read is_written
+    → IsReadOn ended limits most read written reads new is_read is_written
 
 -- one more read of those allowed is made, and playing ends with this fault
-abbrev pub StopsInTurn : PlayerState → (Reading → Type 0) → (Writing → Type 0) → (Reading → Type 0)
+abbrev pub StopsInRead : PlayerState → (Reading → Type 0) → (Writing → Type 0) → (Reading → Type 0)
     → (Writing → Type 0) → PlayFault → Type 0
-StopsInTurn old was_read was_written is_read is_written f =
-    (limits : Ranges) (read : Reading) (written : Writing) (reads turns : ℕ) → reads < turns
+StopsInRead old was_read was_written is_read is_written f =
+    (limits : Ranges) (read : Reading) (written : Writing) (reads most : ℕ) → reads < most
     → IsReading limits read written reads old was_read was_written
-    → IsPlayed limits turns read written is_read is_written (Err f)
+    → IsPlayed limits most read written is_read is_written (Err f)

@@ -158,8 +158,8 @@ failed_writes n other = n
 
 -- how many reads were made of those allowed: all of them where the reader doesn't end
 abbrev pub AreReads : ℕ → ℕ → Result (Unit {0}) PlayFault → Type 0
-AreReads turns reads (Err fault.Turns) = reads ≡ turns
-AreReads turns reads other = reads ≤ turns
+AreReads most reads (Err fault.Turns) = reads ≡ most
+AreReads most reads other = reads ≤ most
 
 -- the bytes that were read before the last read, where the reads before it gave these
 abbrev pub earlier_bytes : Reading → ℕ → List ℕ → List ℕ
@@ -179,7 +179,7 @@ after_reads r script earlier reads ends failures = record {
 
 -- what was read and written by a call that began where so much had been, and what it answered: when
 -- it read last, all lines that had their ends were answered
-pub record IsPlayed (limits : Ranges) (turns : ℕ) (read : Reading) (written : Writing)
+pub record IsPlayed (limits : Ranges) (most : ℕ) (read : Reading) (written : Writing)
     (is_read : Reading → Type 0) (is_written : Writing → Type 0)
     (result : Result (Unit {0}) PlayFault) : Type 0 where
   pub script : List ℕ
@@ -193,6 +193,6 @@ pub record IsPlayed (limits : Ranges) (turns : ℕ) (read : Reading) (written : 
     bytes = written.bytes ++ output;
     failures = failed_writes written.failures result;
   })
-  pub within : AreReads turns reads result
+  pub within : AreReads most reads result
   pub outcome : Outcome limits (lines_in script) ended
       (ended_lines (lines_in earlier)) output result

@@ -13,8 +13,8 @@ HasReadTo ended script bytes (Err fault.Memory) = ended ≡ false
 HasReadTo ended script bytes (Err fault.Turns) = ended ≡ false
 HasReadTo ended script bytes other = ⊥
 
--- a script is read to its end, in so many turns at most, or up to a fault
-pub record IsReadWhole (turns : ℕ) (read : Reading) (is_read : Reading → Type 0) (bytes : List ℕ)
+-- a script is read to its end, in at most so many reads, or up to a fault
+pub record IsReadWhole (most : ℕ) (read : Reading) (is_read : Reading → Type 0) (bytes : List ℕ)
     (result : Result (Unit {0}) PlayFault) : Type 0 where
   pub script : List ℕ
   pub earlier : List ℕ
@@ -22,13 +22,13 @@ pub record IsReadWhole (turns : ℕ) (read : Reading) (is_read : Reading → Typ
   pub reads : ℕ
   pub reader : is_read (after_reads read script earlier reads
       (one_if ended read.ends) (failed_reads read.failures result))
-  pub within : AreReads turns reads result
+  pub within : AreReads most reads result
   pub outcome : HasReadTo ended script bytes result
 
 -- a script wasn't read whole, since reading stopped with this fault
 abbrev pub IsUnread : ℕ → Reading → (Reading → Type 0) → PlayFault → Type 0
-IsUnread turns read is_read fault =
-    (bytes : List ℕ) × IsReadWhole turns read is_read bytes (Err fault)
+IsUnread most read is_read fault =
+    (bytes : List ℕ) × IsReadWhole most read is_read bytes (Err fault)
 
 -- so many reads were made, and gave these bytes
 pub record HasReadSoFar (read : Reading) (is_read : Reading → Type 0) (bytes : List ℕ) (reads : ℕ)

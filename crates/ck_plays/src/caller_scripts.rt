@@ -1,4 +1,4 @@
-//! The calls of a script that is read whole, each of one of so many callers.
+//! The calls of a script that is read whole, each of one of the callers.
 ghost use Rattle.std.specs.Prelude.{◌≡◌, ◌++◌, false, [], ◌∷◌, Some, IfOk, OnOk, IfErr};
 ghost use Rattle.ck_script.specs.Lines.{lines_in, meaning};
 ghost use Rattle.ck_plays.specs.Devices.{Reading};
@@ -36,7 +36,6 @@ fn add_call(
     ensures err { IfErr result (IsRefusedLine callers (Some (Line.Called caller call)) number) }
 {
     if caller < 1 || callers < caller {
-        drop(call);
         return Err(PlayFault::Line(number, BadLine::CallerAbove(callers)));
     }
     push_call(calls, caller, call)?;
@@ -81,19 +80,19 @@ fn calls_of(alloc: Global, script: &[u8], callers: u32) -> Result<Vec<(u32, Call
     Ok(calls)
 }
 
-/// Reads a script whole, in at most so many reads as `turns`, and gives the calls of its lines,
+/// Reads a script whole, in at most `most` reads, and gives the calls of its lines,
 /// each with its caller, which is one of 1 to `callers`.
 pub fn read_calls<R: Source>(
     alloc: Global,
     reader: &mut R,
     callers: u32,
-    turns: u64,
+    most: u64,
 ) -> Result<Vec<(u32, Call)>, PlayFault>
     ensures ok { IfOk result (λ calls. (read : Reading) → R.is_read reader.old read
-        → HasGoodScript callers turns read (R.is_read reader.new) calls.items) }
+        → HasGoodScript callers most read (R.is_read reader.new) calls.items) }
     ensures err { IfErr result (λ fault. (read : Reading) → R.is_read reader.old read
-        → HasNoCalls callers turns read (R.is_read reader.new) fault) }
+        → HasNoCalls callers most read (R.is_read reader.new) fault) }
 {
-    let script = read_script(alloc, reader, turns)?;
-    calls_of(alloc, script.as_slice(), callers)
+    let script = read_script(alloc, reader, most)?;
+    calls_of(alloc, &script, callers)
 }

@@ -1,5 +1,5 @@
 //! Scripts of calls that are read from a source: played line by line on a token and answered to a
-//! sink, or read whole for so many callers. The token is of any type `G` that answers calls and
+//! sink, or read whole for callers in threads. The token is of any type `G` that answers calls and
 //! enters them in a journal.
 #![tactic(auto)]
 
@@ -16,5 +16,5 @@ pub use devices::{ReadSource, Sink, Source, WriteSink};
 pub use faults::PlayFault;
 pub use memory_devices::{MemorySink, MemorySource};
 pub use players::write_all;
-pub use plays::{TURNS, play, play_with};
+pub use plays::{MOST_READS, play, play_with};
 pub use readings::read_script;

@@ -5,7 +5,7 @@ use crate::devices::{Sink, Source};
 use std::alloc::Global;
 use std::io;
 
-/// Copies so many bytes at most to the buffer's front, and says how many.
+/// Copies at most `most` bytes to the buffer's front, and says how many.
 fn copy_front(from: &[u8], to: &mut [u8], most: usize) -> usize
     requires some { 0 < most }
     ensures bound { (result ≤ length to.new) × (result ≤ length from.now) }
@@ -26,6 +26,7 @@ pub struct MemorySource<'a> {
     piece: usize,
     fails_at: u64,
     reads: u64,
+    /// How many reads found the end. Like `failures` it is read only by the contracts.
     ends: u64,
     failures: u64,
 }
@@ -107,6 +108,7 @@ pub struct MemorySink {
     fails_at: u64,
     stops_at: u64,
     writes: u64,
+    /// How many writes failed or took no byte. It is read only by the contracts.
     failures: u64,
 }
 
@@ -139,7 +141,7 @@ impl MemorySink {
         ensures { (w : Writing) → ⟦<MemorySink as Sink>⟧.is_written self.now w
             → result.now ≡ w.bytes }
     {
-        self.bytes.as_slice()
+        &self.bytes
     }
 }
 

@@ -116,7 +116,7 @@ fn answer_call<G: JournaledToken, W: Sink>(
     let reply = token.call(alloc, caller, call)?;
     text.clear();
     push_reply(text, &reply)?;
-    write_all(writer, text.as_slice())
+    write_all(writer, text)
 }
 
 /// Answers a line of this number.
@@ -160,7 +160,7 @@ pub(crate) fn end_line<G: JournaledToken, W: Sink>(
         &mut player.text,
         alloc,
         writer,
-        player.open_line.as_slice(),
+        &player.open_line,
         player.number,
     )?;
     player.open_line.clear();

@@ -2,7 +2,7 @@
 ghost use Rattle.std.specs.Prelude.{◌≡◌, ◌<◌, [], length, IfOk, IfErr};
 ghost use Rattle.ck_types.specs.TokenLimits.{Ranges};
 ghost use Rattle.ck_plays.specs.Devices.{Reading, Writing};
-ghost use Rattle.ck_plays.specs.Players.{IsReading, TakesTurn, StopsInTurn};
+ghost use Rattle.ck_plays.specs.Players.{IsReading, AnswersRead, StopsInRead};
 ghost use Rattle.ck_journal.specs.Bases.{empty_base};
 ghost use Rattle.ck_journal.specs.Histories.{start};
 ghost use Rattle.ck_plays.specs.Plays.{IsPlayed};
@@ -16,7 +16,7 @@ use ck_types::Limits;
 use std::alloc::Global;
 
 /// The most reads of a script, 2^32.
-pub const TURNS: u64 = 4_294_967_296;
+pub const MOST_READS: u64 = 4_294_967_296;
 
 /// Plays a script on a new token, in at most 2^32 reads.
 pub fn play<G: JournaledToken, R: Source, W: Sink>(
@@ -27,37 +27,30 @@ pub fn play<G: JournaledToken, R: Source, W: Sink>(
 ) -> Result<(), PlayFault>
     ensures { (read : Reading) (written : Writing)
         → R.is_read reader.old read → W.is_written writer.old written
-        → IsPlayed limits TURNS read written
+        → IsPlayed limits MOST_READS read written
         (R.is_read reader.new) (W.is_written writer.new) result }
 {
-    play_with::<G, R, W>(alloc, limits, reader, writer, TURNS)
+    play_with::<G, R, W>(alloc, limits, reader, writer, MOST_READS)
 }
 
 /// Plays a script on a new token: one call after the other as the lines stand. Before it reads on,
 /// it answers all lines that have their ends, and before it makes a call, it has written the
-/// replies to those before. It makes at most so many reads as `turns`.
+/// replies to those before. It makes at most `most` reads.
 pub fn play_with<G: JournaledToken, R: Source, W: Sink>(
     alloc: Global,
     limits: Limits,
     reader: &mut R,
     writer: &mut W,
-    turns: u64,
+    most: u64,
 ) -> Result<(), PlayFault>
     ensures { (read : Reading) (written : Writing)
         → R.is_read reader.old read → W.is_written writer.old written
-        → IsPlayed limits turns read written
+        → IsPlayed limits most read written
         (R.is_read reader.new) (W.is_written writer.new) result }
 {
     let mut buffer = new_buffer(alloc)?;
     let mut player = new_player::<G>(alloc, limits);
-    play_on(
-        &mut player,
-        alloc,
-        reader,
-        writer,
-        buffer.as_mut_slice(),
-        turns,
-    )
+    play_on(&mut player, alloc, reader, writer, &mut buffer, most)
 }
 
 fn new_player<G: JournaledToken>(alloc: Global, limits: Limits) -> Player<G>
@@ -80,17 +73,17 @@ fn play_on<G: JournaledToken, R: Source, W: Sink>(
     reader: &mut R,
     writer: &mut W,
     buffer: &mut [u8],
-    turns: u64,
+    most: u64,
 ) -> Result<(), PlayFault>
     requires room { 0 < length buffer.old }
     ensures { (limits : Ranges) (read : Reading) (written : Writing)
         → IsReading limits read written 0 player.old
         (R.is_read reader.old) (W.is_written writer.old)
-        → IsPlayed limits turns read written
+        → IsPlayed limits most read written
         (R.is_read reader.new) (W.is_written writer.new) result }
 {
-    'reading: for _turn in 0..turns {
-        if take_turn(player, alloc, reader, writer, buffer)? {
+    'reading: for _read in 0..most {
+        if answer_read(player, alloc, reader, writer, buffer)? {
             return Ok(());
         }
     }
@@ -98,7 +91,7 @@ fn play_on<G: JournaledToken, R: Source, W: Sink>(
 }
 
 /// Reads once and answers the lines that this ends. Says whether it found the end.
-fn take_turn<G: JournaledToken, R: Source, W: Sink>(
+fn answer_read<G: JournaledToken, R: Source, W: Sink>(
     player: &mut Player<G>,
     alloc: Global,
     reader: &mut R,
@@ -106,9 +99,10 @@ fn take_turn<G: JournaledToken, R: Source, W: Sink>(
     buffer: &mut [u8],
 ) -> Result<bool, PlayFault>
     requires room { 0 < length buffer.old }
-    ensures ok { IfOk result (TakesTurn player.old (R.is_read reader.old) (W.is_written writer.old)
+    ensures ok { IfOk result (AnswersRead player.old (R.is_read reader.old)
+        (W.is_written writer.old)
         player.new (R.is_read reader.new) (W.is_written writer.new)) }
-    ensures err { IfErr result (StopsInTurn player.old (R.is_read reader.old)
+    ensures err { IfErr result (StopsInRead player.old (R.is_read reader.old)
         (W.is_written writer.old) (R.is_read reader.new) (W.is_written writer.new)) }
 {
     let count = read_some(reader, buffer)?;

@@ -36,19 +36,19 @@ pub(crate) fn read_some<R: Source>(reader: &mut R, buffer: &mut [u8]) -> Result<
     }
 }
 
-/// Reads a source to its end, in at most so many reads as `turns`.
+/// Reads a source to its end, in at most `most` reads.
 fn read_to_end<R: Source>(
     reader: &mut R,
     script: &mut Vec<u8>,
     buffer: &mut [u8],
-    turns: u64,
+    most: u64,
 ) -> Result<(), PlayFault>
     requires room { 0 < length buffer.old }
     requires none { script.old.items ≡ [] }
     ensures { (read : Reading) → R.is_read reader.old read
-        → IsReadWhole turns read (R.is_read reader.new) script.new.items result }
+        → IsReadWhole most read (R.is_read reader.new) script.new.items result }
 {
-    'reading: for _turn in 0..turns {
+    'reading: for _read in 0..most {
         let count = read_some(reader, buffer)?;
         if count == 0 {
             return Ok(());
@@ -60,19 +60,19 @@ fn read_to_end<R: Source>(
     Err(PlayFault::Turns)
 }
 
-/// Reads a script whole, in at most so many reads as `turns`.
+/// Reads a script whole, in at most `most` reads.
 pub fn read_script<R: Source>(
     alloc: Global,
     reader: &mut R,
-    turns: u64,
+    most: u64,
 ) -> Result<Vec<u8>, PlayFault>
     ensures ok { IfOk result (λ script. (read : Reading) → R.is_read reader.old read
-        → IsReadWhole turns read (R.is_read reader.new) script.items (Ok tt)) }
+        → IsReadWhole most read (R.is_read reader.new) script.items (Ok tt)) }
     ensures err { IfErr result (λ fault. (read : Reading) → R.is_read reader.old read
-        → IsUnread turns read (R.is_read reader.new) fault) }
+        → IsUnread most read (R.is_read reader.new) fault) }
 {
     let mut buffer = new_buffer(alloc)?;
     let mut script = Vec::new(alloc);
-    read_to_end(reader, &mut script, buffer.as_mut_slice(), turns)?;
+    read_to_end(reader, &mut script, &mut buffer, most)?;
     Ok(script)
 }

@@ -7,6 +7,7 @@ use Rattle.clap.specs.declared.error.kind.ErrorKind.{ErrorKind}
 use Rattle.clap.specs.declared.error.kind.ErrorKind.TheVariants as kind
 use Rattle.ck_program.specs.declared.options.ArgumentFault.{ArgumentFault}
 use Rattle.ck_program.specs.declared.options.ArgumentFault.TheVariants as fault
+use Rattle.ck_program.specs.declared.options.BadArguments.TheVariants as bad
 use Rattle.ck_program.specs.declared.options.Options.{Options}
 use Rattle.ck_program.specs.declared.options.Options.TheVariants as option
 
@@ -45,16 +46,25 @@ callers_text words = first_of (codes "callers") (matches_of program words)
 abbrev pub IsChosenBy : Option Text → Result Options ArgumentFault → Type 0
 IsChosenBy None (Ok option.InTurn) = ⊤
 IsChosenBy (Some text) (Ok (option.InThreads callers)) = callers_in text ≡ Some callers.count
-IsChosenBy (Some text) (Err fault.Bad) = callers_in text ≡ None
+IsChosenBy (Some text) (Err (fault.Bad bad.Callers)) = callers_in text ≡ None
 IsChosenBy _ _ = ⊥
 
 abbrev pub IsHelp : Result Options ArgumentFault → Type 0
 IsHelp (Ok (option.Help text)) = ⊤
 IsHelp _ = ⊥
 
+-- the fault of words that the command refuses, with what it says of them
+abbrev pub IsRefusal : ArgumentFault → Type 0
+IsRefusal (fault.Bad (bad.Refused text)) = ⊤
+IsRefusal _ = ⊥
+
+abbrev pub IsRefused : Result Options ArgumentFault → Type 0
+IsRefused (Err f) = IsRefusal f
+IsRefused _ = ⊥
+
 -- the words ask for this, or the answer is that there was no memory, of which nothing more is said
 abbrev pub IsAskedBy : List Text → Result Options ArgumentFault → Type 0
 IsAskedBy words result = (AreTaken words × IsChosenBy (callers_text words) result)
     ⊎ (AskForHelp words × IsHelp result)
-    ⊎ (AreRefused words × (result ≡ Err fault.Bad))
+    ⊎ (AreRefused words × IsRefused result)
     ⊎ (result ≡ Err fault.Memory)

@@ -6,7 +6,7 @@ use Rattle.ck_plays.specs.Players.{WriteFailed}
 use Rattle.ck_plays.specs.Plays.{IsPlayed}
 use Rattle.ck_plays.specs.declared.faults.PlayFault.{PlayFault}
 use Rattle.ck_plays.specs.declared.faults.PlayFault.TheVariants as fault
-use Rattle.ck_plays.specs.declared.plays.TheConstants.{TURNS}
+use Rattle.ck_plays.specs.declared.plays.TheConstants.{MOST_READS}
 use Rattle.ck_program.specs.ThreadPlays.{IsPlayedInThreads}
 use Rattle.ck_program.specs.declared.options.Options.{Options}
 use Rattle.ck_program.specs.declared.options.Options.TheVariants as option
@@ -29,8 +29,8 @@ IsWritten text written is_written (Err f) =
 abbrev pub IsDone : Options → Reading → Writing → (Reading → Type 0) → (Writing → Type 0)
     → Result (Unit {0}) PlayFault → Type 0
 IsDone option.InTurn read written is_read is_written result =
-    IsPlayed largest_limits TURNS read written is_read is_written result
+    IsPlayed largest_limits MOST_READS read written is_read is_written result
 IsDone (option.InThreads callers) read written is_read is_written result =
-    IsPlayedInThreads largest_limits callers.count TURNS read written is_read is_written result
+    IsPlayedInThreads largest_limits callers.count MOST_READS read written is_read is_written result
 IsDone (option.Help text) read written is_read is_written result =
     is_read read × IsWritten (string_bytes text) written is_written result

@@ -31,27 +31,27 @@ pub record IsSummary (limits : Ranges) (callers : ℕ) (calls : List (ℕ × Cal
   pub is_text : text ≡ summary_text (entry_count history)
 
 -- the whole script was read, and its calls were made, of which this is the text
-pub record WasPlayed (limits : Ranges) (callers turns : ℕ) (read : Reading)
+pub record WasPlayed (limits : Ranges) (callers most : ℕ) (read : Reading)
     (is_read : Reading → Type 0) (text : List ℕ) : Type 0 where
   pub calls : List (ℕ × Call)
-  pub good : HasGoodScript callers turns read is_read calls
+  pub good : HasGoodScript callers most read is_read calls
   pub summary : IsSummary limits callers calls text
 
 -- what was read and written where a script is played in threads, by how that ends
 abbrev pub IsPlayedInThreads : Ranges → ℕ → ℕ → Reading → Writing → (Reading → Type 0)
     → (Writing → Type 0) → Result (Unit {0}) PlayFault → Type 0
-IsPlayedInThreads limits callers turns read written is_read is_written (Ok u) =
-    (text : List ℕ) × WasPlayed limits callers turns read is_read text
+IsPlayedInThreads limits callers most read written is_read is_written (Ok u) =
+    (text : List ℕ) × WasPlayed limits callers most read is_read text
     × is_written (wrote written text)
-IsPlayedInThreads limits callers turns read written is_read is_written
+IsPlayedInThreads limits callers most read written is_read is_written
     (Err (fault.Line number reason)) =
-    HasBadScript callers turns read is_read number × is_written written
-IsPlayedInThreads limits callers turns read written is_read is_written (Err fault.Read) =
-    IsUnread turns read is_read fault.Read × is_written written
-IsPlayedInThreads limits callers turns read written is_read is_written (Err fault.Turns) =
-    IsUnread turns read is_read fault.Turns × is_written written
-IsPlayedInThreads limits callers turns read written is_read is_written (Err fault.Memory) =
+    HasBadScript callers most read is_read number × is_written written
+IsPlayedInThreads limits callers most read written is_read is_written (Err fault.Read) =
+    IsUnread most read is_read fault.Read × is_written written
+IsPlayedInThreads limits callers most read written is_read is_written (Err fault.Turns) =
+    IsUnread most read is_read fault.Turns × is_written written
+IsPlayedInThreads limits callers most read written is_read is_written (Err fault.Memory) =
     is_written written
-IsPlayedInThreads limits callers turns read written is_read is_written (Err fault.Write) =
-    (text : List ℕ) × WasPlayed limits callers turns read is_read text
+IsPlayedInThreads limits callers most read written is_read is_written (Err fault.Write) =
+    (text : List ℕ) × WasPlayed limits callers most read is_read text
     × WriteFailed is_written written text

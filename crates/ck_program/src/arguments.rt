@@ -1,12 +1,12 @@
 //! What the program's arguments ask for.
-ghost use Rattle.std.specs.Prelude.{◌≡◌, IfOk, codes, map, option_map, string_bytes};
+ghost use Rattle.std.specs.Prelude.{◌≡◌, ◌⊎◌, IfOk, codes, map, option_map, string_bytes};
 ghost use Rattle.clap.specs.Words.{app_of, first_value, found_of};
-ghost use Rattle.ck_program.specs.Options.{IsAskedBy, IsChosenBy, callers_in, program};
+ghost use Rattle.ck_program.specs.Options.{IsAskedBy, IsChosenBy, IsRefusal, callers_in, program};
 
-use crate::options::{ArgumentFault, Callers, Options};
+use crate::options::{ArgumentFault, BadArguments, Callers, Options};
 use ck_journal::MOST_CALLERS;
 use clap::error::ErrorKind;
-use clap::{Arg, ArgMatches, Command};
+use clap::{Arg, ArgMatches, Command, Error};
 use std::alloc::{AllocError, Global};
 
 /// The program's command line: its one option is `--callers` with a value.
@@ -41,9 +41,27 @@ fn options_in(matches: &ArgMatches<'_>) -> Result<Options, ArgumentFault>
     match matches.get_str("callers") {
         Some(text) => match callers_in(text) {
             Some(callers) => Ok(Options::InThreads(callers)),
-            None => Err(ArgumentFault::Bad),
+            None => Err(ArgumentFault::Bad(BadArguments::Callers)),
         },
         None => Ok(Options::InTurn),
+    }
+}
+
+/// What an error of the command says, without its first word.
+fn reason_of(alloc: Global, error: &Error) -> Result<String, AllocError> {
+    let text = format!(in alloc; "{error}")?;
+    let reason = text.as_str();
+    let reason = reason.strip_prefix("error: ").unwrap_or(reason);
+    String::from_str(alloc, reason.trim_end())
+}
+
+/// The fault of words that the command refuses.
+fn refusal(alloc: Global, error: &Error) -> ArgumentFault
+    ensures { IsRefusal result ⊎ (result ≡ ArgumentFault.Memory) }
+{
+    match reason_of(alloc, error) {
+        Ok(reason) => ArgumentFault::Bad(BadArguments::Refused(reason)),
+        Err(_) => ArgumentFault::Memory,
     }
 }
 
@@ -59,7 +77,7 @@ pub fn options_of(alloc: Global, words: &[String]) -> Result<Options, ArgumentFa
                 Err(_) => Err(ArgumentFault::Memory),
             },
             ErrorKind::OutOfMemory => Err(ArgumentFault::Memory),
-            _ => Err(ArgumentFault::Bad),
+            _ => Err(refusal(alloc, &error)),
         },
     }
 }

@@ -10,5 +10,6 @@ mod programs;
 mod thread_plays;
 
 pub use arguments::options_of;
-pub use options::{ArgumentFault, Callers, Options};
+pub use ck_shared::Runtime;
+pub use options::{ArgumentFault, BadArguments, Callers, Options};
 pub use programs::{play_threads, run};

@@ -1,8 +1,10 @@
 //! What the program may be asked to do.
 ghost use Rattle.std.specs.Prelude.{◌≡◌, ◌≤◌};
 
+use ck_journal::MOST_CALLERS;
 use std::alloc::AllocError;
 use std::io;
+use thiserror::Error;
 
 /// How many callers play a script in threads.
 #[derive(Clone, Copy, Debug, PartialEq, Eq)]
@@ -22,11 +24,23 @@ pub enum Options {
     Help(String),
 }
 
+/// Why the arguments aren't the program's.
+#[derive(Debug, Drop, Error)]
+pub enum BadArguments {
+    /// What the reader of command lines says of them.
+    #[error("{0}")]
+    Refused(String),
+    /// The value of `--callers` is no number of callers.
+    #[error("--callers takes a number from 1 to {MOST_CALLERS}")]
+    Callers,
+    #[error("they can't be read")]
+    Unreadable,
+}
+
 /// Why the arguments say nothing of what to do.
-#[derive(Clone, Copy, Debug, PartialEq, Eq)]
+#[derive(Debug, Drop)]
 pub enum ArgumentFault {
-    /// They aren't the program's, or can't be read.
-    Bad,
+    Bad(BadArguments),
     /// There was no memory to read them.
     Memory,
 }
@@ -35,7 +49,7 @@ impl From<io::Error> for ArgumentFault {
     fn from(error: io::Error) -> ArgumentFault {
         match error.kind() {
             io::ErrorKind::OutOfMemory => ArgumentFault::Memory,
-            _ => ArgumentFault::Bad,
+            _ => ArgumentFault::Bad(BadArguments::Unreadable),
         }
     }
 }

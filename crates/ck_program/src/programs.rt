@@ -5,53 +5,49 @@ ghost use Rattle.ck_plays.specs.Faults.{status_of};
 ghost use Rattle.ck_plays.specs.declared.faults.PlayFault.{PlayFault};
 ghost use Rattle.ck_program.specs.Programs.{IsDone};
 ghost use Rattle.ck_program.specs.ThreadPlays.{IsPlayedInThreads};
+ghost use Rattle.ck_program.specs.declared.options.BadArguments.{BadArguments};
 
 use crate::options::{ArgumentFault, Callers, Options};
 use crate::thread_plays::play_calls;
 use ck_journal::JournaledToken;
-use ck_plays::{PlayFault, Sink, Source, TURNS, play, read_calls, write_all};
+use ck_plays::{MOST_READS, PlayFault, Sink, Source, play, read_calls, write_all};
+use ck_shared::Runtime;
 use ck_types::Limits;
 use std::alloc::Global;
-use std::sync::Wait;
-use std::thread::Threads;
 
 /// The status of arguments that aren't the program's.
 const BAD_ARGUMENTS: u8 = 2;
 
-/// Reads a script whole in at most so many reads as `turns`, plays the lines of so many callers on
-/// a new token, those of each in a thread of its own, and writes how many entries the journal has
-/// and what its audit finds.
-pub fn play_threads<
-    G: JournaledToken + Send,
-    R: Source,
-    W: Sink,
-    RT: Threads + Wait + Copy + Drop + Send + Sync,
->(
+/// Reads a script whole in at most `most` reads, plays the lines of these callers on a new token,
+/// those of each in a thread of its own, and writes how many entries the journal has and what its
+/// audit finds.
+pub fn play_threads<G: JournaledToken + Send, R: Source, W: Sink, RT: Runtime>(
     rt: RT,
     alloc: Global,
     limits: Limits,
     callers: Callers,
     reader: &mut R,
     writer: &mut W,
-    turns: u64,
+    most: u64,
 ) -> Result<(), PlayFault>
     ensures { (read : Reading) (written : Writing)
         → R.is_read reader.old read → W.is_written writer.old written
-        → IsPlayedInThreads limits callers.count turns read written
+        → IsPlayedInThreads limits callers.count most read written
         (R.is_read reader.new) (W.is_written writer.new) result }
 {
-    let calls = read_calls(alloc, reader, callers.count, turns)?;
-    let summary = play_calls::<G, RT>(rt, alloc, limits, callers, calls.as_slice())?;
+    let calls = read_calls(alloc, reader, callers.count, most)?;
+    let summary = play_calls::<G, RT>(rt, alloc, limits, callers, &calls)?;
     write_all(writer, summary.as_bytes())
 }
 
 /// Does what the options say with the largest limits.
-fn play_options<
-    G: JournaledToken + Send,
-    R: Source,
-    W: Sink,
-    RT: Threads + Wait + Copy + Drop + Send + Sync,
->(rt: RT, alloc: Global, options: Options, reader: &mut R, writer: &mut W) -> Result<(), PlayFault>
+fn play_options<G: JournaledToken + Send, R: Source, W: Sink, RT: Runtime>(
+    rt: RT,
+    alloc: Global,
+    options: Options,
+    reader: &mut R,
+    writer: &mut W,
+) -> Result<(), PlayFault>
     ensures { (read : Reading) (written : Writing)
         → R.is_read reader.old read → W.is_written writer.old written
         → IsDone options read written (R.is_read reader.new) (W.is_written writer.new) result }
@@ -60,7 +56,7 @@ fn play_options<
     match options {
         Options::InTurn => play::<G, R, W>(alloc, limits, reader, writer),
         Options::InThreads(callers) => {
-            play_threads::<G, R, W, RT>(rt, alloc, limits, callers, reader, writer, TURNS)
+            play_threads::<G, R, W, RT>(rt, alloc, limits, callers, reader, writer, MOST_READS)
         }
         Options::Help(text) => write_all(writer, text.as_bytes()),
     }
@@ -68,13 +64,8 @@ fn play_options<
 
 /// Does what the options say with the largest limits, and says with which status the program ends:
 /// 0 where it was done, 1 at a bad line, 3 after another fault, and 2 where the arguments aren't
-/// the program's. What went wrong is a line on standard error.
-pub fn run<
-    G: JournaledToken + Send,
-    R: Source,
-    W: Sink,
-    RT: Eprint + Threads + Wait + Copy + Drop + Send + Sync,
->(
+/// the program's. What went wrong is said on standard error.
+pub fn run<G: JournaledToken + Send, R: Source, W: Sink, RT: Eprint + Runtime>(
     rt: RT,
     alloc: Global,
     options: Result<Options, ArgumentFault>,
@@ -82,7 +73,8 @@ pub fn run<
     writer: &mut W,
 ) -> u8
     ensures status { (result ≡ 0) ⊎ (result ≡ 1) ⊎ (result ≡ 2) ⊎ (result ≡ 3) }
-    ensures bad_arguments { result ≡ 2 ↔ options ≡ Err ArgumentFault.Bad }
+    ensures bad_arguments { result ≡ 2
+        ↔ (reason : BadArguments) × (options ≡ Err (ArgumentFault.Bad reason)) }
     ensures untouched { result ≡ 2
         → (reader.new ≡ reader.old) × (writer.new ≡ writer.old) }
     ensures without_memory { options ≡ Err ArgumentFault.Memory
@@ -107,8 +99,8 @@ pub fn run<
                 fault.status()
             }
         },
-        Err(ArgumentFault::Bad) => {
-            let _ = eprintln!(&rt; "ck_run: bad arguments");
+        Err(ArgumentFault::Bad(reason)) => {
+            let _ = eprintln!(&rt; "ck_run: bad arguments: {reason}");
             BAD_ARGUMENTS
         }
         Err(ArgumentFault::Memory) => {

@@ -14,14 +14,11 @@ ghost use Rattle.ck_program.specs.ThreadPlays.{IsSummary, summary_text};
 
 use crate::options::Callers;
 use ck_audit::{Verdict, audit_token};
-use ck_callers::{Caller, NewIdentity, Script, TokenId, run_scripts};
 use ck_journal::{Call, JournaledToken};
-use ck_shared::{Ends, SharedToken};
+use ck_shared::{Caller, Ends, NewIdentity, Runtime, Script, SharedToken, TokenId, run_scripts};
 use ck_types::{Limits, NoMemory};
 use std::alloc::Global;
 use std::marker::Brand;
-use std::sync::Wait;
-use std::thread::Threads;
 
 /// Adds a copy of a call where it is one of this caller.
 fn add_if_by(
@@ -59,10 +56,7 @@ fn script_of<K: TokenId>(
     ensures unplayed { IfOk result (IsUnplayed calls.now) }
     ensures number { IfOk result (λ script. script.caller.number ≡ caller.number) }
 {
-    let Ok(own) = calls_by(alloc, calls, caller.number()) else {
-        drop(caller);
-        return Err(NoMemory);
-    };
+    let own = calls_by(alloc, calls, caller.number())?;
     Script::new(alloc, caller, own).ok().ok_or(NoMemory)
 }
 
@@ -91,13 +85,8 @@ fn caller_of<K: TokenId>(script: Script<K>) -> Result<Caller<K>, NoMemory>
         → IfOk result (HasMadeAll calls) }
     ensures number { IfOk result (λ caller. caller.number ≡ script.caller.number) }
 {
-    match script.outcome() {
-        Ok(()) => Ok(script.into_parts().0),
-        Err(error) => {
-            drop(script);
-            Err(error)
-        }
-    }
+    script.outcome()?;
+    Ok(script.into_parts().0)
 }
 
 /// The callers of scripts that were played to their ends.
@@ -119,11 +108,7 @@ fn callers_of<K: TokenId>(
 }
 
 /// Plays the calls of each caller in a thread of its own.
-fn play_scripts<
-    K: TokenId + Send + Sync,
-    G: JournaledToken + Send,
-    R: Threads + Wait + Copy + Drop + Send + Sync,
->(
+fn play_scripts<K: TokenId + Send + Sync, G: JournaledToken + Send, R: Runtime>(
     rt: R,
     alloc: Global,
     token: &SharedToken<K, G, R>,
@@ -139,12 +124,8 @@ fn play_scripts<
     callers_of(alloc, scripts)
 }
 
-/// Shares a new token among so many callers, which play their calls, and takes it back.
-fn play_shared<
-    K: TokenId + Send + Sync,
-    G: JournaledToken + Send,
-    R: Threads + Wait + Copy + Drop + Send + Sync,
->(
+/// Shares a new token among callers, which play their calls, and takes it back.
+fn play_shared<K: TokenId + Send + Sync, G: JournaledToken + Send, R: Runtime>(
     rt: R,
     alloc: Global,
     limits: Limits,
@@ -187,9 +168,9 @@ fn summary_of<G: JournaledToken>(alloc: Global, token: &G) -> Result<String, NoM
     }
 }
 
-/// Plays the calls of so many callers on a new token, those of each in a thread of its own. Gives
-/// how many entries the journal then has, and what its audit finds, each on a line.
-pub(crate) fn play_calls<G: JournaledToken + Send, R: Threads + Wait + Copy + Drop + Send + Sync>(
+/// Plays the calls of callers on a new token, those of each in a thread of its own. Gives how
+/// many entries the journal then has, and what its audit finds, each on a line.
+pub(crate) fn play_calls<G: JournaledToken + Send, R: Runtime>(
     rt: R,
     alloc: Global,
     limits: Limits,

@@ -2,18 +2,16 @@
 //! its number. Then the token is taken back, and its journal is audited and compared with what each
 //! caller got.
 use crate::drawing_callers::DrawnCalls;
-use crate::errors::RaceError;
 use crate::journals::{CallerReplies, check_replies};
-use crate::mix::Place;
+use crate::mix::Handles;
 use crate::tokens::prepare_by;
+use anyhow::{bail, ensure};
 use ck_audit::{Verdict, audit_token};
 use ck_journal::Entry;
-use ck_shared::share;
+use ck_shared::{Runtime, share};
 use ck_token::Token;
 use ck_types::{Limits, Rv};
 use std::alloc::Global;
-use std::sync::Wait;
-use std::thread::Threads;
 
 /// What is called before the token is shared: it has PINs then, and nobody is logged in.
 const FIRST_CALLS: [&str; 5] = [
@@ -25,19 +23,20 @@ const FIRST_CALLS: [&str; 5] = [
 ];
 
 /// At least a tenth of the calls were answered CKR_OK.
-fn check_codes(entries: &[Entry]) -> Result<(), RaceError> {
+fn check_codes(entries: &[Entry]) -> anyhow::Result<()> {
     let done = entries.iter().filter(|entry| entry.reply.rv == Rv::Ok);
-    if done.count() >= entries.len() / 10 {
-        return Ok(());
-    }
-    Err(RaceError::Wrong("over nine of ten drawn calls are refused"))
+    ensure!(
+        done.count() >= entries.len() / 10,
+        "over nine of ten drawn calls are refused"
+    );
+    Ok(())
 }
 
 /// An audit finds the journal legal. Says how many entries it has.
-fn check_audit(alloc: Global, token: &Token) -> Result<u64, RaceError> {
+fn check_audit(alloc: Global, token: &Token) -> anyhow::Result<u64> {
     match audit_token(alloc, token)? {
         Verdict::Legal => Ok(token.journal().len()),
-        Verdict::Wrong(number) => Err(RaceError::WrongAt("wrong in an audit: entry", number)),
+        Verdict::Wrong(number) => bail!("entry {number} is wrong in an audit"),
     }
 }
 
@@ -46,34 +45,25 @@ fn check_audit(alloc: Global, token: &Token) -> Result<u64, RaceError> {
 fn check_drawn(
     alloc: Global,
     token: &Token,
-    all: Vec<Result<CallerReplies, RaceError>>,
-) -> Result<u64, RaceError> {
+    all: Vec<anyhow::Result<CallerReplies>>,
+) -> anyhow::Result<u64> {
     let entries = token.journal().entries();
     check_replies(entries, all)?;
     check_codes(entries)?;
     check_audit(alloc, token)
 }
 
-/// Makes the drawn calls of eight callers on a token, and checks its journal. Says how many they
-/// are.
-fn draw_on<R: Threads + Wait + Copy + Drop + Send + Sync>(
-    rt: R,
-    alloc: Global,
-    token: &mut Token,
-) -> Result<u64, RaceError> {
-    prepare_by(alloc, token, FIRST_CALLS.as_slice())?;
-    let work = DrawnCalls([Place::new(), Place::new(), Place::new(), Place::new()]);
-    let all = share(rt, alloc, token, 8, &work)?;
-    check_drawn(alloc, token, all)
-}
-
-/// Makes the drawn calls on a new token.
-pub(crate) fn make_drawn_calls<R: Threads + Wait + Copy + Drop + Send + Sync>(
-    rt: R,
-    alloc: Global,
-) -> Result<u64, RaceError> {
+/// Makes the drawn calls of eight callers on a new token, and checks its journal. Says how many
+/// they are.
+pub(crate) fn make_drawn_calls<R: Runtime>(rt: R, alloc: Global) -> anyhow::Result<u64> {
     let mut token = Token::new(alloc, Limits::largest());
-    let calls = draw_on(rt, alloc, &mut token);
-    drop(token);
-    calls
+    prepare_by(alloc, &mut token, &FIRST_CALLS)?;
+    let work = DrawnCalls([
+        Handles::new(),
+        Handles::new(),
+        Handles::new(),
+        Handles::new(),
+    ]);
+    let all = share(rt, alloc, &mut token, 8, &work)?;
+    check_drawn(alloc, &token, all)
 }

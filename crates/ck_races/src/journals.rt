@@ -1,7 +1,7 @@
 //! What a token's journal is compared with when its callers are done.
-use crate::errors::RaceError;
-use crate::races::{Race, Step, compare};
-use crate::tokens::make_steps;
+use crate::races::{Race, RaceLine, compare};
+use crate::tokens::make_calls;
+use anyhow::ensure;
 use ck_audit::are_replies_of;
 use ck_journal::{Entry, Reply};
 use ck_script::reply_line;
@@ -15,39 +15,37 @@ pub(crate) type CallerReplies = (u32, Vec<Reply>);
 /// Each caller made its calls, and got the replies of its entries, in their order.
 pub(crate) fn check_replies(
     entries: &[Entry],
-    all: Vec<Result<CallerReplies, RaceError>>,
-) -> Result<(), RaceError> {
+    all: Vec<anyhow::Result<CallerReplies>>,
+) -> anyhow::Result<()> {
     for caller in all {
         let (number, replies) = caller?;
-        if !are_replies_of(number, entries, replies.as_slice()) {
-            let number = u64::from(number);
-            return Err(RaceError::WrongAt("the replies are not of its entries: caller", number));
-        }
+        ensure!(
+            are_replies_of(number, entries, &replies),
+            "the replies to caller {number} are not those of its entries"
+        );
     }
     Ok(())
 }
 
-/// Each step has an entry, and the first were made in this order of their callers.
-fn check_order(entries: &[Entry], steps: &[Step], order: &[u32]) -> Result<(), RaceError> {
-    let is_kept = entries.len() == steps.len()
+/// Each call has an entry, and the first were made in this order of their callers.
+fn check_order(entries: &[Entry], lines: &[RaceLine], callers: &[u32]) -> anyhow::Result<()> {
+    let is_kept = entries.len() == lines.len()
         && entries
             .iter()
-            .zip(order)
+            .zip(callers)
             .all(|(entry, caller)| entry.caller == *caller);
-    if is_kept {
-        return Ok(());
-    }
-    Err(RaceError::Wrong("the calls were not made in the order of their turns"))
+    ensure!(is_kept, "the calls were not made in their order");
+    Ok(())
 }
 
-/// Compares the replies with those of the steps, up to the first entry of another caller. Says
+/// Compares the replies with those of the lines, up to the first entry of another caller. Says
 /// whether there is no such entry.
-fn check_in_order(alloc: Global, steps: &[Step], entries: &[Entry]) -> Result<bool, RaceError> {
+fn check_in_order(alloc: Global, lines: &[RaceLine], entries: &[Entry]) -> anyhow::Result<bool> {
     let mut is_in_order = true;
-    for (entry, step) in entries.iter().zip(steps) {
-        is_in_order = is_in_order && entry.caller == step.caller;
+    for (entry, line) in entries.iter().zip(lines) {
+        is_in_order = is_in_order && entry.caller == line.caller;
         if is_in_order {
-            compare(alloc, step, &entry.reply)?;
+            compare(alloc, line, &entry.reply)?;
         }
     }
     Ok(is_in_order)
@@ -62,40 +60,41 @@ fn texts_of(alloc: Global, entries: &[Entry]) -> Result<Vec<String>, NoMemory> {
     Ok(texts)
 }
 
-/// The texts of replies are those of the steps: each as often.
-fn check_texts(steps: &[Step], texts: &[String]) -> Result<(), RaceError> {
-    for step in steps {
-        let came = texts.iter().filter(|text| text.as_str() == step.reply);
-        let wanted = steps.iter().filter(|other| other.reply == step.reply);
-        if came.count() != wanted.count() {
-            return Err(RaceError::Wrong("the replies are not those of the race"));
-        }
+/// The texts of replies are those of the lines: each as often.
+fn check_texts(lines: &[RaceLine], texts: &[String]) -> anyhow::Result<()> {
+    for line in lines {
+        let came = texts.iter().filter(|text| text.as_str() == line.reply);
+        let wanted = lines.iter().filter(|other| other.reply == line.reply);
+        ensure!(
+            came.count() == wanted.count(),
+            "the replies are not those of the race"
+        );
     }
     Ok(())
 }
 
-/// The replies are those of the steps, to whichever callers.
-fn check_in_any(alloc: Global, steps: &[Step], entries: &[Entry]) -> Result<(), RaceError> {
+/// The replies are those of the lines, to whichever callers.
+fn check_in_any(alloc: Global, lines: &[RaceLine], entries: &[Entry]) -> anyhow::Result<()> {
     let texts = texts_of(alloc, entries)?;
-    check_texts(steps, texts.as_slice())
+    check_texts(lines, &texts)
 }
 
 /// Checks what came of a race, whose first calls were made in this order of their callers. Where
-/// the replies are those of its steps, what is made afterwards is answered as it says.
+/// the replies are those of its lines, what is made afterwards is answered as it says.
 pub(crate) fn check_token(
     alloc: Global,
     token: &mut Token,
     race: &Race,
-    order: &[u32],
-) -> Result<(), RaceError> {
-    let (entries, steps) = (token.journal().entries(), race.steps.as_slice());
-    check_order(entries, steps, order)?;
-    let is_in_order = check_in_order(alloc, steps, entries)?;
+    callers: &[u32],
+) -> anyhow::Result<()> {
+    let (entries, lines) = (token.journal().entries(), race.lines.as_slice());
+    check_order(entries, lines, callers)?;
+    let is_in_order = check_in_order(alloc, lines, entries)?;
     if race.is_in_any_order {
-        check_in_any(alloc, steps, entries)?;
+        check_in_any(alloc, lines, entries)?;
     }
     if is_in_order || race.is_in_any_order {
-        make_steps(alloc, token, race.afterwards.as_slice())?;
+        make_calls(alloc, token, &race.afterwards)?;
     }
     Ok(())
 }

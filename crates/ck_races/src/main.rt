@@ -1,14 +1,15 @@
 //! What callers of a shared token do to one another. Files of races are played: lists of calls that
 //! callers make, with the replies that they get. Each race is played by threads of its callers,
-//! with all calls in a set order and with the first ones alone. Then eight callers make drawn calls
-//! at once. What is written is the same in every order of the calls, or what is wrong first. Behind
-//! the word `alone` only the steps of each race are made, one after the other on a shared token,
-//! again where there was no memory, and the line of a file says how many were.
+//! with all calls in a set order and with only the first ones. Then callers ask for the state of a
+//! session while another logs in, and eight callers make drawn calls at once. What is written is
+//! the same in every order of the calls. Behind the word `alone` only the calls of each race are
+//! made, one after the other on a shared token, again where there was no memory, and the line of a
+//! file says how many were.
 #![tactic(auto)]
 
+mod asks;
 mod drawing_callers;
 mod drawn_calls;
-mod errors;
 mod files;
 mod journals;
 mod mix;
@@ -18,22 +19,20 @@ mod retries;
 mod runs;
 mod tokens;
 
+use asks::{RUNS, run_asks};
+use ck_shared::Runtime;
 use drawn_calls::make_drawn_calls;
-use errors::RaceError;
 use files::play_file;
 use std::env;
 use std::env::Env;
 use std::fs::Files;
-use std::process::ExitCode;
-use std::sync::Wait;
-use std::thread::Threads;
 
-/// Plays the files that the arguments name and, where the word `alone` isn't among them, the drawn
-/// calls. Adds a line for each that passes.
-fn play_all<R: Env + Files + AllocGlobal + Threads + Wait + Copy + Drop + Send + Sync>(
+/// Plays the files that the arguments name and, where the word `alone` isn't among them, asks and
+/// drawn calls. Adds a line for each that passes.
+fn play_all<R: Env + Files + AllocGlobal + Runtime>(
     rt: R,
     text: &mut String,
-) -> Result<(), RaceError> {
+) -> anyhow::Result<()> {
     let mut is_alone = false;
     for word in env::args(&rt)?.skip(1) {
         match word.as_str() {
@@ -42,22 +41,17 @@ fn play_all<R: Env + Files + AllocGlobal + Threads + Wait + Copy + Drop + Send +
         }
     }
     if !is_alone {
+        run_asks(rt, rt.alloc())?;
+        write!(text, "asks: {RUNS} passed\n")?;
         let calls = make_drawn_calls(rt, rt.alloc())?;
         write!(text, "drawn calls: {calls}, audit ok\n")?;
     }
     Ok(())
 }
 
-fn main(rt: HostRuntime) -> ExitCode {
+fn main(rt: HostRuntime) -> anyhow::Result<()> {
     let mut text = String::new(rt.alloc());
-    let outcome = play_all(rt, &mut text);
-    let written = match &outcome {
-        Ok(()) => print!(rt; "{text}"),
-        Err(error) => println!(rt; "{error}"),
-    };
-    if outcome.is_ok() && written.is_ok() {
-        ExitCode::SUCCESS
-    } else {
-        ExitCode::FAILURE
-    }
+    play_all(rt, &mut text)?;
+    print!(rt; "{text}")?;
+    Ok(())
 }

@@ -1,13 +1,13 @@
 //! The mix of calls: what the callers draw from, and how a call is made of a drawn line.
-use crate::errors::RaceError;
+use anyhow::bail;
 use ck_journal::Call;
 use ck_script::{Line, LineError};
 use ck_types::NoMemory;
 use std::alloc::{AllocError, Global};
 use std::sync::atomic::{AtomicU64, Ordering};
 
-/// How many places of handles the callers have between them.
-pub(crate) const PLACES: usize = 4;
+/// How many sets of handles the callers have between them.
+pub(crate) const SETS: usize = 4;
 
 /// Calls in a row that a caller draws. They stand in the language of scripts. `$session`, `$object`
 /// and `$key` are handles that all callers know, and behind `>` stands which one is replaced by the
@@ -74,15 +74,15 @@ pub(crate) const SELDOM: [&str; 3] = [
 
 /// Handles that all callers know, 0 where there was none yet.
 #[derive(Drop)]
-pub(crate) struct Place {
+pub(crate) struct Handles {
     pub(crate) session: AtomicU64,
     object: AtomicU64,
     key: AtomicU64,
 }
 
-impl Place {
-    pub(crate) fn new() -> Place {
-        Place {
+impl Handles {
+    pub(crate) fn new() -> Handles {
+        Handles {
             session: AtomicU64::new(0),
             object: AtomicU64::new(0),
             key: AtomicU64::new(0),
@@ -90,7 +90,7 @@ impl Place {
     }
 
     /// The handle that a word stands for.
-    pub(crate) fn handle(&self, word: &str) -> Option<&AtomicU64> {
+    pub(crate) fn named(&self, word: &str) -> Option<&AtomicU64> {
         match word {
             "$session" => Some(&self.session),
             "$object" => Some(&self.object),
@@ -101,30 +101,29 @@ impl Place {
 }
 
 /// Adds a space and a word, or the number of the handle that the word stands for.
-fn push_word(line: &mut String, place: &Place, word: &str) -> Result<(), AllocError> {
-    match place.handle(word) {
+fn push_word(line: &mut String, handles: &Handles, word: &str) -> Result<(), AllocError> {
+    match handles.named(word) {
         Some(handle) => write!(line, " {}", handle.load(Ordering::SeqCst)),
         None => write!(line, " {word}"),
     }
 }
 
-/// A line of a script with the handles of a place.
-fn line_of(alloc: Global, place: &Place, text: &str) -> Result<String, AllocError> {
+/// A line of a script with these handles.
+fn line_of(alloc: Global, handles: &Handles, text: &str) -> Result<String, AllocError> {
     let mut line = format!(in alloc; "1")?;
     for word in text.split(' ') {
-        push_word(&mut line, place, word)?;
+        push_word(&mut line, handles, word)?;
     }
     Ok(line)
 }
 
-/// The call that a line stands for, with the handles of a place.
-pub(crate) fn call_of(alloc: Global, place: &Place, text: &str) -> Result<Call, RaceError> {
-    let line = line_of(alloc, place, text)?;
+/// The call that a line stands for, with these handles.
+pub(crate) fn call_of(alloc: Global, handles: &Handles, text: &str) -> anyhow::Result<Call> {
+    let line = line_of(alloc, handles, text)?;
     match Line::parse(alloc, line.as_bytes()) {
         Ok(Line::Called { call, .. }) => Ok(call),
         Err(LineError::Memory) => Err(NoMemory.into()),
-        Ok(Line::Skipped) | Err(LineError::Bad(_)) => Err(RaceError::Wrong(
-            "a row of calls is bad",
-        )),
+        Ok(Line::Skipped) => bail!("a row has no call"),
+        Err(LineError::Bad(reason)) => bail!("a row is bad: {reason}"),
     }
 }

@@ -4,53 +4,54 @@ use rand_xoshiro::Xoshiro256PlusPlus;
 use std::sync::atomic::{AtomicU64, Ordering};
 use std::thread;
 
-/// How often a call yields to other threads before its turn must have come.
+/// How often a call yields to other threads before it must be its caller's move.
 const MOST_YIELDS: u32 = 20_000_000;
 
-/// A turn behind all turns of an order.
+/// A place behind all places of an order.
 const LATE: u64 = u64::MAX / 2;
 
-/// The turns of callers, whose numbers stand in the order of their calls.
+/// An order of calls, by the numbers of their callers, and how many of them were made.
 #[derive(Drop)]
-pub(crate) struct Turns<'a> {
-    order: &'a [u32],
-    turn: AtomicU64,
+pub(crate) struct CallOrder<'a> {
+    callers: &'a [u32],
+    made: AtomicU64,
 }
 
-impl<'a> Turns<'a> {
+impl<'a> CallOrder<'a> {
     /// Calls after these aren't held.
-    pub(crate) fn new(order: &'a [u32]) -> Turns<'a> {
-        Turns {
-            order,
-            turn: AtomicU64::new(0),
+    pub(crate) fn new(callers: &'a [u32]) -> CallOrder<'a> {
+        CallOrder {
+            callers,
+            made: AtomicU64::new(0),
         }
     }
 
     /// The callers' numbers in the order of their calls.
-    pub(crate) fn order(&self) -> &[u32] {
-        self.order
+    pub(crate) fn callers(&self) -> &[u32] {
+        self.callers
     }
 
-    /// Whether a call was made before its turn, since that didn't come in time.
+    /// Whether a call was made too early, since those before it weren't made in time.
     pub(crate) fn is_late(&self) -> bool {
-        self.turn.load(Ordering::SeqCst) >= LATE
+        self.made.load(Ordering::SeqCst) >= LATE
     }
 
-    /// The next turn comes.
-    pub(crate) fn pass(&self) {
-        self.turn.fetch_add(1, Ordering::SeqCst);
+    /// A call was made.
+    pub(crate) fn count(&self) {
+        self.made.fetch_add(1, Ordering::SeqCst);
     }
 
-    /// Yields until the caller's turn has come. Where it doesn't come, no call is held any more.
-    pub(crate) fn await_turn(&self, number: u32) {
+    /// Yields until the next call is one of this caller. Where it doesn't come to that, no call is
+    /// held any more.
+    pub(crate) fn hold(&self, caller: u32) {
         for _ in 0..MOST_YIELDS {
-            let turn = self.turn.load(Ordering::SeqCst);
-            if self.order.get(turn as usize).copied().unwrap_or(number) == number {
+            let made = self.made.load(Ordering::SeqCst);
+            if self.callers.get(made as usize).copied().unwrap_or(caller) == caller {
                 return;
             }
             thread::yield_now();
         }
-        self.turn.store(LATE, Ordering::SeqCst);
+        self.made.store(LATE, Ordering::SeqCst);
     }
 }
 

@@ -1,16 +1,16 @@
-//! The races of a file. Each begins with a line `race`. A step is a line of a script, an arrow and
-//! its reply: `1 OpenSession 6 -> 0 1`.
+//! The races of a file. Each begins with a line `race`. The other lines are calls: a line of a
+//! script, an arrow and the reply, as `1 OpenSession 6 -> 0 1`.
 //!
-//! - The steps before a line `cut` are made before the token is shared, and then its journal is
+//! - The calls before a line `cut` are made before the token is shared, and then its journal is
 //!   cut.
-//! - The first steps behind it are made one after the other.
-//! - The steps behind `together` are made by callers in threads of their own. In the order in which
+//! - The first calls behind it are made one after the other.
+//! - The calls behind `together` are made by callers in threads of their own. In the order in which
 //!   they stand they get these replies. Where `together in any order` stands, the replies come in
-//!   every order of the steps, to whichever callers.
-//! - The steps behind `afterwards` are made where these replies have come.
+//!   every order of the calls, to whichever callers.
+//! - The calls behind `afterwards` are made where these replies have come.
 //!
 //! Empty lines and lines that begin with `#` are skipped.
-use crate::errors::RaceError;
+use anyhow::{Context, bail, ensure};
 use ck_journal::{Call, Reply};
 use ck_script::{Line, LineError, reply_line};
 use ck_types::NoMemory;
@@ -19,8 +19,8 @@ use std::mem;
 
 /// A call with the reply that it gets, as a text, and the number of its line.
 #[derive(Drop)]
-pub(crate) struct Step<'a> {
-    pub(crate) line: u64,
+pub(crate) struct RaceLine<'a> {
+    pub(crate) number: u64,
     pub(crate) caller: u32,
     pub(crate) call: Call,
     pub(crate) reply: &'a str,
@@ -28,25 +28,26 @@ pub(crate) struct Step<'a> {
 
 #[derive(Drop)]
 pub(crate) struct Race<'a> {
-    pub(crate) line: u64,
-    /// The steps before the cut.
-    pub(crate) earlier: Vec<Step<'a>>,
-    /// The first steps, and behind them those that are made together.
-    pub(crate) steps: Vec<Step<'a>>,
-    /// How many the first steps are.
+    /// The number of its first line.
+    pub(crate) number: u64,
+    /// The calls before the cut.
+    pub(crate) earlier: Vec<RaceLine<'a>>,
+    /// The first calls, and behind them those that are made together.
+    pub(crate) lines: Vec<RaceLine<'a>>,
+    /// How many the first calls are.
     pub(crate) first: usize,
     pub(crate) is_in_any_order: bool,
-    pub(crate) afterwards: Vec<Step<'a>>,
-    /// Whether the steps that follow are made afterwards.
+    pub(crate) afterwards: Vec<RaceLine<'a>>,
+    /// Whether the calls that follow are made afterwards.
     is_afterwards: bool,
 }
 
 impl<'a> Race<'a> {
-    fn new(alloc: Global, line: u64) -> Race<'a> {
+    fn new(alloc: Global, number: u64) -> Race<'a> {
         Race {
-            line,
+            number,
             earlier: Vec::new(alloc),
-            steps: Vec::new(alloc),
+            lines: Vec::new(alloc),
             first: 0,
             is_in_any_order: false,
             afterwards: Vec::new(alloc),
@@ -54,56 +55,63 @@ impl<'a> Race<'a> {
         }
     }
 
-    /// The steps that follow are made together.
+    /// The calls that follow are made together.
     fn gather(&mut self, is_in_any_order: bool) {
-        self.first = self.steps.len();
+        self.first = self.lines.len();
         self.is_in_any_order = is_in_any_order;
     }
 
-    /// Adds a step to those that are made afterwards, or to those before.
-    fn add_step(&mut self, step: Step<'a>) -> Result<(), NoMemory> {
+    /// Adds a call to those that are made afterwards, or to those before.
+    fn add_call(&mut self, line: RaceLine<'a>) -> Result<(), NoMemory> {
         if self.is_afterwards {
-            self.afterwards.push(step)?;
+            self.afterwards.push(line)?;
         } else {
-            self.steps.push(step)?;
+            self.lines.push(line)?;
         }
         Ok(())
     }
 
     /// Adds what a line says.
-    fn add(&mut self, alloc: Global, line: u64, text: &'a str) -> Result<(), RaceError> {
+    fn add(&mut self, alloc: Global, number: u64, text: &'a str) -> anyhow::Result<()> {
         match text {
-            "cut" => self.earlier = mem::replace(&mut self.steps, Vec::new(alloc)),
+            "cut" => self.earlier = mem::replace(&mut self.lines, Vec::new(alloc)),
             "together" => self.gather(false),
             "together in any order" => self.gather(true),
             "afterwards" => self.is_afterwards = true,
-            _ => self.add_step(step_in(alloc, line, text)?)?,
+            _ => self.add_call(line_in(alloc, number, text)?)?,
         }
         Ok(())
     }
 }
 
-/// The reply is that of the step.
-pub(crate) fn compare(alloc: Global, step: &Step, reply: &Reply) -> Result<(), RaceError> {
+/// The reply is that of the line.
+pub(crate) fn compare(alloc: Global, line: &RaceLine, reply: &Reply) -> anyhow::Result<()> {
     let came = reply_line(alloc, reply)?;
-    if came.as_str() == step.reply {
-        return Ok(());
-    }
-    Err(RaceError::Differs(step.line, came))
+    ensure!(
+        came.as_str() == line.reply,
+        "line {}: came {came}",
+        line.number
+    );
+    Ok(())
 }
 
-/// The step of a line.
-pub(crate) fn step_in<'a>(alloc: Global, line: u64, text: &'a str) -> Result<Step<'a>, RaceError> {
+/// The call of a line, with its reply.
+pub(crate) fn line_in<'a>(
+    alloc: Global,
+    number: u64,
+    text: &'a str,
+) -> anyhow::Result<RaceLine<'a>> {
     let (text, reply) = text.split_once(" -> ").unwrap_or((text, ""));
     match Line::parse(alloc, text.as_bytes()) {
-        Ok(Line::Called { caller, call }) => Ok(Step {
-            line,
+        Ok(Line::Called { caller, call }) => Ok(RaceLine {
+            number,
             caller,
             call,
             reply,
         }),
+        Ok(Line::Skipped) => bail!("line {number} has no call"),
         Err(LineError::Memory) => Err(NoMemory.into()),
-        Ok(Line::Skipped) | Err(LineError::Bad(_)) => Err(RaceError::WrongAt("bad: line", line)),
+        Err(LineError::Bad(reason)) => bail!("line {number}: {reason}"),
     }
 }
 
@@ -111,27 +119,27 @@ pub(crate) fn step_in<'a>(alloc: Global, line: u64, text: &'a str) -> Result<Ste
 fn add_line<'a>(
     alloc: Global,
     races: &mut Vec<Race<'a>>,
-    line: u64,
+    number: u64,
     text: &'a str,
-) -> Result<(), RaceError> {
+) -> anyhow::Result<()> {
     if text == "race" {
-        races.push(Race::new(alloc, line))?;
+        races.push(Race::new(alloc, number))?;
         return Ok(());
     }
-    match races.last_mut() {
-        Some(race) => race.add(alloc, line, text),
-        None => Err(RaceError::WrongAt("of no race: line", line)),
-    }
+    let race = races
+        .last_mut()
+        .context(format_args!("line {number} is of no race"))?;
+    race.add(alloc, number, text)
 }
 
 /// The races of a file.
-pub(crate) fn races_in<'a>(alloc: Global, text: &'a str) -> Result<Vec<Race<'a>>, RaceError> {
+pub(crate) fn races_in<'a>(alloc: Global, text: &'a str) -> anyhow::Result<Vec<Race<'a>>> {
     let mut races = Vec::new(alloc);
-    let mut line = 0u64;
+    let mut number = 0u64;
     for text in text.lines() {
-        line = line.saturating_add(1);
+        number = number.saturating_add(1);
         if !text.is_empty() && !text.starts_with('#') {
-            add_line(alloc, &mut races, line, text)?;
+            add_line(alloc, &mut races, number, text)?;
         }
     }
     Ok(races)

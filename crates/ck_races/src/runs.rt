@@ -1,48 +1,46 @@
-//! Runs of a race by callers in threads, with all calls in order and with the first ones alone.
-use crate::errors::RaceError;
+//! Runs of a race by callers in threads, with all calls in order and with only the first ones.
 use crate::journals::{CallerReplies, check_replies, check_token};
-use crate::orders::{Turns, reorder};
-use crate::races::{Race, Step};
+use crate::orders::{CallOrder, reorder};
+use crate::races::{Race, RaceLine};
 use crate::tokens::prepare;
-use ck_callers::{Caller, Gate, TokenId};
+use anyhow::ensure;
 use ck_journal::Reply;
-use ck_shared::{CallerWork, share};
+use ck_shared::{Caller, CallerWork, Gate, Runtime, TokenId, share};
 use ck_token::Token;
 use ck_types::{Limits, NoMemory};
 use rand_core::SeedableRng;
 use rand_xoshiro::Xoshiro256PlusPlus;
 use std::alloc::Global;
 use std::sync::Wait;
-use std::thread::Threads;
 
-/// How often a race is run with all its calls in order, and how often with the first ones alone.
+/// How often a race is run with all its calls in order, and how often with only the first ones.
 const RUNS: u64 = 100;
 
-/// Steps, the first of which are made in an order of their callers.
+/// Calls, the first of which are made in an order of their callers.
 #[derive(Drop)]
-struct Run<'a> {
-    steps: &'a [Step<'a>],
-    turns: &'a Turns<'a>,
+struct OrderedCalls<'a> {
+    lines: &'a [RaceLine<'a>],
+    order: &'a CallOrder<'a>,
 }
 
-impl<'a> Run<'a> {
-    /// Makes a step when the turn of its caller has come.
+impl<'a> OrderedCalls<'a> {
+    /// Makes a call when it is the next one of the order.
     fn make<K: TokenId, G: Gate<K>, R: Wait>(
         &self,
         rt: &R,
         alloc: Global,
         gate: &G,
         caller: &mut Caller<K>,
-        step: &Step,
+        line: &RaceLine,
     ) -> Result<Reply, NoMemory> {
-        let call = step.call.clone()?;
-        self.turns.await_turn(step.caller);
+        let call = line.call.clone()?;
+        self.order.hold(line.caller);
         let reply = gate.call(rt, alloc, caller, call);
-        self.turns.pass();
+        self.order.count();
         reply
     }
 
-    /// Makes the steps of a caller, and adds their replies.
+    /// Makes the calls of a caller, and adds their replies.
     fn make_own<K: TokenId, G: Gate<K>, R: Wait>(
         &self,
         rt: &R,
@@ -51,112 +49,76 @@ impl<'a> Run<'a> {
         caller: &mut Caller<K>,
         replies: &mut Vec<Reply>,
     ) -> Result<(), NoMemory> {
-        for step in self.steps {
-            if step.caller == caller.number() {
-                replies.push(self.make(rt, alloc, gate, caller, step)?)?;
+        for line in self.lines {
+            if line.caller == caller.number() {
+                replies.push(self.make(rt, alloc, gate, caller, line)?)?;
             }
         }
         Ok(())
     }
 }
 
-impl<'a, R: Wait> CallerWork<R> for Run<'a> {
+impl<'a, R: Wait> CallerWork<R> for OrderedCalls<'a> {
     ghost use Rattle.std.specs.Prelude.{⊤};
 
     /// The caller's number and its replies.
-    type Output = Result<CallerReplies, RaceError>;
+    type Output = anyhow::Result<CallerReplies>;
 
     ghost holds = { λ work caller replies. ⊤ };
 
-    /// Makes the steps of the caller.
+    /// Makes the calls of the caller.
     fn act<K: TokenId, G: Gate<K>>(
         &self,
         rt: &R,
         alloc: Global,
         gate: &G,
         caller: &mut Caller<K>,
-    ) -> Result<CallerReplies, RaceError> {
+    ) -> anyhow::Result<CallerReplies> {
         let mut replies = Vec::new(alloc);
         self.make_own(rt, alloc, gate, caller, &mut replies)?;
         Ok((caller.number(), replies))
     }
 }
 
-/// Checks a run: every turn came in time, each caller got the replies of its entries, and these are
-/// as the race says.
-fn check_run(
-    alloc: Global,
-    token: &mut Token,
-    all: Vec<Result<CallerReplies, RaceError>>,
-    race: &Race,
-    turns: &Turns,
-) -> Result<(), RaceError> {
-    if turns.is_late() {
-        drop(all);
-        return Err(RaceError::Wrong("a call's turn didn't come"));
-    }
-    check_replies(token.journal().entries(), all)?;
-    check_token(alloc, token, race, turns.order())
-}
-
-/// Eight callers make the steps of a race on a token, the first calls in this order of their
-/// callers. What comes of it is checked, and what is made afterwards.
-fn run_on<R: Threads + Wait + Copy + Drop + Send + Sync>(
-    rt: R,
-    alloc: Global,
-    token: &mut Token,
-    race: &Race,
-    order: &[u32],
-) -> Result<(), RaceError> {
-    prepare(alloc, token, race.earlier.as_slice())?;
-    let turns = Turns::new(order);
-    let run = Run {
-        steps: race.steps.as_slice(),
-        turns: &turns,
-    };
-    let all = share(rt, alloc, token, 8, &run)?;
-    check_run(alloc, token, all, race, &turns)
-}
-
-/// One run of a race on a token of its own.
-fn run_once<R: Threads + Wait + Copy + Drop + Send + Sync>(
-    rt: R,
-    alloc: Global,
-    race: &Race,
-    order: &[u32],
-) -> Result<(), RaceError> {
+/// Eight callers make the calls of a race on a new token, the first ones in this order of their
+/// callers. What comes of it is checked, and what is made afterwards: no call was made too early,
+/// each caller got the replies of its entries, and these are as the race says.
+fn run_once<R: Runtime>(rt: R, alloc: Global, race: &Race, callers: &[u32]) -> anyhow::Result<()> {
     let mut token = Token::new(alloc, Limits::largest());
-    let outcome = run_on(rt, alloc, &mut token, race, order);
-    drop(token);
-    outcome
+    prepare(alloc, &mut token, &race.earlier)?;
+    let order = CallOrder::new(callers);
+    let calls = OrderedCalls {
+        lines: &race.lines,
+        order: &order,
+    };
+    let all = share(rt, alloc, &mut token, 8, &calls)?;
+    ensure!(!order.is_late(), "a call wasn't the next one in time");
+    check_replies(token.journal().entries(), all)?;
+    check_token(alloc, &mut token, race, callers)
 }
 
-/// Runs a race again and again: with all steps in an order of their callers, first this one and
-/// then drawn, and with the first steps alone in order.
-fn run_in_orders<R: Threads + Wait + Copy + Drop + Send + Sync>(
+/// Runs a race again and again: with all calls in an order of their callers, first this one and
+/// then drawn, and with only the first calls in order.
+fn run_in_orders<R: Runtime>(
     rt: R,
     alloc: Global,
     race: &Race,
-    order: &mut [u32],
-) -> Result<(), RaceError> {
-    let mut draws = Xoshiro256PlusPlus::seed_from_u64(race.line);
+    callers: &mut [u32],
+) -> anyhow::Result<()> {
+    let mut draws = Xoshiro256PlusPlus::seed_from_u64(race.number);
     for _ in 0..RUNS {
-        run_once(rt, alloc, race, order)?;
-        run_once(rt, alloc, race, order.get(..race.first).unwrap_or(&[]))?;
-        if let Some(together) = order.get_mut(race.first..) {
+        run_once(rt, alloc, race, callers)?;
+        run_once(rt, alloc, race, callers.get(..race.first).unwrap_or(&[]))?;
+        if let Some(together) = callers.get_mut(race.first..) {
             reorder(&mut draws, together);
         }
     }
     Ok(())
 }
 
-/// Runs a race in orders of the callers of its steps, beginning with that in which they stand.
-pub(crate) fn run_race<R: Threads + Wait + Copy + Drop + Send + Sync>(
-    rt: R,
-    alloc: Global,
-    race: &Race,
-) -> Result<(), RaceError> {
-    let callers = race.steps.iter().map(|step| step.caller);
-    let mut order: Vec<u32> = callers.collect(alloc)?;
-    run_in_orders(rt, alloc, race, order.as_mut_slice())
+/// Runs a race in orders of the callers of its calls, beginning with that in which they stand.
+pub(crate) fn run_race<R: Runtime>(rt: R, alloc: Global, race: &Race) -> anyhow::Result<()> {
+    let callers = race.lines.iter().map(|line| line.caller);
+    let mut callers: Vec<u32> = callers.collect(alloc)?;
+    run_in_orders(rt, alloc, race, &mut callers)
 }

@@ -1,65 +1,46 @@
-//! Tokens before they are shared, and steps that are made without sharing one.
+//! Tokens before they are shared, and calls that are made without sharing one.
 ghost use Rattle.std.specs.Prelude.{◌≡◌, OnOk};
 ghost use Rattle.ck_journal.specs.Histories.{start, start_of};
 
-use crate::errors::RaceError;
-use crate::races::{Step, compare, step_in};
-use ck_token::{Token, Uncut};
-use ck_types::NoMemory;
+use crate::races::{RaceLine, compare, line_in};
+use ck_token::Token;
 use std::alloc::Global;
 
-fn make_step(alloc: Global, token: &mut Token, step: &Step) -> Result<(), RaceError> {
-    let reply = token.call(alloc, step.caller, step.call.clone()?)?;
-    compare(alloc, step, &reply)
+fn make_call(alloc: Global, token: &mut Token, line: &RaceLine) -> anyhow::Result<()> {
+    let reply = token.call(alloc, line.caller, line.call.clone()?)?;
+    compare(alloc, line, &reply)
 }
 
-/// Makes steps one after the other.
-pub(crate) fn make_steps(
+/// Makes calls one after the other.
+pub(crate) fn make_calls(
     alloc: Global,
     token: &mut Token,
-    steps: &[Step],
-) -> Result<(), RaceError> {
-    for step in steps {
-        make_step(alloc, token, step)?;
+    lines: &[RaceLine],
+) -> anyhow::Result<()> {
+    for line in lines {
+        make_call(alloc, token, line)?;
     }
     Ok(())
 }
 
-/// Cuts the journal, where no session is open.
-fn cut(alloc: Global, token: &mut Token) -> Result<(), RaceError>
+/// Makes calls, and cuts the journal.
+pub(crate) fn prepare(alloc: Global, token: &mut Token, lines: &[RaceLine]) -> anyhow::Result<()>
     ensures { OnOk result (token.new.history ≡ start (start_of token.new.history)) }
 {
-    match token.cut(alloc) {
-        Ok(_) => Ok(()),
-        Err(Uncut::Memory) => Err(NoMemory.into()),
-        Err(Uncut::Session) => Err(RaceError::Wrong("a session is open at a cut")),
-    }
+    make_calls(alloc, token, lines)?;
+    token.cut(alloc)?;
+    Ok(())
 }
 
-/// Makes steps, and cuts the journal.
-pub(crate) fn prepare(alloc: Global, token: &mut Token, steps: &[Step]) -> Result<(), RaceError>
-    ensures { OnOk result (token.new.history ≡ start (start_of token.new.history)) }
-{
-    make_steps(alloc, token, steps)?;
-    cut(alloc, token)
-}
-
-/// Makes the step of a line.
-fn make_line(alloc: Global, token: &mut Token, number: u64, line: &str) -> Result<(), RaceError> {
-    let step = step_in(alloc, number, line)?;
-    let made = make_step(alloc, token, &step);
-    drop(step);
-    made
-}
-
-/// Makes the steps of lines, and cuts the journal.
-pub(crate) fn prepare_by(alloc: Global, token: &mut Token, lines: &[&str]) -> Result<(), RaceError>
+/// Makes the calls of lines, and cuts the journal.
+pub(crate) fn prepare_by(alloc: Global, token: &mut Token, lines: &[&str]) -> anyhow::Result<()>
     ensures { OnOk result (token.new.history ≡ start (start_of token.new.history)) }
 {
     let mut number = 0u64;
-    for line in lines {
+    for text in lines {
         number = number.saturating_add(1);
-        make_line(alloc, token, number, line)?;
+        make_call(alloc, token, &line_in(alloc, number, text)?)?;
     }
-    cut(alloc, token)
+    token.cut(alloc)?;
+    Ok(())
 }

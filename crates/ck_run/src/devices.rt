@@ -14,7 +14,7 @@ pub(crate) struct Devices {
     pub(crate) write_fails_at: u64,
     pub(crate) write_stops_at: u64,
     /// The most reads.
-    pub(crate) turns: u64,
+    pub(crate) most_reads: u64,
 }
 
 impl Devices {
@@ -25,7 +25,7 @@ impl Devices {
             read_fails_at: 0,
             write_fails_at: 0,
             write_stops_at: 0,
-            turns: 1_000,
+            most_reads: 1_000,
         }
     }
 
@@ -58,7 +58,7 @@ fn end_text(played: Result<(), PlayFault>) -> &'static str {
 fn play(alloc: Global, script: &[u8], devices: Devices, writer: &mut MemorySink) -> &'static str {
     let limits = Limits::largest();
     let mut reader = devices.reader(script);
-    end_text(play_with::<Token, _, _>(alloc, limits, &mut reader, writer, devices.turns))
+    end_text(play_with::<Token, _, _>(alloc, limits, &mut reader, writer, devices.most_reads))
 }
 
 /// Plays a script: these replies are written, and playing ends so.

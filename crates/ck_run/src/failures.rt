@@ -7,12 +7,12 @@ const SCRIPT: &[u8] = b"1 OpenSession 6\n1 SignFinal 7 ?\n1 OpenSession 4\n";
 /// The replies to its lines, each of three bytes.
 const REPLIES: &[u8] = b"e1\nb3\ne1\n";
 
-/// The first bytes, so many of them.
+/// The first `count` bytes.
 fn front(bytes: &'static [u8], count: usize) -> &'static [u8] {
     bytes.split_at(count.min(bytes.len())).0
 }
 
-/// How many lines are answered where the script is cut behind so many bytes, and how playing ends.
+/// How many lines are answered where the script is cut behind `count` bytes, and how playing ends.
 fn end_of_cut(count: usize) -> (usize, &'static str) {
     match (count / 16, count % 16) {
         (lines, 0) => (lines, "played"),
@@ -48,7 +48,7 @@ fn lines_are_answered_before_the_next_read(rt: HostRuntime) {
         failing.read_fails_at = (count as u64).saturating_add(1);
         check_play(&rt, rt.alloc(), SCRIPT, failing, replies, "read fault");
         let mut ending = Devices::of(1);
-        ending.turns = count as u64;
+        ending.most_reads = count as u64;
         check_play(
             &rt,
             rt.alloc(),
@@ -59,7 +59,7 @@ fn lines_are_answered_before_the_next_read(rt: HostRuntime) {
         );
     }
     let mut one_more = Devices::of(1);
-    one_more.turns = 49;
+    one_more.most_reads = 49;
     check_play(&rt, rt.alloc(), SCRIPT, one_more, REPLIES, "played");
 }
 

@@ -30,7 +30,7 @@ use std::{env, io};
 fn given_options<R: Env + Alloc<A = Global>>(rt: &R) -> Result<Options, ArgumentFault> {
     let alloc = rt.alloc();
     let words: Vec<String> = env::args(rt)?.collect(alloc)?;
-    options_of(alloc, words.as_slice())
+    options_of(alloc, &words)
 }
 
 fn main(rt: HostRuntime) -> ExitCode {

@@ -48,7 +48,7 @@ fn check_plays(rt: &impl Abort, alloc: Global, plays: &[Play], devices: Devices)
 #[test]
 fn scripts_are_played(rt: HostRuntime) {
     for piece in [1, 3, 1_000] {
-        check_plays(&rt, rt.alloc(), PLAYS.as_slice(), Devices::of(piece));
+        check_plays(&rt, rt.alloc(), &PLAYS, Devices::of(piece));
     }
 }
 
@@ -66,7 +66,7 @@ const MESSAGES: [(usize, &str); 3] = [
     (0x10_0001, "0\n0 1\n0\n21\n91\n"),
 ];
 
-/// A script that digests a message of so many bytes `a`, which is one piece.
+/// A script that digests a message of `count` bytes `a`, which is one piece.
 fn digest_script(alloc: Global, count: usize) -> Result<String, Fail> {
     let piece = "61".repeat(alloc, count)?;
     Ok(format!(in alloc;
@@ -93,7 +93,7 @@ fn check_messages(rt: &impl Abort, alloc: Global, rows: &[(usize, &str)]) -> Res
 
 #[test]
 fn long_messages(rt: HostRuntime) -> Result<(), Fail> {
-    check_messages(&rt, rt.alloc(), MESSAGES.as_slice())
+    check_messages(&rt, rt.alloc(), &MESSAGES)
 }
 
 /// How many reads of 65,536 bytes give a longest line.
@@ -103,7 +103,7 @@ const LONGEST_LINE_READS: u64 = 64;
 fn reads_no_further_than_a_line_may_go(rt: HostRuntime) -> Result<(), Fail> {
     let script = vec![in rt.alloc(); b'#'; 2 * LONGEST_LINE]?;
     let devices = Devices::of(LONGEST_LINE);
-    let mut reader = devices.reader(script.as_slice());
+    let mut reader = devices.reader(&script);
     let mut writer = devices.writer(rt.alloc());
     let limits = Limits::largest();
     let result = play_with::<Token, _, _>(
@@ -111,7 +111,7 @@ fn reads_no_further_than_a_line_may_go(rt: HostRuntime) -> Result<(), Fail> {
         limits,
         &mut reader,
         &mut writer,
-        devices.turns,
+        devices.most_reads,
     );
     assert!(rt; matches!(result, Err(PlayFault::Line(1, BadLine::TooLong))));
     assert_eq!(rt; reader.reads(), LONGEST_LINE_READS + 1);

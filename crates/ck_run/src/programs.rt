@@ -1,13 +1,11 @@
 //! The program over devices that move single bytes: what it writes, and its status.
 use crate::devices::Devices;
 use ck_plays::MemorySink;
-use ck_program::{options_of, run};
+use ck_program::{Runtime, options_of, run};
 use ck_token::Token;
 use std::alloc::Global;
 use std::process::Abort;
-use std::sync::Wait;
 use std::test::Fail;
-use std::thread::Threads;
 
 /// The words that the program is started with; a script; the read and the write that fail, 0 for
 /// none; what the program writes, and its status.
@@ -66,7 +64,7 @@ fn words_of(alloc: Global, text: &str) -> Result<Vec<String>, Fail> {
 }
 
 /// The status of the program.
-fn status_of<RT: Eprint + Threads + Wait + Copy + Drop + Send + Sync>(
+fn status_of<RT: Eprint + Runtime>(
     rt: RT,
     alloc: Global,
     words: &[String],
@@ -78,11 +76,7 @@ fn status_of<RT: Eprint + Threads + Wait + Copy + Drop + Send + Sync>(
     run::<Token, _, _, _>(rt, alloc, options_of(alloc, words), &mut reader, writer)
 }
 
-fn check_play<RT: Abort + Eprint + Threads + Wait + Copy + Drop + Send + Sync>(
-    rt: RT,
-    alloc: Global,
-    play: Play,
-) -> Result<(), Fail> {
+fn check_play<RT: Abort + Eprint + Runtime>(rt: RT, alloc: Global, play: Play) -> Result<(), Fail> {
     let (words, script, read_fails_at, write_fails_at, written, status) = play;
     let devices = Devices {
         read_fails_at,
@@ -91,7 +85,7 @@ fn check_play<RT: Abort + Eprint + Threads + Wait + Copy + Drop + Send + Sync>(
     };
     let words = words_of(alloc, words)?;
     let mut writer = devices.writer(alloc);
-    let came = status_of(rt, alloc, words.as_slice(), script, devices, &mut writer);
+    let came = status_of(rt, alloc, &words, script, devices, &mut writer);
     assert!(&rt;
         writer.as_slice() == written.as_bytes() && came == status,
         "{play:?}: {came}"
@@ -99,7 +93,7 @@ fn check_play<RT: Abort + Eprint + Threads + Wait + Copy + Drop + Send + Sync>(
     Ok(())
 }
 
-fn check_plays<RT: Abort + Eprint + Threads + Wait + Copy + Drop + Send + Sync>(
+fn check_plays<RT: Abort + Eprint + Runtime>(
     rt: RT,
     alloc: Global,
     plays: &[Play],
@@ -112,5 +106,5 @@ fn check_plays<RT: Abort + Eprint + Threads + Wait + Copy + Drop + Send + Sync>(
 
 #[test]
 fn the_program_writes_and_ends(rt: HostRuntime) -> Result<(), Fail> {
-    check_plays(rt, rt.alloc(), PLAYS.as_slice())
+    check_plays(rt, rt.alloc(), &PLAYS)
 }

@@ -1,5 +1,6 @@
-//! The texts of return codes, of faults and of a stopped run.
+//! The texts of return codes, of faults, of bad arguments and of a stopped run.
 use ck_plays::PlayFault;
+use ck_program::{ArgumentFault, BadArguments, options_of};
 use ck_script::BadLine;
 use ck_token::Stopped;
 use ck_types::Rv;
@@ -89,7 +90,7 @@ fn check_codes(rt: &impl Abort, alloc: Global, codes: &[(u64, &str)]) -> Result<
 
 #[test]
 fn return_codes_have_their_names(rt: HostRuntime) -> Result<(), Fail> {
-    check_codes(&rt, rt.alloc(), CODES.as_slice())
+    check_codes(&rt, rt.alloc(), &CODES)
 }
 
 #[test]
@@ -106,7 +107,41 @@ fn check_faults(rt: &impl Abort, alloc: Global, rows: &[(&PlayFault, &str)]) -> 
 
 #[test]
 fn faults_have_their_texts(rt: HostRuntime) -> Result<(), Fail> {
-    check_faults(&rt, rt.alloc(), FAULTS.as_slice())
+    check_faults(&rt, rt.alloc(), &FAULTS)
+}
+
+/// Why these words aren't the program's arguments.
+fn reason_of(alloc: Global, words: &[&str]) -> Result<BadArguments, Fail> {
+    let mut owned = Vec::new(alloc);
+    for word in words {
+        owned.push(String::from_str(alloc, word)?)?;
+    }
+    match options_of(alloc, &owned) {
+        Err(ArgumentFault::Bad(reason)) => Ok(reason),
+        _ => Err(Fail::from("the arguments are taken")),
+    }
+}
+
+const UNEXPECTED: &str = "\
+unexpected argument '--caller' found
+
+  tip: a similar argument exists: '--callers'
+
+Usage: ck_run --callers <N>
+
+For more information, try '--help'.";
+
+#[test]
+fn bad_arguments_say_why(rt: HostRuntime) -> Result<(), Fail> {
+    let reason = reason_of(rt.alloc(), &["ck_run", "--caller", "2"])?;
+    check_text(&rt, rt.alloc(), &reason, UNEXPECTED)?;
+    let reason = reason_of(rt.alloc(), &["ck_run", "--callers", "9"])?;
+    check_text(
+        &rt,
+        rt.alloc(),
+        &reason,
+        "--callers takes a number from 1 to 8",
+    )
 }
 
 #[test]

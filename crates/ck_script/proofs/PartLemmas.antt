@@ -9,7 +9,7 @@ use Rattle.std.proofs.lemmas.List.{take_rest}
 use Rattle.std.proofs.lemmas.Bool.{ltb-true, ltb-false}
 use Rattle.std.proofs.lemmas.Option.{cond_some}
 use Rattle.ck_journal.proofs.Selections.{cond_none}
-use Rattle.ck_script.specs.Parts.{parts_left}
+use Rattle.ck_script.specs.Splits.{parts_left}
 
 module _ (p : ℕ → Bool) (text : List ℕ) where
   pub slice_split-some : (end : ℕ) → position p text ≡ Some end

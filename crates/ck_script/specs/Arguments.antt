@@ -14,7 +14,7 @@ use Rattle.ck_objects.specs.declared.items.Item.{Item}
 use Rattle.ck_types.specs.declared.mechanisms.Mechanism.{Mechanism}
 use Rattle.ck_objects.specs.declared.templates.Template.{Template}
 use Rattle.ck_journal.specs.declared.calls.AttributeQuery.{AttributeQuery}
-use Rattle.ck_script.specs.Parts.{parts_of, with_two}
+use Rattle.ck_script.specs.Splits.{parts_of, with_two}
 
 -- ---- bytes by their names
 

@@ -2,7 +2,7 @@
 use Rattle.std.specs.Prelude.{ℕ, List, Option, option_map, option_and_then}
 use Rattle.ck_journal.specs.declared.calls.Call.{Call}
 use Rattle.ck_journal.specs.declared.calls.Call.TheVariants as call
-use Rattle.ck_script.specs.Parts.{with_none, with_one, with_three, with_four}
+use Rattle.ck_script.specs.Splits.{with_none, with_one, with_three, with_four}
 use Rattle.ck_script.specs.Arguments.{number_in, code_number_in, bytes_in, pin_in, room_in}
 use Rattle.ck_script.specs.Arguments.{mechanism_in, template_in, queries_in}
 use Rattle.ck_script.specs.Arguments.{two_in, all_three, all_four}

@@ -1,4 +1,4 @@
-pub mod Parts
+pub mod Splits
 pub mod Arguments
 pub mod CallNames
 pub mod Calls

@@ -2,7 +2,7 @@
 use Rattle.std.specs.Prelude.{ℕ, Bool, List, ◌∷◌, Option, Some, None, option_and_then}
 use Rattle.std.specs.Prelude.{◌==◌, ◌&&◌, ◌||◌, nat_le, nat_lt, length, slice_index, if◌then◌else◌}
 use Rattle.std.specs.List.{slice_split}
-use Rattle.ck_script.specs.Parts.{parts_of}
+use Rattle.ck_script.specs.Splits.{parts_of}
 use Rattle.ck_script.specs.Arguments.{number_in, both}
 use Rattle.ck_script.specs.Calls.{call_in}
 use Rattle.ck_script.specs.declared.lines.Line.{Line}

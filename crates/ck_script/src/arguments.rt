@@ -10,7 +10,7 @@ ghost use Rattle.ck_script.specs.Arguments.{room_in, mechanism_in, item_in, quer
 ghost use Rattle.ck_script.specs.Arguments.{template_in, queries_in, pair_in, two_in};
 
 use crate::line_errors::{BadLine, LineError, NumberError};
-use crate::parts::Parts;
+use crate::splits::Split;
 use ck_journal::AttributeQuery;
 use ck_objects::{AttributeValue, Item, Template};
 use ck_types::{Bytes, Mechanism, Pin, Sequence};
@@ -32,7 +32,7 @@ pub(crate) const EQUALS_SIGN: u8 = b'=';
 /// The byte that stands for nothing.
 pub(crate) const DASH: u8 = b'-';
 
-/// A digit of a code number: lower case alone.
+/// A digit of a code number: only lower case.
 fn is_code_digit(byte: u8) -> bool
     ensures { result ≡ is_code_digit byte }
 {
@@ -158,7 +158,7 @@ where
 /// The values of the two parts, or the reason given where there are not exactly two.
 pub(crate) fn two_in<A, B>(
     alloc: Global,
-    parts: Parts,
+    parts: Split,
     reason: BadLine,
 ) -> Result<(A, B), LineError>
 where
@@ -232,7 +232,7 @@ impl Argument for Mechanism {
     ghost value_in = { mechanism_in };
 
     fn value_in(alloc: Global, text: &[u8]) -> Result<Mechanism, LineError> {
-        let mut parts = Parts::new(text, COLON);
+        let mut parts = Split::new(text, COLON);
         let (kind, parameter) = match (parts.next(), parts.next(), parts.next()) {
             (Some(kind), None, _) => (kind, None),
             (Some(kind), Some(parameter), None) => (kind, Some(parameter)),
@@ -252,7 +252,7 @@ impl Argument for Item {
     ghost value_in = { item_in };
 
     fn value_in(alloc: Global, text: &[u8]) -> Result<Item, LineError> {
-        let parts = Parts::new(text, EQUALS_SIGN);
+        let parts = Split::new(text, EQUALS_SIGN);
         let (CodeNumber(kind), value): (_, Bytes) = two_in(alloc, parts, BadLine::Item)?;
         let value = AttributeValue::from_vec(value.into_vec());
         Ok(Item { kind, value })
@@ -264,7 +264,7 @@ impl Argument for AttributeQuery {
     ghost value_in = { query_in };
 
     fn value_in(alloc: Global, text: &[u8]) -> Result<AttributeQuery, LineError> {
-        let parts = Parts::new(text, COLON);
+        let parts = Split::new(text, COLON);
         let (CodeNumber(kind), room) = two_in(alloc, parts, BadLine::Query)?;
         Ok(AttributeQuery { kind, room })
     }
@@ -280,7 +280,7 @@ fn list_in<T: Argument + Drop>(alloc: Global, text: &[u8]) -> Result<Sequence<T>
         return Ok(Sequence::new(alloc));
     }
     let mut items = Vec::new(alloc);
-    let mut parts = Parts::new(text, COMMA);
+    let mut parts = Split::new(text, COMMA);
     while let Some(part) = parts.next() {
         let item = T::value_in(alloc, part)?;
         items.push(item)?;

@@ -6,7 +6,7 @@ ghost use Rattle.ck_script.specs.CallNames.{names, row_named};
 use std::fmt;
 
 /// How many arguments a call takes.
-#[derive(Clone, Copy, Debug)]
+#[derive(Clone, Copy, Debug, PartialEq, Eq)]
 pub enum Arity {
     None,
     One,
@@ -27,8 +27,8 @@ impl fmt::Display for Arity {
     }
 }
 
-/// The functions that a script calls: all but `SetKeyState` are the standard's.
-#[derive(Clone, Copy)]
+/// The functions that a script calls: all except `SetKeyState` are the standard's.
+#[derive(Clone, Copy, Debug, PartialEq, Eq)]
 pub enum Function {
     InitToken,
     InitPin,
@@ -68,7 +68,7 @@ pub enum Function {
 
 /// A function that a script calls, with its name there: where it is the standard's, that name
 /// without `C_`.
-#[derive(Clone, Copy)]
+#[derive(Clone, Copy, Debug, PartialEq, Eq)]
 pub struct CallName(pub(crate) Function, &'static str);
 
 impl CallName {
@@ -130,13 +130,6 @@ impl CallName {
 }
 
 impl fmt::Display for CallName {
-    fn fmt<W: fmt::Write>(&self, f: &mut fmt::Formatter<W>) -> fmt::Result {
-        f.write_str(self.text())
-    }
-}
-
-/// The name alone, which is another one for each function.
-impl fmt::Debug for CallName {
     fn fmt<W: fmt::Write>(&self, f: &mut fmt::Formatter<W>) -> fmt::Result {
         f.write_str(self.text())
     }

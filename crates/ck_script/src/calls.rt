@@ -1,14 +1,14 @@
 ghost use Rattle.std.specs.Prelude.{◌≡◌, ◌⊎◌, Some, None, IfOk, IfErr};
 ghost use Rattle.ck_journal.specs.declared.calls.Call.{Call};
-ghost use Rattle.ck_script.specs.Parts.{with_none, with_one};
+ghost use Rattle.ck_script.specs.Splits.{with_none, with_one};
 ghost use Rattle.ck_script.specs.Arguments.{two_in};
 ghost use Rattle.ck_script.specs.Calls.{three_in, four_in, call_of, call_in};
 
 use crate::arguments::{Argument, CodeNumber, pair_in, two_in};
 use crate::call_names::{Arity, CallName, Function};
 use crate::line_errors::{BadLine, LineError};
-use crate::parts::Parts;
 use crate::similar_names::similar_name;
+use crate::splits::Split;
 use ck_journal::Call;
 use std::alloc::Global;
 
@@ -17,7 +17,7 @@ use std::alloc::Global;
 struct Arguments<'a> {
     alloc: Global,
     name: CallName,
-    parts: Parts<'a>,
+    parts: Split<'a>,
 }
 
 impl<'a> Arguments<'a> {
@@ -238,7 +238,7 @@ fn unknown_call(alloc: Global, name: &[u8]) -> BadLine {
 }
 
 /// The call of this name with these arguments.
-pub(crate) fn call_in(alloc: Global, name: &[u8], arguments: Parts) -> Result<Call, LineError>
+pub(crate) fn call_in(alloc: Global, name: &[u8], arguments: Split) -> Result<Call, LineError>
     ensures call { IfOk result (λ call. call_in name.now arguments.entry ≡ Some call) }
     ensures bad { IfErr result (λ e. (e ≡ LineError.Memory)
         ⊎ (call_in name.now arguments.entry ≡ None)) }

@@ -6,9 +6,9 @@ mod call_names;
 mod calls;
 mod line_errors;
 mod lines;
-mod parts;
 mod replies;
 mod similar_names;
+mod splits;
 
 pub use call_names::{Arity, CallName};
 pub use line_errors::{BadLine, LineError, NumberError};

@@ -9,7 +9,7 @@ use std::alloc::{AllocError, AllocFailed};
 use thiserror::Error;
 
 /// Why a text is no number.
-#[derive(Clone, Copy, Debug, Error)]
+#[derive(Clone, Copy, Debug, PartialEq, Eq, Error)]
 pub enum NumberError {
     #[error("a number is written in decimal digits")]
     NotDecimal,
@@ -22,7 +22,7 @@ pub enum NumberError {
 }
 
 /// Why a line is not a line of a script. Where a line has several faults, one of them is named.
-#[derive(Clone, Copy, Debug, Error)]
+#[derive(Clone, Copy, Debug, PartialEq, Eq, Error)]
 pub enum BadLine {
     #[error("a line has at most {LONGEST_LINE} bytes")]
     TooLong,
@@ -38,7 +38,7 @@ pub enum BadLine {
     NoCall,
     #[error("the caller is a number from 1 to {MOST_CALLERS}")]
     UnknownCaller,
-    /// A caller above so many, who play the script.
+    /// A caller above this number, up to which callers play the script.
     #[error("the caller is a number from 1 to {0}")]
     CallerAbove(u32),
     #[error("no call has this name")]
@@ -67,7 +67,7 @@ impl From<NumberError> for BadLine {
 }
 
 /// Why a line wasn't read.
-#[derive(Clone, Copy, Debug, Error)]
+#[derive(Clone, Copy, Debug, PartialEq, Eq, Error)]
 pub enum LineError {
     #[error("out of memory")]
     Memory,

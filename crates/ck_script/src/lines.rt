@@ -5,7 +5,7 @@ ghost use Rattle.ck_script.specs.Lines.{lines_in, caller_in, words_meaning, mean
 use crate::arguments::number_in;
 use crate::calls::call_in;
 use crate::line_errors::{BadLine, LineError};
-use crate::parts::{Parts, position_of};
+use crate::splits::{Split, position_of};
 use ck_journal::{Call, MOST_CALLERS};
 use std::alloc::Global;
 
@@ -44,7 +44,7 @@ impl Line {
         if bytes.is_empty() || bytes[0] == COMMENT {
             return Ok(Line::Skipped);
         }
-        match words_meaning(alloc, Parts::new(bytes, SPACE)) {
+        match words_meaning(alloc, Split::new(bytes, SPACE)) {
             Err(LineError::Bad(reason)) => {
                 Err(LineError::Bad(layout_error(bytes).unwrap_or(reason)))
             }
@@ -63,7 +63,7 @@ fn caller_in(text: &[u8]) -> Option<u32>
     }
 }
 
-fn words_meaning(alloc: Global, mut words: Parts) -> Result<Line, LineError>
+fn words_meaning(alloc: Global, mut words: Split) -> Result<Line, LineError>
     ensures line { IfOk result (λ line. words_meaning words.entry ≡ Some line) }
     ensures bad { IfErr result (λ e. (e ≡ LineError.Memory) ⊎ (words_meaning words.entry ≡ None)) }
 {
@@ -85,7 +85,7 @@ fn layout_error(bytes: &[u8]) -> Option<BadLine> {
     if bytes.contains(&b'\t') {
         return Some(BadLine::Tab);
     }
-    if Parts::new(bytes, SPACE).has_empty() {
+    if Split::new(bytes, SPACE).has_empty() {
         return Some(BadLine::Space);
     }
     None

@@ -3,7 +3,7 @@ use ck_types::NoMemory;
 use std::alloc::Global;
 use strsim::generic_levenshtein;
 
-/// Two names that differ in so many letters are not similar.
+/// Two names that differ in this many letters are not similar.
 const TOO_MANY_EDITS: usize = 3;
 
 /// The most bytes of a text that is compared with the names.

@@ -4,9 +4,15 @@
 
 mod gates;
 mod locked;
+mod runtimes;
 mod shared;
 mod sharing;
 
+pub use ck_callers::{
+    Answered, Ask, Caller, Gate, NewIdentity, News, Script, Status, Step, TokenId, run_scripts,
+    run_steps,
+};
 pub use locked::Locked;
+pub use runtimes::Runtime;
 pub use shared::{Ends, SharedToken};
 pub use sharing::{CallerWork, share};

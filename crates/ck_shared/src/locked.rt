@@ -78,6 +78,8 @@ fn show<K: TokenId, R: Wait + Drop, W: Wait>(
     ensures board { Covers known.now (published writer.new) }
     ensures pending { pending writer.new ≡ [] }
 {
+    // It turns once: what was published is read off the board, since no contract of the writer
+    // says what its copies took in.
     for _ in rt.forever() {
         if writer.publish().is_ok() && known.covers(writer.published().known()) {
             return;
@@ -120,11 +122,13 @@ fn extend<K: TokenId, G: JournaledToken, W: Wait>(
     requires next { (e : Entry) × ((G.state token.now).history ≡ e ◁ front.old) }
     ensures { (front.new ≡ (G.state token.now).history) × IsFront other.now front.old }
 {
+    // It turns once: only who holds the lock adds entries, which no contract says of the threads'
+    // common log.
     for _ in rt.forever() {
-        if let Some(entry) = token.journal().newest() {
-            if front.add_after(head, other, entry) {
-                return;
-            }
+        if let Some(entry) = token.journal().newest()
+            && front.add_after(head, other, entry)
+        {
+            return;
         }
     }
     unreachable!()
@@ -134,6 +138,8 @@ fn extend<K: TokenId, G: JournaledToken, W: Wait>(
 fn await_front<K: TokenId, W: Wait>(rt: &W, other: &Front<K>, front: &Front<K>)
     ensures { IsFront other.now front.now }
 {
+    // It turns once: the history under the lock has all entries, which no contract says of the
+    // front that another thread has.
     for _ in rt.forever() {
         if other.begins(front) {
             return;
@@ -182,7 +188,6 @@ impl<K: TokenId, G: JournaledToken, R: Wait + Drop> Locked<K, G, R> {
         let mut caller = caller;
         caller.compare(&mut self.books);
         await_front(rt, caller.known().front(), self.known.front());
-        drop(caller);
     }
 
     /// The token without its lock. It waits for those who still read the board.
@@ -216,10 +221,7 @@ impl<K: TokenId, G: JournaledToken, R: Wait + Drop> Locked<K, G, R> {
     {
         let number = caller.account().number();
         let leaves = call.leaves_board();
-        let Ok(slot) = add_slot(alloc, &mut self.writer, leaves) else {
-            drop(call);
-            return Err(NoMemory);
-        };
+        let slot = add_slot(alloc, &mut self.writer, leaves)?;
         let Ok(reply) = self.token.call(alloc, number, call) else {
             show(rt, &mut self.writer, &self.known);
             return Err(NoMemory);

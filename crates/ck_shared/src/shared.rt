@@ -113,7 +113,7 @@ impl<K: TokenId, G: JournaledToken, R: Wait + Drop> SharedToken<K, G, R> {
         ensures settled { IfOk result (λ token.
             All (IsSettled (G.state token).history) callers.items) }
     {
-        if !self.callers.are_all(callers.as_slice()) {
+        if !self.callers.are_all(&callers) {
             return Err((self, callers));
         }
         let mut locked = self.lock.into_inner();

@@ -7,6 +7,7 @@ ghost use Rattle.ck_callers.specs.Accounts.{name_of};
 ghost use Rattle.ck_shared.specs.Outputs.{IsOfCaller};
 
 use crate::locked::Locked;
+use crate::runtimes::Runtime;
 use crate::shared::{Ends, SharedToken};
 use ck_callers::{Caller, Gate, NewIdentity, TokenId};
 use ck_journal::JournaledToken;
@@ -38,54 +39,6 @@ pub trait CallerWork<R> {
         ensures { holds self.now caller.new result };
 }
 
-/// What threads do with jobs, one for each.
-trait ThreadWork<J, X> {
-    // what holds of what comes of it
-    ghost holds: { Self → X → Type 0 };
-
-    fn run(&self, job: J) -> X
-        ensures { holds self.now result };
-}
-
-/// All jobs are done, each in a thread of its own. What comes of them is in their order.
-fn map_jobs<J: Send + Drop, X: Send + Drop, T: ThreadWork<J, X> + Sync, R: Threads + Sync>(
-    rt: &R,
-    jobs: Vec<J>,
-    work: &T,
-) -> Result<Vec<X>, NoMemory>
-    ensures len { IfOk result (λ done. vec_len done ≡ vec_len jobs) }
-    ensures outputs { IfOk result (λ done. All (T.holds work.now) done.items) }
-{
-    let done = thread::map_vec(
-        rt,
-        jobs,
-        &|job: J|
-            ensures { T.holds work.entry.now result }
-        { work.run(job) },
-    );
-    Ok(done?)
-}
-
-/// The work of callers at a gate. A job is a caller, who comes back with what came of it.
-#[derive(Drop)]
-struct WorkAtGate<'a, G, S, R> {
-    rt: &'a R,
-    alloc: Global,
-    gate: &'a G,
-    work: &'a S,
-}
-
-impl<'a, K: TokenId, G: Gate<K>, S: CallerWork<R>, R> ThreadWork<Caller<K>, (S::Output, Caller<K>)>
-    for WorkAtGate<'a, G, S, R> {
-    ghost holds = { λ w done. S.holds w.work.now done.1 done.0 };
-
-    fn run(&self, job: Caller<K>) -> (S::Output, Caller<K>) {
-        let mut caller = job;
-        let output = self.work.act(self.rt, self.alloc, self.gate, &mut caller);
-        (output, caller)
-    }
-}
-
 /// All callers do their work, each in a thread of its own. They come back with what came of it.
 fn act_together<
     K: TokenId + Send + Sync,
@@ -102,13 +55,17 @@ fn act_together<
     ensures len { IfOk result (λ done. vec_len done ≡ vec_len callers) }
     ensures outputs { IfOk result (λ done. All (λ d. S.holds work.now d.1 d.0) done.items) }
 {
-    let at_gate = WorkAtGate {
+    let done = thread::map_vec(
         rt,
-        alloc,
-        gate,
-        work,
-    };
-    map_jobs(rt, callers, &at_gate)
+        callers,
+        &|mut caller: Caller<K>|
+            ensures { S.holds work.entry.now result.1 result.0 }
+        {
+            let output = work.act(rt, alloc, gate, &mut caller);
+            (output, caller)
+        },
+    );
+    Ok(done?)
 }
 
 /// Takes all callers back, and keeps what came of their work.
@@ -128,7 +85,7 @@ fn settle_all<K: TokenId, G: JournaledToken, S: CallerWork<R>, R: Wait + Drop>(
 {
     for (output, caller) in done {
         locked.settle(rt, caller);
-        outputs.push(output).unwrap();
+        outputs.push_reserved(output);
     }
 }
 
@@ -171,7 +128,7 @@ fn share_as<
     K: TokenId + Send + Sync,
     G: JournaledToken + Send,
     S: CallerWork<R> + Sync,
-    R: Threads + Wait + Copy + Drop + Send + Sync,
+    R: Runtime,
 >(
     rt: R,
     alloc: Global,
@@ -215,11 +172,13 @@ fn share_as<
 /// Shares a token whose journal has no entries among the callers 1 to `callers`, at most eight,
 /// until each has done its work in a thread of its own. Gives what comes of each, in the order of
 /// their numbers. Without memory some callers may have done nothing.
-pub fn share<
-    G: JournaledToken + Send,
-    S: CallerWork<R> + Sync,
-    R: Threads + Wait + Copy + Drop + Send + Sync,
->(rt: R, alloc: Global, token: &mut G, callers: u32, work: &S) -> Result<Vec<S::Output>, NoMemory>
+pub fn share<G: JournaledToken + Send, S: CallerWork<R> + Sync, R: Runtime>(
+    rt: R,
+    alloc: Global,
+    token: &mut G,
+    callers: u32,
+    work: &S,
+) -> Result<Vec<S::Output>, NoMemory>
     requires history { (G.state token.old).history ≡ start (start_of (G.state token.old).history) }
     requires callers { (1 ≤ callers) × (callers ≤ 8) }
     ensures limits { (G.state token.new).limits ≡ (G.state token.old).limits }

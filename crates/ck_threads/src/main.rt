@@ -1,37 +1,68 @@
-//! Callers of a shared token, each in a thread of its own: two that open sessions, and three of
-//! which one logs in while another asks without the lock. What is written is the same in every order
-//! of their calls.
+//! Two callers of a shared token open sessions, each in a thread of its own. docs/threads.md goes
+//! through it. What is written is the same in every order of their calls.
 #![tactic(auto)]
 
-mod asks;
-mod errors;
-mod tokens;
-mod two_callers;
+ghost use Rattle.std.specs.Prelude.{◌≡◌, IfOk};
+ghost use Rattle.ck_journal.specs.Histories.{start, start_of};
 
-use asks::{RUNS, run_asks};
-use errors::ThreadError;
-use std::process::ExitCode;
+use anyhow::ensure;
+use ck_journal::{Call, READ_WRITE};
+use ck_shared::{Caller, CallerWork, Gate, TokenId, share};
+use ck_token::Token;
+use ck_types::{Limits, Pin, Rv};
+use std::alloc::Global;
 use std::sync::Wait;
-use std::thread::Threads;
-use two_callers::counts_of_two;
 
-/// Writes what two callers come to that open sessions, and how often three callers ask.
-fn run<R: Print + AllocGlobal + Threads + Wait + Copy + Drop + Send + Sync>(
-    rt: R,
-) -> Result<(), ThreadError> {
-    let counts = counts_of_two(rt, rt.alloc())?;
-    println!(rt; "{counts}")?;
-    run_asks(rt, rt.alloc())?;
-    println!(rt; "asks: {RUNS} passed")?;
-    Ok(())
+/// What each caller does: it opens three sessions.
+#[derive(Drop)]
+struct ThreeSessions;
+
+impl<R: Wait> CallerWork<R> for ThreeSessions {
+    ghost use Rattle.std.specs.Prelude.{◌≡◌};
+
+    /// How many calls of the caller were answered.
+    type Output = u64;
+
+    ghost holds = { λ work caller count. count ≡ caller.count };
+
+    fn act<K: TokenId, G: Gate<K>>(
+        &self,
+        rt: &R,
+        alloc: Global,
+        gate: &G,
+        caller: &mut Caller<K>,
+    ) -> u64 {
+        for _ in 0..3u32 {
+            let call = Call::OpenSession { flags: READ_WRITE };
+            let _reply = gate.call(rt, alloc, caller, call);
+        }
+        caller.count()
+    }
 }
 
-fn main(rt: HostRuntime) -> ExitCode {
-    match run(rt) {
-        Ok(()) => ExitCode::SUCCESS,
-        Err(error) => {
-            let _ = println!(rt; "{error}");
-            ExitCode::FAILURE
-        }
-    }
+/// A token that is initialized. Its journal is cut, since one that has entries isn't shared.
+fn initialized_token(alloc: Global) -> anyhow::Result<Token>
+    ensures { IfOk result (λ token. token.history ≡ start (start_of token.history)) }
+{
+    let mut token = Token::new(alloc, Limits::largest());
+    let pin = Pin::of(b"1234");
+    let reply = token.call(alloc, 1, Call::InitToken { pin })?;
+    ensure!(reply.rv == Rv::Ok, "InitToken: {}", reply.rv);
+    token.cut(alloc)?;
+    Ok(token)
+}
+
+/// Shares a token between two callers, and writes how many sessions were opened, how many calls of
+/// both were answered, and how many entries the journal has.
+fn main(rt: HostRuntime) -> anyhow::Result<()> {
+    let mut token = initialized_token(rt.alloc())?;
+    let counts = share(rt, rt.alloc(), &mut token, 2, &ThreeSessions)?;
+    let calls = counts
+        .iter()
+        .fold(0u64, |sum, count| sum.saturating_add(*count));
+    let entries = token.journal().entries();
+    let opened = entries.iter().filter(|entry| entry.reply.rv == Rv::Ok);
+    println!(rt; "{} sessions were opened by {calls} calls", opened.count())?;
+    println!(rt; "the journal has {} entries", entries.len())?;
+    Ok(())
 }

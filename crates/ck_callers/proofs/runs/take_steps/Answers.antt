@@ -5,16 +5,21 @@ use Rattle.ck_callers.proofs.runs.take_steps.Goals as goal
 
 pub loop-step-preserved : goal.loop-step-preserved
 loop-step-preserved g c =
-    let items = rw c.unwrap.ensures at c.push.ensures.items in
-    let len = rw c.unwrap.ensures at c.push.ensures.len in
     let left = ap length c.in-Some.ensures.steps.0 in (
       tt,
       tt,
       making_next g.S.Turn.does g.S.Turn.may_fail c.args.caller.now c.args.steps.items c.loop-step.replies.items
           (into_iter_items c.loop-step.step-iterator) c.loop-step.caller c.loop-step.invariant.2
           c.in-Some.step (into_iter_items c.next.new.self) c.in-Some.ensures.steps.0
-          c.in_ok-reply.reply c.make.new.caller c.in_ok-reply.ensures.made c.push.new.self.items items,
-      omega (arith, len, left, c.loop-step.invariant.3, c.push.ensures.capacity),
+          c.in_ok-reply.reply c.make.new.caller c.in_ok-reply.ensures.made c.push_reserved.new.self.items
+          c.push_reserved.ensures.items,
+      omega (
+        arith,
+        left,
+        c.loop-step.invariant.3,
+        c.push_reserved.ensures.len,
+        c.push_reserved.ensures.capacity,
+      ),
     )
 
 pub returns-in_err-reply : goal.returns-in_err-reply

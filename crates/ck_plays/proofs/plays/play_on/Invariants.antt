@@ -9,5 +9,5 @@ invariant-reading g l =
     (0 < length l.buffer) × ((limits : Ranges) (read : Reading) (written : Writing)
     → IsReading limits read written 0 l.fn.player (g.R.Source.is_read l.fn.reader)
     (g.W.Sink.is_written l.fn.writer)
-    → IsReading limits read written l._turn l.player (g.R.Source.is_read l.reader)
+    → IsReading limits read written l._read l.player (g.R.Source.is_read l.reader)
     (g.W.Sink.is_written l.writer))

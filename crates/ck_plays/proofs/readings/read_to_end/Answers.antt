@@ -12,19 +12,19 @@ reading-init g c =
 pub returns-in_err-count : goal.returns-in_err-count
 returns-in_err-count g c =
     let p = err_from_is_err_and c.from_residual.result c.from_residual.ensures.1 in
-    rw p.1 (λ read h. read-failed c.args.turns read _ _ c.reading.script.items c.reading._turn _
+    rw p.1 (λ read h. read-failed c.args.most read _ _ c.reading.script.items c.reading._read _
     (p.2 ∙ c.in_err-count.ensures.fault) c.reading-test.true (c.reading.invariant.1 read h)
     c.in_err-count.ensures.err)
 
 pub returns-then-count-eq0 : goal.returns-then-count-eq0
 returns-then-count-eq0 g c read h =
-    read-ended c.args.turns read _ _ c.reading.script.items c.reading._turn c.in_ok-count.count
+    read-ended c.args.most read _ _ c.reading.script.items c.reading._read c.in_ok-count.count
     (take c.in_ok-count.count c.read_some.new.buffer) c.if-count-eq0.true c.reading-test.true
     (c.reading.invariant.1 read h) c.in_ok-count.ensures.ok
 
 pub returns-then-is_err : goal.returns-then-is_err
 returns-then-is_err g c read h =
-    read-unkept c.args.turns read _ _ c.reading.script.items _ c.reading._turn
+    read-unkept c.args.most read _ _ c.reading.script.items _ c.reading._read
     c.in_ok-count.count (take c.in_ok-count.count c.read_some.new.buffer)
     (ne_eqb _ 0 c.if-count-eq0.false) c.reading-test.true (c.reading.invariant.1 read h)
     c.in_ok-count.ensures.ok
@@ -32,7 +32,7 @@ returns-then-is_err g c read h =
 pub reading-preserved : goal.reading-preserved
 reading-preserved g c = (
   omega arith,
-  λ read h. read-more read _ _ c.reading.script.items _ c.reading._turn _
+  λ read h. read-more read _ _ c.reading.script.items _ c.reading._read _
       c.in_ok-count.count (take c.in_ok-count.count c.read_some.new.buffer)
       (ne_eqb _ 0 c.if-count-eq0.false) (c.reading.invariant.1 read h)
       c.in_ok-count.ensures.ok
@@ -42,6 +42,6 @@ reading-preserved g c = (
 
 pub returns : goal.returns
 returns g c read h =
-    let all : c.reading._turn ≡ c.args.turns = omega arith in
-    read-out c.args.turns read _ c.reading.script.items c.reading._turn all
+    let all : c.reading._read ≡ c.args.most = omega arith in
+    read-out c.args.most read _ c.reading.script.items c.reading._read all
     (c.reading.invariant.1 read h)

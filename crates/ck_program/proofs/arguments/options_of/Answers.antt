@@ -1,9 +1,11 @@
-use Rattle.std.proofs.Common.{ap, refl, subst, inl, inr, codes, ◌≡◌, ◌∙◌, []}
-use Rattle.std.specs.Prelude.{Option, map, string_bytes}
+use Rattle.std.proofs.Common.{ap, subst, inl, inr, codes, ◌≡◌, ◌∙◌, []}
+use Rattle.std.specs.Prelude.{Err, Option, Result, map, string_bytes}
 use Rattle.clap.specs.Words.{App, Text, fault_of, first_of, found_of, is_simple}
 use Rattle.clap.specs.Words.{is_simple_and_free, kind_of, matches_of, IsAmong}
 use Rattle.clap.proofs.WalkLemmas.{first_value-rows}
-use Rattle.ck_program.specs.Options.{IsChosenBy}
+use Rattle.ck_program.specs.Options.{AreRefused, IsChosenBy}
+use Rattle.ck_program.specs.declared.options.ArgumentFault.{ArgumentFault}
+use Rattle.ck_program.specs.declared.options.Options.{Options}
 use Rattle.ck_program.proofs.arguments.options_of.Goals as goal
 
 pub returns-in-Ok : goal.returns-in-Ok
@@ -23,12 +25,16 @@ returns c =
     let kinds = c.in-Err.ensures.kinds (ap is_simple_and_free same) in
     elim kinds [
       | inl memory ↦ absurd (c.in_default.not-OutOfMemory (c.kind.ensures ∙ memory))
-      | inr among ↦ inr (inr (inl (
-        (
-          kind_of c.in-Err.error,
-          subst (λ (a : App). IsAmong (kind_of c.in-Err.error) (fault_of a words)) same among,
-          λ is. c.in_default.not-DisplayHelp (c.kind.ensures ∙ is),
-        ),
-        refl,
-      )))
+      | inr among ↦
+          let refused : AreRefused words = (
+            kind_of c.in-Err.error,
+            subst (λ (a : App). IsAmong (kind_of c.in-Err.error) (fault_of a words)) same among,
+            λ is. c.in_default.not-DisplayHelp (c.kind.ensures ∙ is),
+          ) in
+          elim c.refusal.ensures [
+            | inl refusal ↦ inr (inr (inl (refused, refusal)))
+            | inr memory ↦ inr (inr (inr (
+                ap (λ (f : ArgumentFault). (let r : Result Options ArgumentFault = Err f in r)) memory
+                )))
+          ]
     ]

@@ -1,7 +1,7 @@
 use Rattle.std.proofs.Common.{◌≡◌, ◌++◌, length}
 use Rattle.std.specs.Prelude.{option_map}
 use Rattle.ck_script.specs.Arguments.{comma, each}
-use Rattle.ck_script.specs.Parts.{parts_of}
+use Rattle.ck_script.specs.Splits.{parts_of}
 use Rattle.ck_script.proofs.arguments.list_in.Given as goal
 
 abbrev pub invariant-loop-part : goal.invariant-loop-part

@@ -10,8 +10,7 @@ use Rattle.ck_shared.proofs.sharing.settle_all.Goals as goal
 pub loop-output-preserved : goal.loop-output-preserved
 loop-output-preserved g c =
     let holds = g.S.CallerWork.holds c.args.work.now in
-    let items = rw c.unwrap.ensures at c.push.ensures.items in
-    let len = rw c.unwrap.ensures at c.push.ensures.len in
+    let pushed = c.push_reserved.ensures in
     let rest = ap length c.in-Some.ensures.steps.0 in
     let left = subst (All (λ d. holds d.1 d.0)) c.in-Some.ensures.steps.0 c.loop-output.invariant.4 in
     let settled =
@@ -20,10 +19,10 @@ loop-output-preserved g c =
       tt,
       tt,
       c.settle.ensures.same ∙ c.loop-output.invariant.2,
-      subst (All (IsOfCaller holds c.args.locked.now.history)) (sym items)
+      subst (All (IsOfCaller holds c.args.locked.now.history)) (sym pushed.items)
           (All-push (IsOfCaller holds c.args.locked.now.history) (vec_items c.loop-output.outputs) c.in-Some.output
           c.loop-output.invariant.3 (c.in-Some.caller, settled, one)),
       All-tail (λ d. holds d.1 d.0) (c.in-Some.output, c.in-Some.caller) (into_iter_items c.next.new.self) left,
-      omega (arith, len, rest, c.loop-output.invariant.5),
-      omega (arith, c.loop-output.invariant.6, c.push.ensures.capacity),
+      omega (arith, pushed.len, rest, c.loop-output.invariant.5),
+      omega (arith, c.loop-output.invariant.6, pushed.capacity),
     )

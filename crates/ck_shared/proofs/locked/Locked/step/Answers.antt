@@ -17,15 +17,15 @@ invariant_of-self g c =
         callers = tied.callers;
         books = tied.books;
         history = tied.history;
-        published = subst (Covers c.self.inside.known) (sym c.in_default.ensures.published) tied.published;
+        published = subst (Covers c.self.inside.known) (sym c.in_err-slot.ensures.published) tied.published;
       },
-      c.in_default.ensures.unchanged ∙ c.self.invariant.1,
+      c.in_err-slot.ensures.unchanged ∙ c.self.invariant.1,
     )
 
-pub invariant_of-self-in_default-call : goal.invariant_of-self-in_default-call
-invariant_of-self-in_default-call g c =
+pub invariant_of-self-in_default : goal.invariant_of-self-in_default
+invariant_of-self-in_default g c =
     let tied = c.self.invariant.0 in
-    let same = c.in_default-call.ensures.unchanged in (
+    let same = c.in_default.ensures.unchanged in (
       record {
         limits = same.limits ∙ tied.limits;
         callers = subst (AreCallers g.K.TokenId.callers) (sym same.history) tied.callers;
@@ -42,7 +42,7 @@ extend-requires-clause-next g c =
     let entry = entry_of token.limits token.history c.number-number.result c.args.call in
     let before : c.duplicate-front.result ≡ token.history =
     c.duplicate-front.ensures ∙ c.front.ensures ∙ c.self.invariant.0.history in
-    (entry, c.in-Ok-call.ensures.answered.entered ∙ ap (λ h. entry ◁ h) (sym before))
+    (entry, c.in-Ok.ensures.answered.entered ∙ ap (λ h. entry ◁ h) (sym before))
 
 pub follow-requires : goal.follow-requires
 follow-requires g c =
@@ -50,7 +50,7 @@ follow-requires g c =
     let entry = entry_of token.limits token.history c.number-number.result c.args.call in
     record {
       entry = entry;
-      next = c.extend.ensures.0 ∙ c.in-Ok-call.ensures.answered.entered
+      next = c.extend.ensures.0 ∙ c.in-Ok.ensures.answered.entered
           ∙ ap (λ h. entry ◁ h) (sym c.self.invariant.0.history);
       caller = refl;
       range = (c.number-number.ensures.range.0, c.number-number.ensures.range.1);
@@ -68,35 +68,35 @@ pub follow-requires-2 : goal.follow-requires-2
 follow-requires-2 g c =
     let caller = c.args.caller.now in
     let h = (g.G.JournaledToken.state c.self.inside.token).history in
-    let answered = c.in-Ok-call.ensures.answered in
-    let entered : (g.G.JournaledToken.state c.call.new.self).history ≡ entry_by caller.number c.args.call c.in-Ok-call.reply ◁ h =
+    let answered = c.in-Ok.ensures.answered in
+    let entered : (g.G.JournaledToken.state c.call.new.self).history ≡ entry_by caller.number c.args.call c.in-Ok.reply ◁ h =
     answered.entered ∙ ap (λ r. entry_by c.number-number.result c.args.call r ◁ h) (sym answered.answered)
-    ∙ ap (λ n. entry_by n c.args.call c.in-Ok-call.reply ◁ h) (c.number-number.ensures.value ∙ c.account.ensures.number) in
+    ∙ ap (λ n. entry_by n c.args.call c.in-Ok.reply ◁ h) (c.number-number.ensures.value ∙ c.account.ensures.number) in
     let front : IsFront caller.seen h =
     subst (λ seen. IsFront seen h) (c.front-2.ensures ∙ c.known.ensures)
     (subst (IsFront c.front-2.result.now)
     (c.duplicate-front.ensures ∙ c.front.ensures ∙ c.self.invariant.0.history) c.extend.ensures.1) in
-    let next : IsNextCall caller c.self.inside.books c.args.call c.in-Ok-call.reply c.follow.new.self.history =
+    let next : IsNextCall caller c.self.inside.books c.args.call c.in-Ok.reply c.follow.new.self.history =
     record {
       before = h;
       front = front;
       counted = c.self.invariant.0.books;
       next = c.follow.ensures.history ∙ c.extend.ensures.0 ∙ entered;
     } in
-    (c.args.call, c.in-Ok-call.reply, next)
+    (c.args.call, c.in-Ok.reply, next)
 
 pub show_by-requires-clause-shown : goal.show_by-requires-clause-shown
 show_by-requires-clause-shown g c =
     let h = (g.G.JournaledToken.state c.self.inside.token).history in
-    let answered = c.in-Ok-call.ensures.answered in
-    let entered : (g.G.JournaledToken.state c.call.new.self).history ≡ entry_by c.number-number.result c.args.call c.in-Ok-call.reply ◁ h =
+    let answered = c.in-Ok.ensures.answered in
+    let entered : (g.G.JournaledToken.state c.call.new.self).history ≡ entry_by c.number-number.result c.args.call c.in-Ok.reply ◁ h =
     answered.entered ∙ ap (λ r. entry_by c.number-number.result c.args.call r ◁ h) (sym answered.answered) in
-    if_none c.in-Ok.slot c.in-Ok.ensures.none (λ kept. (
-      covered_on (entry_by c.number-number.result c.args.call c.in-Ok-call.reply) c.leaves_board-leaves.result
+    if_none c.in_ok-slot.slot c.in_ok-slot.ensures.none (λ kept. (
+      covered_on (entry_by c.number-number.result c.args.call c.in-Ok.reply) c.leaves_board-leaves.result
           c.self.inside.known c.follow.new.self h c.extend.new.front
           (published c.self.inside.writer) (published c.add_slot.new.writer) kept.0
           c.follow.ensures.changed c.follow.ensures.history (c.extend.ensures.0 ∙ entered)
-          c.self.invariant.0.history c.in-Ok.ensures.published
+          c.self.invariant.0.history c.in_ok-slot.ensures.published
           c.self.invariant.0.published,
       kept.1 ∙ c.self.invariant.1,
     ))
@@ -105,15 +105,15 @@ pub returns-clause-called : goal.returns-clause-called
 returns-clause-called g c =
     let caller = c.args.caller.now in
     let h = (g.G.JournaledToken.state c.self.inside.token).history in
-    let answered = c.in-Ok-call.ensures.answered in
-    let entered : (g.G.JournaledToken.state c.call.new.self).history ≡ entry_by caller.number c.args.call c.in-Ok-call.reply ◁ h =
+    let answered = c.in-Ok.ensures.answered in
+    let entered : (g.G.JournaledToken.state c.call.new.self).history ≡ entry_by caller.number c.args.call c.in-Ok.reply ◁ h =
     answered.entered ∙ ap (λ r. entry_by c.number-number.result c.args.call r ◁ h) (sym answered.answered)
-    ∙ ap (λ n. entry_by n c.args.call c.in-Ok-call.reply ◁ h) (c.number-number.ensures.value ∙ c.account.ensures.number) in
+    ∙ ap (λ n. entry_by n c.args.call c.in-Ok.reply ◁ h) (c.number-number.ensures.value ∙ c.account.ensures.number) in
     let front : IsFront caller.seen h =
     subst (λ seen. IsFront seen h) (c.front-2.ensures ∙ c.known.ensures)
     (subst (IsFront c.front-2.result.now)
     (c.duplicate-front.ensures ∙ c.front.ensures ∙ c.self.invariant.0.history) c.extend.ensures.1) in
-    c.follow-2.ensures.called c.args.call c.in-Ok-call.reply (record {
+    c.follow-2.ensures.called c.args.call c.in-Ok.reply (record {
       before = h;
       front = front;
       counted = c.self.invariant.0.books;
@@ -123,7 +123,7 @@ returns-clause-called g c =
 pub invariant_of-self-2 : goal.invariant_of-self-2
 invariant_of-self-2 g c =
     let tied = c.self.invariant.0 in
-    let answered = c.in-Ok-call.ensures.answered in
+    let answered = c.in-Ok.ensures.answered in
     let known = c.follow.ensures.history ∙ c.extend.ensures.0 in (
       record {
         limits = answered.limits ∙ tied.limits;
@@ -140,5 +140,5 @@ pub returns-clause-answered : goal.returns-clause-answered
 returns-clause-answered g c =
     let old = g.G.JournaledToken.state c.self.inside.token in
     let new = g.G.JournaledToken.state c.call.new.self in
-    rw (← c.self.view_is) (subst (λ n. IsAnswered old new n c.args.call c.in-Ok-call.reply)
-    (c.number-number.ensures.value ∙ c.account.ensures.number) c.in-Ok-call.ensures.answered)
+    rw (← c.self.view_is) (subst (λ n. IsAnswered old new n c.args.call c.in-Ok.reply)
+    (c.number-number.ensures.value ∙ c.account.ensures.number) c.in-Ok.ensures.answered)

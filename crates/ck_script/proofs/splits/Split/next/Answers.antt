@@ -1,6 +1,6 @@
 use Rattle.std.proofs.Common.{sym, ◌∙◌}
 use Rattle.ck_script.proofs.PartLemmas.{parts_left-some, parts_left-none}
-use Rattle.ck_script.proofs.parts.Parts.next.Goals as goal
+use Rattle.ck_script.proofs.splits.Split.next.Goals as goal
 
 pub returns-in-Some : goal.returns-in-Some
 returns-in-Some c =

@@ -1,6 +1,6 @@
 use Rattle.ck_journal.specs.Histories.{start_of}
 use Rattle.ck_callers.specs.Accounts.{name_of}
-use Rattle.ck_threads.proofs.asks.run_asks_on.Given as goal
+use Rattle.ck_races.proofs.asks.ask_on.Given as goal
 
 -- the token that is given
 abbrev pub ghosts-ask_as-K-TokenId : goal.ghosts-ask_as-K-TokenId

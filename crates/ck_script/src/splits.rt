@@ -11,31 +11,31 @@ pub(crate) fn position_of(separator: u8, text: &[u8]) -> Option<usize>
 
 /// The parts of a text that a separator leaves, from the next one on.
 #[derive(Drop)]
-pub(crate) struct Parts<'a> {
+pub(crate) struct Split<'a> {
     separator: u8,
     rest: &'a [u8],
     is_done: bool,
 }
 
-impl<'a> Model for Parts<'a> {
+impl<'a> Model for Split<'a> {
     ghost use Rattle.std.specs.Prelude.{ℕ, List};
-    ghost use Rattle.ck_script.specs.Parts.{parts_left};
+    ghost use Rattle.ck_script.specs.Splits.{parts_left};
 
     ghost Value = { List (List ℕ) };
 
     ghost view = { λ p. parts_left p.separator p.is_done p.rest.now };
 }
 
-impl<'a> Parts<'a> {
+impl<'a> Split<'a> {
     ghost use Rattle.std.specs.Prelude.{◌≡◌, ◌==◌, ◌∷◌, [], length, MatchOption, option_map};
     ghost use Rattle.std.specs.Option.{option_copied};
-    ghost use Rattle.ck_script.specs.Parts.{parts_of, one_of, two_of, three_of, four_of};
+    ghost use Rattle.ck_script.specs.Splits.{parts_of, one_of, two_of, three_of, four_of};
 
     /// All parts of the text.
-    pub(crate) fn new(text: &'a [u8], separator: u8) -> Parts<'a>
+    pub(crate) fn new(text: &'a [u8], separator: u8) -> Split<'a>
         ensures { result ≡ parts_of separator text.now }
     {
-        Parts {
+        Split {
             separator,
             rest: text,
             is_done: false,

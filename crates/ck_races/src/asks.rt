@@ -1,25 +1,24 @@
 //! Of three callers of a token one logs in. Meanwhile another, which has learnt of the calls
 //! before, asks for the state of a session, without the lock. The last makes no call: it asks
 //! before the first call and after the last.
-ghost use Rattle.std.specs.Prelude.{◌≡◌, ℕ};
+ghost use Rattle.std.specs.Prelude.{◌≡◌, ℕ, IfOk};
 ghost use Rattle.ck_journal.specs.Histories.{start, start_of};
 ghost use Rattle.ck_callers.specs.Accounts.{name_of};
 
-use crate::errors::ThreadError;
-use crate::tokens::initialized_token;
-use ck_callers::{
-    Answered, Ask, Caller, NewIdentity, News, Script, Status, Step, TokenId, run_steps,
-};
+use crate::tokens::prepare_by;
+use anyhow::{Context, ensure};
 use ck_journal::{Call, JournaledToken, READ_WRITE};
 use ck_script::reply_line;
-use ck_shared::{Ends, SharedToken};
+use ck_shared::{
+    Answered, Ask, Caller, Ends, NewIdentity, News, Runtime, Script, SharedToken, Status, Step,
+    TokenId, run_steps,
+};
 use ck_token::Token;
 use ck_types::{Limits, NoMemory, Pin, Rv, mechanism_types};
 use std::alloc::Global;
 use std::marker::Brand;
 use std::mem;
 use std::sync::Wait;
-use std::thread::Threads;
 
 /// How often each of two callers asks for the state of the session.
 const ASKS: u32 = 1_000;
@@ -34,15 +33,13 @@ pub(crate) const RUNS: u32 = 100;
 
 type AskingScript<K> = Script<K, Step, Answered>;
 
-fn expect(holds: bool) -> Result<(), ThreadError> {
-    if holds {
-        return Ok(());
-    }
-    Err(ThreadError::Ask)
+fn expect(holds: bool) -> anyhow::Result<()> {
+    ensure!(holds, "asks are not answered as they must be");
+    Ok(())
 }
 
-/// An ask is answered so, or with all mechanisms where no text is wanted.
-fn check_status(alloc: Global, status: &Option<Status>, wanted: &str) -> Result<(), ThreadError> {
+/// An ask is answered by this text, or with all mechanisms where no text is wanted.
+fn check_status(alloc: Global, status: &Option<Status>, wanted: &str) -> anyhow::Result<()> {
     expect(match status {
         Some(Status::Reply(reply)) => reply_line(alloc, reply)?.as_str() == wanted,
         Some(Status::Mechanisms(types)) => wanted.is_empty() && *types == mechanism_types(),
@@ -55,7 +52,7 @@ fn check_ask<K: TokenId>(
     caller: &mut Caller<K>,
     ask: Ask,
     wanted: &str,
-) -> Result<(), ThreadError> {
+) -> anyhow::Result<()> {
     let status = caller.status(ask);
     check_status(alloc, &status, wanted)
 }
@@ -65,7 +62,7 @@ fn check_before<K: TokenId>(
     alloc: Global,
     caller: &mut Caller<K>,
     state: &str,
-) -> Result<(), ThreadError> {
+) -> anyhow::Result<()> {
     check_ask(alloc, caller, Ask::Token, state)?;
     check_ask(alloc, caller, Ask::Session(1), "b3")?;
     check_ask(alloc, caller, Ask::Mechanisms, "")
@@ -78,7 +75,7 @@ fn make_call<K: TokenId, G: JournaledToken, R: Wait + Drop>(
     token: &SharedToken<K, G, R>,
     caller: &mut Caller<K>,
     call: Call,
-) -> Result<(), ThreadError> {
+) -> anyhow::Result<()> {
     let reply = token.call(rt, alloc, caller, call)?;
     expect(reply.rv == Rv::Ok)
 }
@@ -89,7 +86,7 @@ fn make_first_calls<K: TokenId, G: JournaledToken, R: Wait + Drop>(
     alloc: Global,
     token: &SharedToken<K, G, R>,
     caller: &mut Caller<K>,
-) -> Result<(), ThreadError> {
+) -> anyhow::Result<()> {
     let (so, pin, session) = (Pin::of(b"1234"), Pin::of(b"user"), 1);
     let login = Call::Login {
         session,
@@ -111,14 +108,14 @@ fn make_first_calls<K: TokenId, G: JournaledToken, R: Wait + Drop>(
     check_ask(alloc, caller, Ask::Token, "0 40c 64 1 1")
 }
 
-/// What is answered of session 1 after so many entries: behind the first calls the user logs in.
+/// What is answered of session 1 after this many entries: behind the first calls the user logs in.
 fn state_after(entries: u64) -> &'static str {
     if entries == FIRST { "0 2 6" } else { "0 3 6" }
 }
 
 /// All steps of a script were taken. With each answer comes how many entries the caller knows: it
 /// is that of their state, and what is known stays.
-fn check_script<K: TokenId>(alloc: Global, script: &AskingScript<K>) -> Result<(), ThreadError> {
+fn check_script<K: TokenId>(alloc: Global, script: &AskingScript<K>) -> anyhow::Result<()> {
     script.outcome()?;
     let mut known = FIRST;
     for answer in script.replies() {
@@ -133,34 +130,32 @@ fn check_script<K: TokenId>(alloc: Global, script: &AskingScript<K>) -> Result<(
 
 fn caller_at<K: TokenId>(
     scripts: &mut [AskingScript<K>],
-    place: usize,
-) -> Result<&mut Caller<K>, ThreadError> {
-    match scripts.get_mut(place) {
-        Some(script) => Ok(&mut script.caller),
-        None => Err(ThreadError::Ask),
-    }
+    index: usize,
+) -> anyhow::Result<&mut Caller<K>> {
+    let script = scripts.get_mut(index).context("a caller is missing")?;
+    Ok(&mut script.caller)
 }
 
-/// The second caller, which makes no call, learns. It then knows so many entries, and sees their
+/// The second caller, which makes no call, learns. It then knows this many entries, and sees their
 /// state.
 fn check_learnt<K: TokenId>(
     alloc: Global,
     scripts: &mut [AskingScript<K>],
     news: &News<K>,
     entries: u64,
-) -> Result<(), ThreadError> {
+) -> anyhow::Result<()> {
     let caller = caller_at(scripts, 1)?;
     caller.learn(news);
     expect(caller.seen() == entries && caller.count() == 0)?;
     check_ask(alloc, caller, Ask::Session(1), state_after(entries))
 }
 
-/// The second caller learns what the first knows, which are so many entries.
+/// The second caller learns what the first knows, which is this many entries.
 fn check_learning<K: TokenId>(
     alloc: Global,
     scripts: &mut [AskingScript<K>],
     entries: u64,
-) -> Result<(), ThreadError> {
+) -> anyhow::Result<()> {
     let news = caller_at(scripts, 0)?.news();
     check_learnt(alloc, scripts, &news, entries)
 }
@@ -173,7 +168,7 @@ fn prepare<K: TokenId, G: JournaledToken, R: Wait + Drop>(
     token: &SharedToken<K, G, R>,
     scripts: &mut [AskingScript<K>],
     state: &str,
-) -> Result<(), ThreadError> {
+) -> anyhow::Result<()> {
     check_before(alloc, caller_at(scripts, 2)?, state)?;
     make_first_calls(rt, alloc, token, caller_at(scripts, 0)?)?;
     check_learning(alloc, scripts, FIRST)
@@ -185,7 +180,7 @@ fn check_after<K: TokenId>(
     alloc: Global,
     script: &mut AskingScript<K>,
     older: &News<K>,
-) -> Result<(), ThreadError> {
+) -> anyhow::Result<()> {
     check_script(alloc, script)?;
     let caller = &mut script.caller;
     check_ask(alloc, caller, Ask::Session(1), state_after(ALL))?;
@@ -198,7 +193,7 @@ fn check_all_after<K: TokenId>(
     alloc: Global,
     scripts: &mut [AskingScript<K>],
     older: &News<K>,
-) -> Result<(), ThreadError> {
+) -> anyhow::Result<()> {
     check_learning(alloc, scripts, ALL)?;
     for script in scripts {
         check_after(alloc, script, older)?;
@@ -221,13 +216,8 @@ fn steps_of(alloc: Global, caller: u32) -> Result<Vec<Step>, NoMemory> {
 }
 
 fn script_of<K: TokenId>(alloc: Global, caller: Caller<K>) -> Result<AskingScript<K>, NoMemory> {
-    match steps_of(alloc, caller.number()) {
-        Ok(steps) => Script::new(alloc, caller, steps).ok().ok_or(NoMemory),
-        Err(error) => {
-            drop(caller);
-            Err(error)
-        }
-    }
+    let steps = steps_of(alloc, caller.number())?;
+    Script::new(alloc, caller, steps).ok().ok_or(NoMemory)
 }
 
 /// Adds the scripts of callers.
@@ -246,7 +236,7 @@ fn add_scripts<K: TokenId>(
 fn add_callers<K: TokenId>(
     scripts: Vec<AskingScript<K>>,
     callers: &mut Vec<Caller<K>>,
-) -> Result<(), ThreadError> {
+) -> anyhow::Result<()> {
     for script in scripts {
         callers.push(script.caller)?;
     }
@@ -254,13 +244,13 @@ fn add_callers<K: TokenId>(
 }
 
 /// The callers call and ask: before the first call the token is in this state.
-fn play<K: TokenId + Send + Sync, G: JournaledToken + Send, R: Threads + Wait + Drop + Send + Sync>(
+fn ask<K: TokenId + Send + Sync, G: JournaledToken + Send, R: Runtime>(
     rt: &R,
     alloc: Global,
     token: &SharedToken<K, G, R>,
     scripts: &mut [AskingScript<K>],
     state: &str,
-) -> Result<(), ThreadError> {
+) -> anyhow::Result<()> {
     prepare(rt, alloc, token, scripts, state)?;
     let older = caller_at(scripts, 0)?.news();
     run_steps(rt, alloc, token, scripts);
@@ -268,17 +258,17 @@ fn play<K: TokenId + Send + Sync, G: JournaledToken + Send, R: Threads + Wait + 
 }
 
 /// All that the callers do. They come back.
-fn ask<K: TokenId + Send + Sync, G: JournaledToken + Send, R: Threads + Wait + Drop + Send + Sync>(
+fn ask_all<K: TokenId + Send + Sync, G: JournaledToken + Send, R: Runtime>(
     rt: &R,
     alloc: Global,
     token: &SharedToken<K, G, R>,
     callers: &mut Vec<Caller<K>>,
     state: &str,
-) -> Result<(), ThreadError> {
+) -> anyhow::Result<()> {
     let mut scripts = Vec::new(alloc);
     add_scripts(alloc, mem::replace(callers, Vec::new(alloc)), &mut scripts)?;
-    let played = play(rt, alloc, token, scripts.as_mut_slice(), state);
-    played.and(add_callers(scripts, callers))
+    ask(rt, alloc, token, &mut scripts, state)?;
+    add_callers(scripts, callers)
 }
 
 /// Takes the token back from its callers. Its journal has an entry for each call.
@@ -286,19 +276,20 @@ fn close<K: TokenId, G: JournaledToken, R: Wait + Drop>(
     rt: &R,
     token: SharedToken<K, G, R>,
     callers: Vec<Caller<K>>,
-) -> Result<(), ThreadError> {
-    match token.close(rt, callers).ok() {
-        Some(token) => expect(token.journal().len() == ALL),
-        None => Err(ThreadError::Ask),
-    }
+) -> anyhow::Result<()> {
+    let token = token.close(rt, callers).ok();
+    let token = token.context("a caller is missing")?;
+    expect(token.journal().len() == ALL)
 }
 
 /// Shares the token among three callers, of which `K` stands for the history, and takes it back.
-fn ask_as<
-    K: TokenId + Send + Sync,
-    G: JournaledToken + Send,
-    R: Threads + Wait + Copy + Drop + Send + Sync,
->(rt: R, alloc: Global, token: G, identity: NewIdentity, is_cut: bool) -> Result<(), ThreadError>
+fn ask_as<K: TokenId + Send + Sync, G: JournaledToken + Send, R: Runtime>(
+    rt: R,
+    alloc: Global,
+    token: G,
+    identity: NewIdentity,
+    is_cut: bool,
+) -> anyhow::Result<()>
     requires history { (G.state token).history ≡ start K.base }
     requires limits { (G.state token).limits ≡ K.limits }
     requires callers { K.callers ≡ 3 }
@@ -308,30 +299,31 @@ fn ask_as<
     let ends = SharedToken::<K, G, R>::adopt(rt, alloc, token, 3, identity).ok();
     let Ends { token, mut callers } = ends.ok_or(NoMemory)?;
     let state = if is_cut { "0 404 64 0 0" } else { "0 4 64 0 0" };
-    let asked = ask(&rt, alloc, &token, &mut callers, state);
-    asked.and(close(&rt, token, callers))
+    ask_all(&rt, alloc, &token, &mut callers, state)?;
+    close(&rt, token, callers)
 }
 
 /// Three callers call and ask, on a new token or on one whose journal was cut.
-fn run_asks_on<R: Threads + Wait + Copy + Drop + Send + Sync>(
-    rt: R,
-    alloc: Global,
-    token: Token,
-    is_cut: bool,
-) -> Result<(), ThreadError>
+fn ask_on<R: Runtime>(rt: R, alloc: Global, token: Token, is_cut: bool) -> anyhow::Result<()>
     requires { token.history ≡ start (start_of token.history) }
 {
     ask_as::<Brand, Token, R>(rt, alloc, token, NewIdentity::new(), is_cut)
 }
 
-/// Runs it so often, on new tokens and on tokens whose journal was cut.
-pub(crate) fn run_asks<R: Threads + Wait + Copy + Drop + Send + Sync>(
-    rt: R,
-    alloc: Global,
-) -> Result<(), ThreadError> {
+/// A token that is initialized, and whose journal is cut.
+fn initialized_token(alloc: Global) -> anyhow::Result<Token>
+    ensures { IfOk result (λ token. token.history ≡ start (start_of token.history)) }
+{
+    let mut token = Token::new(alloc, Limits::largest());
+    prepare_by(alloc, &mut token, &["1 InitToken 31323334 -> 0"])?;
+    Ok(token)
+}
+
+/// All of it again and again, on new tokens and on tokens whose journal was cut.
+pub(crate) fn run_asks<R: Runtime>(rt: R, alloc: Global) -> anyhow::Result<()> {
     for _ in 0..RUNS {
-        run_asks_on(rt, alloc, Token::new(alloc, Limits::largest()), false)?;
-        run_asks_on(rt, alloc, initialized_token(alloc)?, true)?;
+        ask_on(rt, alloc, Token::new(alloc, Limits::largest()), false)?;
+        ask_on(rt, alloc, initialized_token(alloc)?, true)?;
     }
     Ok(())
 }

@@ -1,20 +1,14 @@
-//! The sections of a script, whose calls are made of a token alone, or by its one caller under the
-//! lock.
-ghost use Rattle.std.specs.Prelude.{◌≡◌};
-ghost use Rattle.ck_journal.specs.Histories.{start, start_of};
-
-use crate::errors::BenchError;
+//! The sections of a script, whose calls are made of a token that isn't shared, or by its one
+//! caller under the lock.
 use crate::sections::Section;
 use ck_audit::{Verdict, audit_token};
-use ck_callers::{Caller, Gate, TokenId};
 use ck_journal::{Call, Reply};
-use ck_shared::{CallerWork, share};
+use ck_shared::{Caller, CallerWork, Gate, Runtime, TokenId, share};
 use ck_token::Token;
 use ck_types::{Limits, NoMemory, Rv};
 use std::alloc::Global;
 use std::io;
 use std::sync::Wait;
-use std::thread::Threads;
 use std::time::CpuClock;
 
 /// What answers calls.
@@ -47,8 +41,9 @@ fn make_calls<T: Target>(target: &mut T, alloc: Global, calls: &[Call]) -> Resul
     let mut refused = 0u64;
     for call in calls {
         let reply = target.call(alloc, call.clone()?)?;
-        refused = refused.saturating_add(u64::from(reply.rv != Rv::Ok));
-        drop(reply);
+        if reply.rv != Rv::Ok {
+            refused = refused.saturating_add(1);
+        }
     }
     Ok(refused)
 }
@@ -68,31 +63,31 @@ fn write_time<R: Print>(rt: &R, name: &str, time: u128, is_timed: bool) -> io::R
 
 /// Makes the calls of a section, and writes how many they are, how many were refused and, where
 /// that is asked for, the processor time that they took.
-fn play_section<R: CpuClock + Print, T: Target>(
+fn measure_section<R: CpuClock + Print, T: Target>(
     rt: &R,
     alloc: Global,
     target: &mut T,
     section: &Section,
     is_timed: bool,
-) -> Result<(), BenchError> {
+) -> anyhow::Result<()> {
     let Section { name, calls } = section;
     let before = time_so_far(rt)?;
-    let refused = make_calls(target, alloc, calls.as_slice())?;
+    let refused = make_calls(target, alloc, calls)?;
     let time = time_so_far(rt)?.saturating_sub(before);
     println!(rt; "{name}: {} calls, {refused} refused", calls.len())?;
     Ok(write_time(rt, name, time, is_timed)?)
 }
 
 /// Makes the calls of each section, and writes the same of all of them.
-fn play<R: CpuClock + Print, T: Target>(
+fn measure_all<R: CpuClock + Print, T: Target>(
     rt: &R,
     alloc: Global,
     target: &mut T,
     sections: &[Section],
     is_timed: bool,
-) -> Result<(), BenchError> {
+) -> anyhow::Result<()> {
     for section in sections {
-        play_section(rt, alloc, target, section, is_timed)?;
+        measure_section(rt, alloc, target, section, is_timed)?;
     }
     Ok(())
 }
@@ -104,7 +99,7 @@ fn audit<R: CpuClock + Print>(
     alloc: Global,
     token: &Token,
     is_timed: bool,
-) -> Result<(), BenchError> {
+) -> anyhow::Result<()> {
     let before = time_so_far(rt)?;
     let is_legal = audit_token(alloc, token)? == Verdict::Legal;
     let time = time_so_far(rt)?.saturating_sub(before);
@@ -112,42 +107,29 @@ fn audit<R: CpuClock + Print>(
     Ok(write_time(rt, "audit", time, is_timed)?)
 }
 
-/// Plays the sections on a token, whose journal is audited then.
-fn play_and_audit<R: CpuClock + Print>(
-    rt: &R,
-    alloc: Global,
-    token: &mut Token,
-    sections: &[Section],
-    is_timed: bool,
-) -> Result<(), BenchError> {
-    play(rt, alloc, token, sections, is_timed)?;
-    audit(rt, alloc, token, is_timed)
-}
-
-/// Plays the sections on a new token, whose journal is audited then.
-pub(crate) fn play_alone<R: CpuClock + Print>(
+/// Measures the sections on a new token, whose journal is audited then.
+pub(crate) fn measure_alone<R: CpuClock + Print>(
     rt: &R,
     alloc: Global,
     sections: &[Section],
     is_timed: bool,
-) -> Result<(), BenchError> {
+) -> anyhow::Result<()> {
     let mut token = Token::new(alloc, Limits::largest());
-    let played = play_and_audit(rt, alloc, &mut token, sections, is_timed);
-    drop(token);
-    played
+    measure_all(rt, alloc, &mut token, sections, is_timed)?;
+    audit(rt, alloc, &token, is_timed)
 }
 
 /// What the one caller of a shared token does.
 #[derive(Drop)]
-struct SectionPlay<'a> {
+struct AllSections<'a> {
     sections: &'a [Section<'a>],
     is_timed: bool,
 }
 
-impl<'a, R: Wait + CpuClock + Print> CallerWork<R> for SectionPlay<'a> {
+impl<'a, R: Wait + CpuClock + Print> CallerWork<R> for AllSections<'a> {
     ghost use Rattle.std.specs.Prelude.{⊤};
 
-    type Output = Result<(), BenchError>;
+    type Output = anyhow::Result<()>;
 
     ghost holds = { λ work caller done. ⊤ };
 
@@ -157,37 +139,23 @@ impl<'a, R: Wait + CpuClock + Print> CallerWork<R> for SectionPlay<'a> {
         alloc: Global,
         gate: &G,
         caller: &mut Caller<K>,
-    ) -> Result<(), BenchError> {
+    ) -> anyhow::Result<()> {
         let mut target = CallerTarget { rt, gate, caller };
-        play(rt, alloc, &mut target, self.sections, self.is_timed)
+        measure_all(rt, alloc, &mut target, self.sections, self.is_timed)
     }
 }
 
-/// Does the work of the one caller of a token that is shared.
-fn play_shared<R: CpuClock + Print + Threads + Wait + Copy + Drop + Send + Sync>(
-    rt: R,
-    alloc: Global,
-    token: &mut Token,
-    work: &SectionPlay,
-) -> Result<(), BenchError>
-    requires { token.old.history ≡ start (start_of token.old.history) }
-{
-    for done in share(rt, alloc, token, 1, work)? {
-        done?;
-    }
-    Ok(())
-}
-
-/// Plays the sections by one caller of a shared token.
-pub(crate) fn play_locked<R: CpuClock + Print + Threads + Wait + Copy + Drop + Send + Sync>(
+/// Measures the sections by one caller of a shared token.
+pub(crate) fn measure_locked<R: CpuClock + Print + Runtime>(
     rt: R,
     alloc: Global,
     sections: &[Section],
     is_timed: bool,
-) -> Result<(), BenchError> {
+) -> anyhow::Result<()> {
     let mut token = Token::new(alloc, Limits::largest());
-    let work = SectionPlay { sections, is_timed };
-    let played = play_shared(rt, alloc, &mut token, &work);
-    drop(token);
-    played
+    let work = AllSections { sections, is_timed };
+    for done in share(rt, alloc, &mut token, 1, &work)? {
+        done?;
+    }
+    Ok(())
 }

@@ -1,5 +1,5 @@
 use Rattle.std.proofs.Common.{sym}
-use Rattle.ck_callers.proofs.runs.run.Goals as goal
+use Rattle.ck_callers.proofs.runs.run_all.Goals as goal
 
 pub returns-then-most-gt0 : goal.returns-then-most-gt0
 returns-then-most-gt0 g c k d below =
