@@ -700,20 +700,26 @@ static void test_cancel(void) {
 
 enum { PIECE = 1 << 20, LARGE = 3000000 };
 
-/* The message is 3,000,000 letters a. The expected values are of Python's hashlib and hmac. */
+/* The message is 3,000,000 bytes, each its place modulo 251, so no two pieces are the same. The
+ * expected values are of Python's hashlib and hmac. */
 static CK_BYTE large[LARGE];
 static const char sha256_of_piece[] =
-    "9bc1b2a288b26af7257a36277ae3816a7d4f16e89c1e7e77d0a5c48bad62b360";
+    "631b84027d6b9e52b539c4e8373622d23032dfadc64d60af87339c9037e4f769";
 static const char sha256_of_large[] =
-    "2a152c894398719c0570f83fac34ac03a0f6e8e474b995c2403aa5434f7b9dd4";
+    "4d3870d4655ed773027a713ea136507d22e076248e0e9cc920a996039653b76f";
 static const char hmac_of_large[] =
-    "96aaafbf1aa6958484d0730558b201ebd98213e4f947bcfc2c9bc47d8b8529ab";
+    "e8b645a46aaf1d497b9c921efbff0c29a49f71d21affdfd52eec58aa67f88cfe";
+
+static void fill_large(void) {
+    for (size_t i = 0; i < sizeof large; i++)
+        large[i] = (CK_BYTE)(i % 251);
+}
 
 static void test_large_digests(void) {
     CK_SESSION_HANDLE session = begin_token();
     CK_MECHANISM sha256 = mechanism_of(CKM_SHA256);
     CK_BYTE digest[64];
-    memset(large, 'a', sizeof large);
+    fill_large();
     length = sizeof digest;
     EXPECT(CKR_OK, p11->C_DigestInit(session, &sha256));
     EXPECT(CKR_OK, p11->C_Digest(session, large, PIECE, digest, &length));
@@ -737,7 +743,7 @@ static void test_large_signatures(void) {
     CK_OBJECT_HANDLE key = create_key(session, "Jefe");
     CK_BYTE signature[100];
     length = sizeof signature;
-    memset(large, 'a', sizeof large);
+    fill_large();
     EXPECT(CKR_OK, p11->C_SignInit(session, &hmac, key));
     EXPECT(CKR_OK, p11->C_SignUpdate(session, large, LARGE));
     EXPECT(CKR_OK, p11->C_SignFinal(session, signature, &length));

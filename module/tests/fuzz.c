@@ -352,7 +352,8 @@ static CK_RV create_secret_key(void) {
 }
 
 static CK_RV create_anything(void) {
-    struct template template = draw_template(NULL, 0, MOST_ATTRIBUTES - 1);
+    CK_ATTRIBUTE class = number_attribute(CKA_CLASS, one_in(2) ? CKO_DATA : CKO_SECRET_KEY);
+    struct template template = draw_template(&class, one_in(4) ? 0 : 1, MOST_ATTRIBUTES - 1);
     CK_OBJECT_HANDLE object = 0;
     CK_RV code = p11->C_CreateObject(draw_session(), template.attributes, template.count, &object);
     keep_object(code, object);

@@ -483,6 +483,44 @@ static void test_by_lines(void) {
     unsetenv("OSPREYRACK_JOURNAL");
 }
 
+/* ---- Updates that the module makes in pieces */
+
+static CK_BYTE large[(2 << 20) + 5];
+
+/* An update whose later piece is refused ends the operation, since a piece is missing. One whose
+ * first piece is refused changed nothing. Answers whether anything was refused. */
+static bool try_pieces(long number, size_t *ended) {
+    static const char sha512_of_nothing[] =
+        "cf83e1357eefb8bdf1542850d66d8007d620e4050b5715dc83f4a921d36ce9ce"
+        "47d0d13c5d85f2b0ff8318d2877eec2f63b931bd47417a81a538327af927da3e";
+    struct result made;
+    begin_library();
+    session = log_in();
+    EXPECT(CKR_OK, digest_init(&made));
+    refuse_after(number);
+    CK_RV code = p11->C_DigestUpdate(session, large, sizeof large);
+    bool was_refused = stop_refusing();
+    CK_RV final_code = digest_final(&made);
+    if (code == CKR_OK) {
+        check_code(final_code, CKR_OK, "C_DigestFinal");
+    } else {
+        check_code(code, CKR_HOST_MEMORY, "C_DigestUpdate of three pieces");
+        check(final_code == CKR_OPERATION_NOT_INITIALIZED
+              || is_hexadecimal(made.bytes, made.length, sha512_of_nothing), "C_DigestFinal");
+        *ended += final_code == CKR_OPERATION_NOT_INITIALIZED;
+    }
+    end_library();
+    return was_refused;
+}
+
+static void test_pieces(void) {
+    long number = 0;
+    size_t ended = 0;
+    while (number < MOST_GROWTHS && try_pieces(number, &ended))
+        number++;
+    CHECK(number > 1 && number < MOST_GROWTHS && ended > 0);
+}
+
 /* ---- A thread's first call */
 
 static void *call_without_memory(void *ignored) {
@@ -593,6 +631,7 @@ static const struct test tests[] = {
     {"each growth of 35 calls is refused, typed", test_typed},
     {"each growth of 35 calls is refused, by lines", test_by_lines},
     {"each growth of C_Initialize is refused, with a script and a file", test_initialize},
+    {"an update of three pieces whose later piece is refused ends", test_pieces},
     {"a thread's first call without memory", test_first_call},
 };
 

@@ -273,8 +273,10 @@ class Tests:
         for place, line in enumerate(lines):
             if b" -> " not in line:
                 continue
-            for other in [line + b"0", line.replace(b" -> ", b" -> 9", 1),
-                          line.replace(b"1 ", b"9 ", 1), line.replace(b" -> ", b" ->", 1)]:
+            other_digit = b"1" if line.endswith(b"0") else b"0"
+            for other in [line[:-1] + other_digit, line + b"0",
+                          line.replace(b" -> ", b" -> 9", 1), line.replace(b"1 ", b"9 ", 1),
+                          line.replace(b" -> ", b" ->", 1)]:
                 content = b"\n".join(lines[:place] + [other] + lines[place + 1:])
                 write(path, content)
                 code, errors = self.initialize(TOKEN=path)
