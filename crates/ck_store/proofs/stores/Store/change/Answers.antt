@@ -29,7 +29,7 @@ returns-in_default c = record {
 -- the object under the key is the one of the number
 pub change_at-mark-requires : goal.change_at-mark-requires
 change_at-mark-requires c = λ row is.
-    let is_key = (rw c.as_slice.ensures.value at c.in-Some.ensures) c.self.invariant.0.indexed in
+    let is_key = (rw c.deref.ensures.value at c.in-Some.ensures) c.self.invariant.0.indexed in
     let asked = rw (← c.self.view_is) at c.requires in
     asked row (sym (find-key c.self.inside.objects c.self.inside.index.items
     c.self.invariant.0.indexed c.args.number (Some c.in-Some.key) is_key) ∙ is)
