@@ -37,7 +37,13 @@ DATA = os.path.join(CRATES, "ck_cases", "data", "*.cases")
 LONG = os.path.join(CRATES, "ck_cases", "data", "many_objects.cases")
 LARGEST = "limits largest"
 BAD_LINE = " -> bad script: "
-MEMORY_ERRORS = (b"Error: out of memory\n", b"Error: memory allocation failed\n")
+MEMORY_ERRORS = (
+    b"Error: out of memory\n",
+    b"Error: memory allocation failed\n",
+    # ck_cases, where its arguments are read and after it
+    b"error: out of memory\n",
+    b"ck_cases: out of memory\n",
+)
 
 Ended = collections.namedtuple("Ended", "status output errors growths")
 
@@ -109,7 +115,8 @@ def is_case_right(ended, name, plain):
     if ended.output in (plain.output, plain.output[:-1] + b", 1 made again\n"):
         return ended.status == 0
     without_memory = (f"{name}: out of memory\n".encode(), b"out of memory\n")
-    is_said = ended.output in without_memory or ended.errors in MEMORY_ERRORS
+    is_said = ended.output in without_memory or ended.errors in (
+        *MEMORY_ERRORS, f"ck_cases: {name}: out of memory\n".encode())
     return ended.status == 1 and (is_said or not ended.output + ended.errors)
 
 
