@@ -19,7 +19,8 @@ pub extern "C" fn ospreyrack_digest_init(
     kind: u64,
     parameter: &[u8],
 ) -> u32
-    ensures { IsCalledBy caller (call.DigestInit session (record { kind = kind; parameter = parameter.now })) result
+    ensures { IsCalledBy caller
+        (call.DigestInit session (record { kind = kind; parameter = parameter.now })) result
         handle.old.value handle.new.value }
 {
     let Ok(parameter) = Bytes::from_slice(alloc, parameter) else {
@@ -107,7 +108,8 @@ pub extern "C" fn ospreyrack_sign_init(
     parameter: &[u8],
     key: u64,
 ) -> u32
-    ensures { IsCalledBy caller (call.SignInit session (record { kind = kind; parameter = parameter.now }) key) result
+    ensures { IsCalledBy caller
+        (call.SignInit session (record { kind = kind; parameter = parameter.now }) key) result
         handle.old.value handle.new.value }
 {
     let Ok(parameter) = Bytes::from_slice(alloc, parameter) else {
@@ -185,7 +187,8 @@ pub extern "C" fn ospreyrack_sign_final(
     handle.as_mut().call(alloc, caller, call).number()
 }
 
-/// C_VerifyInit (PKCS #11 Base 3.0, Functions for verifying signatures and MACs). No bytes are no parameter.
+/// C_VerifyInit (PKCS #11 Base 3.0, Functions for verifying signatures and MACs). No bytes are no
+/// parameter.
 #[unsafe(no_mangle)]
 pub extern "C" fn ospreyrack_verify_init(
     alloc: Global,
@@ -196,7 +199,8 @@ pub extern "C" fn ospreyrack_verify_init(
     parameter: &[u8],
     key: u64,
 ) -> u32
-    ensures { IsCalledBy caller (call.VerifyInit session (record { kind = kind; parameter = parameter.now }) key) result
+    ensures { IsCalledBy caller
+        (call.VerifyInit session (record { kind = kind; parameter = parameter.now }) key) result
         handle.old.value handle.new.value }
 {
     let Ok(parameter) = Bytes::from_slice(alloc, parameter) else {
