@@ -1,6 +1,7 @@
 -- A history of no calls leaves the objects of the base that it starts from
 use Rattle.std.proofs.Common.{◌≡◌, ℕ, zero, suc, ◌+◌, ◌<◌, ◌≤◌, Bool, true, false, List, []}
-use Rattle.std.proofs.Common.{◌∷◌, ◌++◌, Option, Some, None, All, AllPairs, refl, sym, ap, ◌∙◌, arith}
+use Rattle.std.proofs.Common.{◌∷◌, ◌++◌, Option, Some, None, All, AllPairs, refl, sym, ap, ◌∙◌}
+use Rattle.std.proofs.Common.{arith}
 use Rattle.std.proofs.Common.{zero-add}
 use Rattle.std.specs.Prelude.{◌==◌, find, filter_map, option_map}
 use Rattle.std.specs.List.{cons_option}
@@ -37,19 +38,22 @@ numbers-above (suc n) =
 abbrev row_in : List KeptObject → ℕ → Option KeptObject
 row_in objects n =
     option_map (kept_object n)
-    (option_map (λ (kept : KeptObject). kept.attributes) (find (λ (kept : KeptObject). kept.number == n) objects))
+    (option_map (λ (kept : KeptObject). kept.attributes)
+    (find (λ (kept : KeptObject). kept.number == n) objects))
 
 -- rows that agree on the numbers above another
 rows-agree : (row row' : ℕ → Option KeptObject) (low n : ℕ) → ((k : ℕ) → low < k → row k ≡ row' k)
     → filter_map row (above low n) ≡ filter_map row' (above low n)
 rows-agree row row' low zero same = refl
 rows-agree row row' low (suc n) same =
-    ap (λ found. cons_option found (filter_map row (above (suc low) n))) (same (suc low) (omega arith))
+    ap (λ found. cons_option found (filter_map row (above (suc low) n)))
+    (same (suc low) (omega arith))
     ∙ ap (cons_option (row' (suc low)))
     (rows-agree row row' (suc low) n (λ k later. same k (omega arith)))
 
 -- no object has a number that is below all
-row-none : (objects : List KeptObject) (n : ℕ) → All (λ (kept : KeptObject). n < kept.number) objects
+row-none : (objects : List KeptObject) (n : ℕ)
+    → All (λ (kept : KeptObject). n < kept.number) objects
     → row_in objects n ≡ None
 row-none [] n after = refl
 row-none (kept ∷ objects) n after =
@@ -109,13 +113,15 @@ rows-all low zero (kept ∷ objects) rise within =
     let high = here.1 in
     absurd (omega arith)
 rows-all low (suc n) [] rise within =
-    rows-all (suc low) n [] (λ i j d before inside. absurd (omega arith)) (λ i d inside. absurd (omega arith))
+    rows-all (suc low) n [] (λ i j d before inside. absurd (omega arith))
+    (λ i d inside. absurd (omega arith))
 rows-all low (suc n) (kept ∷ objects) rise within =
     rows-case low n kept objects (kept.number == suc low) refl
     (All-head (is_within low (low + suc n)) kept objects within)
     (λ i d inside. rise 0 (suc i) d (omega arith) (omega arith))
     (All-tail (is_within low (low + suc n)) kept objects within)
-    (rows-all (suc low) n objects (λ i j d before inside. rise (suc i) (suc j) d (omega arith) (omega arith)))
+    (rows-all (suc low) n objects
+    (λ i j d before inside. rise (suc i) (suc j) d (omega arith) (omega arith)))
     (rows-all (suc low) n (kept ∷ objects) rise)
 
 pub start-objects : (b : Base) → IsSound b → kept_objects (start b) ≡ b.objects

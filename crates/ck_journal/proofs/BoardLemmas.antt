@@ -39,12 +39,15 @@ row_of h s = (s, flags_of h s)
 
 module _ (h : History) where
   -- the row of a session, where it is open
-  pub find-row : (session : ℕ) → find (λ (row : ℕ × ℕ). row.0 == session) (map (row_of h) (open_sessions h))
+  pub find-row : (session : ℕ)
+      → find (λ (row : ℕ × ℕ). row.0 == session) (map (row_of h) (open_sessions h))
       ≡ cond (is_open h session) (Some (session, flags_of h session)) None
   find-row session =
-      find-map (λ (row : ℕ × ℕ). row.0 == session) (row_of h) (open_sessions h) ∙ find-open (row_of h) h session
+      find-map (λ (row : ℕ × ℕ). row.0 == session) (row_of h) (open_sessions h)
+      ∙ find-open (row_of h) h session
 
-  pub rw-rows : length (filter (λ (row : ℕ × ℕ). has_rw_flag row.1) (map (row_of h) (open_sessions h))) ≡
+  pub rw-rows : length (filter (λ (row : ℕ × ℕ). has_rw_flag row.1)
+      (map (row_of h) (open_sessions h))) ≡
       length (rw_sessions h)
   rw-rows =
       ap length (filter-map (λ (row : ℕ × ℕ). has_rw_flag row.1) (row_of h) (open_sessions h))
@@ -55,7 +58,8 @@ module _ (h : History) where
 
 module _ (limits : Ranges) (h : History) (session : ℕ) where
   abbrev info_by : Bool → SessionState → ℕ → Reply
-  info_by t s flags = unless (error_if (not t) rv_error.SessionHandleInvalid) (ok (body.Session s flags))
+  info_by t s flags =
+      unless (error_if (not t) rv_error.SessionHandleInvalid) (ok (body.Session s flags))
 
   pub info-closed : find (λ (row : ℕ × ℕ). row.0 == session) (board_of limits h).sessions ≡ None
       → refusal rv_error.SessionHandleInvalid ≡ answer limits h (call.GetSessionInfo session)
@@ -69,7 +73,8 @@ module _ (limits : Ranges) (h : History) (session : ℕ) where
       → s ≡ session_state (login h) (has_rw_flag row.1)
       → ok (body.Session s row.1) ≡ answer limits h (call.GetSessionInfo session)
   info-open row s found is =
-      let at = cond_some (is_open h session) (row_of h session) row (sym (find-row h session) ∙ found) in
+      let at =
+      cond_some (is_open h session) (row_of h session) row (sym (find-row h session) ∙ found) in
       let flags : row.1 ≡ flags_of h session = ap (λ (r : ℕ × ℕ). r.1) (sym at.1) in
       ap (λ x. ok (body.Session x row.1)) is
       ∙ ap (λ x. ok (body.Session (session_state (login h) (has_rw_flag x)) x)) flags
@@ -90,17 +95,20 @@ pub info-of_token : (limits : Ranges) (h : History) (b : BoardState) → b ≡ b
     → writable ≡ length (filter (λ (row : ℕ × ℕ). has_rw_flag row.1) b.sessions)
     → info_of b flags writable ≡ answer limits h call.GetTokenInfo
 info-of_token limits h b is flags writable f r =
-    let same_flags : flags ≡ flags_of_token h = ap bits_as_flags (f ∙ ap (λ x. flags_on x.status) is) in
+    let same_flags : flags ≡ flags_of_token h =
+    ap bits_as_flags (f ∙ ap (λ x. flags_on x.status) is) in
     let same_rw : writable ≡ length (rw_sessions h) = r
     ∙ ap (λ x. length (filter (λ (row : ℕ × ℕ). has_rw_flag row.1) x.sessions)) is ∙ rw-rows h in
     ap (λ x. info_of x flags writable) is
     ∙ ap (λ n. ok (body.Token flags limits.sessions n writable)) (length-rows h)
     ∙ ap (λ x. ok (body.Token x limits.sessions (length (open_sessions h)) writable)) same_flags
-    ∙ ap (λ n. ok (body.Token (flags_of_token h) limits.sessions (length (open_sessions h)) n)) same_rw
+    ∙ ap (λ n. ok (body.Token (flags_of_token h) limits.sessions (length (open_sessions h)) n))
+    same_rw
 
 -- ---- calls that leave the board
 
-about-left : (h : History) (c : Call) → (effects_of (Some c)).sessions ≡ false → about h (Some c) ≡ None
+about-left : (h : History) (c : Call) → (effects_of (Some c)).sessions ≡ false
+    → about h (Some c) ≡ None
 about-left h (call.InitToken pin) l = cc
 about-left h (call.InitPin session pin) l = cc
 about-left h (call.SetPin session old new) l = cc
@@ -112,7 +120,8 @@ if_done : (t : Bool) (c : Call) → (effects_of (Some c)).sessions ≡ false
 if_done true c l = l
 if_done false c l = refl
 
-if_wrong : (u : UserType) (h : History) (t : Bool) (c : Call) → (effects_of (Some c)).sessions ≡ false
+if_wrong : (u : UserType) (h : History) (t : Bool) (c : Call)
+    → (effects_of (Some c)).sessions ≡ false
     → is_about u h (cond t (Some c) None) ≡ false
 if_wrong u h true c l = ap (is_user u) (about-left h c l)
 if_wrong u h false c l = refl
@@ -145,4 +154,5 @@ module _ (h : History) (e : Entry) (l : (effects_of (Some e.call)).sessions ≡ 
 
 -- a call that may change neither sessions, the login nor PINs leaves the board
 pub leaves : (c : Call) → (effects_of (Some c)).sessions ≡ false → LeavesBoard c
-leaves c l limits h e same = board-stays h e (subst (λ x. (effects_of (Some x)).sessions ≡ false) (sym same) l) limits
+leaves c l limits h e same =
+    board-stays h e (subst (λ x. (effects_of (Some x)).sessions ≡ false) (sym same) l) limits

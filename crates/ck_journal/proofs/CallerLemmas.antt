@@ -9,10 +9,13 @@ use Rattle.ck_journal.specs.Histories.{History, start, ◌◁◌, followed_by, e
 use Rattle.ck_journal.proofs.NumberTests.{same_number}
 
 -- the caller's next entry
-pub entries_by-own : (e : Entry) (h : History) → entries_by e.caller (e ◁ h) ≡ e ∷ entries_by e.caller h
-entries_by-own e h = ap (λ t. cond t (e ∷ entries_by e.caller h) (entries_by e.caller h)) (same_number e.caller)
+pub entries_by-own : (e : Entry) (h : History)
+    → entries_by e.caller (e ◁ h) ≡ e ∷ entries_by e.caller h
+entries_by-own e h =
+    ap (λ t. cond t (e ∷ entries_by e.caller h) (entries_by e.caller h)) (same_number e.caller)
 
-shorter_step : (t : Bool) (n : ℕ) (e : Entry) (es : List Entry) → n ≤ length es → n ≤ length (cond t (e ∷ es) es)
+shorter_step : (t : Bool) (n : ℕ) (e : Entry) (es : List Entry) → n ≤ length es
+    → n ≤ length (cond t (e ∷ es) es)
 shorter_step true n e es below = omega arith
 shorter_step false n e es below = below
 
@@ -20,7 +23,8 @@ shorter_before : (caller : ℕ) (g : History) (later : List Entry)
     → call_count caller g ≤ call_count caller (followed_by g later)
 shorter_before caller g [] = omega arith
 shorter_before caller g (e ∷ later) =
-    shorter_step (e.caller == caller) (call_count caller g) e (entries_by caller (followed_by g later))
+    shorter_step (e.caller == caller) (call_count caller g) e
+    (entries_by caller (followed_by g later))
     (shorter_before caller g later)
 
 same_step : (t : Bool) (old : List Entry) (e : Entry) (es : List Entry) → length old ≤ length es
@@ -38,21 +42,25 @@ same_before caller g (e ∷ later) counts =
     (shorter_before caller g later) (same_before caller g later) counts
 
 -- where a front has as many entries of the caller, they are the same
-pub entries_by-front : (caller : ℕ) (g h : History) → IsFront g h → call_count caller h ≡ call_count caller g
+pub entries_by-front : (caller : ℕ) (g h : History) → IsFront g h
+    → call_count caller h ≡ call_count caller g
     → entries_by caller h ≡ entries_by caller g
 entries_by-front caller g h f counts =
-    ap (entries_by caller) f.1 ∙ same_before caller g f.0 (ap (call_count caller) (sym f.1) ∙ counts)
+    ap (entries_by caller) f.1
+    ∙ same_before caller g f.0 (ap (call_count caller) (sym f.1) ∙ counts)
 
 -- ---- counts
 
-within_step : (t : Bool) (n : ℕ) (e : Entry) (es : List Entry) → length es ≤ n → length (cond t (e ∷ es) es) ≤ suc n
+within_step : (t : Bool) (n : ℕ) (e : Entry) (es : List Entry) → length es ≤ n
+    → length (cond t (e ∷ es) es) ≤ suc n
 within_step true n e es below = omega arith
 within_step false n e es below = omega arith
 
 pub call_count-within : (caller : ℕ) (h : History) → call_count caller h ≤ entry_count h
 call_count-within caller (start b) = omega arith
 call_count-within caller (e ◁ h) =
-    within_step (e.caller == caller) (entry_count h) e (entries_by caller h) (call_count-within caller h)
+    within_step (e.caller == caller) (entry_count h) e (entries_by caller h)
+    (call_count-within caller h)
 
 -- the count of a caller among all
 pub call_counts-at : (caller : ℕ) (h : History) → 1 ≤ caller → caller ≤ 8
@@ -66,7 +74,8 @@ call_counts-at (suc (suc (suc (suc (suc zero))))) h low high = refl
 call_counts-at (suc (suc (suc (suc (suc (suc zero)))))) h low high = refl
 call_counts-at (suc (suc (suc (suc (suc (suc (suc zero))))))) h low high = refl
 call_counts-at (suc (suc (suc (suc (suc (suc (suc (suc zero)))))))) h low high = refl
-call_counts-at (suc (suc (suc (suc (suc (suc (suc (suc (suc n))))))))) h low high = absurd (omega arith)
+call_counts-at (suc (suc (suc (suc (suc (suc (suc (suc (suc n))))))))) h low high =
+    absurd (omega arith)
 
 one_more : (e : Entry) (es : List Entry) → length (e ∷ es) ≡ length es + 1
 one_more e es = omega arith
@@ -86,9 +95,12 @@ counts_after caller e h =
 counts_after-set : (caller : ℕ) (e : Entry) (h : History) → 1 ≤ caller → caller ≤ 8
     → counts_after caller e h ≡ slice_set (call_counts h) (caller - 1) (call_count caller h + 1)
 counts_after-set zero e h low high = absurd (omega arith)
-counts_after-set (suc zero) e h low high = ap (slice_set (call_counts h) 0) (one_more e (entries_by 1 h))
-counts_after-set (suc (suc zero)) e h low high = ap (slice_set (call_counts h) 1) (one_more e (entries_by 2 h))
-counts_after-set (suc (suc (suc zero))) e h low high = ap (slice_set (call_counts h) 2) (one_more e (entries_by 3 h))
+counts_after-set (suc zero) e h low high =
+    ap (slice_set (call_counts h) 0) (one_more e (entries_by 1 h))
+counts_after-set (suc (suc zero)) e h low high =
+    ap (slice_set (call_counts h) 1) (one_more e (entries_by 2 h))
+counts_after-set (suc (suc (suc zero))) e h low high =
+    ap (slice_set (call_counts h) 2) (one_more e (entries_by 3 h))
 counts_after-set (suc (suc (suc (suc zero)))) e h low high =
     ap (slice_set (call_counts h) 3) (one_more e (entries_by 4 h))
 counts_after-set (suc (suc (suc (suc (suc zero))))) e h low high =
@@ -99,9 +111,12 @@ counts_after-set (suc (suc (suc (suc (suc (suc (suc zero))))))) e h low high =
     ap (slice_set (call_counts h) 6) (one_more e (entries_by 7 h))
 counts_after-set (suc (suc (suc (suc (suc (suc (suc (suc zero)))))))) e h low high =
     ap (slice_set (call_counts h) 7) (one_more e (entries_by 8 h))
-counts_after-set (suc (suc (suc (suc (suc (suc (suc (suc (suc n))))))))) e h low high = absurd (omega arith)
+counts_after-set (suc (suc (suc (suc (suc (suc (suc (suc (suc n))))))))) e h low high =
+    absurd (omega arith)
 
 -- an entry counts for its caller
-pub call_counts-next : (caller : ℕ) (e : Entry) (h : History) → e.caller ≡ caller → 1 ≤ caller → caller ≤ 8
+pub call_counts-next : (caller : ℕ) (e : Entry) (h : History) → e.caller ≡ caller → 1 ≤ caller
+    → caller ≤ 8
     → call_counts (e ◁ h) ≡ slice_set (call_counts h) (caller - 1) (call_count caller h + 1)
-call_counts-next caller e h is low high = ap (λ c. counts_after c e h) is ∙ counts_after-set caller e h low high
+call_counts-next caller e h is low high =
+    ap (λ c. counts_after c e h) is ∙ counts_after-set caller e h low high

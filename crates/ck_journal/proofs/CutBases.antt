@@ -31,7 +31,8 @@ use Rattle.ck_journal.specs.Operations.{is_active}
 use Rattle.ck_journal.specs.Pins.{is_about, is_initialized, initializes, pin_owner, present_pin}
 use Rattle.ck_journal.specs.Pins.{so_pin, so_pin_after, tries}
 use Rattle.ck_journal.specs.Searches.{is_searching}
-use Rattle.ck_journal.specs.Sessions.{numbers, openings, is_open, open_sessions, is_read_write, state_of}
+use Rattle.ck_journal.specs.Sessions.{numbers, openings, is_open, open_sessions, is_read_write}
+use Rattle.ck_journal.specs.Sessions.{state_of}
 use Rattle.ck_journal.proofs.CutReadings.{Alike, AlikeActive}
 use Rattle.ck_journal.proofs.LegalLemmas.{by-done, later-passes, tries-bound, openings-bound}
 use Rattle.ck_journal.proofs.LegalLemmas.{creations-bound, user_logins-bound, is_searching-open}
@@ -54,7 +55,8 @@ initialized-so pin about_so (Some other) = refl
 
 set-so : (session : ℕ) (old new : Pin) (h : History) (owner : UserType)
     → is_none (present_pin owner h) ≡ false → is_some (so_pin h) ≡ is_initialized h
-    → is_some (so_pin_after (Some (call.SetPin session old new)) (same_user user.So owner) (so_pin h))
+    → is_some (so_pin_after (Some (call.SetPin session old new)) (same_user user.So owner)
+    (so_pin h))
     ≡ is_initialized h
 set-so session old new h user.So present before = has-pin (so_pin h) present ∙ before
   where
@@ -104,7 +106,8 @@ module _ (h : History) where
   row n = option_map (kept_object n) (object_at h n)
 
   all-kept : (P : KeptObject → Type 0)
-      → ((n : ℕ) (attributes : List Item) → object_at h n ≡ Some attributes → P (kept_object n attributes))
+      → ((n : ℕ) (attributes : List Item) → object_at h n ≡ Some attributes
+      → P (kept_object n attributes))
       → All P (kept_objects h)
   all-kept P each =
       All-filter_map P row
@@ -134,7 +137,8 @@ module _ (h : History) where
     found-here None is = refl
     found-here (Some attributes) is =
         rw (same_number n)
-        (ap (λ o. option_map (λ (kept : KeptObject). kept.attributes) (option_map (kept_object n) o)) is)
+        (ap (λ o. option_map (λ (kept : KeptObject). kept.attributes)
+        (option_map (kept_object n) o)) is)
 
     pub kept-object : IsSound (start_of h) → kept_attributes (base_of h) n ≡ object_at h n
     kept-object sound =
@@ -160,7 +164,8 @@ base_tries-same : (u : UserType) (h : History) → base_tries u (base_of h) ≡ 
 base_tries-same user.So h = refl
 base_tries-same user.User h = refl
 
-module _ (limits : Ranges) (h : History) (good : IsSoundHistory limits h) (none : open_sessions h ≡ []) where
+module _ (limits : Ranges) (h : History) (good : IsSoundHistory limits h)
+    (none : open_sessions h ≡ []) where
   no-open : (s : ℕ) → is_open h s ≡ true → ⊥
   no-open s t =
       let within = is_open-within h s t in
@@ -216,8 +221,12 @@ module _ (limits : Ranges) (h : History) (good : IsSoundHistory limits h) (none 
     logins = user_logins-bound limits good.in_range h good.sound good.legal;
     rising = AllPairs-filter_map (λ (kept : KeptObject). kept.number) (row h)
         (λ n kept is. (row-object n (object_at h n) kept is).0) (creations h);
-    numbers = all-kept h (IsCreated (creations h)) (λ n attributes is. object_at-within h good.sound n attributes is);
-    token_objects = all-kept h (λ (kept : KeptObject). is_set kept.attributes attribute.Token ≡ true) token-object;
+    numbers =
+        all-kept h (IsCreated (creations h))
+        (λ n attributes is. object_at-within h good.sound n attributes is);
+    token_objects =
+        all-kept h (λ (kept : KeptObject). is_set kept.attributes attribute.Token ≡ true)
+        token-object;
     protected = all-kept h (λ (kept : KeptObject). IsProtected kept.attributes)
         (object-protected limits good.in_range h good.sound good.legal);
   }

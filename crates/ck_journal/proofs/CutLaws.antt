@@ -17,7 +17,8 @@ pub sound-later : (h : History) → IsSound (start_of h) → (later : List Entry
 sound-later h sound [] = sound
 sound-later h sound (e ∷ later) = sound-later h sound later
 
-module _ (limits : Ranges) (h : History) (good : IsSoundHistory limits h) (none : open_sessions h ≡ []) where
+module _ (limits : Ranges) (h : History) (good : IsSoundHistory limits h)
+    (none : open_sessions h ≡ []) where
   abbrev cut : List Entry → History
   cut later = followed_by (start (base_of h)) later
 
@@ -41,14 +42,17 @@ module _ (limits : Ranges) (h : History) (good : IsSoundHistory limits h) (none 
         answers = answer-alike (followed_by h later) (cut later) alike.0 alike.1 limits;
       }
 
-  legal-after : (later : List Entry) → IsLegal limits (cut later) → IsLegal limits (followed_by h later)
+  legal-after : (later : List Entry) → IsLegal limits (cut later)
+      → IsLegal limits (followed_by h later)
   legal-after [] l = good.legal
   legal-after (e ∷ later) l =
       let before = legal-after later l.1 in (l.0 ∙ (seen-later later before).answers e.call, before)
 
-  legal-from : (later : List Entry) → IsLegal limits (followed_by h later) → IsLegal limits (cut later)
+  legal-from : (later : List Entry) → IsLegal limits (followed_by h later)
+      → IsLegal limits (cut later)
   legal-from [] l = tt
-  legal-from (e ∷ later) l = (l.0 ∙ sym ((seen-later later l.1).answers e.call), legal-from later l.1)
+  legal-from (e ∷ later) l =
+      (l.0 ∙ sym ((seen-later later l.1).answers e.call), legal-from later l.1)
 
   -- the base that is left takes the place of the history
   pub left-by : IsLeftBy limits h (base_of h)

@@ -95,11 +95,13 @@ module _ (h g : History) (a : Alike h g) where
   ends-alike d n (Some x) is = cases (is_session_object x) refl
     where
       cases : (t : Bool) → is_session_object x ≡ t
-          → object_after d (view_of h) n (session_of g n) x ≡ object_after d (view_of h) n (session_of h n) x
+          → object_after d (view_of h) n (session_of g n) x
+          ≡ object_after d (view_of h) n (session_of h n) x
       cases true t = ap (λ c. object_after d (view_of h) n c x) (a.creator n x is t)
       cases false t = unsessioned d (view_of h) n (session_of h n) (session_of g n) x t
 
-  module _ (limits : Ranges) (e : Entry) (sound : IsSound (start_of h)) (legal : IsLegal limits (e ◁ h)) where
+  module _ (limits : Ranges) (e : Entry) (sound : IsSound (start_of h))
+      (legal : IsLegal limits (e ◁ h)) where
     about-done : about g (done e) ≡ about h (done e)
     about-done = by-done limits e h legal (λ d. about g d ≡ about h d) refl (about-passed limits)
 
@@ -120,9 +122,11 @@ module _ (h g : History) (a : Alike h g) where
     open-after : is_open (e ◁ g) ≡ is_open (e ◁ h)
     open-after =
         fun_ext (λ s.
-        ap (λ n. cond (opens (done e) && s == suc n) true (cond (closes (done e) s) false (is_open g s)))
+        ap (λ n. cond (opens (done e) && s == suc n) true
+        (cond (closes (done e) s) false (is_open g s)))
         a.opened
-        ∙ ap (λ o. cond (opens (done e) && s == suc (openings h)) true (cond (closes (done e) s) false (o s)))
+        ∙ ap (λ o. cond (opens (done e) && s == suc (openings h)) true
+        (cond (closes (done e) s) false (o s)))
         a.is_open_too)
 
     sessions-after : open_sessions (e ◁ g) ≡ open_sessions (e ◁ h)
@@ -147,21 +151,27 @@ module _ (h g : History) (a : Alike h g) where
     objects-after : object_at (e ◁ g) ≡ object_at (e ◁ h)
     objects-after =
         fun_ext (λ n.
-        ap (λ c. cond (creates (done e) && n == suc c) (Some (creation_attributes (done e) (attributes_named g)))
-        (option_and_then (object_after (done e) (view_of g) n (session_of g n)) (object_at g n))) a.created
-        ∙ ap (λ f. cond (creates (done e) && n == suc (creations h)) (Some (creation_attributes (done e) f))
+        ap (λ c. cond (creates (done e) && n == suc c)
+        (Some (creation_attributes (done e) (attributes_named g)))
+        (option_and_then (object_after (done e) (view_of g) n (session_of g n)) (object_at g n)))
+        a.created
+        ∙ ap (λ f. cond (creates (done e) && n == suc (creations h))
+        (Some (creation_attributes (done e) f))
         (option_and_then (object_after (done e) (view_of g) n (session_of g n)) (object_at g n)))
         (attributes_named-alike h g a)
         ∙ ap (λ o. cond (creates (done e) && n == suc (creations h))
         (Some (creation_attributes (done e) (attributes_named h))) o)
-        (ap (λ v. option_and_then (object_after (done e) v n (session_of g n)) (object_at g n)) (view-alike h g a)
-        ∙ ap (λ f. option_and_then (object_after (done e) (view_of h) n (session_of g n)) (f n)) a.objects
+        (ap (λ v. option_and_then (object_after (done e) v n (session_of g n)) (object_at g n))
+        (view-alike h g a)
+        ∙ ap (λ f. option_and_then (object_after (done e) (view_of h) n (session_of g n)) (f n))
+        a.objects
         ∙ ends-alike (done e) n (object_at h n) refl))
 
     creator-after : (n : ℕ) (b : List Item) → object_at (e ◁ h) n ≡ Some b
         → is_session_object b ≡ true → session_of (e ◁ g) n ≡ session_of (e ◁ h) n
     creator-after n b now t =
-        ap (λ c. cond (creates (done e) && n == suc c) (creation_session (done e)) (session_of g n)) a.created
+        ap (λ c. cond (creates (done e) && n == suc c) (creation_session (done e)) (session_of g n))
+        a.created
         ∙ cases (creates (done e) && n == suc (creations h)) refl
       where
         cases : (fresh : Bool) → (creates (done e) && n == suc (creations h)) ≡ fresh
@@ -170,9 +180,11 @@ module _ (h g : History) (a : Alike h g) where
         cases true f = refl
         cases false f =
             let was : (x : List Item) × (object_at h n ≡ Some x) =
-            option_and_then_some (object_after (done e) (view_of h) n (session_of h n)) (object_at h n) b
+            option_and_then_some (object_after (done e) (view_of h) n (session_of h n))
+            (object_at h n) b
             (subst (λ t. cond t (Some (creation_attributes (done e) (attributes_named h)))
-            (option_and_then (object_after (done e) (view_of h) n (session_of h n)) (object_at h n)) ≡ Some b)
+            (option_and_then (object_after (done e) (view_of h) n (session_of h n)) (object_at h n))
+            ≡ Some b)
             f now) (λ x there after. (x, there)) in
             a.creator n was.0 was.1
             (sym (ap not (token_stays limits e h sound legal n was.0 b was.1 now)) ∙ t)
@@ -191,9 +203,12 @@ module _ (h g : History) (a : Alike h g) where
       who = login-after;
       is_open_too = open-after;
       flags = λ s o.
-          ap (λ n. cond (opens (done e) && s == suc n) (opening_flags (done e)) (flags_of g s)) a.opened
-          ∙ started-alike (opens (done e) && s == suc (openings h)) (closes (done e) s) (is_open h s)
-          (opening_flags (done e)) (opening_flags (done e)) (flags_of h s) (flags_of g s) refl (a.flags s) o;
+          ap (λ n. cond (opens (done e) && s == suc n) (opening_flags (done e)) (flags_of g s))
+          a.opened
+          ∙ started-alike (opens (done e) && s == suc (openings h)) (closes (done e) s)
+          (is_open h s)
+          (opening_flags (done e)) (opening_flags (done e)) (flags_of h s) (flags_of g s) refl
+          (a.flags s) o;
       objects = objects-after;
       creator = creator-after;
     }
@@ -202,7 +217,8 @@ module _ (h g : History) (a : Alike h g) where
       pub alike_active-after : AlikeActive (e ◁ h) (e ◁ g)
       alike_active-after = record {
         searching = fun_ext (λ s.
-            ap (λ t. cond (starts_search (done e) s) true (cond (ends_search (done e) s) false (t s))) b.searching);
+            ap (λ t. cond (starts_search (done e) s) true
+            (cond (ends_search (done e) s) false (t s))) b.searching);
         found = λ s t.
             started-alike (starts_search (done e) s) (ends_search (done e) s) (is_searching h s)
             (matching_objects (e ◁ h) (search_template (done e)))
@@ -229,6 +245,7 @@ module _ (h g : History) (a : Alike h g) where
             (b.key k s) t;
         pieces = λ k s t.
             started-alike (starts (done e) k s) (ends k e s) (is_active k h s) [] []
-            (pieces_in k h s ++ piece_of (done e) k s) (pieces_in k g s ++ piece_of (done e) k s) refl
+            (pieces_in k h s ++ piece_of (done e) k s)
+            (pieces_in k g s ++ piece_of (done e) k s) refl
             (λ w. ap (λ xs. xs ++ piece_of (done e) k s) (b.pieces k s w)) t;
       }

@@ -44,7 +44,8 @@ use Rattle.ck_journal.specs.Objects.{creations, object_at, view_of, is_session_o
 use Rattle.ck_journal.specs.Objects.{object_named, attributes_named, key_named, named_attributes}
 use Rattle.ck_journal.specs.Objects.{attributes_among, number_among, is_some_with, is_visible}
 use Rattle.ck_journal.specs.Objects.{is_visible_with, handle_of, handle_with}
-use Rattle.ck_journal.specs.Operations.{is_active, computation_in, key_in, pieces_in, is_updated, message_in}
+use Rattle.ck_journal.specs.Operations.{is_active, computation_in, key_in, pieces_in, is_updated}
+use Rattle.ck_journal.specs.Operations.{message_in}
 use Rattle.ck_journal.specs.Pins.{is_locked, is_pin, is_initialized, so_pin, user_pin, present_pin}
 use Rattle.ck_journal.specs.Pins.{pin_owner, tries, is_user}
 use Rattle.ck_journal.specs.Searches.{is_searching, found_objects, last_number, is_match_with}
@@ -54,8 +55,8 @@ use Rattle.ck_journal.specs.Sessions.{has_rw_flag, is_read_write, rw_sessions, l
 use Rattle.ck_journal.specs.Sessions.{state_of}
 use Rattle.ck_journal.proofs.LegalLemmas.{session-open, later-passes, last-passes}
 
--- the same sessions are open, with the same flags; login, PINs, tries, counts and objects agree, and
--- so do the sessions of session objects
+-- the same sessions are open, with the same flags; login, PINs, tries, counts and objects agree,
+-- and so do the sessions of session objects
 pub record Alike (h g : History) : Type 0 where
   pub initialized_too : is_initialized g ≡ is_initialized h
   pub so : so_pin g ≡ so_pin h
@@ -158,13 +159,17 @@ module _ (h g : History) (a : Alike h g) where
   named-alike : (handle : ℕ) → attributes_named g handle ≡ attributes_named h handle
   named-alike handle = ap (λ f. f handle) attributes_named-alike
 
-  pub matching-alike : (template : List Item) → matching_objects g template ≡ matching_objects h template
+  pub matching-alike : (template : List Item)
+      → matching_objects g template ≡ matching_objects h template
   matching-alike template =
-      ap (λ v. filter (λ n. is_some_with (is_match_with v template) (object_at g n)) (numbers (creations g)))
+      ap (λ v. filter (λ n. is_some_with (is_match_with v template) (object_at g n))
+      (numbers (creations g)))
       view-alike
-      ∙ ap (λ o. filter (λ n. is_some_with (is_match_with (view_of h) template) (o n)) (numbers (creations g)))
+      ∙ ap (λ o. filter (λ n. is_some_with (is_match_with (view_of h) template) (o n))
+      (numbers (creations g)))
       a.objects
-      ∙ ap (λ c. filter (λ n. is_some_with (is_match_with (view_of h) template) (object_at h n)) (numbers c))
+      ∙ ap (λ c. filter (λ n. is_some_with (is_match_with (view_of h) template) (object_at h n))
+      (numbers c))
       a.created
 
   visible-alike : is_visible g ≡ is_visible h
@@ -174,8 +179,10 @@ module _ (h g : History) (a : Alike h g) where
 
   handles-alike : handle_of g ≡ handle_of h
   handles-alike =
-      ap (λ v. λ n. option_map_or (λ attributes. handle_with v attributes n) (object_at g n) 0) view-alike
-      ∙ ap (λ o. λ n. option_map_or (λ attributes. handle_with (view_of h) attributes n) (o n) 0) a.objects
+      ap (λ v. λ n. option_map_or (λ attributes. handle_with v attributes n) (object_at g n) 0)
+      view-alike
+      ∙ ap (λ o. λ n. option_map_or (λ attributes. handle_with (view_of h) attributes n) (o n) 0)
+      a.objects
 
   -- ---- checks
 
@@ -197,25 +204,34 @@ module _ (h g : History) (a : Alike h g) where
   placement-alike s o p = rw (read_write-alike s o, a.who) refl
 
   creations-alike : (limits : Ranges) → creations_error limits g ≡ creations_error limits h
-  creations-alike limits = ap (λ n. error_if (nat_le limits.creations n) rv_error.DeviceMemory) a.created
+  creations-alike limits =
+      ap (λ n. error_if (nat_le limits.creations n) rv_error.DeviceMemory) a.created
 
   read_only-alike : (u : UserType) → read_only_error u g ≡ read_only_error u h
   read_only-alike user.So =
-      ap (λ xs. error_if (list_any (λ s. not (is_read_write g s)) xs) rv_error.SessionReadOnlyExists)
+      ap (λ xs. error_if (list_any (λ s. not (is_read_write g s)) xs)
+      rv_error.SessionReadOnlyExists)
       open_sessions-alike
       ∙ ap (λ t. error_if t rv_error.SessionReadOnlyExists)
       (list_any-where (is_open h) (λ s. not (is_read_write g s)) (λ s. not (is_read_write h s))
       (λ s o. ap not (read_write-alike s o)) (numbers (openings h)))
   read_only-alike user.User = refl
 
-  logins-alike : (limits : Ranges) (u : UserType) → logins_error limits u g ≡ logins_error limits u h
+  logins-alike : (limits : Ranges) (u : UserType)
+      → logins_error limits u g ≡ logins_error limits u h
   logins-alike limits user.So = refl
   logins-alike limits user.User = rw a.logged_in refl
 
   user_login-alike : (limits : Ranges) (u : UserType) (pin : Pin)
       → user_login_error limits g u pin ≡ user_login_error limits h u pin
   user_login-alike limits u pin =
-      rw (a.who, read_only-alike u, pin_error-alike u pin, present_pin-alike u, logins-alike limits u) refl
+      rw (
+        a.who,
+        read_only-alike u,
+        pin_error-alike u pin,
+        present_pin-alike u,
+        logins-alike limits u,
+      ) refl
 
   known_login-alike : (limits : Ranges) (found : Option UserType) (pin : Pin)
       → known_login_error limits g found pin ≡ known_login_error limits h found pin
@@ -226,7 +242,8 @@ module _ (h g : History) (a : Alike h g) where
 
   key_named-alike : (handle : ℕ) → key_named g handle ≡ key_named h handle
   key_named-alike handle =
-      ap (λ o. option_and_then (λ attributes. if is_key attributes then Some attributes else None) o)
+      ap (λ o. option_and_then (λ attributes. if is_key attributes then Some attributes else None)
+      o)
       (named-alike handle)
 
   pub named_attributes-alike : (handle : ℕ) → named_attributes g handle ≡ named_attributes h handle
@@ -243,9 +260,11 @@ module _ (h g : History) (a : Alike h g) where
   module _ (b : AlikeActive h g) where
     operation-alike : (k : OperationKind) (s : ℕ) → operation_error k g s ≡ operation_error k h s
     operation-alike k s =
-        ap (λ e. or_else e (or_else (error_if (not (is_active k g s)) rv_error.OperationNotInitialized) None))
+        ap (λ e. or_else e (or_else
+        (error_if (not (is_active k g s)) rv_error.OperationNotInitialized) None))
         (session-alike s)
-        ∙ ap (λ t. or_else (session_error h s) (or_else (error_if (not (t s)) rv_error.OperationNotInitialized)
+        ∙ ap (λ t. or_else (session_error h s)
+        (or_else (error_if (not (t s)) rv_error.OperationNotInitialized)
         None)) (b.active k)
 
     operation-active : (k : OperationKind) (s : ℕ) → operation_error k h s ≡ None
@@ -264,9 +283,11 @@ module _ (h g : History) (a : Alike h g) where
 
     search-alike : (s : ℕ) → search_error g s ≡ search_error h s
     search-alike s =
-        ap (λ e. or_else e (or_else (error_if (not (is_searching g s)) rv_error.OperationNotInitialized) None))
+        ap (λ e. or_else e (or_else
+        (error_if (not (is_searching g s)) rv_error.OperationNotInitialized) None))
         (session-alike s)
-        ∙ ap (λ t. or_else (session_error h s) (or_else (error_if (not (t s)) rv_error.OperationNotInitialized)
+        ∙ ap (λ t. or_else (session_error h s)
+        (or_else (error_if (not (t s)) rv_error.OperationNotInitialized)
         None)) b.searching
 
     search-active : (s : ℕ) → search_error h s ≡ None → is_searching h s ≡ true
@@ -293,7 +314,8 @@ module _ (h g : History) (a : Alike h g) where
 
     whole_tag-alike : (k : OperationKind) (s : ℕ) → is_active k h s ≡ true
         → tag_in k g s (message_in k g s) ≡ tag_in k h s (message_in k h s)
-    whole_tag-alike k s t = ap (tag_in k g s) (message_in-alike k s t) ∙ tag-alike k s t (message_in k h s)
+    whole_tag-alike k s t =
+        ap (tag_in k g s) (message_in-alike k s t) ∙ tag-alike k s t (message_in k h s)
 
     message_error-alike : (k : OperationKind) (s : ℕ) (bytes : List ℕ)
         → message_error k g s bytes ≡ message_error k h s bytes
@@ -317,7 +339,8 @@ module _ (h g : History) (a : Alike h g) where
     verify_error-alike : (s : ℕ) (bytes signature : List ℕ)
         → verify_error g s bytes signature ≡ verify_error h s bytes signature
     verify_error-alike s bytes signature =
-        ap (λ e. or_else e (or_else (signature_error (tag_in kind.Verify g s bytes) signature) None))
+        ap (λ e. or_else e (or_else
+        (signature_error (tag_in kind.Verify g s bytes) signature) None))
         (message_error-alike kind.Verify s bytes)
         ∙ after-check (message_error kind.Verify h s bytes) _ _
         (λ e. rw (tag-alike kind.Verify s (message-active kind.Verify s bytes e) bytes) refl)
@@ -326,7 +349,8 @@ module _ (h g : History) (a : Alike h g) where
         → verify_final_error g s signature ≡ verify_final_error h s signature
     verify_final-alike s signature =
         ap (λ e. or_else e
-        (or_else (signature_error (tag_in kind.Verify g s (message_in kind.Verify g s)) signature) None))
+        (or_else (signature_error (tag_in kind.Verify g s (message_in kind.Verify g s)) signature)
+        None))
         (final_error-alike kind.Verify s)
         ∙ after-check (final_error kind.Verify h s) _ _
         (λ e. rw (whole_tag-alike kind.Verify s (final-active kind.Verify s e)) refl)
@@ -363,17 +387,20 @@ module _ (h g : History) (a : Alike h g) where
         in-session session _ _ (λ o. rw (state-alike session o) refl)
     call_error-alike limits (call.SetPin session old new) =
         in-session session _ _
-        (λ o. set_pin-later session old new (pin_owner (state_of h session)) (read_write-alike session o)
+        (λ o. set_pin-later session old new (pin_owner (state_of h session))
+        (read_write-alike session o)
         (ap pin_owner (state-alike session o)))
       where
         set_pin-later : (session : ℕ) (old new : Pin) (owner : UserType)
             → is_read_write g session ≡ is_read_write h session
             → pin_owner (state_of g session) ≡ owner
             → first_of (error_if (not (is_read_write g session)) rv_error.SessionReadOnly
-            ∷ error_if (is_none (present_pin (pin_owner (state_of g session)) g)) rv_error.UserPinNotInitialized
+            ∷ error_if (is_none (present_pin (pin_owner (state_of g session)) g))
+            rv_error.UserPinNotInitialized
             ∷ error_if (is_locked (pin_owner (state_of g session)) g) rv_error.PinLocked
             ∷ error_if (not (fits_a_pin new)) rv_error.PinLenRange
-            ∷ error_if (not (is_pin (present_pin (pin_owner (state_of g session)) g) old)) rv_error.PinIncorrect
+            ∷ error_if (not (is_pin (present_pin (pin_owner (state_of g session)) g) old))
+            rv_error.PinIncorrect
             ∷ [])
             ≡ first_of (error_if (not (is_read_write h session)) rv_error.SessionReadOnly
             ∷ error_if (is_none (present_pin owner h)) rv_error.UserPinNotInitialized
@@ -439,8 +466,10 @@ module _ (h g : History) (a : Alike h g) where
     call_error-alike limits (call.DigestFinal session room) = final_error-alike kind.Digest session
     call_error-alike limits (call.SignInit session mechanism key) =
         hmac_init-alike kind.Sign session mechanism key
-    call_error-alike limits (call.Sign session bytes room) = message_error-alike kind.Sign session bytes
-    call_error-alike limits (call.SignUpdate session bytes) = update_error-alike kind.Sign session bytes
+    call_error-alike limits (call.Sign session bytes room) =
+        message_error-alike kind.Sign session bytes
+    call_error-alike limits (call.SignUpdate session bytes) =
+        update_error-alike kind.Sign session bytes
     call_error-alike limits (call.SignFinal session room) = final_error-alike kind.Sign session
     call_error-alike limits (call.VerifyInit session mechanism key) =
         hmac_init-alike kind.Verify session mechanism key
@@ -448,20 +477,24 @@ module _ (h g : History) (a : Alike h g) where
         verify_error-alike session bytes signature
     call_error-alike limits (call.VerifyUpdate session bytes) =
         update_error-alike kind.Verify session bytes
-    call_error-alike limits (call.VerifyFinal session signature) = verify_final-alike session signature
+    call_error-alike limits (call.VerifyFinal session signature) =
+        verify_final-alike session signature
 
     -- ---- the reply to a call that passes its checks
 
     search_rest-alike : (s : ℕ) → is_searching h s ≡ true → search_rest g s ≡ search_rest h s
     search_rest-alike s t =
         ap (λ p. filter p (remaining_objects g s)) visible-alike
-        ∙ ap (λ n. filter (is_visible h) (filter (λ k. nat_lt n k) (found_objects g s))) (b.last s t)
-        ∙ ap (λ ns. filter (is_visible h) (filter (λ k. nat_lt (last_number h s) k) ns)) (b.found s t)
+        ∙ ap (λ n. filter (is_visible h) (filter (λ k. nat_lt n k) (found_objects g s)))
+        (b.last s t)
+        ∙ ap (λ ns. filter (is_visible h) (filter (λ k. nat_lt (last_number h s) k) ns))
+        (b.found s t)
 
     rw_sessions-alike : rw_sessions g ≡ rw_sessions h
     rw_sessions-alike =
         ap (filter (is_read_write g)) open_sessions-alike
-        ∙ filter-where (is_open h) (is_read_write g) (is_read_write h) read_write-alike (numbers (openings h))
+        ∙ filter-where (is_open h) (is_read_write g) (is_read_write h) read_write-alike
+        (numbers (openings h))
 
     new_handle-alike : (attributes : List Item) → new_handle g attributes ≡ new_handle h attributes
     new_handle-alike attributes =
@@ -474,7 +507,14 @@ module _ (h g : History) (a : Alike h g) where
     allowed-alike limits (call.GetSessionInfo session) e =
         let o = session-open h session e in rw (state-alike session o, a.flags session o) refl
     allowed-alike limits call.GetTokenInfo e =
-        rw (rw_sessions-alike, open_sessions-alike, a.initialized_too, a.user, a.tried user.User, a.tried user.So) refl
+        rw (
+          rw_sessions-alike,
+          open_sessions-alike,
+          a.initialized_too,
+          a.user,
+          a.tried user.User,
+          a.tried user.So,
+        ) refl
     allowed-alike limits (call.CreateObject session template) e =
         ap (λ n. ok (body.Handle n)) (new_handle-alike (created_items template.items))
     allowed-alike limits (call.GenerateKey session mechanism template random) e =
@@ -482,7 +522,8 @@ module _ (h g : History) (a : Alike h g) where
     allowed-alike limits (call.CopyObject session object template) e =
         ap (λ attributes. ok (body.Handle (new_handle g (with_given template.items attributes))))
         (named_attributes-alike object)
-        ∙ ap (λ n. ok (body.Handle n)) (new_handle-alike (with_given template.items (named_attributes h object)))
+        ∙ ap (λ n. ok (body.Handle n))
+        (new_handle-alike (with_given template.items (named_attributes h object)))
     allowed-alike limits (call.GetAttributeValue session object queries) e =
         rw (named_attributes-alike object) refl
     allowed-alike limits (call.FindObjects session max) e =
@@ -500,5 +541,6 @@ module _ (h g : History) (a : Alike h g) where
     pub answer-alike : (limits : Ranges) (c : Call) → answer limits g c ≡ answer limits h c
     answer-alike limits c =
         ap (λ e. unless e (allowed_reply limits g c)) (call_error-alike limits c)
-        ∙ allowed-after (call_error limits h c) (allowed_reply limits g c) (allowed_reply limits h c)
+        ∙ allowed-after (call_error limits h c) (allowed_reply limits g c)
+        (allowed_reply limits h c)
         (allowed-alike limits c)

@@ -8,7 +8,8 @@ use Rattle.std.proofs.lemmas.List.{reverse-reverse, length-reverse}
 use Rattle.std.proofs.lemmas.Grind.{reverse_onto}
 use Rattle.ck_journal.specs.declared.bases.Base.{Base}
 use Rattle.ck_journal.specs.declared.calls.Entry.{Entry}
-use Rattle.ck_journal.specs.Histories.{History, start, ◌◁◌, start_of, followed_by, entry_count, entry_at}
+use Rattle.ck_journal.specs.Histories.{History, start, ◌◁◌, start_of, followed_by, entry_count}
+use Rattle.ck_journal.specs.Histories.{entry_at}
 
 slice_get-last : (es : List Entry) (e : Entry) (i : ℕ)
     → slice_get (es ++ e ∷ []) i ≡ cond (eqb i (length es)) (Some e) (slice_get es i)

@@ -20,22 +20,25 @@ use Rattle.ck_journal.specs.declared.calls.Entry.{Entry}
 use Rattle.ck_journal.specs.declared.operations.OperationKind.{OperationKind}
 use Rattle.ck_journal.specs.Answers.{call_error, session_error, known_login_error}
 use Rattle.ck_journal.specs.Answers.{logged_in_error}
-use Rattle.ck_journal.specs.Histories.{History, start, ◌◁◌, done, followed_by}
-use Rattle.ck_journal.specs.Laws.{IsSoundHistory, PrivateKeysServeTheUser}
+use Rattle.ck_journal.specs.Events.{Event, answered, cut, after_events, AreSoundEvents}
+use Rattle.ck_journal.specs.Histories.{History, start, ◌◁◌, done}
+use Rattle.ck_journal.specs.Laws.{IsSoundHistory, IsPrivate}
+use Rattle.ck_journal.specs.LawsOverEvents.{PrivateKeysServeTheUser}
 use Rattle.ck_journal.specs.Objects.{creations, object_at, object_named}
 use Rattle.ck_journal.specs.Objects.{is_visible_with, view_of, handle_with}
 use Rattle.ck_journal.specs.Operations.{starts, ends, is_active, key_in, init_key}
 use Rattle.ck_journal.specs.Operations.{cancels, finishes}
 use Rattle.ck_journal.specs.Sessions.{is_open, login, login_after}
 use Rattle.ck_journal.specs.Sessions.{logs_out, closes}
-use Rattle.ck_journal.proofs.LaterLemmas.{just_before, was_there, creations-rise}
+use Rattle.ck_journal.proofs.EventLemmas.{events-before, events-keep, sound-after}
+use Rattle.ck_journal.proofs.LaterLemmas.{just_before, was_there, creations-next}
 use Rattle.ck_journal.proofs.KeyUseLemmas.{is_active-open}
 use Rattle.ck_journal.proofs.LegalLemmas.{by-done, last-passes, later-passes, private_stays}
 use Rattle.ck_journal.proofs.LoginMoves.{login-open}
 use Rattle.ck_journal.proofs.NameLemmas.{named-passes}
 use Rattle.ck_journal.proofs.ObjectMoves.{object_at-within}
 use Rattle.ck_journal.proofs.SessionMoves.{some-open}
-use Rattle.ck_journal.proofs.VisibilityLemmas.{visible-login}
+use Rattle.ck_journal.proofs.VisibilityLemmas.{visible-login, named-login}
 
 -- ---- the login stays
 
@@ -45,7 +48,8 @@ no-login : (limits : Ranges) (h : History) (found : Option UserType) (pin : Pin)
 no-login limits h None pin who in_now e = cc
 no-login limits h (Some u) pin who in_now e =
     let first = (or_else-none (logged_in_error u (login h)) _ e).0 in
-    let refused : logged_in_error u (Some who) ≡ None = ap (logged_in_error u) (sym in_now) ∙ first in
+    let refused : logged_in_error u (Some who) ≡ None =
+        ap (logged_in_error u) (sym in_now) ∙ first in
     cc
 
 call-keeps-login : (limits : Ranges) (h : History) (who : UserType) → login h ≡ Some who
@@ -81,18 +85,13 @@ WasPublic-now : (h : History) (n : ℕ) → WasPublic h n → IsPublic h n
 WasPublic-now (start b) n public = public
 WasPublic-now (e ◁ h) n public = public.0
 
-WasPublic-before : (h : History) (later : List Entry) (n : ℕ) → WasPublic (followed_by h later) n
-    → WasPublic h n
-WasPublic-before h [] n public = public
-WasPublic-before h (e ∷ later) n public = WasPublic-before h later n public.1
-
 -- an object that there is no number for yet was never private
 not_yet-public : (limits : Ranges) (h : History) → IsSoundHistory limits h → (n : ℕ)
     → creations h < n → WasPublic h n
 not_yet-public limits (start b) good n above = λ a is.
     let within = object_at-within (start b) good.sound n a is in absurd (omega (arith, within.1))
 not_yet-public limits (e ◁ h) good n above =
-    let rises = creations-rise h (e ∷ []) in (
+    let rises = creations-next e h in (
       (λ a is. let within = object_at-within (e ◁ h) good.sound n a is in
           absurd (omega (arith, within.1))),
       not_yet-public limits h (just_before limits e h good) n (omega arith),
@@ -158,7 +157,7 @@ still-serves : (limits : Ranges) (e : Entry) (h : History) → IsSoundHistory li
     → (n s : ℕ) → logs_out (done e) ≡ false → is_open (e ◁ h) s ≡ true → KeyServes h n
     → KeyServes (e ◁ h) n
 still-serves limits e h good n s stays is_so serves =
-    let rises = creations-rise h (e ∷ []) in
+    let rises = creations-next e h in
     let below = serves.within in
     record {
       within = omega arith;
@@ -203,12 +202,81 @@ active-serves limits k (e ◁ h) good s n active key =
         (unended-stays (logs_out (done e)) (closes (done e) s) (cancels (done e) k s)
         (finishes e.call k e.reply s) f) is_so (before active key)
 
-pub private-keys : PrivateKeysServeTheUser
-private-keys limits h later good k session n private active key =
-    let serves = active-serves limits k (followed_by h later) good session n active key in
+-- at a front at which the key is private
+private_keys-now : (limits : Ranges) (k : OperationKind) (h : History) → IsSoundHistory limits h
+    → (s n : ℕ) → IsPrivate h n → is_active k h s ≡ true → key_in k h s ≡ Some n
+    → login h ≡ Some user.User
+private_keys-now limits k h good s n private active key =
+    let serves = active-serves limits k h good s n active key in
     elim serves.login [
       | inl in_now ↦ in_now
       | inr public ↦ absurd (false≢true
-          (sym (WasPublic-now h n (WasPublic-before h later n public) private.attributes
-          private.present) ∙ private.private))
+          (sym (WasPublic-now h n public private.attributes private.present) ∙ private.private))
     ]
+
+-- ---- after calls and cuts
+
+-- an object that was private is private
+private-later : (limits : Ranges) (h : History) (later : List Event)
+    → AreSoundEvents limits h later → (n : ℕ) → IsPrivate h n → (a : List Item)
+    → object_at (after_events h later) n ≡ Some a → IsPrivate (after_events h later) n
+private-later limits h later sound n private a is = record {
+  attributes = a;
+  present = is;
+  private =
+      events-keep limits (λ a b. is_set b attribute.Private ≡ is_set a attribute.Private)
+      (λ a. refl) (λ a b c first then. then ∙ first)
+      (λ e h good. private_stays limits e h good.sound good.legal)
+      h later sound n private.attributes a private.present is
+      ∙ private.private;
+}
+
+-- an operation starts with a private key only where the user is logged in
+start-login : (limits : Ranges) (h : History) (later : List Event)
+    → AreSoundEvents limits h later → (n : ℕ) → IsPrivate h n → (handle : Option ℕ)
+    → option_and_then (object_named (after_events h later)) handle ≡ Some n
+    → login (after_events h later) ≡ Some user.User
+start-login limits h later sound n private None named = cc
+start-login limits h later sound n private (Some handle) named =
+    let there = named-passes (after_events h later) handle n named in
+    named-login (after_events h later) handle n named
+    (private-later limits h later sound n private there.0 there.1)
+
+pub private-keys : PrivateKeysServeTheUser
+private-keys limits h [] sound k s n private active key =
+    private_keys-now limits k h sound.good s n private active key
+private-keys limits h (answered e ∷ later) sound k s n private active key =
+    cases (starts (done e) k s) (ends k e s) refl refl
+    (private-keys limits h later before k s n private) active key
+  where
+    before : AreSoundEvents limits h later
+    before = events-before limits h (answered e) later sound
+
+    good : IsSoundHistory limits (e ◁ after_events h later)
+    good = sound-after limits h (answered e ∷ later) sound
+
+    is_so : is_open (e ◁ after_events h later) s ≡ true
+    is_so = is_active-open limits k (e ◁ after_events h later) good.legal s active
+
+    kept : login (after_events h later) ≡ Some user.User → logs_out (done e) ≡ false
+        → login (e ◁ after_events h later) ≡ Some user.User
+    kept in_now stays =
+        login-kept limits e (after_events h later) good s user.User in_now stays is_so
+
+    cases : (started ended : Bool) → starts (done e) k s ≡ started → ends k e s ≡ ended
+        → (is_active k (after_events h later) s ≡ true
+        → key_in k (after_events h later) s ≡ Some n
+        → login (after_events h later) ≡ Some user.User)
+        → cond started true (cond ended false (is_active k (after_events h later) s)) ≡ true
+        → cond started (option_and_then (object_named (after_events h later)) (init_key (done e)))
+        (key_in k (after_events h later) s) ≡ Some n
+        → login (e ◁ after_events h later) ≡ Some user.User
+    cases true ended t f in_before active key =
+        kept (start-login limits h later before n private (init_key (done e)) key)
+        (start-stays (done e) k s t)
+    cases false true t f in_before active key = cc
+    cases false false t f in_before active key =
+        kept (in_before active key)
+        (unended-stays (logs_out (done e)) (closes (done e) s) (cancels (done e) k s)
+        (finishes e.call k e.reply s) f)
+private-keys limits h (cut ∷ later) sound k s n private active key = cc

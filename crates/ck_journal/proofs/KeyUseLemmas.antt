@@ -86,7 +86,8 @@ step_session (Some o) = o.session
 
 starting-session : (k : OperationKind) (s : ℕ) (o : Option OperationStep)
     → is_initialization (step_in o k s) ≡ true
-    → (step_session o ≡ s) × (is_initialization (option_map (λ (p : OperationStep). p.step) o) ≡ true)
+    → (step_session o ≡ s)
+    × (is_initialization (option_map (λ (p : OperationStep). p.step) o) ≡ true)
 unfolding step_session
 starting-session k s None t = cc
 starting-session k s (Some o) t =

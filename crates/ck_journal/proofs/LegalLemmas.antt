@@ -1,5 +1,6 @@
 -- What is so in every legal history that starts from a sound base, where the limits are in range
-use Rattle.std.proofs.Common.{◌≡◌, ◌≢◌, ℕ, suc, ◌<◌, ◌≤◌, ◌^◌, Bool, true, false, cond, not, ◌&&◌, List}
+use Rattle.std.proofs.Common.{◌≡◌, ◌≢◌, ℕ, suc, ◌<◌, ◌≤◌, ◌^◌, Bool, true, false, cond, not, ◌&&◌}
+use Rattle.std.proofs.Common.{List}
 use Rattle.std.proofs.Common.{[], ◌∷◌, Option, Some, None, length, refl, sym, ap, ◌∙◌, subst, arith}
 use Rattle.std.specs.Prelude.{◌==◌, is_none, nat_le, nat_lt, bit_and, option_and_then}
 use Rattle.std.specs.List.{list_any}
@@ -36,14 +37,16 @@ use Rattle.ck_journal.specs.declared.operations.OperationKind.TheVariants as kin
 use Rattle.ck_journal.specs.declared.replies.Body.TheVariants as body
 use Rattle.ck_journal.specs.declared.replies.Reply.{Reply}
 use Rattle.ck_journal.specs.Answers.{unless, refusal, session_error, pin_error, init_token_error}
-use Rattle.ck_journal.specs.Answers.{init_pin_error, set_pin_error, known_login_error, user_login_error}
+use Rattle.ck_journal.specs.Answers.{init_pin_error, set_pin_error, known_login_error}
+use Rattle.ck_journal.specs.Answers.{user_login_error}
 use Rattle.ck_journal.specs.Answers.{logged_in_error, read_only_error, logins_error, object_error}
 use Rattle.ck_journal.specs.Answers.{prohibited_error, placement_error, read_only_session_error}
 use Rattle.ck_journal.specs.Answers.{creations_error, too_small, ok, bytes_reply, call_error}
 use Rattle.ck_journal.specs.Answers.{allowed_reply, answer, IsLegal, is_so_state, tag_in}
 use Rattle.ck_journal.specs.Answers.{parameter_error}
 use Rattle.ck_journal.specs.Bases.{base_tries, IsSound}
-use Rattle.ck_journal.specs.Histories.{History, start, ◌◁◌, start_of, done, wrong_try, is_ok, is_wrong_pin}
+use Rattle.ck_journal.specs.Histories.{History, start, ◌◁◌, start_of, done, wrong_try, is_ok}
+use Rattle.ck_journal.specs.Histories.{is_wrong_pin}
 use Rattle.ck_journal.specs.Objects.{creates, creations, object_at, object_after, attributes_named}
 use Rattle.ck_journal.specs.Objects.{named_attributes, session_of, view_of, names_with, in_state}
 use Rattle.ck_journal.specs.Operations.{message_in}
@@ -594,7 +597,8 @@ pub token_stays : (limits : Ranges) (e : Entry) (h : History) → IsSound (start
     → is_set b attribute.Token ≡ is_set a attribute.Token
 token_stays limits e h sound legal n a b =
     object_stays limits h n a (λ b. is_set b attribute.Token ≡ is_set a attribute.Token) refl
-    (λ object found template is named. token-kept (class_of found) (protections_of found) template a)
+    (λ object found template is named. token-kept (class_of found)
+    (protections_of found) template a)
     (λ s. token-in_state s a) e sound legal b
 
 pub private_stays : (limits : Ranges) (e : Entry) (h : History) → IsSound (start_of h)

@@ -7,12 +7,12 @@ pub mod CutLaws
 pub mod CutMoves
 pub mod CutReadings
 pub mod EntryLemmas
+pub mod EventLemmas
 pub mod FrontLemmas
 pub mod HandleLemmas
 pub mod KeyLoginLemmas
 pub mod KeyUseLemmas
 pub mod LaterLemmas
-pub mod LawsOverCuts
 pub mod LegalLemmas
 pub mod LoginMoves
 pub mod NameLemmas

@@ -1,5 +1,6 @@
 -- How the login, PINs and wrong tries move by one entry
-use Rattle.std.proofs.Common.{◌≡◌, ℕ, suc, Bool, true, false, cond, ◌||◌, Option, Some, None, length}
+use Rattle.std.proofs.Common.{◌≡◌, ℕ, suc, Bool, true, false, cond, ◌||◌, Option, Some, None}
+use Rattle.std.proofs.Common.{length}
 use Rattle.std.proofs.Common.{refl, sym, ap, ◌∙◌}
 use Rattle.std.specs.Prelude.{◌==◌}
 use Rattle.std.proofs.lemmas.Option.{cond_some}
@@ -15,7 +16,8 @@ use Rattle.ck_journal.specs.Histories.{History, start, ◌◁◌, done, wrong_tr
 use Rattle.ck_journal.specs.Effects.{effects_of, effects}
 use Rattle.ck_journal.specs.Pins.{so_pin, so_pin_after, user_pin, user_pin_after}
 use Rattle.ck_journal.specs.Pins.{is_initialized, initializes, is_about, resets, tries}
-use Rattle.ck_journal.proofs.SessionMoves.{session_rows, session_rows-same, openings-later, open_sessions-rows}
+use Rattle.ck_journal.proofs.SessionMoves.{session_rows, session_rows-same, openings-later}
+use Rattle.ck_journal.proofs.SessionMoves.{open_sessions-rows}
 use Rattle.ck_journal.specs.Sessions.{opens, openings, closes, open_sessions, login, login_after}
 use Rattle.ck_journal.specs.Sessions.{logs_user_in, user_logins}
 
@@ -28,7 +30,8 @@ ok_wrong (rv.Error code) ok = cc
 -- what was answered OK is no wrong try
 pub wrong_try-done : (e : Entry) (c : Call) → done e ≡ Some c → wrong_try e ≡ None
 wrong_try-done e c d =
-    ap (λ t. cond t (Some e.call) None) (ok_wrong e.reply.rv (cond_some (is_ok e.reply.rv) e.call c d).0)
+    ap (λ t. cond t (Some e.call) None)
+    (ok_wrong e.reply.rv (cond_some (is_ok e.reply.rv) e.call c d).0)
 
 -- ---- the login
 
@@ -46,14 +49,17 @@ module _ (e : Entry) (h : History) where
   pub login-open : (o : Option Call) → done e ≡ o → length (open_sessions (e ◁ h)) == 0 ≡ false
       → login (e ◁ h) ≡ login_after o (login h)
   login-open o d some =
-      ap (λ t. cond t None (login_after (done e) (login h))) some ∙ ap (λ x. login_after x (login h)) d
+      ap (λ t. cond t None (login_after (done e) (login h))) some
+      ∙ ap (λ x. login_after x (login h)) d
 
-  login_test : (none : Bool) (before : Option UserType) → (none ≡ true → before ≡ None) → cond none None before ≡ before
+  login_test : (none : Bool) (before : Option UserType) → (none ≡ true → before ≡ None)
+      → cond none None before ≡ before
   login_test true before h = sym (h refl)
   login_test false before h = refl
 
   -- where the open sessions stay and the call leaves the login, it stays
-  pub login-same : open_sessions (e ◁ h) ≡ open_sessions h → login_after (done e) (login h) ≡ login h
+  pub login-same : open_sessions (e ◁ h) ≡ open_sessions h
+      → login_after (done e) (login h) ≡ login h
       → login (e ◁ h) ≡ login h
   login-same sessions after =
       ap (λ s. cond (length s == 0) None (login_after (done e) (login h))) sessions
@@ -83,9 +89,11 @@ module _ (e : Entry) (h : History) where
   -- ---- tries
 
   pub tries-step : (u : UserType) (o w : Option Call) → done e ≡ o → wrong_try e ≡ w
-      → tries u (e ◁ h) ≡ cond (resets u h o) 0 (cond (is_about u h w) (suc (tries u h)) (tries u h))
+      → tries u (e ◁ h) ≡ cond (resets u h o) 0
+      (cond (is_about u h w) (suc (tries u h)) (tries u h))
   tries-step u o w d x =
-      ap (λ o. cond (resets u h o) 0 (cond (is_about u h (wrong_try e)) (suc (tries u h)) (tries u h))) d
+      ap (λ o. cond (resets u h o) 0
+      (cond (is_about u h (wrong_try e)) (suc (tries u h)) (tries u h))) d
       ∙ ap (λ w. cond (resets u h o) 0 (cond (is_about u h w) (suc (tries u h)) (tries u h))) x
 
   -- after a call that was answered OK
@@ -131,7 +139,8 @@ initializes-left : (c : Option Call) → (effects_of c).sessions ≡ false → i
 initializes-left (Some (call.InitToken pin)) l = cc
 initializes-left other l = refl
 
-resets-left : (u : UserType) (h : History) (c : Option Call) → (effects_of c).sessions ≡ false → resets u h c ≡ false
+resets-left : (u : UserType) (h : History) (c : Option Call) → (effects_of c).sessions ≡ false
+    → resets u h c ≡ false
 resets-left u h (Some (call.InitToken pin)) l = cc
 resets-left u h (Some (call.InitPin session pin)) l = cc
 resets-left u h (Some (call.SetPin session old new)) l = cc
@@ -144,17 +153,20 @@ module _ (e : Entry) (h : History) (l : (effects e).sessions ≡ false) where
 
   pub session_rows-left : {X : Type 0} (row : History → ℕ → X) → ((k : ℕ) → row (e ◁ h) k ≡ row h k)
       → session_rows row (e ◁ h) ≡ session_rows row h
-  session_rows-left row same = session_rows-same e h (opens-left (done e) l) row same (λ s. closes-left (done e) s l)
+  session_rows-left row same =
+      session_rows-same e h (opens-left (done e) l) row same (λ s. closes-left (done e) s l)
 
   open_sessions-left : open_sessions (e ◁ h) ≡ open_sessions h
   open_sessions-left =
-      sym (open_sessions-rows (e ◁ h)) ∙ session_rows-left (λ h s. s) (λ k. refl) ∙ open_sessions-rows h
+      sym (open_sessions-rows (e ◁ h)) ∙ session_rows-left (λ h s. s) (λ k. refl)
+      ∙ open_sessions-rows h
 
   pub login-left : login (e ◁ h) ≡ login h
   login-left = login-same e h open_sessions-left (login_after-left (done e) (login h) l)
 
   pub user_logins-left : user_logins (e ◁ h) ≡ user_logins h
-  user_logins-left = ap (λ t. cond t (suc (user_logins h)) (user_logins h)) (logs_user_in-left (done e) l)
+  user_logins-left =
+      ap (λ t. cond t (suc (user_logins h)) (user_logins h)) (logs_user_in-left (done e) l)
 
   pub so_pin-left : so_pin (e ◁ h) ≡ so_pin h
   so_pin-left = so_pin_after-left (done e) (is_about user.So h (done e)) (so_pin h) l

@@ -61,7 +61,8 @@ pub named-passes : (h : History) (handle n : ℕ) → object_named h handle ≡ 
     × (names_with (view_of h) attributes handle n ≡ true)
 named-passes h handle n e =
     some_passes (λ items. names_with (view_of h) items handle n) (object_at h n)
-    (find-passes (λ k. is_some_with (λ items. names_with (view_of h) items handle k) (object_at h k))
+    (find-passes (λ k. is_some_with (λ items. names_with (view_of h) items handle k)
+    (object_at h k))
     (numbers (creations h)) n e)
 
 -- the same, by its attributes

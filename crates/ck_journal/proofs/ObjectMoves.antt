@@ -24,11 +24,14 @@ use Rattle.ck_journal.proofs.Selections.{filter_map-suc, filter_map-same, filter
 -- ---- what a call does to one object
 
 -- a creation leaves all objects as they are
-object_after-creation : (c : Option Call) (view : View) (n creator : ℕ) (attributes : List Item) → creates c ≡ true
+object_after-creation : (c : Option Call) (view : View) (n creator : ℕ) (attributes : List Item)
+    → creates c ≡ true
     → object_after c view n creator attributes ≡ Some attributes
 object_after-creation (Some (call.CreateObject session template)) view n creator attributes t = refl
-object_after-creation (Some (call.GenerateKey session mechanism template random)) view n creator attributes t = refl
-object_after-creation (Some (call.CopyObject session object template)) view n creator attributes t = refl
+object_after-creation (Some (call.GenerateKey session mechanism template random)) view n creator
+    attributes t = refl
+object_after-creation (Some (call.CopyObject session object template)) view n creator attributes
+    t = refl
 object_after-creation other view n creator attributes t = cc
 
 creates-left : (c : Option Call) → (effects_of c).objects ≡ false → creates c ≡ false
@@ -44,13 +47,15 @@ object_after-left (Some (call.InitToken pin)) view n creator attributes l = cc
 object_after-left (Some (call.CloseSession session)) view n creator attributes l = cc
 object_after-left (Some call.CloseAllSessions) view n creator attributes l = cc
 object_after-left (Some (call.Logout session)) view n creator attributes l = cc
-object_after-left (Some (call.SetAttributeValue session object template)) view n creator attributes l = cc
+object_after-left (Some (call.SetAttributeValue session object template)) view n creator attributes
+    l = cc
 object_after-left (Some (call.SetKeyState session key state)) view n creator attributes l = cc
 object_after-left (Some (call.DestroyObject session object)) view n creator attributes l = cc
 object_after-left other view n creator attributes l = refl
 
 and_then-same : (after : List Item → Option (List Item))
-    → ((attributes : List Item) → after attributes ≡ Some attributes) → (object : Option (List Item))
+    → ((attributes : List Item) → after attributes ≡ Some attributes)
+    → (object : Option (List Item))
     → option_and_then after object ≡ object
 and_then-same after same None = refl
 and_then-same after same (Some attributes) = same attributes
@@ -72,7 +77,8 @@ module _ (e : Entry) (h : History) where
       → session_of (e ◁ h) n ≡ session_of h n → object_at (e ◁ h) n ≡ object
       → object_row_at row (e ◁ h) n ≡ option_map (row n (session_of h n)) object
   row_at-same row n object by is =
-      ap (λ s. option_map (row n s) (object_at (e ◁ h) n)) by ∙ ap (option_map (row n (session_of h n))) is
+      ap (λ s. option_map (row n s) (object_at (e ◁ h) n)) by
+      ∙ ap (option_map (row n (session_of h n))) is
 
   -- ---- a creation
 
@@ -84,20 +90,24 @@ module _ (e : Entry) (h : History) where
     not_new k below = ap (λ b. b && k == suc (creations h)) t ∙ below_suc k (creations h) below
 
     is_new : (creates (done e) && suc (creations h) == suc (creations h)) ≡ true
-    is_new = ap (λ b. b && suc (creations h) == suc (creations h)) t ∙ same_number (suc (creations h))
+    is_new =
+        ap (λ b. b && suc (creations h) == suc (creations h)) t ∙ same_number (suc (creations h))
 
     session_of-below : (k : ℕ) → k ≤ creations h → session_of (e ◁ h) k ≡ session_of h k
-    session_of-below k below = ap (λ b. cond b (creation_session (done e)) (session_of h k)) (not_new k below)
+    session_of-below k below =
+        ap (λ b. cond b (creation_session (done e)) (session_of h k)) (not_new k below)
 
     object_at-below : (k : ℕ) → k ≤ creations h → object_at (e ◁ h) k ≡ object_at h k
     object_at-below k below =
         ap (λ b. cond b (Some (creation_attributes (done e) (attributes_named h)))
         (option_and_then (after k) (object_at h k))) (not_new k below)
-        ∙ and_then-same (after k) (λ attributes. object_after-creation (done e) (view_of h) k (session_of h k)
+        ∙ and_then-same (after k)
+        (λ attributes. object_after-creation (done e) (view_of h) k (session_of h k)
         attributes t) (object_at h k)
 
     session_of-created : session_of (e ◁ h) (suc (creations h)) ≡ creation_session (done e)
-    session_of-created = ap (λ b. cond b (creation_session (done e)) (session_of h (suc (creations h)))) is_new
+    session_of-created =
+        ap (λ b. cond b (creation_session (done e)) (session_of h (suc (creations h)))) is_new
 
     pub object_at-created : object_at (e ◁ h) (suc (creations h)) ≡ Some
         (creation_attributes (done e) (attributes_named h))
@@ -108,7 +118,8 @@ module _ (e : Entry) (h : History) where
 
     -- the new object's row stands last
     pub object_rows-created : {X : Type 0} (row : ℕ → ℕ → List Item → X) →
-        object_rows row (e ◁ h) ≡ object_rows row h ++ row (suc (creations h)) (creation_session (done e))
+        object_rows row (e ◁ h) ≡ object_rows row h ++ row (suc (creations h))
+        (creation_session (done e))
         (creation_attributes (done e) (attributes_named h)) ∷ []
     object_rows-created row =
         let n = suc (creations h) in
@@ -116,7 +127,8 @@ module _ (e : Entry) (h : History) where
         ∙ filter_map-suc (object_row_at row (e ◁ h)) (creations h)
         ∙ ap (λ rows. rows ++ cons_option (object_row_at row (e ◁ h) n) [])
         (filter_map-same (object_row_at row (e ◁ h)) (object_row_at row h) (creations h)
-        (λ k below. row_at-same row k (object_at h k) (session_of-below k below) (object_at-below k below)))
+        (λ k below. row_at-same row k (object_at h k) (session_of-below k below)
+        (object_at-below k below)))
         ∙ ap (λ found. object_rows row h ++ cons_option found [])
         (ap (λ s. option_map (row n s) (object_at (e ◁ h) n)) session_of-created ∙ ap
         (option_map (row n (creation_session (done e)))) object_at-created)
@@ -129,18 +141,22 @@ module _ (e : Entry) (h : History) where
 
     session_of-later : (k : ℕ) → session_of (e ◁ h) k ≡ session_of h k
     session_of-later k =
-        ap (λ t. cond (t && k == suc (creations h)) (creation_session (done e)) (session_of h k)) no_creation
+        ap (λ t. cond (t && k == suc (creations h)) (creation_session (done e)) (session_of h k))
+        no_creation
 
     pub object_at-later : (k : ℕ) → object_at (e ◁ h) k ≡ option_and_then (after k) (object_at h k)
     object_at-later k =
-        ap (λ t. cond (t && k == suc (creations h)) (Some (creation_attributes (done e) (attributes_named h)))
+        ap (λ t. cond (t && k == suc (creations h))
+        (Some (creation_attributes (done e) (attributes_named h)))
         (option_and_then (after k) (object_at h k))) no_creation
 
     change_step : {X : Type 0} (row : List Item → X) (after : List Item → Option (List Item))
         (change : X → Option X) (object : Option (List Item))
-        → ((attributes : List Item) → object ≡ Some attributes → option_map row (after attributes) ≡ change
+        → ((attributes : List Item) → object ≡ Some attributes
+        → option_map row (after attributes) ≡ change
         (row attributes))
-        → option_map row (option_and_then after object) ≡ option_and_then change (option_map row object)
+        → option_map row (option_and_then after object)
+        ≡ option_and_then change (option_map row object)
     change_step row after change None changed = refl
     change_step row after change (Some attributes) changed = changed attributes refl
 
@@ -152,9 +168,11 @@ module _ (e : Entry) (h : History) where
         → object_rows row (e ◁ h) ≡ filter_map change (object_rows row h)
     object_rows-later row change changed =
         ap (λ count. filter_map (object_row_at row (e ◁ h)) (numbers count)) creations-same
-        ∙ filter_map-same (object_row_at row (e ◁ h)) (λ k. option_and_then change (object_row_at row h k))
+        ∙ filter_map-same (object_row_at row (e ◁ h))
+        (λ k. option_and_then change (object_row_at row h k))
         (creations h)
-        (λ k below. row_at-same row k (option_and_then (after k) (object_at h k)) (session_of-later k)
+        (λ k below. row_at-same row k (option_and_then (after k) (object_at h k))
+        (session_of-later k)
         (object_at-later k)
         ∙ change_step (row k (session_of h k)) (after k) change (object_at h k) (changed k))
         ∙ sym (filter_map-then change (object_row_at row h) (numbers (creations h)))
@@ -168,45 +186,57 @@ module _ (e : Entry) (h : History) where
     pub object_at-left : (k : ℕ) → object_at (e ◁ h) k ≡ object_at h k
     object_at-left k =
         object_at-later (creates-left (done e) l) k
-        ∙ and_then-same (after k) (λ attributes. object_after-left (done e) (view_of h) k (session_of h k)
+        ∙ and_then-same (after k)
+        (λ attributes. object_after-left (done e) (view_of h) k (session_of h k)
         attributes l) (object_at h k)
 
-    pub object_rows-left : {X : Type 0} (row : ℕ → ℕ → List Item → X) → object_rows row (e ◁ h) ≡ object_rows row h
+    pub object_rows-left : {X : Type 0} (row : ℕ → ℕ → List Item → X)
+        → object_rows row (e ◁ h) ≡ object_rows row h
     object_rows-left row =
         ap (λ count. filter_map (object_row_at row (e ◁ h)) (numbers count)) creations-left
         ∙ filter_map-same (object_row_at row (e ◁ h)) (object_row_at row h) (creations h)
-        (λ k below. row_at-same row k (object_at h k) (session_of-later (creates-left (done e) l) k) (object_at-left k))
+        (λ k below. row_at-same row k (object_at h k) (session_of-later (creates-left (done e) l) k)
+        (object_at-left k))
 
 -- ---- an object that is there is one of those created
 
-kept_step : (creations n : ℕ) (kept : KeptObject) (rest : Option KeptObject) (attributes : List Item) (same : Bool)
+kept_step : (creations n : ℕ) (kept : KeptObject) (rest : Option KeptObject)
+    (attributes : List Item) (same : Bool)
     → kept.number == n ≡ same → IsCreated creations kept
-    → (option_map (λ (object : KeptObject). object.attributes) rest ≡ Some attributes → (1 ≤ n) × (n ≤ creations))
-    → option_map (λ (object : KeptObject). object.attributes) (cond same (Some kept) rest) ≡ Some attributes
+    → (option_map (λ (object : KeptObject). object.attributes) rest ≡ Some attributes
+    → (1 ≤ n) × (n ≤ creations))
+    → option_map (λ (object : KeptObject). object.attributes) (cond same (Some kept) rest)
+    ≡ Some attributes
     → (1 ≤ n) × (n ≤ creations)
 kept_step creations n kept rest attributes true e created later is =
     let here = eqb-true kept.number n e in
     (omega (arith, created.0), omega (arith, created.1))
 kept_step creations n kept rest attributes false e created later is = later is
 
-kept-within : (creations n : ℕ) (attributes : List Item) (objects : List KeptObject) → All (IsCreated creations) objects
+kept-within : (creations n : ℕ) (attributes : List Item) (objects : List KeptObject)
+    → All (IsCreated creations) objects
     → option_map (λ (kept : KeptObject). kept.attributes)
-    (find (λ (kept : KeptObject). kept.number == n) objects) ≡ Some attributes → (1 ≤ n) × (n ≤ creations)
+    (find (λ (kept : KeptObject). kept.number == n) objects) ≡ Some attributes
+    → (1 ≤ n) × (n ≤ creations)
 kept-within creations n attributes [] created is = cc
 kept-within creations n attributes (kept ∷ objects) created is =
-    kept_step creations n kept (find (λ (object : KeptObject). object.number == n) objects) attributes
+    kept_step creations n kept
+    (find (λ (object : KeptObject). object.number == n) objects) attributes
     (kept.number == n) refl
     (All-head (IsCreated creations) kept objects created)
-    (kept-within creations n attributes objects (All-tail (IsCreated creations) kept objects created)) is
+    (kept-within creations n attributes objects
+    (All-tail (IsCreated creations) kept objects created)) is
 
 within_step : (created same : Bool) (n count : ℕ) (fresh attributes : List Item)
     (after : List Item → Option (List Item)) (before : Option (List Item)) → n == suc count ≡ same
     → ((attributes : List Item) → before ≡ Some attributes → (1 ≤ n) × (n ≤ count))
     → cond (created && same) (Some fresh) (option_and_then after before) ≡ Some attributes
     → (1 ≤ n) × (n ≤ cond created (suc count) count)
-within_step true true n count fresh attributes after before e below is = let s : n ≡ suc count = eqb-true n
+within_step true true n count fresh attributes after before e below is =
+    let s : n ≡ suc count = eqb-true n
     (suc count) e in (omega arith, omega arith)
-within_step true false n count fresh attributes after (Some old) e below is = let b = below old refl in
+within_step true false n count fresh attributes after (Some old) e below is =
+    let b = below old refl in
     (omega arith, omega arith)
 within_step true false n count fresh attributes after None e below is = cc
 within_step false same n count fresh attributes after (Some old) e below is = below old refl
@@ -214,8 +244,10 @@ within_step false same n count fresh attributes after None e below is = cc
 
 pub object_at-within : (h : History) → IsSound (start_of h) → (n : ℕ) (attributes : List Item)
     → object_at h n ≡ Some attributes → (1 ≤ n) × (n ≤ creations h)
-object_at-within (start b) sound n attributes is = kept-within b.creations n attributes b.objects sound.numbers is
+object_at-within (start b) sound n attributes is =
+    kept-within b.creations n attributes b.objects sound.numbers is
 object_at-within (e ◁ h) sound n attributes is =
     within_step (creates (done e)) (n == suc (creations h)) n (creations h)
     (creation_attributes (done e) (attributes_named h)) attributes
-    (object_after (done e) (view_of h) n (session_of h n)) (object_at h n) refl (object_at-within h sound n) is
+    (object_after (done e) (view_of h) n (session_of h n)) (object_at h n) refl
+    (object_at-within h sound n) is

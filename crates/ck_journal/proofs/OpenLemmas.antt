@@ -14,7 +14,8 @@ use Rattle.ck_journal.specs.declared.calls.Entry.{Entry}
 use Rattle.ck_journal.specs.Answers.{IsLegal, open_session_error}
 use Rattle.ck_journal.specs.Histories.{History, start, ◌◁◌, done}
 use Rattle.ck_journal.specs.Pins.{is_initialized, is_user}
-use Rattle.ck_journal.specs.Sessions.{opens, openings, closes, is_open, open_sessions, has_rw_flag, login}
+use Rattle.ck_journal.specs.Sessions.{opens, openings, closes, is_open, open_sessions, has_rw_flag}
+use Rattle.ck_journal.specs.Sessions.{login}
 use Rattle.ck_journal.proofs.LegalLemmas.{later-passes, count-free, passed-done}
 use Rattle.ck_journal.proofs.Selections.{selected-none, filter-selected}
 use Rattle.ck_journal.proofs.SessionMoves.{session_rows, session_rows-opened, session_rows-later}
@@ -23,7 +24,8 @@ use Rattle.ck_journal.proofs.SessionMoves.{open_sessions-rows}
 filter-shorter : (test : ℕ → Bool) (ks : List ℕ) → length (filter test ks) ≤ length ks
 filter-shorter test ks = omega (arith, length-filter test ks, count_by-le-length test ks)
 
-pub opening-call : (c : Option Call) → opens c ≡ true → (flags : ℕ) × (c ≡ Some (call.OpenSession flags))
+pub opening-call : (c : Option Call) → opens c ≡ true
+    → (flags : ℕ) × (c ≡ Some (call.OpenSession flags))
 opening-call (Some (call.OpenSession flags)) o = (flags, refl)
 opening-call other o = cc
 
@@ -32,7 +34,8 @@ module _ (limits : Ranges) where
       → length (open_sessions h) < limits.sessions
   opening-room h flags p =
       count-free limits.sessions (length (open_sessions h)) rv_error.SessionCount
-      (or_else-none (error_if (nat_le limits.sessions (length (open_sessions h))) rv_error.SessionCount) _
+      (or_else-none (error_if (nat_le limits.sessions (length (open_sessions h)))
+      rv_error.SessionCount) _
       (later-passes
       (error_if (not (has_rw_flag flags) && is_user user.So (login h))
       rv_error.SessionReadWriteSoExists) _
@@ -41,15 +44,19 @@ module _ (limits : Ranges) where
       (later-passes (error_if (not (is_initialized h)) rv_error.TokenNotRecognized) _ p))))).0
 
   opened-bound : (e : Entry) (h : History) (flags : ℕ) → done e ≡ Some (call.OpenSession flags)
-      → length (open_sessions h) < limits.sessions → length (open_sessions (e ◁ h)) ≤ limits.sessions
+      → length (open_sessions h) < limits.sessions
+      → length (open_sessions (e ◁ h)) ≤ limits.sessions
   opened-bound e h flags d room =
-      let rows = sym (open_sessions-rows (e ◁ h)) ∙ session_rows-opened e h flags d (λ h s. s) (λ k below. refl) in
+      let rows =
+      sym (open_sessions-rows (e ◁ h))
+      ∙ session_rows-opened e h flags d (λ h s. s) (λ k below. refl) in
       let one : length (open_sessions (e ◁ h)) ≡ length (session_rows (λ h s. s) h) + 1 =
       ap length rows ∙ length-append (session_rows (λ h s. s) h) (suc (openings h) ∷ []) in
       omega (arith, ap length (open_sessions-rows h))
 
   later-bound : (e : Entry) (h : History) → opens (done e) ≡ false
-      → length (open_sessions h) ≤ limits.sessions → length (open_sessions (e ◁ h)) ≤ limits.sessions
+      → length (open_sessions h) ≤ limits.sessions
+      → length (open_sessions (e ◁ h)) ≤ limits.sessions
   later-bound e h no_opening below =
       let rows = sym (open_sessions-rows (e ◁ h))
       ∙ session_rows-later e h no_opening (λ h s. s) (λ k below passes. refl)
@@ -62,7 +69,8 @@ module _ (limits : Ranges) where
       → opens (done e) ≡ t → length (open_sessions (e ◁ h)) ≤ limits.sessions
   by_opening true e h legal below o =
       let c = opening-call (done e) o in
-      opened-bound e h c.0 c.1 (opening-room h c.0 (passed-done limits e h legal (call.OpenSession c.0) c.1))
+      opened-bound e h c.0 c.1 (opening-room h c.0
+      (passed-done limits e h legal (call.OpenSession c.0) c.1))
   by_opening false e h legal below o = later-bound e h o below
 
   pub open-bound : (h : History) → IsLegal limits h → length (open_sessions h) ≤ limits.sessions

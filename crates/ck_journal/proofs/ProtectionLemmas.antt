@@ -35,8 +35,12 @@ use Rattle.ck_journal.proofs.NameLemmas.{named-object, found-named}
 -- ---- what keeps it
 
 pub keeps-itself : (a : List Item) → KeepsProtection a a
-keeps-itself a =
-    record { sensitive = λ t. t; extractable = λ f. f; always_sensitive = refl; never_extractable = refl }
+keeps-itself a = record {
+  sensitive = λ t. t;
+  extractable = λ f. f;
+  always_sensitive = refl;
+  never_extractable = refl;
+}
 
 -- where it is kept, a key stays as it is said to have been
 pub protected-kept : (a b : List Item) → KeepsProtection a b → IsProtected a → IsProtected b

@@ -27,7 +27,7 @@ use Rattle.ck_journal.specs.declared.views.View.{View}
 use Rattle.ck_journal.specs.Answers.{call_error, allowed_reply, ok, new_handle}
 use Rattle.ck_journal.specs.Answers.{session_error, object_error, placement_error}
 use Rattle.ck_journal.specs.Answers.{read_only_session_error, prohibited_error}
-use Rattle.ck_journal.specs.Answers.{parameter_error}
+use Rattle.ck_journal.specs.Answers.{parameter_error, IsLegal}
 use Rattle.ck_journal.specs.Histories.{History, ◌◁◌, done}
 use Rattle.ck_journal.specs.Effects.{effects_of}
 use Rattle.ck_journal.specs.Laws.{IsSoundHistory, IsPrivate, searches, handle_in}
@@ -109,9 +109,35 @@ done-some : (d : Option Call) (test : Option Call → Bool) → test None ≡ fa
 done-some None test none t = absurd (false≢true (sym none ∙ t))
 done-some (Some c) test none t = (c, refl)
 
+module _ (e : Entry) (h : History) where
+  -- the attributes of the object that an entry creates
+  abbrev pub new-attributes : List Item
+  new-attributes = creation_attributes (done e) (attributes_named h)
+
+  pub creation-body : (limits : Ranges) → IsLegal limits (e ◁ h) → creates (done e) ≡ true
+      → e.reply.body ≡ body.Handle (new_handle h new-attributes)
+  creation-body limits legal t =
+      let did = done-some (done e) creates refl t in
+      let created : creates (Some did.0) ≡ true = subst (λ d. creates d ≡ true) did.1 t in
+      let reply = allowed-done limits e h legal did.0 did.1
+      ∙ creation-reply limits h did.0 created in
+      ap (λ (r : Reply). r.body) reply
+      ∙ ap (λ d. body.Handle (new_handle h (creation_attributes d (attributes_named h))))
+      (sym did.1)
+
+  -- and its number
+  pub new-number : (limits : Ranges) → IsSoundHistory limits (e ◁ h) → creates (done e) ≡ true
+      → (handle : ℕ) → new_handle h new-attributes ≡ handle
+      → suc (creations h) ≡ number_of_handle handle
+  new-number limits good t handle fresh =
+      let below = creations-bound limits good.in_range (e ◁ h) good.sound good.legal in
+      let counted = creations-created e h t in
+      handle-number (view_of h) new-attributes handle (suc (creations h)) (omega arith) fresh
+
 only-handle : (given : Body) (own place handle : ℕ) → given ≡ body.Handle own
     → slice_get (handle_in given) place ≡ Some handle → own ≡ handle
-only-handle given own place handle is e = at place (subst (λ b. slice_get (handle_in b) place ≡ Some handle) is e)
+only-handle given own place handle is e =
+    at place (subst (λ b. slice_get (handle_in b) place ≡ Some handle) is e)
   where
     at : (place : ℕ) → slice_get (own ∷ []) place ≡ Some handle → own ≡ handle
     at zero e = same_Some own handle e
@@ -189,18 +215,13 @@ module _ (limits : Ranges) (e : Entry) (h : History) (good : IsSoundHistory limi
   created-login t returned =
       let did = done-some (done e) creates refl t in
       let created : creates (Some did.0) ≡ true = subst (λ d. creates d ≡ true) did.1 t in
-      let attributes = creation_attributes (done e) (attributes_named h) in
-      let reply = allowed-done limits e h good.legal did.0 did.1
-      ∙ creation-reply limits h did.0 created in
-      let given = ap (λ (r : Reply). r.body) reply
-      ∙ ap (λ d. body.Handle (new_handle h (creation_attributes d (attributes_named h)))) (sym did.1) in
+      let attributes = new-attributes e h in
+      let given = creation-body e h limits good.legal t in
       let fresh = only-handle e.reply.body (new_handle h attributes) place handle given returned in
-      let below = creations-bound limits good.in_range (e ◁ h) good.sound good.legal in
-      let counted = creations-created e h t in
-      let number = handle-number (view_of h) attributes handle (suc (creations h)) (omega arith)
-      fresh in
+      let number = new-number e h limits good t handle fresh in
       let same : suc (creations h) ≡ n = number
-      ∙ sym (handle_of-number limits (e ◁ h) good n handle private.attributes private.present own) in
+      ∙ sym (handle_of-number limits (e ◁ h) good n handle private.attributes private.present
+      own) in
       let alike : private.attributes ≡ attributes = same_Some private.attributes attributes
       (sym private.present ∙ ap (object_at (e ◁ h)) (sym same) ∙ object_at-created e h t) in
       is_user-some user.User (login h)
@@ -247,6 +268,8 @@ private-returned limits e h good place handle n returned private own =
         → slice_get (cond created (handle_in e.reply.body)
         (cond found (handles_in e.reply.body) [])) place ≡ Some handle
         → login h ≡ Some user.User
-    cases true found c f returned = created-login limits e h good place handle n private own c returned
-    cases false true c f returned = found-login limits e h good place handle n private own f returned
+    cases true found c f returned =
+        created-login limits e h good place handle n private own c returned
+    cases false true c f returned =
+        found-login limits e h good place handle n private own f returned
     cases false false c f returned = cc

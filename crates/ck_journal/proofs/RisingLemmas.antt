@@ -11,7 +11,8 @@ use Rattle.std.proofs.lemmas.List.Quantifiers.{all_pairs_push}
 use Rattle.std.proofs.lemmas.List.Sorted.{IsNonDecreasingBy-short}
 use Rattle.ck_journal.specs.Histories.{History, start, ◌◁◌, done}
 use Rattle.ck_journal.specs.Objects.{creations}
-use Rattle.ck_journal.specs.Searches.{starts_search, matching_objects, search_template, found_objects}
+use Rattle.ck_journal.specs.Searches.{starts_search, matching_objects, search_template}
+use Rattle.ck_journal.specs.Searches.{found_objects}
 use Rattle.ck_journal.specs.Sessions.{numbers}
 
 numbers-below : (n : ℕ) → All (λ k. k < suc n) (numbers n)
@@ -23,7 +24,8 @@ numbers-below (suc n) =
 -- each number is below all later ones
 pub AllPairs-numbers : (n : ℕ) → AllPairs (λ j k. j < k) (numbers n)
 AllPairs-numbers zero = λ i j d low within. absurd (omega arith)
-AllPairs-numbers (suc n) = all_pairs_push (λ j k. j < k) (numbers n) (suc n) (AllPairs-numbers n) (numbers-below n)
+AllPairs-numbers (suc n) =
+    all_pairs_push (λ j k. j < k) (numbers n) (suc n) (AllPairs-numbers n) (numbers-below n)
 
 rises : (ks : List ℕ) → AllPairs (λ j k. j < k) ks → IsNonDecreasingBy (λ k. k) ks
 rises ks below i j d le within = place_case (nat_lt i j) refl
@@ -38,7 +40,8 @@ rises ks below i j d le within = place_case (nat_lt i j) refl
 numbers-rise : (n : ℕ) → IsNonDecreasingBy (λ k. k) (numbers n)
 numbers-rise n = rises (numbers n) (AllPairs-numbers n)
 
-found_step : (t : Bool) (fresh before : List ℕ) → IsNonDecreasingBy (λ k. k) fresh → IsNonDecreasingBy (λ k. k) before
+found_step : (t : Bool) (fresh before : List ℕ) → IsNonDecreasingBy (λ k. k) fresh
+    → IsNonDecreasingBy (λ k. k) before
     → IsNonDecreasingBy (λ k. k) (cond t fresh before)
 found_step true fresh before f b = f
 found_step false fresh before f b = b
@@ -47,8 +50,10 @@ found_step false fresh before f b = b
 pub found_objects-rise : (h : History) (s : ℕ) → IsNonDecreasingBy (λ k. k) (found_objects h s)
 found_objects-rise (start b) s = IsNonDecreasingBy-short (λ k. k) [] (omega arith)
 found_objects-rise (e ◁ h) s =
-    found_step (starts_search (done e) s) (matching_objects (e ◁ h) (search_template (done e))) (found_objects h s)
-    (IsNonDecreasingBy-filter (λ k. k) _ (numbers (creations (e ◁ h))) (numbers-rise (creations (e ◁ h))))
+    found_step (starts_search (done e) s) (matching_objects (e ◁ h) (search_template (done e)))
+    (found_objects h s)
+    (IsNonDecreasingBy-filter (λ k. k) _ (numbers (creations (e ◁ h)))
+    (numbers-rise (creations (e ◁ h))))
     (found_objects-rise h s)
 
 -- ---- what stands after a place
@@ -60,7 +65,8 @@ module _ (last : ℕ) where
   all_after (k ∷ ks) after =
       ap (λ t. cond t (k ∷ filter (λ j. nat_lt last j) ks) (filter (λ j. nat_lt last j) ks))
       (lt-ltb last k (leb-false k last (after 0 0 (omega arith) (omega arith))))
-      ∙ ap (λ rest. k ∷ rest) (all_after ks (λ i d low high. after (suc i) d (omega arith) (omega arith)))
+      ∙ ap (λ rest. k ∷ rest) (all_after ks
+      (λ i d low high. after (suc i) d (omega arith) (omega arith)))
 
   not_above : (k : ℕ) → nat_le k last ≡ true → nat_lt last k ≡ false
   not_above k e = let below = leb-true k last e in le-ltb last k (omega arith)

@@ -13,7 +13,8 @@ use Rattle.ck_journal.specs.Effects.{effects_of, effects}
 use Rattle.ck_journal.specs.Objects.{creations, object_at, is_some_with, view_of}
 use Rattle.ck_journal.specs.Pins.{is_user}
 use Rattle.ck_journal.specs.Searches.{starts_search, ends_search, asks_search, is_searching}
-use Rattle.ck_journal.specs.Searches.{is_match_with, matching_objects, search_template, found_objects}
+use Rattle.ck_journal.specs.Searches.{is_match_with, matching_objects, search_template}
+use Rattle.ck_journal.specs.Searches.{found_objects}
 use Rattle.ck_journal.specs.Searches.{last_number}
 use Rattle.ck_journal.specs.Sessions.{numbers, login, user_logins}
 use Rattle.ck_journal.proofs.LoginMoves.{login-left, user_logins-left}
@@ -21,7 +22,8 @@ use Rattle.ck_journal.proofs.ObjectMoves.{creations-left, object_at-left}
 
 -- ---- an entry that leaves searches as they are
 
-starts-left : (c : Option Call) (s : ℕ) → (effects_of c).searches ≡ false → starts_search c s ≡ false
+starts-left : (c : Option Call) (s : ℕ) → (effects_of c).searches ≡ false
+    → starts_search c s ≡ false
 starts-left (Some (call.InitToken pin)) s l = refl
 starts-left other s l = cc
 
@@ -51,16 +53,22 @@ module _ (e : Entry) (h : History) where
   module _ (l : (effects e).sessions ≡ false) where
     pub view_of-left : view_of (e ◁ h) ≡ view_of h
     view_of-left =
-        ap (λ u. record { user = is_user user.User u; logins = user_logins (e ◁ h) }) (login-left e h l)
-        ∙ ap (λ n. record { user = is_user user.User (login h); logins = n }) (user_logins-left e h l)
+        ap (λ u. record { user = is_user user.User u; logins = user_logins (e ◁ h) })
+        (login-left e h l)
+        ∙ ap (λ n. record { user = is_user user.User (login h); logins = n })
+        (user_logins-left e h l)
 
   module _ (lo : (effects e).objects ≡ false) (ls : (effects e).sessions ≡ false) where
-    pub matching_objects-left : (template : List Item) → matching_objects (e ◁ h) template ≡ matching_objects h template
+    pub matching_objects-left : (template : List Item)
+        → matching_objects (e ◁ h) template ≡ matching_objects h template
     matching_objects-left template =
-        ap (λ n. filter (λ k. is_some_with (is_match_with (view_of (e ◁ h)) template) (object_at (e ◁ h) k))
+        ap (λ n. filter (λ k. is_some_with (is_match_with (view_of (e ◁ h)) template)
+        (object_at (e ◁ h) k))
         (numbers n)) (creations-left e h lo)
-        ∙ filter_agree (λ k. is_some_with (is_match_with (view_of (e ◁ h)) template) (object_at (e ◁ h) k))
+        ∙ filter_agree (λ k. is_some_with (is_match_with (view_of (e ◁ h)) template)
+        (object_at (e ◁ h) k))
         (λ k. is_some_with (is_match_with (view_of h) template) (object_at h k))
-        (λ k. ap (λ (v : View). is_some_with (is_match_with v template) (object_at (e ◁ h) k)) (view_of-left ls)
+        (λ k. ap (λ (v : View). is_some_with (is_match_with v template) (object_at (e ◁ h) k))
+        (view_of-left ls)
         ∙ ap (is_some_with (is_match_with (view_of h) template)) (object_at-left e h lo k))
         (numbers (creations h))

@@ -2,7 +2,8 @@
 use Rattle.std.proofs.Common.{◌≡◌, ◌≢◌, ℕ, zero, suc, ◌<◌, ◌≤◌, Bool, true, false, cond, not, ◌&&◌}
 use Rattle.std.proofs.Common.{◌||◌, List, [], ◌∷◌, ◌++◌, Option, Some, None, All, AllPairs, length}
 use Rattle.std.proofs.Common.{subst, refl, sym, ap, ◌∙◌, arith, inl, inr}
-use Rattle.std.specs.Prelude.{◌==◌, map, filter, filter_map, find, option_map, option_and_then, is_some}
+use Rattle.std.specs.Prelude.{◌==◌, map, filter, filter_map, find, option_map, option_and_then}
+use Rattle.std.specs.Prelude.{is_some}
 use Rattle.std.proofs.Math.Bool.{and-true, and-false, or-false, or-true}
 use Rattle.std.proofs.lemmas.Option.{same_Some}
 use Rattle.std.specs.List.{list_any, cons_option}
@@ -24,7 +25,8 @@ module _ {X : Type 0} where
   abbrev pub last_row : Bool → X → List X
   last_row passes row = cond passes (row ∷ []) []
 
-  map-cond_one : (row : ℕ → X) (k : ℕ) (passes : Bool) → map row (cond passes (k ∷ []) []) ≡ last_row passes (row k)
+  map-cond_one : (row : ℕ → X) (k : ℕ) (passes : Bool)
+      → map row (cond passes (k ∷ []) []) ≡ last_row passes (row k)
   map-cond_one row k true = refl
   map-cond_one row k false = refl
 
@@ -37,14 +39,17 @@ module _ {X : Type 0} where
       ∙ ap (λ rows. selected test row n ++ rows) (map-cond_one row (suc n) (test (suc n)))
 
   -- tests and rows that agree on the numbers up to n
-  pub selected-same : (test test' : ℕ → Bool) (row row' : ℕ → X) (n : ℕ) → ((k : ℕ) → k ≤ n → test k ≡ test' k)
+  pub selected-same : (test test' : ℕ → Bool) (row row' : ℕ → X) (n : ℕ)
+      → ((k : ℕ) → k ≤ n → test k ≡ test' k)
       → ((k : ℕ) → k ≤ n → row k ≡ row' k)
       → selected test row n ≡ selected test' row' n
   selected-same test test' row row' zero tests rows = refl
   selected-same test test' row row' (suc n) tests rows =
-      let below = selected-same test test' row row' n (λ k h. tests k (omega arith)) (λ k h. rows k (omega arith)) in
-      let here : last_row (test (suc n)) (row (suc n)) ≡ last_row (test' (suc n)) (row' (suc n)) = rw
-      (tests (suc n) (omega arith), rows (suc n) (omega arith)) in
+      let below =
+      selected-same test test' row row' n (λ k h. tests k (omega arith))
+      (λ k h. rows k (omega arith)) in
+      let here : last_row (test (suc n)) (row (suc n)) ≡ last_row (test' (suc n)) (row' (suc n)) =
+      rw (tests (suc n) (omega arith), rows (suc n) (omega arith)) in
       selected-suc test row n ∙ ap (λ xs. xs ++ last_row (test (suc n)) (row (suc n))) below
       ∙ ap (λ xs. selected test' row' n ++ xs) here ∙ sym (selected-suc test' row' n)
 
@@ -67,19 +72,22 @@ module _ {X : Type 0} where
   pub filter-map : (again : X → Bool) (row : ℕ → X) (ks : List ℕ)
       → filter again (map row ks) ≡ map row (filter (λ k. again (row k)) ks)
   filter-map again row [] = refl
-  filter-map again row (k ∷ ks) = filter-map_step again row k ks (again (row k)) (filter-map again row ks)
+  filter-map again row (k ∷ ks) =
+      filter-map_step again row k ks (again (row k)) (filter-map again row ks)
 
 filter-filter_step : (again test : ℕ → Bool) (k : ℕ) (ks : List ℕ) (passes : Bool)
     → filter again (filter test ks) ≡ filter (λ j. test j && again j) ks
     → filter again (cond passes (k ∷ filter test ks) (filter test ks))
-    ≡ cond (passes && again k) (k ∷ filter (λ j. test j && again j) ks) (filter (λ j. test j && again j) ks)
+    ≡ cond (passes && again k) (k ∷ filter (λ j. test j && again j) ks)
+    (filter (λ j. test j && again j) ks)
 filter-filter_step again test k ks true later = ap (λ rest. cond (again k) (k ∷ rest) rest) later
 filter-filter_step again test k ks false later = later
 
 filter-filter : (again test : ℕ → Bool) (ks : List ℕ)
     → filter again (filter test ks) ≡ filter (λ k. test k && again k) ks
 filter-filter again test [] = refl
-filter-filter again test (k ∷ ks) = filter-filter_step again test k ks (test k) (filter-filter again test ks)
+filter-filter again test (k ∷ ks) =
+    filter-filter_step again test k ks (test k) (filter-filter again test ks)
 
 module _ {X : Type 0} where
   -- a further test of the rows
@@ -95,7 +103,8 @@ module _ {X : Type 0} where
   length-selected test row n = length-map (filter test (numbers n)) row
 
   list_any-cond : (wanted : X → Bool) (row : ℕ → X) (passes : Bool) (k : ℕ) (ks : List ℕ)
-      → list_any wanted (map row (cond passes (k ∷ ks) ks)) ≡ (passes && wanted (row k)) || list_any wanted (map row ks)
+      → list_any wanted (map row (cond passes (k ∷ ks) ks))
+      ≡ (passes && wanted (row k)) || list_any wanted (map row ks)
   list_any-cond wanted row true k ks = refl
   list_any-cond wanted row false k ks = refl
 
@@ -111,12 +120,14 @@ module _ {X : Type 0} where
       → list_any wanted (selected test row n) ≡ list_any (λ k. test k && wanted (row k)) (numbers n)
   list_any-selected wanted test row n = list_any-filter wanted test row (numbers n)
 
-list_any_last : (test : ℕ → Bool) (n : ℕ) → list_any test (numbers (suc n)) ≡ list_any test (numbers n) || test (suc n)
+list_any_last : (test : ℕ → Bool) (n : ℕ)
+    → list_any test (numbers (suc n)) ≡ list_any test (numbers n) || test (suc n)
 list_any_last test n = list_any-append test (numbers n) (suc n ∷ [])
     ∙ ap (λ b. list_any test (numbers n) || b) (or-false (test (suc n)))
 
 -- no number up to n is s
-list_any-past : (test : ℕ → Bool) (s n : ℕ) → n < s → list_any (λ k. test k && k == s) (numbers n) ≡ false
+list_any-past : (test : ℕ → Bool) (s n : ℕ) → n < s
+    → list_any (λ k. test k && k == s) (numbers n) ≡ false
 list_any-past test s zero h = refl
 list_any-past test s (suc n) h =
     let other : suc n == s ≡ false = ne_eqb (suc n) s (λ e. omega arith) in
@@ -129,7 +140,8 @@ list_any-at_step : (test : ℕ → Bool) (s n : ℕ) (same : Bool) → suc n == 
     → list_any (λ k. test k && k == s) (numbers (suc n)) ≡ test s
 list_any-at_step test s n true same within below =
     let e : suc n ≡ s = eqb-true (suc n) s same in
-    list_any_last (λ k. test k && k == s) n ∙ rw (list_any-past test s n (omega arith), same, e) (and-true (test s))
+    list_any_last (λ k. test k && k == s) n
+    ∙ rw (list_any-past test s n (omega arith), same, e) (and-true (test s))
 list_any-at_step test s n false same within below =
     list_any_last (λ k. test k && k == s) n
     ∙ rw (
@@ -148,12 +160,15 @@ list_any-at_step test s n false same within below =
 -- the one number that can pass, where it is among the numbers up to n if it does
 pub list_any-at : (test : ℕ → Bool) (s n : ℕ) → (test s ≡ true → (1 ≤ s) × (s ≤ n)) → list_any
     (λ k. test k && k == s) (numbers n) ≡ test s
-list_any-at test s zero within = elim (cases_Bool (test s))
-    [ inl passes ↦ absurd (zero_between s (within passes).0 (within passes).1) | inr fails ↦ sym fails ]
+list_any-at test s zero within = elim (cases_Bool (test s)) [
+  | inl passes ↦ absurd (zero_between s (within passes).0 (within passes).1)
+  | inr fails ↦ sym fails
+]
   where
     zero_between : (s : ℕ) → 1 ≤ s → s ≤ 0 → ⊥
     zero_between s a b = omega arith
-list_any-at test s (suc n) within = list_any-at_step test s n (suc n == s) refl within (list_any-at test s n)
+list_any-at test s (suc n) within =
+    list_any-at_step test s n (suc n == s) refl within (list_any-at test s n)
 
 module _ {K X : Type 0} where
   find-map_step : (wanted : X → Bool) (row : K → X) (k : K) (ks : List K) (found : Bool)
@@ -167,7 +182,8 @@ module _ {K X : Type 0} where
   pub find-map : (wanted : X → Bool) (row : K → X) (ks : List K)
       → find wanted (map row ks) ≡ option_map row (find (λ k. wanted (row k)) ks)
   find-map wanted row [] = refl
-  find-map wanted row (k ∷ ks) = find-map_step wanted row k ks (wanted (row k)) (find-map wanted row ks)
+  find-map wanted row (k ∷ ks) =
+      find-map_step wanted row k ks (wanted (row k)) (find-map wanted row ks)
 
 module _ {X : Type 0} where
   last_row-same : (p : Bool) (x y : X) → (p ≡ true → x ≡ y) → last_row p x ≡ last_row p y
@@ -176,13 +192,15 @@ module _ {X : Type 0} where
 
   -- rows that agree where the test passes
   pub selected-rows_same : (test : ℕ → Bool) (row row' : ℕ → X) (n : ℕ)
-      → ((k : ℕ) → k ≤ n → test k ≡ true → row k ≡ row' k) → selected test row n ≡ selected test row' n
+      → ((k : ℕ) → k ≤ n → test k ≡ true → row k ≡ row' k)
+      → selected test row n ≡ selected test row' n
   selected-rows_same test row row' zero same = refl
   selected-rows_same test row row' (suc n) same =
       selected-suc test row n
       ∙ ap (λ xs. xs ++ last_row (test (suc n)) (row (suc n)))
       (selected-rows_same test row row' n (λ k h. same k (omega arith)))
-      ∙ ap (λ xs. selected test row' n ++ xs) (last_row-same (test (suc n)) (row (suc n)) (row' (suc n))
+      ∙ ap (λ xs. selected test row' n ++ xs)
+      (last_row-same (test (suc n)) (row (suc n)) (row' (suc n))
       (same (suc n) (omega arith)))
       ∙ sym (selected-suc test row' n)
 
@@ -193,15 +211,18 @@ pub cond_none : {X : Type 0} (t : Bool) (x : X) → cond t (Some x) None ≡ Non
 cond_none true x e = cc
 cond_none false x e = refl
 
-pub is_some-cond : {X : Type 0} (t : Bool) (x : X) (found : Option X) (any : Bool) → is_some found ≡ any
+pub is_some-cond : {X : Type 0} (t : Bool) (x : X) (found : Option X) (any : Bool)
+    → is_some found ≡ any
     → is_some (cond t (Some x) found) ≡ t || any
 is_some-cond true x found any e = refl
 is_some-cond false x found any e = e
 
 -- something is found where something passes
-pub is_some-find : {X : Type 0} (test : X → Bool) (xs : List X) → is_some (find test xs) ≡ list_any test xs
+pub is_some-find : {X : Type 0} (test : X → Bool) (xs : List X)
+    → is_some (find test xs) ≡ list_any test xs
 is_some-find test [] = refl
-is_some-find test (x ∷ xs) = is_some-cond (test x) x (find test xs) (list_any test xs) (is_some-find test xs)
+is_some-find test (x ∷ xs) =
+    is_some-cond (test x) x (find test xs) (list_any test xs) (is_some-find test xs)
 
 passes-cond : (test : ℕ → Bool) (t : Bool) (k j : ℕ) (found : Option ℕ) → test k ≡ t
     → (found ≡ Some j → test j ≡ true) → cond t (Some k) found ≡ Some j → test j ≡ true
@@ -211,9 +232,11 @@ passes-cond test false k j found t later e = later e
 -- what is found passes
 pub find-passes : (test : ℕ → Bool) (ks : List ℕ) (j : ℕ) → find test ks ≡ Some j → test j ≡ true
 find-passes test [] j e = cc
-find-passes test (k ∷ ks) j e = passes-cond test (test k) k j (find test ks) refl (find-passes test ks j) e
+find-passes test (k ∷ ks) j e =
+    passes-cond test (test k) k j (find test ks) refl (find-passes test ks j) e
 
-member_step : (test : ℕ → Bool) (k n : ℕ) (same : Bool) → k == suc n ≡ same → k ≤ suc n → test k ≡ true
+member_step : (test : ℕ → Bool) (k n : ℕ) (same : Bool) → k == suc n ≡ same → k ≤ suc n
+    → test k ≡ true
     → (k ≤ n → list_any test (numbers n) ≡ true)
     → (list_any test (numbers n) || test (suc n)) ≡ true
 member_step test k n true e high t below =
@@ -225,13 +248,16 @@ member_step test k n false e high t below =
     ap (λ b. b || test (suc n)) (below low)
 
 -- a number up to n that passes
-pub list_any-member : (test : ℕ → Bool) (k n : ℕ) → 1 ≤ k → k ≤ n → test k ≡ true → list_any test (numbers n) ≡ true
+pub list_any-member : (test : ℕ → Bool) (k n : ℕ) → 1 ≤ k → k ≤ n → test k ≡ true
+    → list_any test (numbers n) ≡ true
 list_any-member test k zero low high t = absurd (omega arith)
 list_any-member test k (suc n) low high t =
-    list_any_last test n ∙ member_step test k n (k == suc n) refl high t (λ b. list_any-member test k n low b t)
+    list_any_last test n ∙ member_step test k n (k == suc n) refl high t
+    (λ b. list_any-member test k n low b t)
 
 -- where only one number can pass, and is among those up to n if it does
-pub find-only : (test : ℕ → Bool) (k n : ℕ) → ((j : ℕ) → test j ≡ true → j ≡ k) → (test k ≡ true → (1 ≤ k) × (k ≤ n))
+pub find-only : (test : ℕ → Bool) (k n : ℕ) → ((j : ℕ) → test j ≡ true → j ≡ k)
+    → (test k ≡ true → (1 ≤ k) × (k ≤ n))
     → find test (numbers n) ≡ cond (test k) (Some k) None
 find-only test k n only within = only_case (find test (numbers n)) (test k) refl refl
   where
@@ -254,7 +280,8 @@ find-only test k n only within = only_case (find test (numbers n)) (test k) refl
 module _ {X : Type 0} where
   -- one more number
   pub filter_map-suc : (row : ℕ → Option X) (n : ℕ)
-      → filter_map row (numbers (suc n)) ≡ filter_map row (numbers n) ++ cons_option (row (suc n)) []
+      → filter_map row (numbers (suc n))
+      ≡ filter_map row (numbers n) ++ cons_option (row (suc n)) []
   filter_map-suc row n = filter_map-append row (numbers n) (suc n ∷ [])
 
   -- rows that agree on the numbers up to n
@@ -263,12 +290,15 @@ module _ {X : Type 0} where
   filter_map-same row row' zero same = refl
   filter_map-same row row' (suc n) same =
       filter_map-suc row n
-      ∙ ap (λ xs. xs ++ cons_option (row (suc n)) []) (filter_map-same row row' n (λ k below. same k (omega arith)))
-      ∙ ap (λ found. filter_map row' (numbers n) ++ cons_option found []) (same (suc n) (omega arith))
+      ∙ ap (λ xs. xs ++ cons_option (row (suc n)) [])
+      (filter_map-same row row' n (λ k below. same k (omega arith)))
+      ∙ ap (λ found. filter_map row' (numbers n) ++ cons_option found [])
+      (same (suc n) (omega arith))
       ∙ sym (filter_map-suc row' n)
 
   then_step : (change : X → Option X) (found : Option X) (xs : List X)
-      → filter_map change (cons_option found xs) ≡ cons_option (option_and_then change found) (filter_map change xs)
+      → filter_map change (cons_option found xs)
+      ≡ cons_option (option_and_then change found) (filter_map change xs)
   then_step change None xs = refl
   then_step change (Some x) xs = refl
 
@@ -294,7 +324,8 @@ module _ {X : Type 0} where
       ∙ ap (cons_option (cond (test x) None (Some x))) (filter_map-kept test xs)
 
   -- a change of rows that ends none
-  pub filter_map-changed : (change : X → X) (xs : List X) → map change xs ≡ filter_map (λ x. Some (change x)) xs
+  pub filter_map-changed : (change : X → X) (xs : List X)
+      → map change xs ≡ filter_map (λ x. Some (change x)) xs
   filter_map-changed change [] = refl
   filter_map-changed change (x ∷ xs) = ap (λ rest. change x ∷ rest) (filter_map-changed change xs)
 
@@ -305,7 +336,8 @@ module _ {X : Type 0} where
     wanted_found k x rest rows e later true = sym e
     wanted_found k x rest rows e later false = later
 
-    found_step : (k : ℕ) (rest : Option ℕ) (rows : List X) → find wanted rows ≡ option_and_then row rest
+    found_step : (k : ℕ) (rest : Option ℕ) (rows : List X)
+        → find wanted rows ≡ option_and_then row rest
         → (found : Option X) → row k ≡ found
         → find wanted (cons_option found rows) ≡ option_and_then row
         (cond (option_map_or wanted found false) (Some k) rest)
@@ -314,13 +346,15 @@ module _ {X : Type 0} where
 
     -- the first row that is wanted is that of the first number whose row is
     pub find-filter_map : (ks : List ℕ)
-        → find wanted (filter_map row ks) ≡ option_and_then row (find (λ k. option_map_or wanted (row k) false) ks)
+        → find wanted (filter_map row ks)
+        ≡ option_and_then row (find (λ k. option_map_or wanted (row k) false) ks)
     find-filter_map [] = refl
     find-filter_map (k ∷ ks) =
         found_step k (find (λ j. option_map_or wanted (row j) false) ks) (filter_map row ks)
         (find-filter_map ks) (row k) refl
 
-  module _ (P : X → Type 0) (row : ℕ → Option X) (each : (k : ℕ) (x : X) → row k ≡ Some x → P x) where
+  module _ (P : X → Type 0) (row : ℕ → Option X)
+      (each : (k : ℕ) (x : X) → row k ≡ Some x → P x) where
     All-last : (k : ℕ) (found : Option X) → row k ≡ found → All P (cons_option found [])
     All-last k None e = All-nil P
     All-last k (Some x) e = All-cons P x [] (each k x e) (All-nil P)
@@ -333,26 +367,32 @@ module _ {X : Type 0} where
         (All-append P (filter_map row (numbers n)) (cons_option (row (suc n)) []) (All-filter_map n)
         (All-last (suc n) (row (suc n)) refl))
 
-  module _ (number : X → ℕ) (row : ℕ → Option X) (numbered : (k : ℕ) (x : X) → row k ≡ Some x → number x ≡ k) where
-    wanted_number : (wanted : X → Bool) (k : ℕ) (x : X) (rest : List ℕ) (rows : List X) → number x ≡ k
+  module _ (number : X → ℕ) (row : ℕ → Option X)
+      (numbered : (k : ℕ) (x : X) → row k ≡ Some x → number x ≡ k) where
+    wanted_number : (wanted : X → Bool) (k : ℕ) (x : X) (rest : List ℕ) (rows : List X)
+        → number x ≡ k
         → map number (filter wanted rows) ≡ rest → (t : Bool)
         → map number (cond t (x ∷ filter wanted rows) (filter wanted rows)) ≡ cond t (k ∷ rest) rest
     wanted_number wanted k x rest rows same later true = rw (same, later)
     wanted_number wanted k x rest rows same later false = later
 
-    number_step : (wanted : X → Bool) (k : ℕ) (rest : List ℕ) (rows : List X) → map number (filter wanted rows) ≡ rest
+    number_step : (wanted : X → Bool) (k : ℕ) (rest : List ℕ) (rows : List X)
+        → map number (filter wanted rows) ≡ rest
         → (found : Option X) → row k ≡ found
-        → map number (filter wanted (cons_option found rows)) ≡ cond (option_map_or wanted found false) (k ∷ rest) rest
+        → map number (filter wanted (cons_option found rows))
+        ≡ cond (option_map_or wanted found false) (k ∷ rest) rest
     number_step wanted k rest rows later None e = later
     number_step wanted k rest rows later (Some x) e =
         wanted_number wanted k x rest rows (numbered k x e) later (wanted x)
 
     -- the numbers of the rows that are wanted
     pub map-filter_map : (wanted : X → Bool) (ks : List ℕ)
-        → map number (filter wanted (filter_map row ks)) ≡ filter (λ k. option_map_or wanted (row k) false) ks
+        → map number (filter wanted (filter_map row ks))
+        ≡ filter (λ k. option_map_or wanted (row k) false) ks
     map-filter_map wanted [] = refl
     map-filter_map wanted (k ∷ ks) =
-        number_step wanted k (filter (λ j. option_map_or wanted (row j) false) ks) (filter_map row ks)
+        number_step wanted k (filter (λ j. option_map_or wanted (row j) false) ks)
+        (filter_map row ks)
         (map-filter_map wanted ks) (row k) refl
 
     last_below : (n : ℕ) (found : Option X) → row (suc n) ≡ found
@@ -360,13 +400,15 @@ module _ {X : Type 0} where
     last_below n None e = All-nil (λ x. number x < suc (suc n))
     last_below n (Some y) e =
         let same = numbered (suc n) y e in
-        All-cons (λ x. number x < suc (suc n)) y [] (omega arith) (All-nil (λ x. number x < suc (suc n)))
+        All-cons (λ x. number x < suc (suc n)) y [] (omega arith)
+        (All-nil (λ x. number x < suc (suc n)))
 
     rows-below : (n : ℕ) → All (λ x. number x < suc n) (filter_map row (numbers n))
     rows-below zero = All-nil (λ x. number x < 1)
     rows-below (suc n) =
         subst (All (λ x. number x < suc (suc n))) (sym (filter_map-suc row n))
-        (All-append (λ x. number x < suc (suc n)) (filter_map row (numbers n)) (cons_option (row (suc n)) [])
+        (All-append (λ x. number x < suc (suc n)) (filter_map row (numbers n))
+        (cons_option (row (suc n)) [])
         (All-weaker (λ x. number x < suc n) (λ x. number x < suc (suc n)) (λ x below. omega arith)
         (filter_map row (numbers n)) (rows-below n))
         (last_below n (row (suc n)) refl))
@@ -375,14 +417,16 @@ module _ {X : Type 0} where
         → AllPairs (λ x y. number x < number y) (filter_map row (numbers n))
         → AllPairs (λ x y. number x < number y) (filter_map row (numbers n) ++ cons_option found [])
     push_case n None e rise =
-        subst (AllPairs (λ x y. number x < number y)) (sym (append-nil (filter_map row (numbers n)))) rise
+        subst (AllPairs (λ x y. number x < number y))
+        (sym (append-nil (filter_map row (numbers n)))) rise
     push_case n (Some y) e rise =
         let same = numbered (suc n) y e in
         all_pairs_push (λ x y. number x < number y) (filter_map row (numbers n)) y rise
         (λ k d within. omega (arith, rows-below n k d within))
 
     -- the rows stand in the order of their numbers
-    pub AllPairs-filter_map : (n : ℕ) → AllPairs (λ x y. number x < number y) (filter_map row (numbers n))
+    pub AllPairs-filter_map : (n : ℕ)
+        → AllPairs (λ x y. number x < number y) (filter_map row (numbers n))
     AllPairs-filter_map zero = λ i j d low within. absurd (omega arith)
     AllPairs-filter_map (suc n) =
         subst (AllPairs (λ x y. number x < number y)) (sym (filter_map-suc row n))

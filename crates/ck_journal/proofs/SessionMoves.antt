@@ -1,5 +1,6 @@
 -- How sessions move by one entry
-use Rattle.std.proofs.Common.{◌≡◌, ℕ, suc, ◌≤◌, Bool, true, false, cond, not, ◌&&◌, List, [], ◌∷◌, ◌++◌}
+use Rattle.std.proofs.Common.{◌≡◌, ℕ, suc, ◌≤◌, Bool, true, false, cond, not, ◌&&◌, List, [], ◌∷◌}
+use Rattle.std.proofs.Common.{◌++◌}
 use Rattle.std.proofs.Common.{Option, Some, None, sym, refl, ap, ◌∙◌, arith}
 use Rattle.std.specs.Prelude.{◌==◌, ◌||◌, length, filter, find, is_some, option_map}
 use Rattle.std.specs.List.{list_any}
@@ -11,7 +12,8 @@ use Rattle.ck_journal.specs.declared.calls.Call.{Call}
 use Rattle.ck_journal.specs.declared.calls.Call.TheVariants as call
 use Rattle.ck_journal.specs.declared.calls.Entry.{Entry}
 use Rattle.ck_journal.specs.Histories.{History, start, ◌◁◌, done}
-use Rattle.ck_journal.specs.Sessions.{opens, openings, closes, is_open, opening_flags, flags_of, open_sessions}
+use Rattle.ck_journal.specs.Sessions.{opens, openings, closes, is_open, opening_flags, flags_of}
+use Rattle.ck_journal.specs.Sessions.{open_sessions}
 use Rattle.ck_journal.specs.Sessions.{numbers}
 use Rattle.ck_journal.proofs.NumberTests.{below_suc, same_number, ended_test}
 use Rattle.ck_journal.proofs.Selections.{selected, selected-suc, selected-same, selected-rows_same}
@@ -24,7 +26,8 @@ abbrev openings_step : Option Call → ℕ → ℕ
 openings_step done count = cond (opens done) (suc count) count
 
 abbrev is_open_step : Option Call → ℕ → ℕ → Bool → Bool
-is_open_step done count s was_open = cond (opens done && s == suc count) true (cond (closes done s) false was_open)
+is_open_step done count s was_open =
+    cond (opens done && s == suc count) true (cond (closes done s) false was_open)
 
 abbrev flags_step : Option Call → ℕ → ℕ → ℕ → ℕ
 flags_step done count s flags = cond (opens done && s == suc count) (opening_flags done) flags
@@ -69,7 +72,8 @@ module _ (e : Entry) (h : History) where
         ∙ selected-suc (is_open (e ◁ h)) (row (e ◁ h)) (openings h)
         ∙ rw is_open-opened
         (ap (λ rows. rows ++ row (e ◁ h) (suc (openings h)) ∷ [])
-        (selected-same (is_open (e ◁ h)) (is_open h) (row (e ◁ h)) (row h) (openings h) is_open-below same))
+        (selected-same (is_open (e ◁ h)) (is_open h) (row (e ◁ h)) (row h)
+        (openings h) is_open-below same))
 
   -- ---- an entry that opens nothing
 
@@ -79,37 +83,48 @@ module _ (e : Entry) (h : History) where
 
     is_open-later : (k : ℕ) → is_open (e ◁ h) k ≡ is_open h k && not (closes (done e) k)
     is_open-later k =
-        ap (λ t. cond (t && k == suc (openings h)) true (cond (closes (done e) k) false (is_open h k))) no_opening
+        ap (λ t. cond (t && k == suc (openings h)) true
+        (cond (closes (done e) k) false (is_open h k))) no_opening
         ∙ ended_test (closes (done e) k) (is_open h k)
 
     pub flags_of-later : (k : ℕ) → flags_of (e ◁ h) k ≡ flags_of h k
-    flags_of-later k = ap (λ t. cond (t && k == suc (openings h)) (opening_flags (done e)) (flags_of h k)) no_opening
+    flags_of-later k =
+        ap (λ t. cond (t && k == suc (openings h)) (opening_flags (done e)) (flags_of h k))
+        no_opening
 
     -- the rows of the sessions that it doesn't close stay
     pub session_rows-later : {X : Type 0} (row : History → ℕ → X)
-        → ((k : ℕ) → k ≤ openings h → (is_open h k && not (closes (done e) k)) ≡ true → row (e ◁ h) k ≡ row h k)
-        → session_rows row (e ◁ h) ≡ selected (λ k. is_open h k && not (closes (done e) k)) (row h) (openings h)
+        → ((k : ℕ) → k ≤ openings h → (is_open h k && not (closes (done e) k)) ≡ true
+        → row (e ◁ h) k ≡ row h k)
+        → session_rows row (e ◁ h)
+        ≡ selected (λ k. is_open h k && not (closes (done e) k)) (row h) (openings h)
     session_rows-later row same =
         ap (λ n. selected (is_open (e ◁ h)) (row (e ◁ h)) n) openings-later
-        ∙ selected-same (is_open (e ◁ h)) (λ k. is_open h k && not (closes (done e) k)) (row (e ◁ h))
+        ∙ selected-same (is_open (e ◁ h)) (λ k. is_open h k && not (closes (done e) k))
+        (row (e ◁ h))
         (row (e ◁ h)) (openings h) (λ k below. is_open-later k) (λ k below. refl)
-        ∙ selected-rows_same (λ k. is_open h k && not (closes (done e) k)) (row (e ◁ h)) (row h) (openings h) same
+        ∙ selected-rows_same (λ k. is_open h k && not (closes (done e) k)) (row (e ◁ h)) (row h)
+        (openings h) same
 
     -- where it closes nothing either all stay, with what it makes of their rows
-    pub session_rows-changed : {X : Type 0} (row : History → ℕ → X) → ((s : ℕ) → closes (done e) s ≡ false)
+    pub session_rows-changed : {X : Type 0} (row : History → ℕ → X)
+        → ((s : ℕ) → closes (done e) s ≡ false)
         → session_rows row (e ◁ h) ≡ selected (is_open h) (row (e ◁ h)) (openings h)
     session_rows-changed row no_closing =
         ap (λ n. selected (is_open (e ◁ h)) (row (e ◁ h)) n) openings-later
         ∙ selected-same (is_open (e ◁ h)) (is_open h) (row (e ◁ h)) (row (e ◁ h)) (openings h)
-        (λ k below. is_open-later k ∙ ap (λ t. is_open h k && not t) (no_closing k) ∙ and-true (is_open h k))
+        (λ k below. is_open-later k ∙ ap (λ t. is_open h k && not t) (no_closing k)
+        ∙ and-true (is_open h k))
         (λ k below. refl)
 
-    pub session_rows-same : {X : Type 0} (row : History → ℕ → X) → ((k : ℕ) → row (e ◁ h) k ≡ row h k)
+    pub session_rows-same : {X : Type 0} (row : History → ℕ → X)
+        → ((k : ℕ) → row (e ◁ h) k ≡ row h k)
         → ((s : ℕ) → closes (done e) s ≡ false)
         → session_rows row (e ◁ h) ≡ session_rows row h
     session_rows-same row same no_closing =
         session_rows-changed row no_closing
-        ∙ selected-rows_same (is_open h) (row (e ◁ h)) (row h) (openings h) (λ k below passes. same k)
+        ∙ selected-rows_same (is_open h) (row (e ◁ h)) (row h) (openings h)
+        (λ k below passes. same k)
 
 -- ---- an open session is one of those opened
 
@@ -120,14 +135,16 @@ within_step : (e : Entry) (h : History) (s : ℕ) → (is_open h s ≡ true → 
 within_step e h s below true closed true o same is_so = let e : s ≡ suc (openings h) = eqb-true s
     (suc (openings h)) same in (omega arith, omega arith)
 within_step e h s below true true false o same is_so = cc
-within_step e h s below true false false o same is_so = let b = below is_so in (omega arith, omega arith)
+within_step e h s below true false false o same is_so =
+    let b = below is_so in (omega arith, omega arith)
 within_step e h s below false true same o n is_so = cc
 within_step e h s below false false same o n is_so = below is_so
 
 pub is_open-within : (h : History) (s : ℕ) → is_open h s ≡ true → (1 ≤ s) × (s ≤ openings h)
 is_open-within (start b) s is_so = cc
 is_open-within (e ◁ h) s is_so =
-    within_step e h s (is_open-within h s) (opens (done e)) (closes (done e) s) (s == suc (openings h)) refl refl is_so
+    within_step e h s (is_open-within h s) (opens (done e)) (closes (done e) s)
+    (s == suc (openings h)) refl refl is_so
 
 some-passes : (test other : ℕ → Bool) (ks : List ℕ)
     → list_any (λ k. test k && other k) ks ≡ true → length (filter test ks) == 0 ≡ false
@@ -166,7 +183,8 @@ module _ {X : Type 0} (row : ℕ → X) (h : History) (session : ℕ) where
       → option_map row found ≡ cond (is_open h session) (Some (row session)) None
   found-row None f e = ap (λ t. cond t (Some (row session)) None) e
   found-row (Some k) f e =
-      let same : k ≡ session = eqb-true k session (find-passes (λ j. j == session) (open_sessions h) k f) in
+      let same : k ≡ session =
+      eqb-true k session (find-passes (λ j. j == session) (open_sessions h) k f) in
       ap (λ j. Some (row j)) same ∙ ap (λ t. cond t (Some (row session)) None) e
 
   -- it is there where the session is open

@@ -35,7 +35,8 @@ read-value None room bytes e = cc
 read-value (Some value) None bytes e = cc
 read-value (Some value) (Some room) bytes e = cases (nat_lt room (length value)) e
   where
-    cases : (longer : Bool) → cond longer answer.Unavailable (answer.Value value) ≡ answer.Value bytes
+    cases : (longer : Bool) → cond longer answer.Unavailable (answer.Value value)
+        ≡ answer.Value bytes
         → Some value ≡ Some bytes
     cases true e = cc
     cases false e = cc

@@ -1,6 +1,6 @@
 -- Who sees private objects
 use Rattle.std.proofs.Common.{◌≡◌, ℕ, Bool, true, false, not, ◌||◌}
-use Rattle.std.proofs.Common.{List, Option, Some, None, sym, ◌∙◌, subst}
+use Rattle.std.proofs.Common.{List, Option, Some, None, refl, sym, ap, ◌∙◌, subst}
 use Rattle.std.specs.Prelude.{◌==◌}
 use Rattle.std.proofs.lemmas.Bool.{and_parts}
 use Rattle.std.proofs.lemmas.Option.{none-some, same_Some}
@@ -14,12 +14,16 @@ use Rattle.ck_types.specs.declared.users.UserType.TheVariants as user
 use Rattle.ck_journal.specs.declared.calls.Call.{Call}
 use Rattle.ck_journal.specs.declared.calls.Call.TheVariants as call
 use Rattle.ck_journal.specs.declared.operations.OperationKind.TheVariants as kind
-use Rattle.ck_journal.specs.Answers.{call_error}
+use Rattle.ck_journal.specs.declared.replies.Answer.{Answer}
+use Rattle.ck_journal.specs.declared.replies.Body.TheVariants as body
+use Rattle.ck_journal.specs.declared.replies.Reply.{Reply}
+use Rattle.ck_journal.specs.Answers.{answer, unless, call_error, get_attribute_value_error}
 use Rattle.ck_journal.specs.Answers.{session_error, object_error, key_error}
 use Rattle.ck_journal.specs.Histories.{History}
 use Rattle.ck_journal.specs.Laws.{IsPrivate, named_handle}
 use Rattle.ck_journal.specs.Laws.{PrivateObjectsAreVisibleToTheUser}
 use Rattle.ck_journal.specs.Laws.{PrivateObjectsAreNamedByTheUser}
+use Rattle.ck_journal.specs.Laws.{PrivateAttributesAreGivenToTheUser}
 use Rattle.ck_journal.specs.Objects.{object_at, object_named}
 use Rattle.ck_journal.specs.Objects.{attributes_named, view_of, is_user_in}
 use Rattle.ck_journal.specs.Objects.{is_visible_with, handle_with}
@@ -53,7 +57,7 @@ private-visible limits h good n private visible =
 -- ---- objects that calls name
 
 -- an object that a handle names is visible
-named-login : (h : History) (handle n : ℕ) → object_named h handle ≡ Some n → IsPrivate h n
+pub named-login : (h : History) (handle n : ℕ) → object_named h handle ≡ Some n → IsPrivate h n
     → login h ≡ Some user.User
 named-login h handle n named private =
     let there = named-passes h handle n named in
@@ -113,6 +117,25 @@ private-named limits e h good handle names =
     let named = by-done limits e h good.legal
     (λ d. named_handle d ≡ Some handle → (n : ℕ) × (object_named h handle ≡ Some n))
     (λ t. cc) (λ c p. call-names limits h c p handle) names in
+    record {
+      number = named.0;
+      named = named.1;
+      login = named-login h handle named.0 named.1;
+    }
+
+-- a refused call gives no attributes
+given-unrefused : (error : Option RvError) (reply : Reply) (answers : List Answer)
+    → (unless error reply).body ≡ body.Attributes answers → error ≡ None
+given-unrefused None reply answers e = refl
+given-unrefused (Some code) reply answers e = cc
+
+pub private-attributes : PrivateAttributesAreGivenToTheUser
+private-attributes limits e h good handle gives =
+    let reply = good.legal.0 ∙ ap (answer limits h) gives.asks in
+    let passes = given-unrefused (get_attribute_value_error h gives.session handle) _ gives.answers
+    (sym (ap (λ (r : Reply). r.body) reply) ∙ gives.returns) in
+    let named = call-names limits h (call.GetAttributeValue gives.session handle gives.queries)
+    passes handle refl in
     record {
       number = named.0;
       named = named.1;

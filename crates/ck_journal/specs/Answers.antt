@@ -127,7 +127,7 @@ logged_in_error u (Some other) =
     Some (if same_user u other then rv_error.UserAlreadyLoggedIn
     else rv_error.UserAnotherAlreadyLoggedIn)
 
--- the security officer logs in beside read/write sessions alone
+-- the security officer logs in only beside read/write sessions
 abbrev pub read_only_error : UserType → History → Option RvError
 read_only_error user.So h =
     error_if (list_any (λ s. not (is_read_write h s)) (open_sessions h))
@@ -330,8 +330,8 @@ present_key_error k h (Some n) =
 abbrev pub piece_error : List ℕ → Option RvError
 piece_error bytes = error_if (is_long_piece bytes) rv_error.DataLenRange
 
--- a message that comes as a whole; one that was begun by updates is finished by the kind's final
--- call alone
+-- a message that comes as a whole; one that was begun by updates is finished only by the kind's
+-- final call
 abbrev pub message_error : OperationKind → History → ℕ → List ℕ → Option RvError
 message_error k h session bytes = first_of (
     operation_error k h session

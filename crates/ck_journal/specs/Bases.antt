@@ -47,10 +47,10 @@ pub record IsProtected (attributes : List Item) : Type 0 where
   pub unextractable : is_set attributes attribute.NeverExtractable ≡ true
       → is_set attributes attribute.Extractable ≡ false
 
--- a base that the calls of a token can leave: the security officer has a PIN exactly where the
--- token is initialized, no user has made more than three wrong tries, the counts are in range, and
--- the objects are token objects whose numbers rise from 1 to the count of creations, and each is
--- protected (IsProtected)
+-- a sound base has what every base that calls leave has: the security officer has a PIN exactly
+-- where the token is initialized, no user has made more than three wrong tries, the counts are in
+-- range, and the objects are token objects whose numbers rise from 1 to the count of creations, and
+-- each is protected (IsProtected)
 pub record IsSound (b : Base) : Type 0 where
   pub so_pin : is_some b.so ≡ b.initialized
   pub so_tries : b.so_tries ≤ 3

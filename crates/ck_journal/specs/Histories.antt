@@ -1,4 +1,4 @@
--- A history is a base and the answered calls since: `start b` is the base b alone, and `e ◁ h` is
+-- A history is a base and the answered calls since: `start b` is the base b only, and `e ◁ h` is
 -- the history h and then the entry e. A front of a history is what is left where its last entries
 -- are taken away.
 use Rattle.std.specs.Prelude.{ℕ, suc, Bool, true, false, List, [], ◌∷◌, Option, Some, None, ◌==◌}

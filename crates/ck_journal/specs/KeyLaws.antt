@@ -1,5 +1,5 @@
 -- What is so in every history that is legal from a sound base: laws of what keys reveal, of their
--- states and of what protects them
+-- states and of their copies
 use Rattle.std.specs.Prelude.{◌≡◌, ℕ, suc, Bool, true, false, List, Option, Some, ◌==◌}
 use Rattle.std.specs.List.{slice_get}
 use Rattle.ck_objects.specs.Attributes.{type_of}
@@ -19,7 +19,7 @@ use Rattle.ck_journal.specs.declared.operations.OperationKind.TheVariants as kin
 use Rattle.ck_journal.specs.declared.replies.Answer.{Answer}
 use Rattle.ck_journal.specs.declared.replies.Answer.TheVariants as answer
 use Rattle.ck_journal.specs.declared.replies.Body.TheVariants as body
-use Rattle.ck_journal.specs.Histories.{History, ◌◁◌, followed_by, done}
+use Rattle.ck_journal.specs.Histories.{History, ◌◁◌, done}
 use Rattle.ck_journal.specs.Laws.{IsSoundHistory}
 use Rattle.ck_journal.specs.Objects.{creations, object_at, attributes_named}
 use Rattle.ck_journal.specs.Operations.{key_in}
@@ -86,29 +86,13 @@ VerifyingKeysMayVerify =
     (limits : Ranges) (e : Entry) (h : History) → IsSoundHistory limits (e ◁ h) → (session : ℕ)
     → verifies (done e) session ≡ true → HasKey kind.Verify may_verify h session
 
--- ---- what protects keys
+-- ---- copies of keys
 
 abbrev pub is_sensitive_key : List Item → Bool
 is_sensitive_key attributes = is_set attributes attribute.Sensitive
 
 abbrev pub is_extractable : List Item → Bool
 is_extractable attributes = is_set attributes attribute.Extractable
-
--- a key that is sensitive at a front is sensitive at every later one where it is there
-abbrev pub SensitiveStays : Type 0
-SensitiveStays =
-    (limits : Ranges) (h : History) (later : List Entry)
-    → IsSoundHistory limits (followed_by h later) → (n : ℕ) (before now : List Item)
-    → object_at h n ≡ Some before → object_at (followed_by h later) n ≡ Some now
-    → is_sensitive_key before ≡ true → is_sensitive_key now ≡ true
-
--- one that isn't extractable stays so
-abbrev pub UnextractableStays : Type 0
-UnextractableStays =
-    (limits : Ranges) (h : History) (later : List Entry)
-    → IsSoundHistory limits (followed_by h later) → (n : ℕ) (before now : List Item)
-    → object_at h n ≡ Some before → object_at (followed_by h later) n ≡ Some now
-    → is_extractable before ≡ false → is_extractable now ≡ false
 
 -- the entry creates a copy of an object with these attributes, and these are those of the copy
 pub record Copies (e : Entry) (h : History) (source copy : List Item) : Type 0 where
@@ -132,21 +116,3 @@ CopiesStayUnextractable =
     (limits : Ranges) (e : Entry) (h : History) → IsSoundHistory limits (e ◁ h)
     → (source copy : List Item) → Copies e h source copy
     → is_extractable source ≡ false → is_extractable copy ≡ false
-
--- a key of which ALWAYS_SENSITIVE is true at a front was sensitive at every earlier one where it
--- was there, and is at this one
-abbrev pub AlwaysSensitiveIsTrue : Type 0
-AlwaysSensitiveIsTrue =
-    (limits : Ranges) (h : History) (later : List Entry)
-    → IsSoundHistory limits (followed_by h later) → (n : ℕ) (before now : List Item)
-    → object_at h n ≡ Some before → object_at (followed_by h later) n ≡ Some now
-    → is_set now attribute.AlwaysSensitive ≡ true → is_sensitive_key before ≡ true
-
--- a key of which NEVER_EXTRACTABLE is true at a front was extractable at no earlier one, and isn't
--- at this one
-abbrev pub NeverExtractableIsTrue : Type 0
-NeverExtractableIsTrue =
-    (limits : Ranges) (h : History) (later : List Entry)
-    → IsSoundHistory limits (followed_by h later) → (n : ℕ) (before now : List Item)
-    → object_at h n ≡ Some before → object_at (followed_by h later) n ≡ Some now
-    → is_set now attribute.NeverExtractable ≡ true → is_extractable before ≡ false

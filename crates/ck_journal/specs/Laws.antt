@@ -1,5 +1,5 @@
--- What is so in every history that is legal from a sound base: laws of handles, sessions, wrong
--- tries and of who sees private objects
+-- What is so in every history that is legal from a sound base: laws of wrong tries, of session
+-- objects and of who sees private objects
 use Rattle.std.specs.Prelude.{◌≡◌, ℕ, ◌≤◌, Bool, true, false, List, [], ◌∷◌, Option, Some, None}
 use Rattle.std.specs.Prelude.{if◌then◌else◌}
 use Rattle.std.specs.List.{slice_get}
@@ -9,21 +9,21 @@ use Rattle.ck_objects.specs.declared.attributes.Attribute.TheVariants as attribu
 use Rattle.ck_objects.specs.declared.items.Item.{Item}
 use Rattle.ck_types.specs.declared.users.UserType.{UserType}
 use Rattle.ck_types.specs.declared.users.UserType.TheVariants as user
+use Rattle.ck_journal.specs.declared.calls.AttributeQuery.{AttributeQuery}
 use Rattle.ck_journal.specs.declared.calls.Call.{Call}
 use Rattle.ck_journal.specs.declared.calls.Call.TheVariants as call
 use Rattle.ck_journal.specs.declared.calls.Entry.{Entry}
-use Rattle.ck_journal.specs.declared.operations.OperationKind.{OperationKind}
+use Rattle.ck_journal.specs.declared.replies.Answer.{Answer}
 use Rattle.ck_journal.specs.declared.replies.Body.{Body}
 use Rattle.ck_journal.specs.declared.replies.Body.TheVariants as body
 use Rattle.ck_journal.specs.Answers.{IsLegal}
 use Rattle.ck_journal.specs.Bases.{IsSound}
-use Rattle.ck_journal.specs.Histories.{History, ◌◁◌, start_of, followed_by, done}
+use Rattle.ck_journal.specs.Histories.{History, ◌◁◌, start_of, done}
 use Rattle.ck_journal.specs.Objects.{object_at, object_named, session_of, is_session_object}
-use Rattle.ck_journal.specs.Objects.{is_visible, creates, handle_of, names_with, view_of}
-use Rattle.ck_journal.specs.Operations.{is_active, key_in}
+use Rattle.ck_journal.specs.Objects.{is_visible, creates, handle_of}
 use Rattle.ck_journal.specs.Pins.{tries}
 use Rattle.ck_journal.specs.Searches.{handles_in}
-use Rattle.ck_journal.specs.Sessions.{opens, is_open, login}
+use Rattle.ck_journal.specs.Sessions.{is_open, login}
 
 -- the limits are in range, the base is sound and every reply is the answer at its front
 pub record IsSoundHistory (limits : Ranges) (h : History) : Type 0 where
@@ -31,32 +31,7 @@ pub record IsSoundHistory (limits : Ranges) (h : History) : Type 0 where
   pub sound : IsSound (start_of h)
   pub legal : IsLegal limits h
 
--- ---- handles and wrong tries
-
--- the handle names the object of this number: that is there and visible, and has the handle
-pub record Names (h : History) (handle n : ℕ) : Type 0 where
-  pub attributes : List Item
-  pub present : object_at h n ≡ Some attributes
-  pub named : names_with (view_of h) attributes handle n ≡ true
-
--- a handle names at most one object, at one front and over all
-abbrev pub HandlesNameOneObject : Type 0
-HandlesNameOneObject =
-    (limits : Ranges) (h : History) (later : List Entry)
-    → IsSoundHistory limits (followed_by h later) → (handle n m : ℕ)
-    → Names h handle n → Names (followed_by h later) handle m → n ≡ m
-
--- the entry opens a session and returns this handle
-pub record GivesSession (e : Entry) (handle : ℕ) : Type 0 where
-  pub opens : opens (done e) ≡ true
-  pub returns : e.reply.body ≡ body.Handle handle
-
--- no two sessions are given one handle
-abbrev pub SessionHandlesAreGivenOnce : Type 0
-SessionHandlesAreGivenOnce =
-    (limits : Ranges) (h : History) (first : Entry) (later : List Entry) (second : Entry)
-    → IsSoundHistory limits (second ◁ followed_by (first ◁ h) later) → (handle : ℕ)
-    → GivesSession first handle → GivesSession second handle → ⊥
+-- ---- wrong tries
 
 -- wrong tries never pass three
 abbrev pub TriesAreAtMostThree : Type 0
@@ -110,6 +85,21 @@ PrivateObjectsAreNamedByTheUser =
     (limits : Ranges) (e : Entry) (h : History) → IsSoundHistory limits (e ◁ h) → (handle : ℕ)
     → named_handle (done e) ≡ Some handle → NamesObject h handle
 
+-- the entry answers a C_GetAttributeValue of this handle with attributes, whatever its code
+pub record GivesAttributes (e : Entry) (handle : ℕ) : Type 0 where
+  pub session : ℕ
+  pub queries : List AttributeQuery
+  pub answers : List Answer
+  pub asks : e.call ≡ call.GetAttributeValue session handle queries
+  pub returns : e.reply.body ≡ body.Attributes answers
+
+-- a handle whose attributes are given names an object just before, and the normal user is logged in
+-- there if the object is private
+abbrev pub PrivateAttributesAreGivenToTheUser : Type 0
+PrivateAttributesAreGivenToTheUser =
+    (limits : Ranges) (e : Entry) (h : History) → IsSoundHistory limits (e ◁ h) → (handle : ℕ)
+    → GivesAttributes e handle → NamesObject h handle
+
 abbrev pub searches : Option Call → Bool
 searches (Some (call.FindObjects session max)) = true
 searches other = false
@@ -132,13 +122,3 @@ PrivateHandlesAreReturnedToTheUser =
     (limits : Ranges) (e : Entry) (h : History) → IsSoundHistory limits (e ◁ h)
     → (place handle n : ℕ) → slice_get (returned_objects e) place ≡ Some handle
     → IsPrivate (e ◁ h) n → handle_of (e ◁ h) n ≡ handle → login h ≡ Some user.User
-
--- an operation whose key was private at a front is active only while the normal user is logged in,
--- be the key there or not
-abbrev pub PrivateKeysServeTheUser : Type 0
-PrivateKeysServeTheUser =
-    (limits : Ranges) (h : History) (later : List Entry)
-    → IsSoundHistory limits (followed_by h later) → (k : OperationKind) (session n : ℕ)
-    → IsPrivate h n → is_active k (followed_by h later) session ≡ true
-    → key_in k (followed_by h later) session ≡ Some n
-    → login (followed_by h later) ≡ Some user.User

@@ -5,12 +5,13 @@ pub mod Boards
 pub mod Callers
 pub mod Cuts
 pub mod Effects
+pub mod Events
 pub mod Fronts
 pub mod Histories
 pub mod HistoryCode
 pub mod KeyLaws
 pub mod Laws
-pub mod LawsOverCuts
+pub mod LawsOverEvents
 pub mod Lists
 pub mod Objects
 pub mod OperationCalls

@@ -1,36 +1,46 @@
-//! Laws of every history that is legal from a sound base. Each function's contract is one law; it
-//! takes nothing and does nothing.
+//! Laws of every history that is legal from a sound base, and of what calls and cuts make of it, in
+//! any order and however often. Each function's contract is one law; it takes nothing and does
+//! nothing.
 ghost use Rattle.ck_journal.specs.KeyLaws.{
-  AlwaysSensitiveIsTrue,
   CopiesStaySensitive,
   CopiesStayUnextractable,
   HiddenValuesAreNotGiven,
-  NeverExtractableIsTrue,
-  SensitiveStays,
   SigningKeysMaySign,
-  UnextractableStays,
   VerifyingKeysMayVerify,
 };
 ghost use Rattle.ck_journal.specs.Laws.{
-  HandlesNameOneObject,
-  PrivateKeysServeTheUser,
+  PrivateAttributesAreGivenToTheUser,
   PrivateHandlesAreReturnedToTheUser,
   PrivateObjectsAreNamedByTheUser,
   PrivateObjectsAreVisibleToTheUser,
-  SessionHandlesAreGivenOnce,
   SessionObjectsHaveOpenSessions,
   TriesAreAtMostThree,
 };
-ghost use Rattle.ck_journal.specs.LawsOverCuts.{
-  HandlesNameOneObjectOverCuts,
-  SensitiveStaysOverCuts,
-  SessionHandlesAreGivenOnceOverCuts,
-  UnextractableStaysOverCuts,
+ghost use Rattle.ck_journal.specs.LawsOverEvents.{
+  AlwaysSensitiveIsTrue,
+  HandlesNameOneObject,
+  NeverExtractableIsTrue,
+  NewObjectsHaveNewHandles,
+  ObjectHandlesAreGivenOnce,
+  PrivateKeysServeTheUser,
+  SensitiveStays,
+  SessionHandlesAreGivenOnce,
+  UnextractableStays,
 };
 
-/// A handle names at most one object, over all fronts of a history.
+/// A handle names at most one object, at one front and over all.
 pub fn handles_name_one_object()
     ensures { HandlesNameOneObject }
+{}
+
+/// A creation returns no handle that has named an object before.
+pub fn new_objects_have_new_handles()
+    ensures { NewObjectsHaveNewHandles }
+{}
+
+/// No two creations of objects return one handle.
+pub fn object_handles_are_given_once()
+    ensures { ObjectHandlesAreGivenOnce }
 {}
 
 /// No two sessions are given one handle.
@@ -57,6 +67,12 @@ pub fn private_objects_are_visible_to_the_user()
 /// logged in just before.
 pub fn private_objects_are_named_by_the_user()
     ensures { PrivateObjectsAreNamedByTheUser }
+{}
+
+/// A reply to C_GetAttributeValue, whatever its code, has attributes only of an object that the
+/// handle names just before, and if it is private the normal user is logged in there.
+pub fn private_attributes_are_given_to_the_user()
+    ensures { PrivateAttributesAreGivenToTheUser }
 {}
 
 /// A handle of a private object is returned, by its creation or by a search, only where the normal
@@ -117,24 +133,4 @@ pub fn always_sensitive_is_true()
 /// was so at no earlier front.
 pub fn never_extractable_is_true()
     ensures { NeverExtractableIsTrue }
-{}
-
-/// A handle names at most one object, before a cut of the journal and after it.
-pub fn handles_name_one_object_over_cuts()
-    ensures { HandlesNameOneObjectOverCuts }
-{}
-
-/// No handle of a session from before a cut is given again after it.
-pub fn session_handles_are_given_once_over_cuts()
-    ensures { SessionHandlesAreGivenOnceOverCuts }
-{}
-
-/// A key that is sensitive before a cut stays so after it.
-pub fn sensitive_stays_over_cuts()
-    ensures { SensitiveStaysOverCuts }
-{}
-
-/// A key that isn't extractable before a cut stays so after it.
-pub fn unextractable_stays_over_cuts()
-    ensures { UnextractableStaysOverCuts }
 {}

@@ -10,5 +10,6 @@ returns c =
     rw (← c.self.view_is) (
       (λ t. let n = eqb-true (vec_len v) 0 (sym c.is_empty.ensures ∙ t) in no_entries b v.items
           (omega (arith, v.ok.0))),
-      (λ e. let n = only_start b v.items e in c.is_empty.ensures ∙ eq-eqb (vec_len v) 0 (omega (arith, v.ok.0))),
+      (λ e. let n = only_start b v.items e in
+          c.is_empty.ensures ∙ eq-eqb (vec_len v) 0 (omega (arith, v.ok.0))),
     )

@@ -1,0 +1,126 @@
+-- What is so between a front and every later one, whatever calls are answered in between, and
+-- however often the journal is cut: laws of handles, of what protects keys and of private keys
+use Rattle.std.specs.Prelude.{◌≡◌, ℕ, suc, Bool, true, false, List, [], ◌∷◌, Some, ◌==◌, ◌&&◌}
+use Rattle.ck_objects.specs.Records.{is_set}
+use Rattle.ck_types.specs.TokenLimits.{Ranges}
+use Rattle.ck_objects.specs.declared.attributes.Attribute.TheVariants as attribute
+use Rattle.ck_objects.specs.declared.items.Item.{Item}
+use Rattle.ck_types.specs.declared.users.UserType.TheVariants as user
+use Rattle.ck_journal.specs.declared.calls.Entry.{Entry}
+use Rattle.ck_journal.specs.declared.operations.OperationKind.{OperationKind}
+use Rattle.ck_journal.specs.declared.replies.Body.TheVariants as body
+use Rattle.ck_journal.specs.Events.{Event, answered, cut, after_events, AreSoundEvents}
+use Rattle.ck_journal.specs.Histories.{History, ◌◁◌, done}
+use Rattle.ck_journal.specs.KeyLaws.{is_sensitive_key, is_extractable}
+use Rattle.ck_journal.specs.Laws.{IsPrivate}
+use Rattle.ck_journal.specs.Objects.{creates, creations, object_at, names_with, view_of}
+use Rattle.ck_journal.specs.Operations.{is_active, key_in}
+use Rattle.ck_journal.specs.Sessions.{opens, login}
+
+-- ---- handles of objects
+
+-- the handle names the object of this number: that is there and visible, and has the handle
+pub record Names (h : History) (handle n : ℕ) : Type 0 where
+  pub attributes : List Item
+  pub present : object_at h n ≡ Some attributes
+  pub named : names_with (view_of h) attributes handle n ≡ true
+
+-- the entry creates the object of this number
+abbrev pub creates_number : Entry → History → ℕ → Bool
+creates_number e h n = creates (done e) && n == suc (creations h)
+
+-- none of the events creates an object of this number
+abbrev pub IsNotCreated : History → List Event → ℕ → Type 0
+IsNotCreated h [] n = Unit {0}
+IsNotCreated h (answered e ∷ later) n =
+    (creates_number e (after_events h later) n ≡ false) × IsNotCreated h later n
+IsNotCreated h (cut ∷ later) n = IsNotCreated h later n
+
+-- a handle names at most one object, at one front and over all: those that it names at a front and
+-- at a later one have one number, and no object of this number is created in between
+abbrev pub HandlesNameOneObject : Type 0
+HandlesNameOneObject =
+    (limits : Ranges) (h : History) (later : List Event) → AreSoundEvents limits h later
+    → (handle n m : ℕ) → Names h handle n → Names (after_events h later) handle m
+    → (n ≡ m) × IsNotCreated h later n
+
+-- the entry creates an object and returns this handle
+pub record GivesObject (e : Entry) (handle : ℕ) : Type 0 where
+  pub creates : creates (done e) ≡ true
+  pub returns : e.reply.body ≡ body.Handle handle
+
+-- a creation returns no handle that has named an object before
+abbrev pub NewObjectsHaveNewHandles : Type 0
+NewObjectsHaveNewHandles =
+    (limits : Ranges) (h : History) (later : List Event) (e : Entry)
+    → AreSoundEvents limits h (answered e ∷ later) → (handle n : ℕ)
+    → Names h handle n → GivesObject e handle → ⊥
+
+-- no two creations return one handle
+abbrev pub ObjectHandlesAreGivenOnce : Type 0
+ObjectHandlesAreGivenOnce =
+    (limits : Ranges) (h : History) (first : Entry) (later : List Event) (second : Entry)
+    → AreSoundEvents limits (first ◁ h) (answered second ∷ later) → (handle : ℕ)
+    → GivesObject first handle → GivesObject second handle → ⊥
+
+-- ---- handles of sessions
+
+-- the entry opens a session and returns this handle
+pub record GivesSession (e : Entry) (handle : ℕ) : Type 0 where
+  pub opens : opens (done e) ≡ true
+  pub returns : e.reply.body ≡ body.Handle handle
+
+-- no two sessions are given one handle
+abbrev pub SessionHandlesAreGivenOnce : Type 0
+SessionHandlesAreGivenOnce =
+    (limits : Ranges) (h : History) (first : Entry) (later : List Event) (second : Entry)
+    → AreSoundEvents limits (first ◁ h) (answered second ∷ later) → (handle : ℕ)
+    → GivesSession first handle → GivesSession second handle → ⊥
+
+-- ---- what protects keys
+
+-- a key that is sensitive at a front is sensitive at every later one where it is there
+abbrev pub SensitiveStays : Type 0
+SensitiveStays =
+    (limits : Ranges) (h : History) (later : List Event) → AreSoundEvents limits h later
+    → (n : ℕ) (before now : List Item)
+    → object_at h n ≡ Some before → object_at (after_events h later) n ≡ Some now
+    → is_sensitive_key before ≡ true → is_sensitive_key now ≡ true
+
+-- one that isn't extractable stays so
+abbrev pub UnextractableStays : Type 0
+UnextractableStays =
+    (limits : Ranges) (h : History) (later : List Event) → AreSoundEvents limits h later
+    → (n : ℕ) (before now : List Item)
+    → object_at h n ≡ Some before → object_at (after_events h later) n ≡ Some now
+    → is_extractable before ≡ false → is_extractable now ≡ false
+
+-- a key of which ALWAYS_SENSITIVE is true at a front was sensitive at every earlier one where it
+-- was there, and is at this one
+abbrev pub AlwaysSensitiveIsTrue : Type 0
+AlwaysSensitiveIsTrue =
+    (limits : Ranges) (h : History) (later : List Event) → AreSoundEvents limits h later
+    → (n : ℕ) (before now : List Item)
+    → object_at h n ≡ Some before → object_at (after_events h later) n ≡ Some now
+    → is_set now attribute.AlwaysSensitive ≡ true → is_sensitive_key before ≡ true
+
+-- a key of which NEVER_EXTRACTABLE is true at a front was extractable at no earlier one, and isn't
+-- at this one
+abbrev pub NeverExtractableIsTrue : Type 0
+NeverExtractableIsTrue =
+    (limits : Ranges) (h : History) (later : List Event) → AreSoundEvents limits h later
+    → (n : ℕ) (before now : List Item)
+    → object_at h n ≡ Some before → object_at (after_events h later) n ≡ Some now
+    → is_set now attribute.NeverExtractable ≡ true → is_extractable before ≡ false
+
+-- ---- private keys
+
+-- an operation whose key was private at a front is active only while the normal user is logged in,
+-- be the key there or not
+abbrev pub PrivateKeysServeTheUser : Type 0
+PrivateKeysServeTheUser =
+    (limits : Ranges) (h : History) (later : List Event) → AreSoundEvents limits h later
+    → (k : OperationKind) (session n : ℕ)
+    → IsPrivate h n → is_active k (after_events h later) session ≡ true
+    → key_in k (after_events h later) session ≡ Some n
+    → login (after_events h later) ≡ Some user.User
