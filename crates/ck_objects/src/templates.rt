@@ -14,22 +14,12 @@ use crate::items::{
 };
 use crate::object_flags::{Placement, Protections};
 use ck_types::{RvError, Sequence, error_if};
-use std::alloc::AllocError;
 
 /// The attributes that a caller gives, in the caller's order (PKCS #11 Base 3.0,
 /// Object management functions).
-#[derive(Drop)]
+#[derive(Clone, Drop)]
 pub struct Template {
     pub items: Sequence<Item>,
-}
-
-impl Clone for Template {
-    ghost is_clone = { λ template copy. copy ≡ template };
-
-    fn clone(&self) -> Result<Template, AllocError> {
-        let items = self.items.clone()?;
-        Ok(Template { items })
-    }
 }
 
 impl Template {
