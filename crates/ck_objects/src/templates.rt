@@ -93,7 +93,7 @@ impl Template {
     }
 
     /// The checks of a template that changes an object of the class or that a copy of one is made
-    /// with, but those that look at the object's other attributes.
+    /// with, except those that look at the object's other attributes.
     pub(crate) fn check(&self, class: Class, purpose: Purpose) -> Result<(), RvError>
         ensures { result ≡ check_of (template_error class purpose self.now.items) }
     {
@@ -120,7 +120,7 @@ impl Template {
     }
 }
 
-/// Whether a key may have so many bytes.
+/// Whether a key may have this many bytes.
 fn is_key_length(length: u64) -> bool
     ensures { result ≡ is_key_length length }
 {
