@@ -82,7 +82,7 @@ module _ (limits : Ranges) where
 
   pub verdict-wrong : (h : History) (found : Verdict) → IsVerdict limits h found → (n : ℕ)
       → (found ≡ verdict.Wrong n → IsFirstWrong limits h n)
-          × (IsFirstWrong limits h n → found ≡ verdict.Wrong n)
+      × (IsFirstWrong limits h n → found ≡ verdict.Wrong n)
   verdict-wrong h verdict.Legal so n = ((λ is. cc), (λ wrong. absurd (legal-right h n so wrong)))
   verdict-wrong h (verdict.Wrong m) so n = (
     (λ is. let same : m ≡ n = cc in subst (IsFirstWrong limits h) same so),

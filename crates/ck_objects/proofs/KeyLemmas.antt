@@ -129,7 +129,7 @@ pub created-data : (template : List Item) → class_of template ≡ class.Data
 unfolding new_items
 created-data template data_class fine =
     (rw (data-created template data_class fine)
-        (sym (rw (data-class-given template data_class fine) refl)))
+    (sym (rw (data-class-given template data_class fine) refl)))
     ∙ sym (created-of-class class.Data template data_class)
 
 -- a template that passes the checks gives a key type and a value
@@ -190,7 +190,7 @@ pub created-key : (template : List Item) (value : List ℕ) → class_of templat
 created-key template value key_class fine same =
     let kept =
     creation-keeps template (record (blank_key created_origin) { value = value }) key_class fine
-        same in
+    same in
     let form = form-created template fine in
     key-items-created template value kept.class (key-class-given template key_class) kept.key_type
     (key_type-given template [] form (key_type-created template (new-key template key_class fine)))
@@ -214,12 +214,12 @@ generation-passes template random fine =
     let a = or_else-none (first_error form_error template) _ fine in
     let b = or_else-none (error_if (has_conflict template) rv_error.TemplateInconsistent) _ a.1 in
     let c = or_else-none (error_if (gives_other_class template) rv_error.TemplateInconsistent) _
-        b.1 in
+    b.1 in
     let d = or_else-none (first_error (permission_error class.SecretKey purpose.Generate) template)
-        _ c.1 in
+    _ c.1 in
     let e = or_else-none
     (error_if (is_none (value_at template (type_of attribute.ValueLen)))
-        rv_error.TemplateIncomplete)
+    rv_error.TemplateIncomplete)
     _ d.1 in
     let f = or_else-none
     (error_if (not (is_key_length (given_length template))) rv_error.KeySizeRange) _ e.1 in

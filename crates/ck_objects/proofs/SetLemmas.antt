@@ -26,7 +26,7 @@ module _ (items : List Item) (k : Key) (token private modifiable copyable destro
       → flag_bytes token ≡ value_or items (type_of attribute.Token) (flag_bytes k.token)
       → flag_bytes private ≡ value_or items (type_of attribute.Private) (flag_bytes k.private)
       → flag_bytes modifiable ≡ value_or items (type_of attribute.Modifiable)
-          (flag_bytes k.modifiable)
+      (flag_bytes k.modifiable)
       → flag_bytes copyable ≡ value_or items (type_of attribute.Copyable) (flag_bytes k.copyable)
       → flag_bytes destroyable
       ≡ value_or items (type_of attribute.Destroyable) (flag_bytes k.destroyable)
@@ -90,7 +90,7 @@ module _ (items : List Item) (k : Key) (token private modifiable copyable destro
       → flag_bytes token ≡ value_or items (type_of attribute.Token) (flag_bytes k.token)
       → flag_bytes private ≡ value_or items (type_of attribute.Private) (flag_bytes k.private)
       → flag_bytes modifiable ≡ value_or items (type_of attribute.Modifiable)
-          (flag_bytes k.modifiable)
+      (flag_bytes k.modifiable)
       → flag_bytes copyable ≡ value_or items (type_of attribute.Copyable) (flag_bytes k.copyable)
       → flag_bytes destroyable
       ≡ value_or items (type_of attribute.Destroyable) (flag_bytes k.destroyable)

@@ -105,20 +105,20 @@ module _ (h : History) (old : SessionsState) (agree : SessionsAgree h old) (e : 
     sessions-stay : open_sessions (e ◁ h) ≡ open_sessions h
     sessions-stay =
         sym (open_sessions-rows (e ◁ h)) ∙ session_rows-same e h no_opening (λ h s. s) (λ k. refl)
-            no_closing
+        no_closing
         ∙ open_sessions-rows h
 
     login-stays : ((before : Option UserType) → login_after (Some c) before ≡ before)
         → old.login ≡ login (e ◁ h)
     login-stays left =
         agree.login ∙ sym (login-same e h sessions-stay (ap (λ x. login_after x (login h)) d
-            ∙ left (login h)))
+        ∙ left (login h)))
 
   logins-stay : (c : Call) → done e ≡ Some c → logs_user_in (Some c) ≡ false
       → old.logins ≡ user_logins (e ◁ h)
   logins-stay c d n =
       agree.logins ∙ sym (user_logins-step e h (Some c) d
-          ∙ ap (λ t. cond t (suc (user_logins h)) (user_logins h)) n)
+      ∙ ap (λ t. cond t (suc (user_logins h)) (user_logins h)) n)
 
   initialized-stays : (c : Call) → done e ≡ Some c → initializes (Some c) ≡ false
       → is_some old.so.pin ≡ is_initialized (e ◁ h)
@@ -128,7 +128,7 @@ module _ (h : History) (old : SessionsState) (agree : SessionsAgree h old) (e : 
   -- a credential that a call leaves
   so-stays : (c : Call) → done e ≡ Some c
       → ((before : Option Pin) → so_pin_after (Some c) (is_about user.So h (Some c))
-          before ≡ before)
+      before ≡ before)
       → resets user.So h (Some c) ≡ false → CredentialAgrees user.So (e ◁ h) old.so
   so-stays c d pin r = record {
     pin = agree.so.pin ∙ sym (so_pin-step e h (Some c) d ∙ pin (so_pin h));
@@ -138,7 +138,7 @@ module _ (h : History) (old : SessionsState) (agree : SessionsAgree h old) (e : 
 
   user-stays : (c : Call) → done e ≡ Some c
       → ((before : Option Pin) → user_pin_after (Some c) (is_about user.User h (Some c))
-          before ≡ before)
+      before ≡ before)
       → resets user.User h (Some c) ≡ false → CredentialAgrees user.User (e ◁ h) old.user
   user-stays c d pin r = record {
     pin = agree.user.pin ∙ sym (user_pin-step e h (Some c) d ∙ pin (user_pin h));
@@ -243,7 +243,7 @@ module _ (h : History) (old : SessionsState) (agree : SessionsAgree h old) (e : 
       → done e ≡ Some (call.OpenSession flags)
       → is_searching h (suc (openings h)) ≡ false
       → new.rows ≡ old.rows ++ record { handle = old.openings + 1; flags = flags; search = None }
-          ∷ []
+      ∷ []
       → new.openings ≡ old.openings + 1 → new.login ≡ old.login → new.logins ≡ old.logins
       → new.so ≡ old.so
       → new.user ≡ old.user → SessionsAgree (e ◁ h) new
@@ -290,14 +290,14 @@ module _ (h : History) (old : SessionsState) (agree : SessionsAgree h old) (e : 
       let all : new.rows ≡ session_rows session_row (e ◁ h) =
       rows ∙ ap (filter (λ (row : SessionRow). not (is_session session row))) agree.rows
       ∙ filter-selected (λ (row : SessionRow). not (is_session session row)) (is_open h)
-          (session_row h) (openings h)
+      (session_row h) (openings h)
       ∙ selected-same (λ k. is_open h k && not (k == session))
-          (λ k. is_open h k && not (closes (done e) k))
+      (λ k. is_open h k && not (closes (done e) k))
       (session_row h) (session_row h) (openings h)
       (λ k below. ap (λ t. is_open h k && not t)
-          (eqb-swap k session ∙ ap (λ x. closes x k) (sym d))) (λ k below. refl)
+      (eqb-swap k session ∙ ap (λ x. closes x k) (sym d))) (λ k below. refl)
       ∙ sym (session_rows-later e h (ap opens d) session_row
-          (λ k below passes. row-other e h session d k passes)) in
+      (λ k below passes. row-other e h session d k passes)) in
       record {
         rows = all;
         openings = count ∙ openings-stay c d refl;
@@ -317,12 +317,12 @@ module _ (h : History) (old : SessionsState) (agree : SessionsAgree h old) (e : 
       let all : session_rows session_row (e ◁ h) ≡ [] =
       session_rows-later e h (ap opens d) session_row
       (λ k below passes. absurd
-          (false≢true (sym (ap (λ x. is_open h k && not (closes x k)) d ∙ and-false
+      (false≢true (sym (ap (λ x. is_open h k && not (closes x k)) d ∙ and-false
       (is_open h k)) ∙ passes)))
       ∙ selected-none (λ k. is_open h k && not (closes (done e) k)) (session_row h) (openings h)
       (λ k below. ap (λ x. is_open h k && not (closes x k)) d ∙ and-false (is_open h k)) in
       let none : length (open_sessions (e ◁ h)) == 0 ≡ true =
-          rw (sym (length-session_rows session_row (e ◁ h)), all) in
+      rw (sym (length-session_rows session_row (e ◁ h)), all) in
       record {
         rows = rows ∙ sym all;
         openings = count ∙ openings-stay c d refl;
@@ -458,10 +458,10 @@ module _ (h : History) (old : SessionsState) (agree : SessionsAgree h old) (e : 
         pin =
             agree.user.pin
             ∙ sym (user_pin-step e h (Some c) d
-                ∙ ap (λ o. user_pin_after (Some c) (same_user user.User o) (user_pin h)) owner);
+            ∙ ap (λ o. user_pin_after (Some c) (same_user user.User o) (user_pin h)) owner);
         tries = agree.user.tries
             ∙ sym (tries-done e h user.User c d
-                ∙ ap (λ o. cond (is_user user.User (Some o) || false) 0
+            ∙ ap (λ o. cond (is_user user.User (Some o) || false) 0
             (tries user.User h)) owner);
       });
       initialized = ap is_some so_pin ∙ sym had ∙ initialized-stays c d refl;
@@ -486,7 +486,7 @@ module _ (h : History) (old : SessionsState) (agree : SessionsAgree h old) (e : 
             ∙ ap (λ o. user_pin_after (Some c) (same_user user.User o) (user_pin h)) owner);
         tries = us_tries
             ∙ sym (tries-done e h user.User c d
-                ∙ ap (λ o. cond (is_user user.User (Some o) || false) 0
+            ∙ ap (λ o. cond (is_user user.User (Some o) || false) 0
             (tries user.User h)) owner);
       };
       initialized = ap (λ (c : Credential). is_some c.pin) so ∙ initialized-stays c d refl;
@@ -500,12 +500,12 @@ module _ (h : History) (old : SessionsState) (agree : SessionsAgree h old) (e : 
     pub SessionsAgree-set : (c : Call) (session : ℕ) (found : Option (List ℕ)) → done e ≡ Some c
         → SetsSearch h c session found
         → new.rows ≡ change_first (is_session session) (with_search (option_map new_search found))
-            old.rows
+        old.rows
         → SessionsAgree (e ◁ h) new
     SessionsAgree-set c session found d sets rows =
         SessionsAgree-searched c d sets.sessions new
         (rows ∙ ap (change_first (is_session session) (with_search (option_map new_search found)))
-            agree.rows
+        agree.rows
         ∙ session_rows-set e h c session found d sets) count log logs so us
 
     pub SessionsAgree-found : (session max number : ℕ)
@@ -529,7 +529,7 @@ module _ (h : History) (old : SessionsState) (agree : SessionsAgree h old) (e : 
       record {
         rows =
             rows ∙ ap (map (with_search None)) agree.rows
-                ∙ map-map (with_search None) (session_row h) (open_sessions h)
+            ∙ map-map (with_search None) (session_row h) (open_sessions h)
             ∙ selected-same (is_open h) (is_open h) (λ k. with_search None (session_row h k))
             (session_row (e ◁ h)) (openings h) (λ k b. refl)
             (λ k b. sym (row-logged_out e h session d k))

@@ -48,7 +48,7 @@ module _ (h : History) (s : SessionsState) (agree : SessionsAgree h s) where
   pub find-session : (session : ℕ) → find (is_session session) s.rows ≡ session_at h session
   find-session session =
       ap (find (is_session session)) agree.rows ∙ find-map (is_session session) row_of
-          (open_sessions h)
+      (open_sessions h)
       ∙ find-open row_of h session
 
 -- ---- the board
@@ -83,17 +83,17 @@ left_of search = filter (λ n. nat_lt search.last n) search.found
 some_case : (active : Bool) (search : Search) (x : Search) (rest : List ℕ)
     → IsNonDecreasingBy (λ n. n) search.found
     → (IsNonDecreasingBy (λ n. n) x.found → rest ≡ left_of x) → Some x ≡ cond active (Some search)
-        None
+    None
     → Some rest ≡ cond active (Some (left_of search)) None
 some_case true search x rest rises is e =
     let same : x ≡ search = same_Some x search e in
     ap Some (is (subst (λ (y : Search). IsNonDecreasingBy (λ n. n) y.found) (sym same) rises)
-        ∙ ap left_of same)
+    ∙ ap left_of same)
 some_case false search x rest rises is e = cc
 
 pub search_left-some : (h : History) (s : ℕ) (x : Search) (rest : List ℕ) → Some x ≡ search_of h s
     → (IsNonDecreasingBy (λ n. n) x.found → rest ≡ left_of x) → Some rest ≡ search_left h s
 search_left-some h s x rest e is =
     some_case (is_searching h s) (record { found = found_objects h s; last = last_number h s }) x
-        rest
+    rest
     (found_objects-rise h s) is e

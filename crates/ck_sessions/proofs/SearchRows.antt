@@ -39,7 +39,7 @@ search_step o matching handles k active found last =
     active_search (cond (starts_search o k) true (cond (ends_search o k) false active))
     (cond (starts_search o k) matching found)
     (cond (starts_search o k) 0
-        (last_or last (map number_of_handle (cond (asks_search o k) handles []))))
+    (last_or last (map number_of_handle (cond (asks_search o k) handles []))))
 
 abbrev row : ℕ → ℕ → Option Search → SessionRow
 row k flags search = record { handle = k; flags = flags; search = search }
@@ -50,15 +50,15 @@ module _ (e : Entry) (h : History) where
       (handles_in e.reply.body) k (is_searching h k) (found_objects h k) (last_number h k)
   search_of-step k o d =
       ap (λ x. search_step x (matching_objects (e ◁ h) (search_template x))
-          (handles_in e.reply.body) k
+      (handles_in e.reply.body) k
       (is_searching h k) (found_objects h k) (last_number h k)) d
 
   search_of-left : (effects e).searches ≡ false → (k : ℕ) → search_of (e ◁ h) k ≡ search_of h k
   search_of-left l k =
       ap (λ t. active_search t (found_objects (e ◁ h) k) (last_number (e ◁ h) k))
-          (is_searching-left e h l k)
+      (is_searching-left e h l k)
       ∙ ap (λ f. active_search (is_searching h k) f (last_number (e ◁ h) k))
-          (found_objects-left e h l k)
+      (found_objects-left e h l k)
       ∙ ap (active_search (is_searching h k) (found_objects h k)) (last_number-left e h l k)
 
   -- ---- one session's row
@@ -95,11 +95,11 @@ module _ (e : Entry) (h : History) where
   row-other session d k passes =
       let other : session == k ≡ false = not-true (session == k)
       ((and_parts (is_open h k) _
-          (subst (λ o. (is_open h k && not (closes o k)) ≡ true) d passes)).1) in
+      (subst (λ o. (is_open h k && not (closes o k)) ≡ true) d passes)).1) in
       row-moved k (search_of h k) (ap opens d)
       (search_of-step k (Some (call.CloseSession session)) d
       ∙ ap (λ t. active_search (cond t false (is_searching h k)) (found_objects h k)
-          (last_number h k)) other)
+      (last_number h k)) other)
 
   -- a logout
   pub row-logged_out : (session : ℕ) → done e ≡ Some (call.Logout session) → (k : ℕ)
@@ -118,7 +118,7 @@ module _ (e : Entry) (h : History) where
         session_rows session_row (e ◁ h)
     session_rows-searched =
         selected-replaced (is_session session) change (is_open h) (session_row h)
-            (session_row (e ◁ h)) (openings h)
+        (session_row (e ◁ h)) (openings h)
         (λ j k bj bk nj nk. eqb-true j session nj ∙ sym (eqb-true k session nk))
         (λ k b is n. here k (eqb-swap session k ∙ n)) (λ k b n. there k (eqb-swap session k ∙ n))
         ∙ sym (session_rows-changed e h o session_row cl)
@@ -163,7 +163,7 @@ module _ (e : Entry) (h : History) where
         (session_rows session_row h) ≡ session_rows session_row (e ◁ h)
     session_rows-set =
         session_rows-searched o
-            (λ s. closes-left (done e) s (ap (λ o. (effects_of o).sessions) d ∙ sets.sessions))
+        (λ s. closes-left (done e) s (ap (λ o. (effects_of o).sessions) d ∙ sets.sessions))
         session (with_search (option_map new_search found))
         (λ k same. row-moved k (option_map new_search found) o (search_of-set k true same))
         (λ k other. row-moved k (search_of h k) o (search_of-set k false other))
@@ -184,7 +184,7 @@ module _ (e : Entry) (h : History) where
 
     last_step : (active : Bool) (found : List ℕ) (last n after : ℕ) → after ≡ n
         → active_search active found after ≡ option_map (with_last n)
-            (active_search active found last)
+        (active_search active found last)
     last_step true found last n after same = ap (λ l. Some (record { found = found; last = l }))
         same
     last_step false found last n after same = refl
@@ -206,7 +206,7 @@ module _ (e : Entry) (h : History) where
     pub session_rows-found : (n : ℕ)
         → n ≡ last_or (last_number h session) (map number_of_handle (handles_in e.reply.body))
         → change_first (is_session session) (with_last_found n) (session_rows session_row h)
-            ≡ session_rows
+        ≡ session_rows
         session_row (e ◁ h)
     session_rows-found n last =
         session_rows-searched (ap opens d) (λ s. ap (λ x. closes x s) d) session (with_last_found n)

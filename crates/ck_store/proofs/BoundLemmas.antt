@@ -83,8 +83,13 @@ count-same {X} (x ∷ xs) [] same =
 count-same {X} (x ∷ xs) (y ∷ ys) same =
     let rest = count-same xs ys (λ k. same (suc k)) in
     let first = ap (λ b. cond b 1 0) (same 0) in
-    omega (arith, rest, first, sum_by-cons (λ (o : Option X). cond (is_some o) 1 0) x xs,
-    sum_by-cons (λ (o : Option X). cond (is_some o) 1 0) y ys)
+    omega (
+      arith,
+      rest,
+      first,
+      sum_by-cons (λ (o : Option X). cond (is_some o) 1 0) x xs,
+      sum_by-cons (λ (o : Option X). cond (is_some o) 1 0) y ys,
+    )
 
 -- there are as many as before
 pub changed-count : (change : ObjectRow → ObjectRow) (old new : Slab ObjectRow)

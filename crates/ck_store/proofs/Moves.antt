@@ -228,7 +228,7 @@ module _ (h : History) (old : StoreState) (agree : StoreAgrees h old) (e : Entry
               → object_row k creator (cond t (in_state (state_of_number n) attributes) attributes)
               ≡ cond t
               (record (object_row k creator attributes)
-                  { attributes = with_state state attributes })
+              { attributes = with_state state attributes })
               (object_row k creator attributes)
           state_case k creator attributes false = refl
           state_case k creator attributes true =

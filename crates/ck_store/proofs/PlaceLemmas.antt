@@ -317,7 +317,7 @@ module _ (view : View) (template : List Item) (objects : Slab ObjectRow) (index 
   matching-step i within numbers before o is more added =
       added ∙ ap (λ ns. ns ++ match_of o) before
       ∙ ap (λ x. matching_numbers view template (objects_at objects (take i index)) ++ match_of x)
-          is
+      is
       ∙ sym (matching-more i (place 0 0) within)
 
   -- a match, and no match

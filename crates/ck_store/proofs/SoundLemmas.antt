@@ -398,7 +398,7 @@ module _ (e : Ending) (old new : Slab ObjectRow) (index : List Place) (lists : L
       let own = fewer.own session private p row listed is in
       let stays =
       stays_case e listed.list row (own.owner ∙ ap Some (sym listed.own))
-          (own.mark ∙ sym listed.mark)
+      (own.mark ∙ sym listed.mark)
       (EndsAll-walked p.key row at.0) in
       record {
         list = listed.list;

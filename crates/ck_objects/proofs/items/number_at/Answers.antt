@@ -11,7 +11,7 @@ returns-in-Some-clause-number c =
     let read = rw c.as_slice.ensures at c.number_of.ensures.number in
     let given = number-given c.args.items.now c.args.attribute _ c.in-Some.value.now
     c.number_of.result c.requires.form c.requires.well_formed c.in-Some.ensures c.number.ensures
-        read in
+    read in
     given.0 ∙ sym (ap (option_map (from_le_bytes w64)) given.2)
 
 bytes-some : (o : Option ℕ) (value : List ℕ) → IfSome o (λ n. number_bytes n ≡ value)
@@ -26,5 +26,5 @@ returns-in-Some-clause-bytes c =
     let read = rw c.as_slice.ensures at c.number_of.ensures.number in
     let given = number-given c.args.items.now c.args.attribute _ c.in-Some.value.now
     c.number_of.result c.requires.form c.requires.well_formed c.in-Some.ensures c.number.ensures
-        read in
+    read in
     rw given.2 (bytes-some c.number_of.result c.in-Some.value.now bytes)

@@ -6,4 +6,4 @@ use Rattle.ck_sessions.proofs.rows.add_to_board.Given as goal
 abbrev pub invariant-loop-row : goal.invariant-loop-row
 invariant-loop-row l =
     l.board ≡ record l.initial.board
-        { sessions = l.initial.board.sessions ++ map board_row (take l.row-index l.rows) }
+    { sessions = l.initial.board.sessions ++ map board_row (take l.row-index l.rows) }

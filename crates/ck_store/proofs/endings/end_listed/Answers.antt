@@ -21,7 +21,7 @@ loop-list-preserved c = elim c.if-concerns.branch [
             c.list-item.is c.loop-list.invariant.ended
             (λ t p there.
             subst (λ (o : Slab ObjectRow). HasNone (is_ended_by c.args.ending) o p)
-                (sym w.objects-is)
+            (sym w.objects-is)
             (w.end_objects.ensures.ended p (rw w.deref.ensures.value there)));
       }
   | else-concerns w ↦

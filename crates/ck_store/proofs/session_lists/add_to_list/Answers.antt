@@ -13,7 +13,7 @@ returns-in-Some-clause-kept c = λ s m p row listed is.
     IsListed-kept c.args.lists.now.items c.args.session c.args.private c.args.place c.in-Some.i
     c.index_mut.result.now c.push.new.self found.0 c.index_mut.ensures.value found.1
     found.2 c.push.ensures.session c.push.ensures.private s m p
-        (λ there. c.push.ensures.kept p row there is) listed
+    (λ there. c.push.ensures.kept p row there is) listed
 
 pub returns-in-Some-clause-added : goal.returns-in-Some-clause-added
 returns-in-Some-clause-added c =
@@ -40,7 +40,7 @@ pub returns-clause-kept : goal.returns-clause-kept
 returns-clause-kept c = λ s m p row listed is.
     rw c.in_ok-push-2.ensures.items
     (IsListed-others c.args.lists.now.items c.args.session c.args.private c.args.place
-        c.push-2.new.self
+    c.push-2.new.self
     (c.in_ok-push.ensures.session ∙ c.new-list.ensures.session)
     (c.in_ok-push.ensures.private ∙ c.new-list.ensures.private) s m p listed)
 
@@ -48,14 +48,14 @@ pub returns-clause-added : goal.returns-clause-added
 returns-clause-added c =
     rw c.in_ok-push-2.ensures.items
     (IsListed-first c.args.lists.now.items c.args.session c.args.private c.args.place
-        c.push-2.new.self
+    c.push-2.new.self
     (c.in_ok-push.ensures.session ∙ c.new-list.ensures.session)
     (c.in_ok-push.ensures.private ∙ c.new-list.ensures.private) c.in_ok-push.ensures.added)
 
 pub returns-clause-only : goal.returns-clause-only
 returns-clause-only c = λ s m p listed.
     IsListed-first_only c.args.lists.now.items c.args.session c.args.private c.args.place
-        c.push-2.new.self
+    c.push-2.new.self
     (c.in_ok-push.ensures.session ∙ c.new-list.ensures.session)
     (c.in_ok-push.ensures.private ∙ c.new-list.ensures.private)
     (λ q there. elim (c.in_ok-push.ensures.only q there) [

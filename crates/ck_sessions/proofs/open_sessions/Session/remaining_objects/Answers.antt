@@ -7,4 +7,4 @@ pub returns-in-Some : goal.returns-in-Some
 returns-in-Some c = λ h s row.
     search_left-some h s c.in-Some.search c.remaining.result.now
     (sym c.in-Some.is ∙ ap (λ (r : SessionRow). r.search) (c.self.view_is ∙ row))
-        c.remaining.ensures
+    c.remaining.ensures

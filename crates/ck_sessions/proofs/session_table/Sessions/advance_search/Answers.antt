@@ -6,6 +6,6 @@ pub returns : goal.returns
 returns c = record {
   agree = λ h e max d last agree.
       SessionsAgree-found h _ (rw (← c.self.view_is) at agree) e _ refl refl refl refl refl
-          c.args.session max
+      c.args.session max
       c.args.number d last c.set_last_found.ensures;
 }

@@ -7,7 +7,7 @@ pub returns-in-So : goal.returns-in-So
 returns-in-So c = record {
   agree = λ h e d about agree.
       SessionsAgree-wrong h _ (rw (← c.self.view_is) at agree) e user.So _ d
-          (about ∙ ap Some c.in-So.is) refl
+      (about ∙ ap Some c.in-So.is) refl
       refl refl refl refl refl (add-one c.self.inside.so.tries) refl;
 }
 
@@ -15,6 +15,6 @@ pub returns-in-User : goal.returns-in-User
 returns-in-User c = record {
   agree = λ h e d about agree.
       SessionsAgree-wrong h _ (rw (← c.self.view_is) at agree) e user.User _ d
-          (about ∙ ap Some c.in-User.is)
+      (about ∙ ap Some c.in-User.is)
       refl refl refl refl refl refl refl (add-one c.self.inside.user.tries);
 }

@@ -12,7 +12,7 @@ returns c =
     record {
       rows = c.new.ensures.items
           ∙ sym (selected-none (is_open (start b)) (session_row (start b)) b.openings
-              (λ k below. refl));
+          (λ k below. refl));
       openings = refl;
       login = refl;
       logins = refl;

@@ -7,7 +7,7 @@ pub returns-in-So : goal.returns-in-So
 returns-in-So c = record {
   agree = λ h e session number pin d opened known agree.
       SessionsAgree-logged_in h _ (rw (← c.self.view_is) at agree) e session number pin user.So _ d
-          opened
+      opened
       (known ∙ ap Some c.in-So.is)
       refl refl (ap Some c.in-So.is) refl refl refl refl refl;
 }
@@ -16,7 +16,7 @@ pub returns-in-User : goal.returns-in-User
 returns-in-User c = record {
   agree = λ h e session number pin d opened known agree.
       SessionsAgree-logged_in h _ (rw (← c.self.view_is) at agree) e session number pin user.User _
-          d opened
+      d opened
       (known ∙ ap Some c.in-User.is)
       refl refl (ap Some c.in-User.is) (add-one c.self.inside.logins) refl refl refl refl;
 }

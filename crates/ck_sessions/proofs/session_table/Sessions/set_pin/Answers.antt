@@ -7,7 +7,7 @@ pub returns-in-So : goal.returns-in-So
 returns-in-So c = record {
   agree = λ h e session before d owner agree.
       SessionsAgree-so_pin_set h _ (rw (← c.self.view_is) at agree) e session before c.args.pin _ d
-          refl refl
+      refl refl
       refl refl (owner ∙ c.in-So.is) (rw (c.in-So.is, ← c.self.view_is) at c.requires)
       (ap (λ (x : Credential). x.pin) c.new-self-inside.ensures)
       (ap (λ (x : Credential). x.tries) c.new-self-inside.ensures) refl;
@@ -17,7 +17,7 @@ pub returns-in-User : goal.returns-in-User
 returns-in-User c = record {
   agree = λ h e session before d owner agree.
       SessionsAgree-user_pin_set h _ (rw (← c.self.view_is) at agree) e session before c.args.pin _
-          d refl
+      d refl
       refl refl refl (owner ∙ c.in-User.is) refl
       (ap (λ (x : Credential). x.pin) c.new-self-inside-in-User.ensures)
       (ap (λ (x : Credential). x.tries) c.new-self-inside-in-User.ensures);

@@ -10,6 +10,6 @@ returns c =
     record {
       agree = λ h e call d sets agree.
           SessionsAgree-set h _ (rw (← c.self.view_is) at agree) e _ refl refl refl refl refl call
-              c.args.session
+          c.args.session
           c.args.found d sets (rw mapped at c.set_search.ensures);
     }

@@ -32,16 +32,16 @@ invariant_of-self c =
           (ap (λ (r : ObjectRow). r.attributes)
           (sym c.new-object.ensures
           ∙ same_Some c.new-object.result row (sym c.insert_reserved-key.ensures.updates.changed
-              ∙ is)))
+          ∙ is)))
           c.mark_of-mark.ensures)
           (λ other row differs is.
           sym (c.insert_reserved-key.ensures.updates.others other differs) ∙ is)
           c.self.invariant.2,
       let more = length-append c.self.inside.index.items
           (place c.args.number c.insert_reserved-key.result ∷ []) in
-      let longer = ap length items in
-      let short = c.self.invariant.3 in
-      omega (arith, more, longer, short, c.insert_reserved-key.ensures.len),
+          let longer = ap length items in
+          let short = c.self.invariant.3 in
+          omega (arith, more, longer, short, c.insert_reserved-key.ensures.len),
     )
 
 pub returns-clause-rows : goal.returns-clause-rows

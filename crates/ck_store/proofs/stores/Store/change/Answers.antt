@@ -52,8 +52,8 @@ invariant_of-self c =
           c.change_at-mark.ensures.mark c.self.invariant.2,
       let count = changed-count (with_attributes c.args.number given.attributes)
           c.self.inside.objects c.change_at-mark.new.objects given.changed in
-      let short = c.self.invariant.3 in
-      omega (arith, count, short),
+          let short = c.self.invariant.3 in
+          omega (arith, count, short),
     )
 
 pub returns : goal.returns

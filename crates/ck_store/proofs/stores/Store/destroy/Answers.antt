@@ -9,7 +9,7 @@ use Rattle.ck_store.proofs.stores.Store.destroy.Goals as goal
 pub invariant_of-self : goal.invariant_of-self
 invariant_of-self c =
     let left = (rw c.deref.ensures.value at c.remove_numbered.ensures.left)
-        c.self.invariant.0.indexed in
+    c.self.invariant.0.indexed in
     let sound =
     IsSound-fewer c.self.inside.objects c.remove_numbered.new.objects c.self.inside.index.items
     c.self.inside.lists.items c.self.inside.unlisted c.self.inside.creations c.self.invariant.0
@@ -22,7 +22,7 @@ invariant_of-self c =
       IsMarked-fewer c.self.inside.objects c.remove_numbered.new.objects c.self.inside.marks.items
           c.self.invariant.2
           (IsLeft-was (has_number c.args.number) c.self.inside.objects c.remove_numbered.new.objects
-              left),
+          left),
       c.compact.ensures.short sound.indexed,
     )
 
@@ -35,7 +35,7 @@ returns c = record {
       let ended =
       (rw c.deref.ensures.value at c.remove_numbered.ensures.ended) c.self.invariant.0.indexed in
       StoreAgrees-destroyed h _ here e _ refl session object c.args.number named c.self.invariant.1
-          d
+      d
       (c.compact.ensures.objects
       ∙ objects_at-left (has_number c.args.number) c.self.inside.objects
       c.remove_numbered.new.objects left ended c.self.inside.index.items);

@@ -30,7 +30,7 @@ invariant_of-self c =
       IsMarked-fewer c.self.inside.objects c.end_newest.new.objects c.self.inside.marks.items
           c.self.invariant.2
           (IsLeft-was (is_ended_by c.args.ending) c.self.inside.objects c.end_newest.new.objects
-              left),
+          left),
       c.compact.ensures.short sound.indexed,
     )
 
@@ -42,7 +42,7 @@ returns-clause-rows c =
     let walked = rw c.deref.ensures.value at c.end_listed.ensures.ended in
     c.compact.ensures.objects
     ∙ objects_at-left (is_ended_by c.args.ending) c.self.inside.objects c.end_newest.new.objects
-        left
+    left
     (EndsAll-walked c.args.ending c.self.inside.objects c.end_newest.new.objects
     c.self.inside.index.items c.self.inside.lists.items c.self.inside.unlisted
     c.self.inside.creations c.self.invariant.0 left
@@ -51,4 +51,4 @@ returns-clause-rows c =
     c.end_newest.new.objects c.end_newest.ensures.left p (walked session private p listed t))
     c.end_newest.ensures.ended) c.self.inside.index.items
     ∙ ap (λ s. filter (λ (row : ObjectRow). not (is_ended_by c.args.ending row)) s.rows)
-        c.self.view_is
+    c.self.view_is

@@ -28,8 +28,8 @@ invariant_of-self c =
           c.self.inside.marks.items changed c.self.invariant.2,
       let count = changed-count (with_key_state c.args.number c.args.state) c.self.inside.objects
           c.set_state_at.new.objects changed in
-      let short = c.self.invariant.3 in
-      omega (arith, count, short),
+          let short = c.self.invariant.3 in
+          omega (arith, count, short),
     )
 
 pub returns-in-Some : goal.returns-in-Some
