@@ -1,5 +1,6 @@
 -- At most one verdict is so, and how the entries of a log lead to one
-use Rattle.std.proofs.Common.{◌≡◌, ◌≢◌, ◌⊎◌, inl, inr, ℕ, suc, ◌+◌, ◌<◌, List, [], ◌∷◌, ◌++◌, length}
+use Rattle.std.proofs.Common.{◌≡◌, ◌≢◌, ◌⊎◌, inl, inr, ℕ, suc, ◌+◌, ◌<◌, List, [], ◌∷◌, ◌++◌}
+use Rattle.std.proofs.Common.{length}
 use Rattle.std.proofs.Common.{take, drop, get_or, refl, sym, ap, ◌∙◌, subst, arith}
 use Rattle.std.specs.Prelude.{reverse}
 use Rattle.std.proofs.lemmas.List.{take_more, take-append-drop, length-take-le}
@@ -16,7 +17,8 @@ use Rattle.ck_audit.specs.declared.audits.Verdict.{Verdict}
 use Rattle.ck_audit.specs.declared.audits.Verdict.TheVariants as verdict
 
 module _ (limits : Ranges) where
-  legal-front : (h : History) (later : List Entry) → IsLegal limits (followed_by h later) → IsLegal limits h
+  legal-front : (h : History) (later : List Entry) → IsLegal limits (followed_by h later)
+      → IsLegal limits h
   legal-front h [] legal = legal
   legal-front h (e ∷ later) legal = legal-front h later legal.1
 
@@ -26,7 +28,8 @@ module _ (limits : Ranges) where
 
   -- the first wrong entry is the newest, or stands before it
   abbrev IsNewestWrong : Entry → History → ℕ → Type 0
-  IsNewestWrong e h n = (n ≡ suc (entry_count h)) × IsLegal limits h × (e.reply ≢ answer limits h e.call)
+  IsNewestWrong e h n = (n ≡ suc (entry_count h)) × IsLegal limits h
+      × (e.reply ≢ answer limits h e.call)
 
   wrong-case : (e : Entry) (h : History) (n : ℕ) → IsFirstWrong limits (e ◁ h) n
       → IsFirstWrong limits h n ⊎ IsNewestWrong e h n
@@ -53,7 +56,8 @@ module _ (limits : Ranges) where
       })
 
   -- no two entries are the first wrong one
-  pub first_wrong : (h : History) (n m : ℕ) → IsFirstWrong limits h n → IsFirstWrong limits h m → n ≡ m
+  pub first_wrong : (h : History) (n m : ℕ) → IsFirstWrong limits h n → IsFirstWrong limits h m
+      → n ≡ m
   first_wrong (start b) n m one other = none one.later one.parts
     where
       none : (later : List Entry) → start b ≡ followed_by (one.entry ◁ one.front) later → n ≡ m
@@ -77,7 +81,8 @@ module _ (limits : Ranges) where
   verdict-legal h (verdict.Wrong n) so = ((λ is. cc), (λ legal. absurd (legal-right h n legal so)))
 
   pub verdict-wrong : (h : History) (found : Verdict) → IsVerdict limits h found → (n : ℕ)
-      → (found ≡ verdict.Wrong n → IsFirstWrong limits h n) × (IsFirstWrong limits h n → found ≡ verdict.Wrong n)
+      → (found ≡ verdict.Wrong n → IsFirstWrong limits h n)
+      × (IsFirstWrong limits h n → found ≡ verdict.Wrong n)
   verdict-wrong h verdict.Legal so n = ((λ is. cc), (λ wrong. absurd (legal-right h n so wrong)))
   verdict-wrong h (verdict.Wrong m) so n = (
     (λ is. let same : m ≡ n = cc in subst (IsFirstWrong limits h) same so),

@@ -168,7 +168,8 @@ exposes-neither false hides false shows e = ((λ t. cc), (λ t. e))
 
 -- no template of this purpose may give the attribute
 IsFixed : Purpose → Attribute → Type 0
-IsFixed p a = (c : Class) → (error : RvError) × (error_of_permission (permission c p a) ≡ Some error)
+IsFixed p a = (c : Class) → (error : RvError)
+    × (error_of_permission (permission c p a) ≡ Some error)
 
 flag-fixed : (c : Class) (p : Purpose) (template items : List Item) (a : Attribute) → IsFixed p a
     → first_error (permission_error c p) template ≡ None

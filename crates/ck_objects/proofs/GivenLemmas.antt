@@ -9,7 +9,8 @@ use Rattle.ck_objects.specs.Attributes.{type_of, form_of, is_of_form, permission
 use Rattle.ck_types.specs.Numbers.{same_bytes, number_bytes}
 use Rattle.ck_objects.specs.Attributes.{flag_bytes}
 use Rattle.ck_types.specs.Checks.{error_if, first_error}
-use Rattle.ck_objects.specs.Templates.{value_at, value_or, flag_at, flag_of, form_error, value_error}
+use Rattle.ck_objects.specs.Templates.{value_at, value_or, flag_at, flag_of, form_error}
+use Rattle.ck_objects.specs.Templates.{value_error}
 use Rattle.ck_objects.specs.Templates.{permission_error, error_of_permission, class_of}
 use Rattle.ck_objects.specs.Templates.{template_error, has_conflict, created_error}
 use Rattle.ck_objects.specs.Records.{copied_error}
@@ -174,7 +175,8 @@ active-given items kind value other fine e k inactive =
 pub key_type-given : (items : List Item) (other : List ℕ) → first_error form_error items ≡ None
     → is_none (value_at items (type_of attribute.KeyType)) ≡ false
     → value_or items (type_of attribute.KeyType) other ≡ number_bytes 16
-key_type-given items other fine given = cases (value_at items (type_of attribute.KeyType)) refl given
+key_type-given items other fine given = cases (value_at items (type_of attribute.KeyType)) refl
+    given
   where
     cases : (o : Option (List ℕ)) → value_at items (type_of attribute.KeyType) ≡ o
         → is_none o ≡ false → unwrap_or o other ≡ number_bytes 16
@@ -286,7 +288,8 @@ no-value c p a items read_only fine =
     no-value-refused c p a items rv_error.AttributeReadOnly (ap error_of_permission read_only) fine
 
 -- its items have no fault in form, and may be given
-pub template-passes : (c : Class) (p : Purpose) (items : List Item) → template_error c p items ≡ None
+pub template-passes : (c : Class) (p : Purpose) (items : List Item)
+    → template_error c p items ≡ None
     → (first_error form_error items ≡ None) × (first_error (permission_error c p) items ≡ None)
 template-passes c p items fine =
     let parts = or_else-none (first_error form_error items) _ fine in

@@ -11,8 +11,10 @@ use Rattle.ck_types.specs.Numbers.{same_bytes, number_bytes}
 use Rattle.ck_objects.specs.Attributes.{flag_bytes}
 use Rattle.ck_types.specs.Checks.{error_if, first_error}
 use Rattle.ck_objects.specs.Templates.{value_at, value_or, flag_at, flag_of, form_error, class_of}
-use Rattle.ck_objects.specs.Templates.{permission_error, created_error, generated_error, has_conflict}
-use Rattle.ck_objects.specs.Templates.{gives_other_class, is_key_length, given_length, new_key_error}
+use Rattle.ck_objects.specs.Templates.{permission_error, created_error, generated_error}
+use Rattle.ck_objects.specs.Templates.{has_conflict}
+use Rattle.ck_objects.specs.Templates.{gives_other_class, is_key_length, given_length}
+use Rattle.ck_objects.specs.Templates.{new_key_error}
 use Rattle.ck_objects.specs.Templates.{new_object_error}
 use Rattle.ck_objects.specs.Records.{with_given}
 use Rattle.ck_objects.specs.Structs.{keeps, KeepsKey, data_items, key_items, blank_data}
@@ -83,7 +85,8 @@ permitted-key items key_class fine =
     subst (λ c. first_error (permission_error c purpose.Create) items ≡ None) key_class
     (permitted-created items fine)
 
-kept-value : (o : Option (List ℕ)) (value : List ℕ) → value ≡ unwrap_or o [] → unwrap_or o value ≡ value
+kept-value : (o : Option (List ℕ)) (value : List ℕ) → value ≡ unwrap_or o []
+    → unwrap_or o value ≡ value
 kept-value None value e = refl
 kept-value (Some given) value e = sym e
 
@@ -104,7 +107,8 @@ creation-keeps items key key_class fine same =
           keeps-unpermitted purpose.Create attribute.NeverExtractable items _ refl permitted;
       always_sensitive =
           keeps-unpermitted purpose.Create attribute.AlwaysSensitive items _ refl permitted;
-      generation = keeps-unpermitted purpose.Create attribute.KeyGenMechanism items _ refl permitted;
+      generation = keeps-unpermitted purpose.Create attribute.KeyGenMechanism items _ refl
+          permitted;
     }
 
 -- what a template creates, where its class is known
@@ -124,7 +128,8 @@ pub created-data : (template : List Item) → class_of template ≡ class.Data
     → with_given template (data_items blank_data) ≡ created_items template
 unfolding new_items
 created-data template data_class fine =
-    (rw (data-created template data_class fine) (sym (rw (data-class-given template data_class fine) refl)))
+    (rw (data-created template data_class fine)
+    (sym (rw (data-class-given template data_class fine) refl)))
     ∙ sym (created-of-class class.Data template data_class)
 
 -- a template that passes the checks gives a key type and a value
@@ -184,7 +189,8 @@ pub created-key : (template : List Item) (value : List ℕ) → class_of templat
     ≡ created_items template
 created-key template value key_class fine same =
     let kept =
-    creation-keeps template (record (blank_key created_origin) { value = value }) key_class fine same in
+    creation-keeps template (record (blank_key created_origin) { value = value }) key_class fine
+    same in
     let form = form-created template fine in
     key-items-created template value kept.class (key-class-given template key_class) kept.key_type
     (key_type-given template [] form (key_type-created template (new-key template key_class fine)))
@@ -207,10 +213,13 @@ pub generation-passes : (template : List Item) (random : List ℕ)
 generation-passes template random fine =
     let a = or_else-none (first_error form_error template) _ fine in
     let b = or_else-none (error_if (has_conflict template) rv_error.TemplateInconsistent) _ a.1 in
-    let c = or_else-none (error_if (gives_other_class template) rv_error.TemplateInconsistent) _ b.1 in
-    let d = or_else-none (first_error (permission_error class.SecretKey purpose.Generate) template) _ c.1 in
+    let c = or_else-none (error_if (gives_other_class template) rv_error.TemplateInconsistent) _
+    b.1 in
+    let d = or_else-none (first_error (permission_error class.SecretKey purpose.Generate) template)
+    _ c.1 in
     let e = or_else-none
-    (error_if (is_none (value_at template (type_of attribute.ValueLen))) rv_error.TemplateIncomplete)
+    (error_if (is_none (value_at template (type_of attribute.ValueLen)))
+    rv_error.TemplateIncomplete)
     _ d.1 in
     let f = or_else-none
     (error_if (not (is_key_length (given_length template))) rv_error.KeySizeRange) _ e.1 in
@@ -222,7 +231,8 @@ generation-passes template random fine =
           (number_bytes 4)).0 (not-false _ (error_if-none _ _ c.0));
       permitted = d.0;
       given = error_if-none _ _ e.0;
-      length = eqb-true (length random) (given_length template) (not-false _ (error_if-none _ _ g.0));
+      length = eqb-true (length random) (given_length template)
+          (not-false _ (error_if-none _ _ g.0));
     }
 
 -- the length that its template gives is that of the random bytes
@@ -259,7 +269,8 @@ generation-keeps items random key fine given same =
           keeps-unpermitted purpose.Generate attribute.NeverExtractable items _ refl permitted;
       always_sensitive =
           keeps-unpermitted purpose.Generate attribute.AlwaysSensitive items _ refl permitted;
-      generation = keeps-unpermitted purpose.Generate attribute.KeyGenMechanism items _ refl permitted;
+      generation = keeps-unpermitted purpose.Generate attribute.KeyGenMechanism items _ refl
+          permitted;
     }
 
 -- how a generated key came to be

@@ -25,7 +25,8 @@ module _ (items : List Item) (k : Key) (token private modifiable copyable destro
   key-items : KeepsKey items k
       → flag_bytes token ≡ value_or items (type_of attribute.Token) (flag_bytes k.token)
       → flag_bytes private ≡ value_or items (type_of attribute.Private) (flag_bytes k.private)
-      → flag_bytes modifiable ≡ value_or items (type_of attribute.Modifiable) (flag_bytes k.modifiable)
+      → flag_bytes modifiable ≡ value_or items (type_of attribute.Modifiable)
+      (flag_bytes k.modifiable)
       → flag_bytes copyable ≡ value_or items (type_of attribute.Copyable) (flag_bytes k.copyable)
       → flag_bytes destroyable
       ≡ value_or items (type_of attribute.Destroyable) (flag_bytes k.destroyable)
@@ -88,7 +89,8 @@ module _ (items : List Item) (k : Key) (token private modifiable copyable destro
   pub given-key : first_error form_error items ≡ None → KeepsKey items k
       → flag_bytes token ≡ value_or items (type_of attribute.Token) (flag_bytes k.token)
       → flag_bytes private ≡ value_or items (type_of attribute.Private) (flag_bytes k.private)
-      → flag_bytes modifiable ≡ value_or items (type_of attribute.Modifiable) (flag_bytes k.modifiable)
+      → flag_bytes modifiable ≡ value_or items (type_of attribute.Modifiable)
+      (flag_bytes k.modifiable)
       → flag_bytes copyable ≡ value_or items (type_of attribute.Copyable) (flag_bytes k.copyable)
       → flag_bytes destroyable
       ≡ value_or items (type_of attribute.Destroyable) (flag_bytes k.destroyable)
@@ -115,7 +117,8 @@ module _ (items : List Item) (k : Key) (token private modifiable copyable destro
       (flag-given items attribute.Extractable k.extractable refl formed)
 
 -- a change gives a key nothing else
-pub changed-key : (items : List Item) (k : Key) → template_error class.SecretKey purpose.Set items ≡ None
+pub changed-key : (items : List Item) (k : Key) → template_error class.SecretKey purpose.Set
+    items ≡ None
     → key_items (changed_key items k) ≡ with_given items (key_items k)
 changed-key items k fine =
     let passes = template-passes class.SecretKey purpose.Set items fine in
@@ -139,7 +142,8 @@ changed-key items k fine =
     (sym (keeps-unpermitted purpose.Set attribute.KeyState items _ refl set))
 
 -- nor a data object
-pub changed-data : (items : List Item) (d : Data) → template_error class.Data purpose.Set items ≡ None
+pub changed-data : (items : List Item) (d : Data) → template_error class.Data purpose.Set
+    items ≡ None
     → data_items (changed_data items d) ≡ with_given items (data_items d)
 changed-data items d fine =
     rw (

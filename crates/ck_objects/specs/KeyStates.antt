@@ -39,7 +39,7 @@ next_states state.Destroyed = []
 abbrev pub may_become : KeyState → KeyState → Bool
 may_become before after = list_any (same_state after) (next_states before)
 
--- a signature is made with an active key alone
+-- a signature is made only with an active key
 abbrev pub may_sign : KeyState → Bool
 may_sign state.Active = true
 may_sign other = false

@@ -11,7 +11,7 @@ pub enum Field<'a> {
 }
 
 impl<'a> Field<'a> {
-    ghost use Rattle.std.specs.Prelude.{◌≡◌, IfOk, length};
+    ghost use Rattle.std.specs.Prelude.{◌≡◌, ◌≤◌, IfOk, IsOk, length};
     ghost use Rattle.ck_types.specs.Numbers.{same_bytes};
     ghost use Rattle.ck_objects.specs.Fields.{field_bytes};
 
@@ -37,9 +37,10 @@ impl<'a> Field<'a> {
         }
     }
 
-    /// A copy of the value.
+    /// A copy of the value. One of at most 16 bytes takes no memory.
     pub fn to_value(&self, alloc: Global) -> Result<AttributeValue, NoMemory>
-        ensures { IfOk result (λ value. value ≡ field_bytes self.now) }
+        ensures copied { IfOk result (λ value. value ≡ field_bytes self.now) }
+        ensures short { length (field_bytes self.now) ≤ 16 → IsOk result }
     {
         match self {
             Field::Flag(flag) => AttributeValue::from_slice(alloc, &[u8::from(*flag)]),

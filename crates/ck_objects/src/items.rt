@@ -108,20 +108,20 @@ pub(crate) fn value_at(items: &[Item], kind: u64) -> Option<&AttributeValue>
 /// The position of the first item of the type.
 fn position_of(items: &[Item], kind: u64) -> Option<usize>
     ensures within { IfSome result (λ i. i < length items.now) }
-    ensures place { result ≡ position (λ (item : Item). item.kind == kind) items.now }
+    ensures position { result ≡ position (λ (item : Item). item.kind == kind) items.now }
 {
     items.iter().position(|item| item.kind == kind)
 }
 
-/// Moves the value that the items give the attribute, where they give one, into the place. The item
-/// gets what the place had.
-pub(crate) fn take_value(items: &mut [Item], attribute: Attribute, place: &mut AttributeValue)
-    ensures value { place.new ≡ value_or items.old (type_of attribute) place.old }
+/// Moves the value that the items give the attribute, where they give one, into the field. The item
+/// gets what the field had.
+pub(crate) fn take_value(items: &mut [Item], attribute: Attribute, field: &mut AttributeValue)
+    ensures value { field.new ≡ value_or items.old (type_of attribute) field.old }
     ensures others { (kind : ℕ) → kind ≢ type_of attribute
         → value_at items.new kind ≡ value_at items.old kind }
 {
     if let Some(i) = position_of(items, attribute.number()) {
-        mem::swap(&mut items[i].value, place);
+        mem::swap(&mut items[i].value, field);
     }
 }
 

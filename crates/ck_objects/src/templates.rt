@@ -14,22 +14,12 @@ use crate::items::{
 };
 use crate::object_flags::{Placement, Protections};
 use ck_types::{RvError, Sequence, error_if};
-use std::alloc::AllocError;
 
 /// The attributes that a caller gives, in the caller's order (PKCS #11 Base 3.0,
 /// Object management functions).
-#[derive(Drop)]
+#[derive(Clone, Drop)]
 pub struct Template {
     pub items: Sequence<Item>,
-}
-
-impl Clone for Template {
-    ghost is_clone = { λ template copy. copy ≡ template };
-
-    fn clone(&self) -> Result<Template, AllocError> {
-        let items = self.items.clone()?;
-        Ok(Template { items })
-    }
 }
 
 impl Template {
@@ -103,7 +93,7 @@ impl Template {
     }
 
     /// The checks of a template that changes an object of the class or that a copy of one is made
-    /// with, but those that look at the object's other attributes.
+    /// with, except those that look at the object's other attributes.
     pub(crate) fn check(&self, class: Class, purpose: Purpose) -> Result<(), RvError>
         ensures { result ≡ check_of (template_error class purpose self.now.items) }
     {
@@ -130,7 +120,7 @@ impl Template {
     }
 }
 
-/// Whether a key may have so many bytes.
+/// Whether a key may have this many bytes.
 fn is_key_length(length: u64) -> bool
     ensures { result ≡ is_key_length length }
 {

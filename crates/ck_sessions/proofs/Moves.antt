@@ -1,5 +1,6 @@
 -- How sessions, the login and PINs keep agreeing with the history
-use Rattle.std.proofs.Common.{◌≡◌, ℕ, suc, ◌+◌, Bool, true, false, not, cond, ◌||◌, ◌&&◌, List, [], ◌∷◌}
+use Rattle.std.proofs.Common.{◌≡◌, ℕ, suc, ◌+◌, Bool, true, false, not, cond, ◌||◌, ◌&&◌, List, []}
+use Rattle.std.proofs.Common.{◌∷◌}
 use Rattle.std.proofs.Common.{◌++◌, Option, Some, None, refl, sym, ap, ◌∙◌, add-one, arith}
 use Rattle.std.specs.Prelude.{◌==◌, filter, length, map, is_some, option_map, unwrap_or}
 use Rattle.std.proofs.Math.Bool.{and-false}
@@ -16,25 +17,30 @@ use Rattle.ck_journal.specs.declared.calls.Entry.{Entry}
 use Rattle.ck_journal.specs.Histories.{History, ◌◁◌, done, wrong_try}
 use Rattle.ck_journal.specs.Effects.{effects_of, effects}
 use Rattle.ck_journal.specs.Lists.{change_first}
-use Rattle.ck_journal.specs.Searches.{is_searching, handles_in, number_of_handle, last_or, last_number}
+use Rattle.ck_journal.specs.Searches.{is_searching, handles_in, number_of_handle, last_or}
+use Rattle.ck_journal.specs.Searches.{last_number}
 use Rattle.ck_journal.specs.Pins.{so_pin, so_pin_after, user_pin, user_pin_after}
 use Rattle.ck_journal.specs.Pins.{pin_owner, is_initialized, initializes, about, is_about, is_user}
 use Rattle.ck_journal.specs.Pins.{resets, tries}
 use Rattle.ck_journal.specs.Sessions.{opens, openings, closes, is_open, open_sessions, login}
 use Rattle.ck_journal.specs.Sessions.{login_after, user_logins, logs_user_in, state_of}
 use Rattle.ck_journal.proofs.LoginMoves.{wrong_try-done, login-none, login-open, login-same}
-use Rattle.ck_journal.proofs.LoginMoves.{login-logged_out, user_logins-step, so_pin-step, user_pin-step}
+use Rattle.ck_journal.proofs.LoginMoves.{login-logged_out, user_logins-step, so_pin-step}
+use Rattle.ck_journal.proofs.LoginMoves.{user_pin-step}
 use Rattle.ck_journal.proofs.LoginMoves.{tries-step, tries-done, openings-left, opens-left}
-use Rattle.ck_journal.proofs.LoginMoves.{session_rows-left, login-left, user_logins-left, so_pin-left}
+use Rattle.ck_journal.proofs.LoginMoves.{session_rows-left, login-left, user_logins-left}
+use Rattle.ck_journal.proofs.LoginMoves.{so_pin-left}
 use Rattle.ck_journal.proofs.LoginMoves.{user_pin-left, is_initialized-left, tries-left}
 use Rattle.ck_journal.proofs.NumberTests.{eqb-swap}
 use Rattle.ck_journal.proofs.Selections.{selected-same, filter-selected, selected-none}
 use Rattle.ck_journal.proofs.SessionMoves.{session_rows, openings-opened, session_rows-opened}
 use Rattle.ck_journal.proofs.SessionMoves.{openings-later, session_rows-later, session_rows-changed}
-use Rattle.ck_journal.proofs.SessionMoves.{session_rows-same, open_sessions-rows, length-session_rows}
+use Rattle.ck_journal.proofs.SessionMoves.{session_rows-same, open_sessions-rows}
+use Rattle.ck_journal.proofs.SessionMoves.{length-session_rows}
 use Rattle.ck_journal.proofs.SessionMoves.{some-open}
 use Rattle.ck_sessions.specs.Agreement.{SessionsState, SessionsAgree, CredentialAgrees, session_row}
-use Rattle.ck_sessions.proofs.SearchRows.{row-left, row-below, row-opened, row-other, row-logged_out}
+use Rattle.ck_sessions.proofs.SearchRows.{row-left, row-below, row-opened, row-other}
+use Rattle.ck_sessions.proofs.SearchRows.{row-logged_out}
 use Rattle.ck_sessions.proofs.SearchRows.{session_rows-set, session_rows-found}
 use Rattle.ck_sessions.specs.Rows.{SessionRow, is_session, new_search, with_search, with_last_found}
 use Rattle.ck_sessions.specs.SearchCalls.{SetsSearch}
@@ -71,13 +77,15 @@ user_case u number true false a b e = ap (same_user user.User) (same_Some user.S
 user_case u number false true a b e = ap (same_user user.User) (same_Some user.User u e)
 user_case u number false false a b e = cc
 
-user_number : (u : UserType) (number : ℕ) → user_of number ≡ Some u → number == 1 ≡ same_user user.User u
+user_number : (u : UserType) (number : ℕ) → user_of number ≡ Some u
+    → number == 1 ≡ same_user user.User u
 user_number u number = user_case u number (number == 0) (number == 1) refl refl
 
 module _ (h : History) (old : SessionsState) (agree : SessionsAgree h old) (e : Entry) where
   -- ---- rows of a call that opens and closes nothing
 
-  openings-stay : (c : Call) → done e ≡ Some c → opens (Some c) ≡ false → old.openings ≡ openings (e ◁ h)
+  openings-stay : (c : Call) → done e ≡ Some c → opens (Some c) ≡ false
+      → old.openings ≡ openings (e ◁ h)
   openings-stay c d o = agree.openings ∙ sym (openings-later e h (ap opens d ∙ o))
 
   module _ (c : Call) (d : done e ≡ Some c) (o : opens (Some c) ≡ false)
@@ -96,16 +104,21 @@ module _ (h : History) (old : SessionsState) (agree : SessionsAgree h old) (e : 
 
     sessions-stay : open_sessions (e ◁ h) ≡ open_sessions h
     sessions-stay =
-        sym (open_sessions-rows (e ◁ h)) ∙ session_rows-same e h no_opening (λ h s. s) (λ k. refl) no_closing
+        sym (open_sessions-rows (e ◁ h)) ∙ session_rows-same e h no_opening (λ h s. s) (λ k. refl)
+        no_closing
         ∙ open_sessions-rows h
 
-    login-stays : ((before : Option UserType) → login_after (Some c) before ≡ before) → old.login ≡ login (e ◁ h)
+    login-stays : ((before : Option UserType) → login_after (Some c) before ≡ before)
+        → old.login ≡ login (e ◁ h)
     login-stays left =
-        agree.login ∙ sym (login-same e h sessions-stay (ap (λ x. login_after x (login h)) d ∙ left (login h)))
+        agree.login ∙ sym (login-same e h sessions-stay (ap (λ x. login_after x (login h)) d
+        ∙ left (login h)))
 
-  logins-stay : (c : Call) → done e ≡ Some c → logs_user_in (Some c) ≡ false → old.logins ≡ user_logins (e ◁ h)
+  logins-stay : (c : Call) → done e ≡ Some c → logs_user_in (Some c) ≡ false
+      → old.logins ≡ user_logins (e ◁ h)
   logins-stay c d n =
-      agree.logins ∙ sym (user_logins-step e h (Some c) d ∙ ap (λ t. cond t (suc (user_logins h)) (user_logins h)) n)
+      agree.logins ∙ sym (user_logins-step e h (Some c) d
+      ∙ ap (λ t. cond t (suc (user_logins h)) (user_logins h)) n)
 
   initialized-stays : (c : Call) → done e ≡ Some c → initializes (Some c) ≡ false
       → is_some old.so.pin ≡ is_initialized (e ◁ h)
@@ -114,27 +127,33 @@ module _ (h : History) (old : SessionsState) (agree : SessionsAgree h old) (e : 
 
   -- a credential that a call leaves
   so-stays : (c : Call) → done e ≡ Some c
-      → ((before : Option Pin) → so_pin_after (Some c) (is_about user.So h (Some c)) before ≡ before)
+      → ((before : Option Pin) → so_pin_after (Some c) (is_about user.So h (Some c))
+      before ≡ before)
       → resets user.So h (Some c) ≡ false → CredentialAgrees user.So (e ◁ h) old.so
   so-stays c d pin r = record {
     pin = agree.so.pin ∙ sym (so_pin-step e h (Some c) d ∙ pin (so_pin h));
-    tries = agree.so.tries ∙ sym (tries-done e h user.So c d ∙ ap (λ t. cond t 0 (tries user.So h)) r);
+    tries = agree.so.tries
+        ∙ sym (tries-done e h user.So c d ∙ ap (λ t. cond t 0 (tries user.So h)) r);
   }
 
   user-stays : (c : Call) → done e ≡ Some c
-      → ((before : Option Pin) → user_pin_after (Some c) (is_about user.User h (Some c)) before ≡ before)
+      → ((before : Option Pin) → user_pin_after (Some c) (is_about user.User h (Some c))
+      before ≡ before)
       → resets user.User h (Some c) ≡ false → CredentialAgrees user.User (e ◁ h) old.user
   user-stays c d pin r = record {
     pin = agree.user.pin ∙ sym (user_pin-step e h (Some c) d ∙ pin (user_pin h));
-    tries = agree.user.tries ∙ sym (tries-done e h user.User c d ∙ ap (λ t. cond t 0 (tries user.User h)) r);
+    tries = agree.user.tries
+        ∙ sym (tries-done e h user.User c d ∙ ap (λ t. cond t 0 (tries user.User h)) r);
   }
 
   -- ---- an entry that leaves all of it as it is
 
   -- the list of sessions, the login and PINs stay
-  pub SessionsAgree-same : (effects e).sessions ≡ false → ((u : UserType) → is_about u h (wrong_try e) ≡ false)
+  pub SessionsAgree-same : (effects e).sessions ≡ false
+      → ((u : UserType) → is_about u h (wrong_try e) ≡ false)
       → (new : SessionsState)
-      → new.rows ≡ session_rows session_row (e ◁ h) → new.openings ≡ old.openings → new.login ≡ old.login
+      → new.rows ≡ session_rows session_row (e ◁ h) → new.openings ≡ old.openings
+      → new.login ≡ old.login
       → new.logins ≡ old.logins → new.so ≡ old.so → new.user ≡ old.user
       → SessionsAgree (e ◁ h) new
   SessionsAgree-same l w new rows count log logs so us = record {
@@ -154,7 +173,8 @@ module _ (h : History) (old : SessionsState) (agree : SessionsAgree h old) (e : 
           tries = agree.user.tries ∙ sym
               (tries-left e h l user.User (w user.User));
         });
-    initialized = ap (λ (c : Credential). is_some c.pin) so ∙ agree.initialized ∙ sym (is_initialized-left e h l);
+    initialized = ap (λ (c : Credential). is_some c.pin) so ∙ agree.initialized
+        ∙ sym (is_initialized-left e h l);
   }
 
   rows-left : (effects e).sessions ≡ false → (effects e).searches ≡ false
@@ -163,12 +183,14 @@ module _ (h : History) (old : SessionsState) (agree : SessionsAgree h old) (e : 
 
   pub sessions-left : (effects e).sessions ≡ false → (effects e).searches ≡ false
       → ((u : UserType) → is_about u h (wrong_try e) ≡ false) → SessionsAgree (e ◁ h) old
-  sessions-left l ls w = SessionsAgree-same l w old (agree.rows ∙ sym (rows-left l ls)) refl refl refl refl refl
+  sessions-left l ls w = SessionsAgree-same l w old (agree.rows ∙ sym (rows-left l ls)) refl refl
+      refl refl refl
 
   -- a call about searches, which is answered OK
   SessionsAgree-searched : (c : Call) → done e ≡ Some c → (effects_of (Some c)).sessions ≡ false
       → (new : SessionsState) → new.rows ≡ session_rows session_row (e ◁ h)
-      → new.openings ≡ old.openings → new.login ≡ old.login → new.logins ≡ old.logins → new.so ≡ old.so
+      → new.openings ≡ old.openings → new.login ≡ old.login → new.logins ≡ old.logins
+      → new.so ≡ old.so
       → new.user ≡ old.user → SessionsAgree (e ◁ h) new
   SessionsAgree-searched c d l new rows count log logs so us =
       SessionsAgree-same (ap (λ o. (effects_of o).sessions) d ∙ l)
@@ -185,8 +207,10 @@ module _ (h : History) (old : SessionsState) (agree : SessionsAgree h old) (e : 
       tries-step e h v None (wrong_try e) d refl
       ∙ ap (λ t. cond t (suc (tries v h)) (tries v h)) (other_user u v (about h (wrong_try e)) a)
 
-  pub SessionsAgree-wrong : (u : UserType) (new : SessionsState) → done e ≡ None → about h (wrong_try e) ≡ Some u
-      → new.rows ≡ old.rows → new.openings ≡ old.openings → new.login ≡ old.login → new.logins ≡ old.logins
+  pub SessionsAgree-wrong : (u : UserType) (new : SessionsState) → done e ≡ None
+      → about h (wrong_try e) ≡ Some u
+      → new.rows ≡ old.rows → new.openings ≡ old.openings → new.login ≡ old.login
+      → new.logins ≡ old.logins
       → new.so.pin ≡ old.so.pin → new.user.pin ≡ old.user.pin
       → new.so.tries ≡ cond (same_user user.So u) (suc old.so.tries) old.so.tries
       → new.user.tries ≡ cond (same_user user.User u) (suc old.user.tries) old.user.tries
@@ -215,10 +239,13 @@ module _ (h : History) (old : SessionsState) (agree : SessionsAgree h old) (e : 
 
   -- ---- openings and closings
 
-  pub SessionsAgree-opened : (flags : ℕ) (new : SessionsState) → done e ≡ Some (call.OpenSession flags)
+  pub SessionsAgree-opened : (flags : ℕ) (new : SessionsState)
+      → done e ≡ Some (call.OpenSession flags)
       → is_searching h (suc (openings h)) ≡ false
-      → new.rows ≡ old.rows ++ record { handle = old.openings + 1; flags = flags; search = None } ∷ []
-      → new.openings ≡ old.openings + 1 → new.login ≡ old.login → new.logins ≡ old.logins → new.so ≡ old.so
+      → new.rows ≡ old.rows ++ record { handle = old.openings + 1; flags = flags; search = None }
+      ∷ []
+      → new.openings ≡ old.openings + 1 → new.login ≡ old.login → new.logins ≡ old.logins
+      → new.so ≡ old.so
       → new.user ≡ old.user → SessionsAgree (e ◁ h) new
   SessionsAgree-opened flags new d none rows count log logs so us =
       let c = call.OpenSession flags in
@@ -252,19 +279,25 @@ module _ (h : History) (old : SessionsState) (agree : SessionsAgree h old) (e : 
       ∙ ap (cond (length (open_sessions (e ◁ h)) == 0) None)
       (agree.login ∙ sym (ap (λ x. login_after x (login h)) d ∙ left (login h)))
 
-  pub SessionsAgree-closed : (session : ℕ) (new : SessionsState) → done e ≡ Some (call.CloseSession session)
-      → new.rows ≡ filter (λ (row : SessionRow). not (is_session session row)) old.rows → new.openings ≡
+  pub SessionsAgree-closed : (session : ℕ) (new : SessionsState)
+      → done e ≡ Some (call.CloseSession session)
+      → new.rows ≡ filter (λ (row : SessionRow). not (is_session session row)) old.rows
+      → new.openings ≡
       old.openings → new.login ≡ cond (length new.rows == 0) None old.login
       → new.logins ≡ old.logins → new.so ≡ old.so → new.user ≡ old.user → SessionsAgree (e ◁ h) new
   SessionsAgree-closed session new d rows count log logs so us =
       let c = call.CloseSession session in
       let all : new.rows ≡ session_rows session_row (e ◁ h) =
       rows ∙ ap (filter (λ (row : SessionRow). not (is_session session row))) agree.rows
-      ∙ filter-selected (λ (row : SessionRow). not (is_session session row)) (is_open h) (session_row h) (openings h)
-      ∙ selected-same (λ k. is_open h k && not (k == session)) (λ k. is_open h k && not (closes (done e) k))
+      ∙ filter-selected (λ (row : SessionRow). not (is_session session row)) (is_open h)
+      (session_row h) (openings h)
+      ∙ selected-same (λ k. is_open h k && not (k == session))
+      (λ k. is_open h k && not (closes (done e) k))
       (session_row h) (session_row h) (openings h)
-      (λ k below. ap (λ t. is_open h k && not t) (eqb-swap k session ∙ ap (λ x. closes x k) (sym d))) (λ k below. refl)
-      ∙ sym (session_rows-later e h (ap opens d) session_row (λ k below passes. row-other e h session d k passes)) in
+      (λ k below. ap (λ t. is_open h k && not t)
+      (eqb-swap k session ∙ ap (λ x. closes x k) (sym d))) (λ k below. refl)
+      ∙ sym (session_rows-later e h (ap opens d) session_row
+      (λ k below passes. row-other e h session d k passes)) in
       record {
         rows = all;
         openings = count ∙ openings-stay c d refl;
@@ -275,18 +308,21 @@ module _ (h : History) (old : SessionsState) (agree : SessionsAgree h old) (e : 
         initialized = ap (λ (c : Credential). is_some c.pin) so ∙ initialized-stays c d refl;
       }
 
-  pub SessionsAgree-all_closed : (new : SessionsState) → done e ≡ Some call.CloseAllSessions → new.rows ≡ []
+  pub SessionsAgree-all_closed : (new : SessionsState) → done e ≡ Some call.CloseAllSessions
+      → new.rows ≡ []
       → new.openings ≡ old.openings → new.login ≡ None
       → new.logins ≡ old.logins → new.so ≡ old.so → new.user ≡ old.user → SessionsAgree (e ◁ h) new
   SessionsAgree-all_closed new d rows count log logs so us =
       let c = call.CloseAllSessions in
       let all : session_rows session_row (e ◁ h) ≡ [] =
       session_rows-later e h (ap opens d) session_row
-      (λ k below passes. absurd (false≢true (sym (ap (λ x. is_open h k && not (closes x k)) d ∙ and-false
+      (λ k below passes. absurd
+      (false≢true (sym (ap (λ x. is_open h k && not (closes x k)) d ∙ and-false
       (is_open h k)) ∙ passes)))
       ∙ selected-none (λ k. is_open h k && not (closes (done e) k)) (session_row h) (openings h)
       (λ k below. ap (λ x. is_open h k && not (closes x k)) d ∙ and-false (is_open h k)) in
-      let none : length (open_sessions (e ◁ h)) == 0 ≡ true = rw (sym (length-session_rows session_row (e ◁ h)), all) in
+      let none : length (open_sessions (e ◁ h)) == 0 ≡ true =
+      rw (sym (length-session_rows session_row (e ◁ h)), all) in
       record {
         rows = rows ∙ sym all;
         openings = count ∙ openings-stay c d refl;
@@ -299,16 +335,20 @@ module _ (h : History) (old : SessionsState) (agree : SessionsAgree h old) (e : 
 
   -- ---- a login
 
-  pub SessionsAgree-logged_in : (session number : ℕ) (pin : Pin) (u : UserType) (new : SessionsState)
+  pub SessionsAgree-logged_in : (session number : ℕ) (pin : Pin) (u : UserType)
+      (new : SessionsState)
       → done e ≡ Some (call.Login session number pin)
-      → is_open h session ≡ true → user_of number ≡ Some u → new.rows ≡ old.rows → new.openings ≡ old.openings
+      → is_open h session ≡ true → user_of number ≡ Some u → new.rows ≡ old.rows
+      → new.openings ≡ old.openings
       → new.login ≡ Some u
-      → new.logins ≡ cond (same_user user.User u) (suc old.logins) old.logins → new.so.pin ≡ old.so.pin
+      → new.logins ≡ cond (same_user user.User u) (suc old.logins) old.logins
+      → new.so.pin ≡ old.so.pin
       → new.user.pin ≡ old.user.pin
       → new.so.tries ≡ cond (same_user user.So u || false) 0 old.so.tries
       → new.user.tries ≡ cond (same_user user.User u || false) 0 old.user.tries
       → SessionsAgree (e ◁ h) new
-  SessionsAgree-logged_in session number pin u new d opened known rows count log logs so_pin user_pin so_tries
+  SessionsAgree-logged_in session number pin u new d opened known rows count log logs so_pin
+      user_pin so_tries
       user_tries =
       let c = call.Login session number pin in
       let same = sessions-stay c d refl (λ s. refl) refl in
@@ -320,7 +360,8 @@ module _ (h : History) (old : SessionsState) (agree : SessionsAgree h old) (e : 
         login = log ∙ sym known ∙ sym (login-open e h (Some c) d some);
         logins =
             logs ∙ ap (λ t. cond t (suc old.logins) old.logins) (sym (user_number u number known))
-            ∙ ap (λ n. cond (number == 1) (suc n) n) agree.logins ∙ sym (user_logins-step e h (Some c) d);
+            ∙ ap (λ n. cond (number == 1) (suc n) n) agree.logins
+            ∙ sym (user_logins-step e h (Some c) d);
         so = record {
           pin = so_pin ∙ agree.so.pin ∙ sym (so_pin-step e h (Some c) d);
           tries = so_tries ∙ ap (cond (same_user user.So u || false) 0) agree.so.tries
@@ -338,7 +379,8 @@ module _ (h : History) (old : SessionsState) (agree : SessionsAgree h old) (e : 
 
   -- ---- PINs
 
-  pub SessionsAgree-initialized : (pin : Pin) (new : SessionsState) → done e ≡ Some (call.InitToken pin)
+  pub SessionsAgree-initialized : (pin : Pin) (new : SessionsState)
+      → done e ≡ Some (call.InitToken pin)
       → new.rows ≡ old.rows → new.openings ≡ old.openings
       → new.login ≡ old.login → new.logins ≡ old.logins
       → new.so.pin ≡ so_pin_after (Some (call.InitToken pin)) true old.so.pin → new.so.tries ≡ 0
@@ -368,7 +410,8 @@ module _ (h : History) (old : SessionsState) (agree : SessionsAgree h old) (e : 
 
   pub SessionsAgree-pin_initialized : (session : ℕ) (pin : Pin) (new : SessionsState)
       → done e ≡ Some (call.InitPin session pin) → new.rows ≡ old.rows
-      → new.openings ≡ old.openings → new.login ≡ old.login → new.logins ≡ old.logins → new.so ≡ old.so
+      → new.openings ≡ old.openings → new.login ≡ old.login → new.logins ≡ old.logins
+      → new.so ≡ old.so
       → new.user.pin ≡ Some pin → new.user.tries ≡ 0 → SessionsAgree (e ◁ h) new
   SessionsAgree-pin_initialized session pin new d rows count log logs so user_pin user_tries =
       let c = call.InitPin session pin in
@@ -390,11 +433,13 @@ module _ (h : History) (old : SessionsState) (agree : SessionsAgree h old) (e : 
   -- the owner of the session's PIN sets it
   module _ (session : ℕ) (before pin : Pin) (new : SessionsState)
       (d : done e ≡ Some (call.SetPin session before pin)) (rows : new.rows ≡ old.rows)
-      (count : new.openings ≡ old.openings) (log : new.login ≡ old.login) (logs : new.logins ≡ old.logins) where
+      (count : new.openings ≡ old.openings) (log : new.login ≡ old.login)
+      (logs : new.logins ≡ old.logins) where
     abbrev c : Call
     c = call.SetPin session before pin
 
-    pub SessionsAgree-so_pin_set : pin_owner (state_of h session) ≡ user.So → is_some old.so.pin ≡ true
+    pub SessionsAgree-so_pin_set : pin_owner (state_of h session) ≡ user.So
+        → is_some old.so.pin ≡ true
         → new.so.pin ≡ Some pin → new.so.tries ≡ 0 → new.user ≡ old.user
         → SessionsAgree (e ◁ h) new
     SessionsAgree-so_pin_set owner had so_pin so_tries us = record {
@@ -403,7 +448,8 @@ module _ (h : History) (old : SessionsState) (agree : SessionsAgree h old) (e : 
       login = log ∙ login-stays c d refl (λ s. refl) refl (λ b. refl);
       logins = logs ∙ logins-stay c d refl;
       so = record {
-        pin = so_pin ∙ sym (so_pin-step e h (Some c) d ∙ ap (λ o. so_pin_after (Some c) (same_user user.So o) (so_pin_of h)) owner);
+        pin = so_pin ∙ sym (so_pin-step e h (Some c) d
+            ∙ ap (λ o. so_pin_after (Some c) (same_user user.So o) (so_pin_of h)) owner);
         tries = so_tries
             ∙ sym (tries-done e h user.So c d ∙ ap (λ o. cond (is_user user.So (Some o) || false) 0
             (tries user.So h)) owner);
@@ -411,9 +457,11 @@ module _ (h : History) (old : SessionsState) (agree : SessionsAgree h old) (e : 
       user = rw us (record {
         pin =
             agree.user.pin
-            ∙ sym (user_pin-step e h (Some c) d ∙ ap (λ o. user_pin_after (Some c) (same_user user.User o) (user_pin h)) owner);
+            ∙ sym (user_pin-step e h (Some c) d
+            ∙ ap (λ o. user_pin_after (Some c) (same_user user.User o) (user_pin h)) owner);
         tries = agree.user.tries
-            ∙ sym (tries-done e h user.User c d ∙ ap (λ o. cond (is_user user.User (Some o) || false) 0
+            ∙ sym (tries-done e h user.User c d
+            ∙ ap (λ o. cond (is_user user.User (Some o) || false) 0
             (tries user.User h)) owner);
       });
       initialized = ap is_some so_pin ∙ sym had ∙ initialized-stays c d refl;
@@ -427,15 +475,18 @@ module _ (h : History) (old : SessionsState) (agree : SessionsAgree h old) (e : 
       login = log ∙ login-stays c d refl (λ s. refl) refl (λ b. refl);
       logins = logs ∙ logins-stay c d refl;
       so = rw so (record {
-        pin = agree.so.pin ∙ sym (so_pin-step e h (Some c) d ∙ ap (λ o. so_pin_after (Some c) (same_user user.So o) (so_pin_of h)) owner);
+        pin = agree.so.pin ∙ sym (so_pin-step e h (Some c) d
+            ∙ ap (λ o. so_pin_after (Some c) (same_user user.So o) (so_pin_of h)) owner);
         tries = agree.so.tries
             ∙ sym (tries-done e h user.So c d ∙ ap (λ o. cond (is_user user.So (Some o) || false) 0
             (tries user.So h)) owner);
       });
       user = record {
-        pin = us_pin ∙ sym (user_pin-step e h (Some c) d ∙ ap (λ o. user_pin_after (Some c) (same_user user.User o) (user_pin h)) owner);
+        pin = us_pin ∙ sym (user_pin-step e h (Some c) d
+            ∙ ap (λ o. user_pin_after (Some c) (same_user user.User o) (user_pin h)) owner);
         tries = us_tries
-            ∙ sym (tries-done e h user.User c d ∙ ap (λ o. cond (is_user user.User (Some o) || false) 0
+            ∙ sym (tries-done e h user.User c d
+            ∙ ap (λ o. cond (is_user user.User (Some o) || false) 0
             (tries user.User h)) owner);
       };
       initialized = ap (λ (c : Credential). is_some c.pin) so ∙ initialized-stays c d refl;
@@ -448,23 +499,28 @@ module _ (h : History) (old : SessionsState) (agree : SessionsAgree h old) (e : 
       (us : new.user ≡ old.user) where
     pub SessionsAgree-set : (c : Call) (session : ℕ) (found : Option (List ℕ)) → done e ≡ Some c
         → SetsSearch h c session found
-        → new.rows ≡ change_first (is_session session) (with_search (option_map new_search found)) old.rows
+        → new.rows ≡ change_first (is_session session) (with_search (option_map new_search found))
+        old.rows
         → SessionsAgree (e ◁ h) new
     SessionsAgree-set c session found d sets rows =
         SessionsAgree-searched c d sets.sessions new
-        (rows ∙ ap (change_first (is_session session) (with_search (option_map new_search found))) agree.rows
+        (rows ∙ ap (change_first (is_session session) (with_search (option_map new_search found)))
+        agree.rows
         ∙ session_rows-set e h c session found d sets) count log logs so us
 
-    pub SessionsAgree-found : (session max number : ℕ) → done e ≡ Some (call.FindObjects session max)
+    pub SessionsAgree-found : (session max number : ℕ)
+        → done e ≡ Some (call.FindObjects session max)
         → number ≡ last_or (last_number h session) (map number_of_handle (handles_in e.reply.body))
-        → new.rows ≡ change_first (is_session session) (with_last_found number) old.rows → SessionsAgree (e ◁ h) new
+        → new.rows ≡ change_first (is_session session) (with_last_found number) old.rows
+        → SessionsAgree (e ◁ h) new
     SessionsAgree-found session max number d last rows =
         SessionsAgree-searched (call.FindObjects session max) d refl new
         (rows ∙ ap (change_first (is_session session) (with_last_found number)) agree.rows
         ∙ session_rows-found e h session max d number last) count log logs so us
 
   -- a logout ends the login and all searches
-  pub SessionsAgree-logged_out : (session : ℕ) (new : SessionsState) → done e ≡ Some (call.Logout session)
+  pub SessionsAgree-logged_out : (session : ℕ) (new : SessionsState)
+      → done e ≡ Some (call.Logout session)
       → new.rows ≡ map (with_search None) old.rows
       → new.openings ≡ old.openings → new.login ≡ None → new.logins ≡ old.logins → new.so ≡ old.so
       → new.user ≡ old.user → SessionsAgree (e ◁ h) new
@@ -472,7 +528,8 @@ module _ (h : History) (old : SessionsState) (agree : SessionsAgree h old) (e : 
       let c = call.Logout session in
       record {
         rows =
-            rows ∙ ap (map (with_search None)) agree.rows ∙ map-map (with_search None) (session_row h) (open_sessions h)
+            rows ∙ ap (map (with_search None)) agree.rows
+            ∙ map-map (with_search None) (session_row h) (open_sessions h)
             ∙ selected-same (is_open h) (is_open h) (λ k. with_search None (session_row h k))
             (session_row (e ◁ h)) (openings h) (λ k b. refl)
             (λ k b. sym (row-logged_out e h session d k))

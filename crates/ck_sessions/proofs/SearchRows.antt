@@ -1,6 +1,7 @@
 -- How the rows of sessions move with their searches
 use Rattle.std.proofs.Common.{◌≡◌, ℕ, suc, ◌≤◌, Bool, true, false, cond, not, ◌&&◌, List, [], ◌++◌}
-use Rattle.std.proofs.Common.{length, take, drop, Option, Some, None, refl, sym, ap, ◌∙◌, subst, arith}
+use Rattle.std.proofs.Common.{length, take, drop, Option, Some, None, refl, sym, ap, ◌∙◌, subst}
+use Rattle.std.proofs.Common.{arith}
 use Rattle.std.specs.Prelude.{◌==◌, map, option_map, is_some, is_none}
 use Rattle.std.proofs.lemmas.Bool.{eqb-true, and_parts, not-true}
 use Rattle.std.proofs.lemmas.List.{append-nil, length-map, take_all, drop_all}
@@ -37,7 +38,8 @@ abbrev search_step : Option Call → List ℕ → List ℕ → ℕ → Bool → 
 search_step o matching handles k active found last =
     active_search (cond (starts_search o k) true (cond (ends_search o k) false active))
     (cond (starts_search o k) matching found)
-    (cond (starts_search o k) 0 (last_or last (map number_of_handle (cond (asks_search o k) handles []))))
+    (cond (starts_search o k) 0
+    (last_or last (map number_of_handle (cond (asks_search o k) handles []))))
 
 abbrev row : ℕ → ℕ → Option Search → SessionRow
 row k flags search = record { handle = k; flags = flags; search = search }
@@ -47,18 +49,22 @@ module _ (e : Entry) (h : History) where
       → search_of (e ◁ h) k ≡ search_step o (matching_objects (e ◁ h) (search_template o))
       (handles_in e.reply.body) k (is_searching h k) (found_objects h k) (last_number h k)
   search_of-step k o d =
-      ap (λ x. search_step x (matching_objects (e ◁ h) (search_template x)) (handles_in e.reply.body) k
+      ap (λ x. search_step x (matching_objects (e ◁ h) (search_template x))
+      (handles_in e.reply.body) k
       (is_searching h k) (found_objects h k) (last_number h k)) d
 
   search_of-left : (effects e).searches ≡ false → (k : ℕ) → search_of (e ◁ h) k ≡ search_of h k
   search_of-left l k =
-      ap (λ t. active_search t (found_objects (e ◁ h) k) (last_number (e ◁ h) k)) (is_searching-left e h l k)
-      ∙ ap (λ f. active_search (is_searching h k) f (last_number (e ◁ h) k)) (found_objects-left e h l k)
+      ap (λ t. active_search t (found_objects (e ◁ h) k) (last_number (e ◁ h) k))
+      (is_searching-left e h l k)
+      ∙ ap (λ f. active_search (is_searching h k) f (last_number (e ◁ h) k))
+      (found_objects-left e h l k)
       ∙ ap (active_search (is_searching h k) (found_objects h k)) (last_number-left e h l k)
 
   -- ---- one session's row
 
-  row-moved : (k : ℕ) (search : Option Search) → opens (done e) ≡ false → search_of (e ◁ h) k ≡ search
+  row-moved : (k : ℕ) (search : Option Search) → opens (done e) ≡ false
+      → search_of (e ◁ h) k ≡ search
       → session_row (e ◁ h) k ≡ row k (flags_of h k) search
   row-moved k search o s =
       ap (λ f. row k f (search_of (e ◁ h) k)) (flags_of-later e h o k) ∙ ap (row k (flags_of h k)) s
@@ -88,15 +94,18 @@ module _ (e : Entry) (h : History) where
       → (is_open h k && not (closes (done e) k)) ≡ true → session_row (e ◁ h) k ≡ session_row h k
   row-other session d k passes =
       let other : session == k ≡ false = not-true (session == k)
-      ((and_parts (is_open h k) _ (subst (λ o. (is_open h k && not (closes o k)) ≡ true) d passes)).1) in
+      ((and_parts (is_open h k) _
+      (subst (λ o. (is_open h k && not (closes o k)) ≡ true) d passes)).1) in
       row-moved k (search_of h k) (ap opens d)
       (search_of-step k (Some (call.CloseSession session)) d
-      ∙ ap (λ t. active_search (cond t false (is_searching h k)) (found_objects h k) (last_number h k)) other)
+      ∙ ap (λ t. active_search (cond t false (is_searching h k)) (found_objects h k)
+      (last_number h k)) other)
 
   -- a logout
   pub row-logged_out : (session : ℕ) → done e ≡ Some (call.Logout session) → (k : ℕ)
       → session_row (e ◁ h) k ≡ with_search None (session_row h k)
-  row-logged_out session d k = row-moved k None (ap opens d) (search_of-step k (Some (call.Logout session)) d)
+  row-logged_out session d k = row-moved k None (ap opens d)
+      (search_of-step k (Some (call.Logout session)) d)
 
   -- ---- the rows after a call about the search of one session
 
@@ -104,10 +113,12 @@ module _ (e : Entry) (h : History) where
       (change : SessionRow → SessionRow)
       (here : (k : ℕ) → session == k ≡ true → session_row (e ◁ h) k ≡ change (session_row h k))
       (there : (k : ℕ) → session == k ≡ false → session_row (e ◁ h) k ≡ session_row h k) where
-    pub session_rows-searched : change_first (is_session session) change (session_rows session_row h) ≡
+    pub session_rows-searched : change_first (is_session session) change
+        (session_rows session_row h) ≡
         session_rows session_row (e ◁ h)
     session_rows-searched =
-        selected-replaced (is_session session) change (is_open h) (session_row h) (session_row (e ◁ h)) (openings h)
+        selected-replaced (is_session session) change (is_open h) (session_row h)
+        (session_row (e ◁ h)) (openings h)
         (λ j k bj bk nj nk. eqb-true j session nj ∙ sym (eqb-true k session nk))
         (λ k b is n. here k (eqb-swap session k ∙ n)) (λ k b n. there k (eqb-swap session k ∙ n))
         ∙ sym (session_rows-changed e h o session_row cl)
@@ -147,10 +158,12 @@ module _ (e : Entry) (h : History) where
         ∙ rw (sets.starts k, sets.ends k, sets.asks k, same)
         (set_step found finds t (is_searching h k) (found_objects h k) (last_number h k))
 
-    pub session_rows-set : change_first (is_session session) (with_search (option_map new_search found))
+    pub session_rows-set : change_first (is_session session)
+        (with_search (option_map new_search found))
         (session_rows session_row h) ≡ session_rows session_row (e ◁ h)
     session_rows-set =
-        session_rows-searched o (λ s. closes-left (done e) s (ap (λ o. (effects_of o).sessions) d ∙ sets.sessions))
+        session_rows-searched o
+        (λ s. closes-left (done e) s (ap (λ o. (effects_of o).sessions) d ∙ sets.sessions))
         session (with_search (option_map new_search found))
         (λ k same. row-moved k (option_map new_search found) o (search_of-set k true same))
         (λ k other. row-moved k (search_of h k) o (search_of-set k false other))
@@ -170,11 +183,14 @@ module _ (e : Entry) (h : History) where
         (last_number h k)) other)
 
     last_step : (active : Bool) (found : List ℕ) (last n after : ℕ) → after ≡ n
-        → active_search active found after ≡ option_map (with_last n) (active_search active found last)
-    last_step true found last n after same = ap (λ l. Some (record { found = found; last = l })) same
+        → active_search active found after ≡ option_map (with_last n)
+        (active_search active found last)
+    last_step true found last n after same = ap (λ l. Some (record { found = found; last = l }))
+        same
     last_step false found last n after same = refl
 
-    found-here : (n : ℕ) → n ≡ last_or (last_number h session) (map number_of_handle (handles_in e.reply.body))
+    found-here : (n : ℕ) → n ≡ last_or (last_number h session)
+        (map number_of_handle (handles_in e.reply.body))
         → (k : ℕ) → session == k ≡ true
         → session_row (e ◁ h) k ≡ with_last_found n (session_row h k)
     found-here n last k same =
@@ -189,14 +205,16 @@ module _ (e : Entry) (h : History) where
 
     pub session_rows-found : (n : ℕ)
         → n ≡ last_or (last_number h session) (map number_of_handle (handles_in e.reply.body))
-        → change_first (is_session session) (with_last_found n) (session_rows session_row h) ≡ session_rows
+        → change_first (is_session session) (with_last_found n) (session_rows session_row h)
+        ≡ session_rows
         session_row (e ◁ h)
     session_rows-found n last =
         session_rows-searched (ap opens d) (λ s. ap (λ x. closes x s) d) session (with_last_found n)
         (found-here n last) found-there
 
 -- all rows written over
-pub written_over : (change : SessionRow → SessionRow) (n : ℕ) (new old items : List SessionRow) → new ≡ map change old
+pub written_over : (change : SessionRow → SessionRow) (n : ℕ) (new old items : List SessionRow)
+    → new ≡ map change old
     → old ≡ items → length old ≡ n
     → take n (new ++ drop (length new) items) ≡ map change items
 written_over change n new old items is same count =

@@ -1,4 +1,4 @@
-//! The sessions of a PKCS #11 token, who is logged in, and the PINs: what the journal says of them.
+//! The sessions of a PKCS #11 token, who is logged in, and the PINs, as the journal has them.
 #![tactic(auto)]
 
 mod credentials;

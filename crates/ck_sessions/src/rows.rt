@@ -37,7 +37,7 @@ pub(crate) fn remove_session(rows: &mut Vec<Session>, session: u64)
     rows.retain(|row| !row.has_handle(session));
 }
 
-fn place_of(rows: &[Session], session: u64) -> Option<usize>
+fn position_of(rows: &[Session], session: u64) -> Option<usize>
     ensures { result ≡ position (is_session session) rows.now }
 {
     rows.iter().position(|row| row.has_handle(session))
@@ -48,8 +48,8 @@ pub(crate) fn set_search(rows: &mut Vec<Session>, session: u64, search: Option<S
     ensures { rows.new.items
         ≡ change_first (is_session session) (with_search search) rows.old.items }
 {
-    if let Some(place) = place_of(rows, session) {
-        let row = &mut rows[place];
+    if let Some(position) = position_of(rows, session) {
+        let row = &mut rows[position];
         row.set_search(search);
     }
 }
@@ -59,8 +59,8 @@ pub(crate) fn set_last_found(rows: &mut Vec<Session>, session: u64, number: u64)
     ensures { rows.new.items
         ≡ change_first (is_session session) (with_last_found number) rows.old.items }
 {
-    if let Some(place) = place_of(rows, session) {
-        let row = &mut rows[place];
+    if let Some(position) = position_of(rows, session) {
+        let row = &mut rows[position];
         row.set_last_found(number);
     }
 }

@@ -27,7 +27,7 @@ impl Search {
             → result.now ≡ filter (λ n. nat_lt self.now.last n) self.now.found }
     {
         let found = self.found.as_slice();
-        let place = found.partition_point(|number| *number <= self.last);
-        &found[place..]
+        let start = found.partition_point(|number| *number <= self.last);
+        &found[start..]
     }
 }

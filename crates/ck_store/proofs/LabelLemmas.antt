@@ -65,7 +65,8 @@ pub refused-no_match : (view : View) (template : List Item) (row : ObjectRow) (m
     → is_match view template row ≡ false
 refused-no_match view template row mark wanted marked is_wanted refused =
     false_from_ne_true (is_match view template row) (λ e.
-    matching (and_parts (is_visible_with view row.attributes) (matches row.attributes template) e).1)
+    matching (and_parts (is_visible_with view row.attributes) (matches row.attributes template)
+    e).1)
   where
     matching : matches row.attributes template ≡ true → ⊥
     matching all = elim is_wanted [
@@ -111,7 +112,8 @@ module _ (objects : Slab ObjectRow) (marks marks' : List ℕ) where
       → ((key : ℕ) → (get_or marks' key 0 ≡ get_or marks key 0) ⊎ (get_or marks' key 0 ≡ 0))
       → IsMarked objects marks'
   IsMarked-grown marked grown key row is label has = elim (grown key) [
-    | inl same ↦ subst (λ m. (m ≡ 0) ⊎ (m ≡ label_mark label)) (sym same) (marked key row is label has)
+    | inl same ↦ subst (λ m. (m ≡ 0) ⊎ (m ≡ label_mark label)) (sym same)
+        (marked key row is label has)
     | inr zero_ ↦ inl zero_
   ]
 
@@ -197,7 +199,9 @@ label-in_state state (item ∷ items) =
         → value_at (with_state state items) (type_of attribute.Label)
         ≡ value_at items (type_of attribute.Label)
         → option_map (λ (i : Item). i.value)
-        (cond t (Some (record item { value = value_or (state_item state ∷ []) item.kind item.value }))
+        (cond t (Some (record item {
+          value = value_or (state_item state ∷ []) item.kind item.value;
+        }))
         (find (λ (i : Item). i.kind == type_of attribute.Label) (with_state state items)))
         ≡ option_map (λ (i : Item). i.value)
         (cond t (Some item) (find (λ (i : Item). i.kind == type_of attribute.Label) items))
@@ -236,7 +240,8 @@ module _ (number : ℕ) (attributes : List Item) (old new : Slab ObjectRow)
       there : (other : ℕ) (row : ObjectRow) → other ≢ key → get new other ≡ Some row
           → get old other ≡ Some row
       there other row differs is =
-          let from = changed-from (with_attributes number attributes) old new changed other row is in
+          let from = changed-from (with_attributes number attributes) old new changed other row
+          is in
           from.1
           ∙ ap Some (sym (with_attributes-other number attributes from.0
           (false_from_ne_true (has_number number from.0) (λ t.

@@ -1,5 +1,6 @@
 -- The lists of sessions
-use Rattle.std.proofs.Common.{◌≡◌, ◌⊎◌, ℕ, ◌<◌, ◌++◌, List, [], ◌∷◌, Some, Contains, sym, ap, ◌∙◌, subst}
+use Rattle.std.proofs.Common.{◌≡◌, ◌⊎◌, ℕ, ◌<◌, ◌++◌, List, [], ◌∷◌, Some, Contains, sym, ap, ◌∙◌}
+use Rattle.std.proofs.Common.{subst}
 use Rattle.std.proofs.Common.{set, get_or, length, inl, inr, arith, position, Bool, true, false}
 use Rattle.std.proofs.Common.{refl}
 use Rattle.std.specs.Prelude.{◌==◌}
@@ -23,7 +24,8 @@ module _ (lists : List SessionList) (session : ℕ) (private : Bool) (place : Pl
     set_here : (d : SessionList) → get_or (set lists i new) i d ≡ new
     set_here d = get_or-set_same lists i new d within
 
-    pub IsListed-taken : Contains new.places.items place → IsListed (set lists i new) session private place
+    pub IsListed-taken : Contains new.places.items place → IsListed (set lists i new) session
+        private place
     IsListed-taken there = record {
       list = new;
       among = (i, omega (arith, length-set lists i new), set_here new);
@@ -142,7 +144,8 @@ module _ (lists : List SessionList) (session : ℕ) (private : Bool) (place : Pl
               inr (
                 sym (ap (λ (l : SessionList). l.session) this ∙ listed.own) ∙ of_session,
                 sym (ap (λ (l : SessionList). l.private) this ∙ listed.mark) ∙ of_private,
-                only p (subst (λ (l : SessionList). Contains l.places.items p) (sym this) listed.holds),
+                only p (subst (λ (l : SessionList). Contains l.places.items p) (sym this)
+                    listed.holds),
               )
         ]
 

@@ -64,7 +64,7 @@ module _ (h : History) (old : StoreState) (agree : StoreAgrees h old) (e : Entry
 
     module _ (c : Call) (d : done e ≡ Some c) (no_creation : creates (Some c) ≡ false)
         (count : new.creations ≡ old.creations) where
-      -- it changes or ends each object alone
+      -- it changes or ends each object by itself
       StoreAgrees-later : (change : ObjectRow → Option ObjectRow)
           → ((k : ℕ) (attributes : List Item) → object_at h k ≡ Some attributes
           → option_map (object_row k (session_of h k))
@@ -227,7 +227,8 @@ module _ (h : History) (old : StoreState) (agree : StoreAgrees h old) (e : Entry
           state_case : (k creator : ℕ) (attributes : List Item) (t : Bool)
               → object_row k creator (cond t (in_state (state_of_number n) attributes) attributes)
               ≡ cond t
-              (record (object_row k creator attributes) { attributes = with_state state attributes })
+              (record (object_row k creator attributes)
+              { attributes = with_state state attributes })
               (object_row k creator attributes)
           state_case k creator attributes false = refl
           state_case k creator attributes true =

@@ -1,8 +1,8 @@
 -- The objects of places
 use Rattle.std.proofs.Common.{◌≡◌, ◌⊎◌, ℕ, ◌<◌, Bool, true, false, cond, not, List, [], ◌∷◌}
 use Rattle.std.proofs.Common.{Option, Some, None, Contains, refl, sym, ap, ◌∙◌, subst, inl, inr}
-use Rattle.std.proofs.Common.{arith, position, length, get_or, take, ◌++◌, ◌+◌}
-use Rattle.std.proofs.lemmas.List.{take_more, map-append}
+use Rattle.std.proofs.Common.{arith, position, length, get_or, take, drop, ◌++◌, ◌+◌, length-append}
+use Rattle.std.proofs.lemmas.List.{take_more, map-append, take-append-drop}
 use Rattle.ck_objects.specs.declared.items.Item.{Item}
 use Rattle.ck_journal.specs.declared.views.View.{View}
 use Rattle.std.proofs.lemmas.List.Elements.{All-contains, All-filter, All-contains_itself}
@@ -10,7 +10,8 @@ use Rattle.std.proofs.lemmas.List.Elements.{Contains-get_or, Contains-push_cases
 use Rattle.std.proofs.lemmas.List.Elements.{filter-append}
 use Rattle.std.proofs.lemmas.List.Quantifiers.{position-Some}
 use Rattle.std.specs.List.{cons_option}
-use Rattle.std.specs.Prelude.{◌==◌, find, map, filter, filter_map, is_some, option_map, option_and_then}
+use Rattle.std.specs.Prelude.{◌==◌, find, map, filter, filter_map, is_some, option_map}
+use Rattle.std.specs.Prelude.{option_and_then}
 use Rattle.std.proofs.lemmas.Bool.{eqb-true, cases_eq, false_from_ne_true}
 use Rattle.std.proofs.lemmas.Option.{same_Some, cond_some}
 use Rattle.slab.proofs.SlabLemmas.{Contains-cons, Contains-cons_cases}
@@ -284,6 +285,19 @@ module _ (view : View) (template : List Item) (objects : Slab ObjectRow) (index 
       tested true = refl
       tested false = refl
 
+  -- what two lists of places have
+  matching-append : (ps qs : List Place)
+      → matching_numbers view template (objects_at objects (ps ++ qs))
+      ≡ matching_numbers view template (objects_at objects ps)
+      ++ matching_numbers view template (objects_at objects qs)
+  matching-append ps qs =
+      ap (matching_numbers view template) (filter_map-append (object_at objects) ps qs)
+      ∙ ap (map (λ (row : ObjectRow). row.number))
+      (filter-append (is_match view template) (objects_at objects ps) (objects_at objects qs))
+      ∙ map-append (λ (row : ObjectRow). row.number)
+      (filter (is_match view template) (objects_at objects ps))
+      (filter (is_match view template) (objects_at objects qs))
+
   pub matching-more : (i : ℕ) (d : Place) → i < length index
       → matching_numbers view template (objects_at objects (take (i + 1) index))
       ≡ matching_numbers view template (objects_at objects (take i index))
@@ -291,14 +305,7 @@ module _ (view : View) (template : List Item) (objects : Slab ObjectRow) (index 
   matching-more i d within =
       let p = get_or index i d in
       ap (λ ps. matching_numbers view template (objects_at objects ps)) (take_more index i d within)
-      ∙ ap (matching_numbers view template)
-      (filter_map-append (object_at objects) (take i index) (p ∷ []))
-      ∙ ap (map (λ (row : ObjectRow). row.number))
-      (filter-append (is_match view template) (objects_at objects (take i index))
-      (cons_option (object_at objects p) []))
-      ∙ map-append (λ (row : ObjectRow). row.number)
-      (filter (is_match view template) (objects_at objects (take i index)))
-      (filter (is_match view template) (cons_option (object_at objects p) []))
+      ∙ matching-append (take i index) (p ∷ [])
       ∙ ap (λ ns. matching_numbers view template (objects_at objects (take i index)) ++ ns)
       (match_step (object_at objects p))
 
@@ -309,7 +316,8 @@ module _ (view : View) (template : List Item) (objects : Slab ObjectRow) (index 
       → more ≡ matching_numbers view template (objects_at objects (take (i + 1) index))
   matching-step i within numbers before o is more added =
       added ∙ ap (λ ns. ns ++ match_of o) before
-      ∙ ap (λ x. matching_numbers view template (objects_at objects (take i index)) ++ match_of x) is
+      ∙ ap (λ x. matching_numbers view template (objects_at objects (take i index)) ++ match_of x)
+      is
       ∙ sym (matching-more i (place 0 0) within)
 
   -- a match, and no match
@@ -322,6 +330,26 @@ module _ (view : View) (template : List Item) (objects : Slab ObjectRow) (index 
           → n ∷ [] ≡ cond t (row.number ∷ []) []
       tested true e = ap (λ k. k ∷ []) (same_Some n row.number e)
       tested false e = absurd (cc)
+
+  -- where an object of the index matches, some number is found
+  pub matching-some : (i n : ℕ) → i < length index
+      → Some n ≡ matching_number view template (object_at objects (get_or index i (place 0 0)))
+      → matching_numbers view template (objects_at objects index) ≡ [] → ⊥
+  matching-some i n within is empty =
+      let first = take (i + 1) index in
+      let rest = drop (i + 1) index in
+      let before = matching_numbers view template (objects_at objects (take i index)) in
+      let after = matching_numbers view template (objects_at objects rest) in
+      let found = match_of-some (object_at objects (get_or index i (place 0 0))) n is in
+      let parts : [] ≡ (before ++ n ∷ []) ++ after =
+      sym empty
+      ∙ ap (λ ps. matching_numbers view template (objects_at objects ps))
+      (sym (take-append-drop (i + 1) index))
+      ∙ matching-append first rest
+      ∙ ap (λ ns. ns ++ after)
+      (matching-more i (place 0 0) within ∙ ap (λ ns. before ++ ns) (sym found)) in
+      let counted = ap length parts in
+      omega (arith, counted, length-append (before ++ n ∷ []) after, length-append before (n ∷ []))
 
   pub match_of-none : (o : Option ObjectRow) → None ≡ matching_number view template o
       → [] ≡ match_of o
@@ -495,6 +523,19 @@ module _ {X : Type 0} (test : X → Bool) where
           → Contains (cond t (y ∷ filter test ys) (filter test ys)) x
       rest true later = Contains-cons y x (filter test ys) later
       rest false later = later
+
+  -- what is left passes
+  pub Contains-passes : (xs : List X) (x : X) → Contains (filter test xs) x → test x ≡ true
+  Contains-passes [] x there = absurd (omega (arith, there.1))
+  Contains-passes (y ∷ ys) x there = by_case (test y) refl there
+    where
+      by_case : (t : Bool) → test y ≡ t
+          → Contains (cond t (y ∷ filter test ys) (filter test ys)) x → test x ≡ true
+      by_case true passes among = elim (Contains-cons_cases y x (filter test ys) among) [
+        | inl same ↦ ap test (sym same) ∙ passes
+        | inr later ↦ Contains-passes ys x later
+      ]
+      by_case false fails among = Contains-passes ys x among
 
   pub Contains-unfiltered : (xs : List X) (x : X) → Contains (filter test xs) x → Contains xs x
   Contains-unfiltered xs x there =

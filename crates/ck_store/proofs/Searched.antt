@@ -42,7 +42,8 @@ module _ {X : Type 0} (test : X → Bool) where
 
   position-None_len : (xs : List X) → None ≡ position test xs → length xs ≤ position_or_len test xs
   position-None_len xs e =
-      ltb-false _ _ (cond_none (nat_lt (position_or_len test xs) (length xs)) (position_or_len test xs) (sym e))
+      ltb-false _ _ (cond_none (nat_lt (position_or_len test xs) (length xs))
+      (position_or_len test xs) (sym e))
 
   -- and then none of these is among them
   pub position-None_Contains : (xs : List X) (x : X) → None ≡ position test xs → Contains xs x
@@ -104,7 +105,11 @@ module _ {X : Type 0} (number : X → ℕ) (xs : List X)
   rises-once x y here there same = elim (cases_lt here.0 there.0) [
     | inl low ↦ absurd (omega (arith, apart here.0 there.0 x y x low here.1 there.1 here.2 there.2))
     | inr high ↦ elim (cases_lt there.0 here.0) [
-      | inl low ↦ absurd (omega (arith, apart there.0 here.0 y x y low there.1 here.1 there.2 here.2))
+      | inl low ↦ absurd (omega (
+        arith,
+        apart there.0 here.0 y x y low there.1 here.1 there.2
+            here.2,
+      ))
       | inr higher ↦
           let at : here.0 ≡ there.0 = omega arith in
           sym here.2 ∙ ap (λ k. get_or xs k x) at ∙ get_or_default xs there.0 x y there.1 ∙ there.2
@@ -117,4 +122,5 @@ module _ {X : Type 0} (number : X → ℕ) (xs : List X)
           let r = rise i j d low in_j in
           let ea : get_or xs i d ≡ a = get_or_default xs i d a in_i ∙ is_a in
           let eb : get_or xs j d ≡ b = get_or_default xs j d b in_j ∙ is_b in
-          subst (λ n. n < number b) (ap number ea) (subst (λ n. number (get_or xs i d) < n) (ap number eb) r)
+          subst (λ n. n < number b) (ap number ea)
+          (subst (λ n. number (get_or xs i d) < n) (ap number eb) r)

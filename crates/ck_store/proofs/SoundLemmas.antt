@@ -6,7 +6,8 @@ use Rattle.std.specs.Prelude.{◌==◌, is_some, filter, map, option_map, option
 use Rattle.std.specs.List.{cons_option}
 use Rattle.std.specs.Option.{option_map_or}
 use Rattle.std.proofs.lemmas.Bool.{cases_eq, ne_eqb, eq-eqb}
-use Rattle.std.proofs.lemmas.List.Elements.{Contains-push, Contains-push_cases, Contains-append_left}
+use Rattle.std.proofs.lemmas.List.Elements.{Contains-push, Contains-push_cases}
+use Rattle.std.proofs.lemmas.List.Elements.{Contains-append_left}
 use Rattle.std.proofs.lemmas.List.Elements.{Contains-get_or, filter_map-append}
 use Rattle.std.proofs.lemmas.List.Kept.{AllPairs-filter}
 use Rattle.std.proofs.lemmas.List.Quantifiers.{all_pairs_push}
@@ -17,7 +18,8 @@ use Rattle.ck_objects.proofs.ChangeLemmas.{private-in_state}
 use Rattle.ck_objects.specs.declared.items.Item.{Item}
 use Rattle.ck_objects.specs.declared.key_states.KeyState.{KeyState}
 use Rattle.ck_objects.specs.declared.attributes.Attribute.TheVariants as attribute
-use Rattle.ck_store.specs.Index.{place, numbered, object_at, objects_at, is_there, IsIndex, IsListed}
+use Rattle.ck_store.specs.Index.{place, numbered, object_at, objects_at, is_there, IsIndex}
+use Rattle.ck_store.specs.Index.{IsListed}
 use Rattle.ck_store.specs.Index.{IsSound, IsOwn, IsChanged, IsLeft, EndsAll, HasNone}
 use Rattle.ck_store.specs.Rows.{ObjectRow, has_number, is_ended_by, concerns, is_private_row}
 use Rattle.ck_store.specs.Rows.{with_attributes, with_key_state}
@@ -25,7 +27,8 @@ use Rattle.ck_store.specs.declared.endings.Ending.{Ending}
 use Rattle.ck_store.specs.declared.endings.Ending.TheVariants as ending
 use Rattle.ck_store.specs.declared.places.Place.{Place}
 use Rattle.ck_store.specs.declared.session_lists.SessionList.{SessionList}
-use Rattle.ck_store.proofs.PlaceLemmas.{object_at-Some, object_at-here, IsLeft-was, Contains-passing}
+use Rattle.ck_store.proofs.PlaceLemmas.{object_at-Some, object_at-here, IsLeft-was}
+use Rattle.ck_store.proofs.PlaceLemmas.{Contains-passing}
 use Rattle.ck_store.proofs.PlaceLemmas.{Contains-unfiltered, filter_map-mapped, filter_map-agree}
 use Rattle.ck_store.proofs.PlaceLemmas.{filter_map-there}
 
@@ -394,7 +397,8 @@ module _ (e : Ending) (old new : Slab ObjectRow) (index : List Place) (lists : L
       let at = object_at-Some new p row is in
       let own = fewer.own session private p row listed is in
       let stays =
-      stays_case e listed.list row (own.owner ∙ ap Some (sym listed.own)) (own.mark ∙ sym listed.mark)
+      stays_case e listed.list row (own.owner ∙ ap Some (sym listed.own))
+      (own.mark ∙ sym listed.mark)
       (EndsAll-walked p.key row at.0) in
       record {
         list = listed.list;

@@ -1,9 +1,9 @@
 -- Objects in a slab, and the places that name them
 use Rattle.std.specs.Prelude.{◌≡◌, ◌⊎◌, ℕ, ◌<◌, ◌≤◌, Bool, true, false, ◌==◌, List, Option, Some}
 use Rattle.std.specs.Prelude.{is_some, filter_map, option_map, option_and_then, AllPairs, Contains}
-use Rattle.std.specs.Prelude.{None, if◌then◌else◌, ◌&&◌}
+use Rattle.std.specs.Prelude.{None, if◌then◌else◌, ◌&&◌, ◌+◌, ◌*◌, length}
 use Rattle.std.specs.Bool.{beq}
-use Rattle.slab.specs.Slab.{Slab, get}
+use Rattle.slab.specs.Slab.{Slab, get, slab_len}
 use Rattle.ck_objects.specs.Records.{is_set, with_given}
 use Rattle.ck_objects.specs.declared.attributes.Attribute.TheVariants as attribute
 use Rattle.ck_objects.specs.declared.items.Item.{Item}
@@ -76,6 +76,10 @@ pub record IsSound (objects : Slab ObjectRow) (index : List Place) (lists : List
   pub unlisted_created : (p : Place) → unlisted ≡ Some p → p.number ≤ creations
   pub lists_created : (session : ℕ) (private : Bool) (p : Place) → IsListed lists session private p
       → p.number ≤ creations
+
+-- the index never has more than twice as many places as there are objects, and one
+abbrev pub IsShort : Slab ObjectRow → List Place → Type 0
+IsShort objects index = length index ≤ 2 * slab_len objects + 1
 
 -- ---- what becomes of the objects
 

@@ -4,7 +4,6 @@ ghost use Rattle.std.specs.Prelude.{◌≡◌, ◌≢◌, ◌⊎◌, ℕ, get_or
 ghost use Rattle.ck_store.specs.Labels.{label_mark, IsMarkOf, IsWanted, has_other_label};
 
 use ck_objects::{Attribute, Field, Record, Template};
-use ck_types::NoMemory;
 
 /// The mark of a label, a hash of 32 bits. It begins with the offset of the FNV-1 hash; for each
 /// byte it is multiplied by the prime of that hash, and the byte is added. Equal labels have equal
@@ -62,13 +61,13 @@ pub(crate) fn set_mark(marks: &mut Vec<u32>, key: usize, mark: u32)
     }
 }
 
-/// Makes room for the marks of the keys below this one.
-pub(crate) fn grow_marks(marks: &mut Vec<u32>, past: usize) -> Result<(), NoMemory>
+/// Makes room for the marks of the keys below this one, where there is memory for it.
+pub(crate) fn grow_marks(marks: &mut Vec<u32>, past: usize)
     ensures { (key : ℕ) → (get_or marks.new.items key 0 ≡ get_or marks.old.items key 0)
         ⊎ (get_or marks.new.items key 0 ≡ 0) }
 {
     if marks.len() < past {
-        marks.resize(past, 0)?;
+        // A search looks at an object without a mark, so a refused growth is passed over.
+        let _ = marks.resize(past, 0);
     }
-    Ok(())
 }

@@ -1,4 +1,4 @@
-//! The objects of a PKCS #11 token: what the journal says of them.
+//! The objects of a PKCS #11 token, as the journal has them.
 #![tactic(auto)]
 
 mod bases;

@@ -1,12 +1,12 @@
 ghost use Rattle.std.specs.Prelude.{◌≡◌, ◌<◌, ℕ, length, find, filter, position, get_or};
-ghost use Rattle.std.specs.Prelude.{IfOk, IfSome, Contains, Some};
+ghost use Rattle.std.specs.Prelude.{IfOk, IfSome, IsOk, Contains, Some, []};
 ghost use Rattle.std.specs.Option.{option_copied};
 ghost use Rattle.slab.specs.Slab.{get};
 ghost use Rattle.ck_store.specs.Rows.{ObjectRow, PassesChange, has_number, matching_numbers};
 ghost use Rattle.ck_store.specs.Rows.{with_key_state, matching_number};
 ghost use Rattle.ck_store.specs.Labels.{IsMarked, IsMarkOf, IsWanted};
 ghost use Rattle.ck_store.specs.Index.{place, is_at, object_at, objects_at, is_there, IsIndex};
-ghost use Rattle.ck_store.specs.Index.{PlacesRise};
+ghost use Rattle.ck_store.specs.Index.{PlacesRise, IsShort};
 ghost use Rattle.ck_store.specs.Index.{IsChanged, IsGiven, IsKeyOf, IsLeft, EndsAll};
 ghost use Rattle.ck_store.specs.declared.places.Place.{Place};
 
@@ -143,8 +143,11 @@ pub(crate) fn find_matching(
     view: View,
     template: &Template,
 ) -> Result<Vec<u64>, NoMemory>
-    ensures { IfOk result (λ numbers. IsMarked objects.now marks.now → numbers.items
+    ensures found { IfOk result (λ numbers. IsMarked objects.now marks.now → numbers.items
         ≡ matching_numbers view template.now.items (objects_at objects.now index.now)) }
+    ensures none { IsMarked objects.now marks.now
+        → matching_numbers view template.now.items (objects_at objects.now index.now) ≡ []
+        → IsOk result }
 {
     let wanted = wanted_mark(template);
     let mut numbers = Vec::new(alloc);
@@ -207,6 +210,7 @@ pub(crate) fn compact(objects: &Slab<StoredObject>, index: &mut Vec<Place>)
         ≡ objects_at objects.now index.old.items }
     ensures is_index { IsIndex objects.now index.old.items → IsIndex objects.now index.new.items }
     ensures only { (p : Place) → Contains index.new.items p → Contains index.old.items p }
+    ensures short { IsIndex objects.now index.old.items → IsShort objects.now index.new.items }
 {
     if index.len() / 2 > objects.len() {
         drop_ended(objects, index);

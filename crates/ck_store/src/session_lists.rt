@@ -1,4 +1,4 @@
-ghost use Rattle.std.specs.Prelude.{◌≡◌, ◌<◌, ◌⊎◌, ℕ, [], Some, Bool, Contains, OnOk, IfSome};
+ghost use Rattle.std.specs.Prelude.{◌≡◌, ◌<◌, ◌⊎◌, ℕ, [], Some, Bool, Contains, IsOk, OnOk, IfSome};
 ghost use Rattle.std.specs.Prelude.{List, None, length, position};
 ghost use Rattle.ck_store.specs.Rows.{ObjectRow};
 ghost use Rattle.ck_store.specs.Index.{IsListed, IsSound, is_list_of, object_at};
@@ -139,6 +139,7 @@ pub(crate) fn list_newest(
         → IsSound objects.now index lists.old.items unlisted.old creations
         → IsSound objects.now index lists.new.items unlisted.new creations }
     ensures listed { OnOk result (unlisted.new ≡ None) }
+    ensures succeeds { unlisted.old ≡ None → IsOk result }
 {
     if let Some(place) = *unlisted {
         list_object(alloc, lists, objects, place)?;

@@ -18,7 +18,7 @@ use std::marker::Model;
 pub struct Store {
     objects: Slab<StoredObject>,
     /// The places of all objects, in rising numbers. A place stays in it for a while after its
-    /// object has ended.
+    /// object has ended: until the places are more than twice as many as the objects, and one.
     index: Vec<Place>,
     lists: Vec<SessionList>,
     /// The newest object, until its session's list takes it.
@@ -33,7 +33,7 @@ impl Model for Store {
     ghost use Rattle.std.specs.Prelude.{vec_len, vec_capacity};
     ghost use Rattle.slab.specs.Slab.{slab_len};
     ghost use Rattle.ck_store.specs.Agreement.{StoreState};
-    ghost use Rattle.ck_store.specs.Index.{IsSound, objects_at};
+    ghost use Rattle.ck_store.specs.Index.{IsShort, IsSound, objects_at};
     ghost use Rattle.ck_store.specs.Labels.{IsMarked};
 
     ghost Value = { StoreState };
@@ -49,7 +49,8 @@ impl Model for Store {
 
     ghost invariant = { λ s.
         IsSound s.objects s.index.items s.lists.items s.unlisted s.creations
-        × (s.creations < 2 ^ 32) × IsMarked s.objects s.marks.items };
+        × (s.creations < 2 ^ 32) × IsMarked s.objects s.marks.items
+        × IsShort s.objects s.index.items };
 }
 
 impl Store {
@@ -57,7 +58,7 @@ impl Store {
     ghost use Rattle.std.specs.Prelude.{filter, find, not, [], ◌∷◌, ◌++◌};
     ghost use Rattle.ck_store.specs.Rows.{ObjectRow, PassesChange, has_number, is_ended_by};
     ghost use Rattle.ck_store.specs.Rows.{object_row};
-    ghost use Rattle.std.specs.Prelude.{IfNone, IfOk, IfSome, OnOk};
+    ghost use Rattle.std.specs.Prelude.{IfNone, IfOk, IfSome, IsOk, OnOk};
     ghost use Rattle.std.specs.Option.{option_copied};
     ghost use Rattle.ck_objects.specs.KeyStates.{state_of_number};
     ghost use Rattle.ck_objects.specs.Records.{changed_error, protections_of};
@@ -150,10 +151,13 @@ impl Store {
         find_numbered(&self.objects, &self.index, number)?.handle(view)
     }
 
-    /// The numbers, which rise, of the objects that are visible and match the template.
+    /// The numbers, which rise, of the objects that are visible and match the template. Where none
+    /// does, this takes no memory.
     pub fn find(&self, alloc: Global, view: View, template: &Template) -> Result<Vec<u64>, NoMemory>
-        ensures { IfOk result (λ numbers. (h : History) → StoreAgrees h self.now
+        ensures found { IfOk result (λ numbers. (h : History) → StoreAgrees h self.now
             → view ≡ view_of h → numbers.items ≡ matching_objects h template.now.items) }
+        ensures none { (h : History) → StoreAgrees h self.now → view ≡ view_of h
+            → matching_objects h template.now.items ≡ [] → IsOk result }
     {
         find_matching(
             alloc,
@@ -178,17 +182,20 @@ impl Store {
 
     /// Makes room for one more object, which any session may create. The newest object gets its
     /// place in its session's list here, since this may ask for memory and a creation may not.
+    /// Where there is room, this takes no memory.
     pub fn reserve(&mut self) -> Result<(), NoMemory>
         ensures agree { (h : History) → StoreAgrees h self.old → StoreAgrees h self.new }
         ensures rows { self.new.rows ≡ self.old.rows }
         ensures creations { self.new.creations ≡ self.old.creations }
         ensures room { OnOk result (0 < self.new.spare) }
+        ensures succeeds { 0 < self.old.spare → IsOk result }
     {
         let alloc = *self.index.allocator();
         list_newest(alloc, &mut self.lists, &mut self.unlisted, &self.objects)?;
         self.objects.reserve(1)?;
         self.index.reserve(1)?;
-        grow_marks(&mut self.marks, self.objects.capacity())
+        grow_marks(&mut self.marks, self.objects.capacity());
+        Ok(())
     }
 
     /// Adds an object that the session creates or copies.

@@ -6,7 +6,8 @@ use Rattle.std.specs.Int.{w64, from_le_bytes}
 use Rattle.std.proofs.lemmas.Bool.{leb-true}
 use Rattle.std.proofs.lemmas.Option.{same_Some}
 use Rattle.ck_types.specs.Hashes.{digest_length}
-use Rattle.ck_types.specs.Mechanisms.{algorithm_of, hash_of_hmac, hmac_hash, tag_length, tag_length_of}
+use Rattle.ck_types.specs.Mechanisms.{algorithm_of, hash_of_hmac, hmac_hash, tag_length}
+use Rattle.ck_types.specs.Mechanisms.{tag_length_of}
 use Rattle.ck_types.specs.declared.hashes.Hash.{Hash}
 use Rattle.ck_types.specs.declared.hashes.Hash.TheVariants as hash
 use Rattle.ck_types.specs.declared.mechanisms.Algorithm.{Algorithm}
@@ -20,7 +21,8 @@ some_length hash.Sha384 = omega arith
 some_length hash.Sha512 = omega arith
 
 -- the length is within 1 and that of the hash function's digest
-pub tag_length-bounds : (mechanism : Mechanism) (h : Hash) (n : ℕ) → hmac_hash mechanism.kind ≡ Some h
+pub tag_length-bounds : (mechanism : Mechanism) (h : Hash) (n : ℕ)
+    → hmac_hash mechanism.kind ≡ Some h
     → tag_length mechanism ≡ Some n → (1 ≤ n) × (n ≤ digest_length h)
 tag_length-bounds mechanism h n known sized = cases (algorithm_of mechanism.kind) known sized
   where
@@ -46,7 +48,8 @@ tag_length-bounds mechanism h n known sized = cases (algorithm_of mechanism.kind
         let same = same_Some g h known in
         let is = whole (length mechanism.parameter == 0) (digest_length g) sized in (
           subst (λ m. 1 ≤ m) is (some_length g),
-          subst (λ m. m ≤ digest_length h) is (subst (λ g. digest_length g ≤ digest_length h) (sym same) (omega arith)),
+          subst (λ m. m ≤ digest_length h) is
+              (subst (λ g. digest_length g ≤ digest_length h) (sym same) (omega arith)),
         )
     cases (Some (algorithm.GeneralHmac g)) known sized =
         let same = same_Some g h known in

@@ -11,27 +11,15 @@ use crate::mechanism_numbers::{
 use crate::memory::NoMemory;
 use crate::numbers::number_of;
 use crate::sequences::Bytes;
-use std::alloc::{AllocError, Global};
+use std::alloc::Global;
 
 /// A mechanism with its parameter (CK_MECHANISM; PKCS #11 Base 3.0, Data types for mechanisms).
-#[derive(Drop)]
+#[derive(Clone, Drop)]
 pub struct Mechanism {
     /// The mechanism's type (CK_MECHANISM_TYPE), known to the token or not.
     pub kind: u64,
     /// The bytes of the parameter. No bytes are no parameter.
     pub parameter: Bytes,
-}
-
-impl Clone for Mechanism {
-    ghost is_clone = { λ mechanism copy. copy ≡ mechanism };
-
-    fn clone(&self) -> Result<Mechanism, AllocError> {
-        let parameter = self.parameter.clone()?;
-        Ok(Mechanism {
-            kind: self.kind,
-            parameter,
-        })
-    }
 }
 
 impl Mechanism {

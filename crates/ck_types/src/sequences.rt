@@ -17,12 +17,20 @@ impl<T> Model for Sequence<T> {
     ghost view = { λ s. s.items.items };
 }
 
+/// A copy of no items takes no memory.
 impl<T: Clone> Clone for Sequence<T> {
+    ghost use Rattle.std.specs.Prelude.{◌≡◌, []};
     ghost use Rattle.std.specs.List.{AllZip};
 
     ghost is_clone = { λ s copy. AllZip T.is_clone s copy };
 
+    ghost is_infallible = { λ s. s ≡ [] };
+
     fn clone(&self) -> Result<Sequence<T>, AllocError> {
+        // A vector's own clone may fail also where there is nothing to copy.
+        if self.items.is_empty() {
+            return Ok(Sequence::new(*self.items.allocator()));
+        }
         let items = self.items.clone()?;
         Ok(Sequence { items })
     }
@@ -66,13 +74,15 @@ impl<T> Sequence<T> {
 }
 
 impl Sequence<u8> {
-    ghost use Rattle.std.specs.Prelude.{◌≡◌, IfOk};
+    ghost use Rattle.std.specs.Prelude.{◌≡◌, [], IfOk, IsOk};
 
-    /// A copy of these bytes.
+    /// A copy of these bytes. A copy of no bytes takes no memory.
     pub fn from_slice(alloc: Global, bytes: &[u8]) -> Result<Bytes, NoMemory>
-        ensures { IfOk result (λ copied. copied ≡ bytes.now) }
+        ensures copied { IfOk result (λ copied. copied ≡ bytes.now) }
+        ensures empty { bytes.now ≡ [] → IsOk result }
     {
-        let items = Vec::from_slice(alloc, bytes)?;
+        let mut items = Vec::with_capacity(alloc, bytes.len())?;
+        items.extend_from_slice(bytes)?;
         Ok(Sequence { items })
     }
 }

@@ -9,7 +9,8 @@ returns-then-not-branch g c =
     let so_far = c.loop-index.invariant in
     let same = c.in_ok-repeat_call.ensures.same in
     rw (c.entries-entries.ensures, ← so_far.limits)
-    (wrong-next (start_of c.args.journal.now.history) c.entries-entries.result.now c.loop-index.index
+    (wrong-next (start_of c.args.journal.now.history) c.entries-entries.result.now
+    c.loop-index.index
     c.index-entries-index.result token.history c.loop-index-test.true
     c.index-entries-index.is so_far.history token.limits so_far.legal
     (λ answered. let is = same.1 answered in let not = c.if-not-branch.true in cc))

@@ -10,7 +10,8 @@ pub returns-in-Some-clause-number : goal.returns-in-Some-clause-number
 returns-in-Some-clause-number c =
     let read = rw c.as_slice.ensures at c.number_of.ensures.number in
     let given = number-given c.args.items.now c.args.attribute _ c.in-Some.value.now
-    c.number_of.result c.requires.form c.requires.well_formed c.in-Some.ensures c.number.ensures read in
+    c.number_of.result c.requires.form c.requires.well_formed c.in-Some.ensures c.number.ensures
+    read in
     given.0 ∙ sym (ap (option_map (from_le_bytes w64)) given.2)
 
 bytes-some : (o : Option ℕ) (value : List ℕ) → IfSome o (λ n. number_bytes n ≡ value)
@@ -24,5 +25,6 @@ returns-in-Some-clause-bytes c =
     let bytes = rw c.as_slice.ensures at c.number_of.ensures.bytes in
     let read = rw c.as_slice.ensures at c.number_of.ensures.number in
     let given = number-given c.args.items.now c.args.attribute _ c.in-Some.value.now
-    c.number_of.result c.requires.form c.requires.well_formed c.in-Some.ensures c.number.ensures read in
+    c.number_of.result c.requires.form c.requires.well_formed c.in-Some.ensures c.number.ensures
+    read in
     rw given.2 (bytes-some c.number_of.result c.in-Some.value.now bytes)

@@ -1,4 +1,5 @@
-use Rattle.std.proofs.Common.{◌<◌, ◌++◌, ◌∷◌, [], Some, None, ap, sym, ◌∙◌, length, arith, append-nil}
+use Rattle.std.proofs.Common.{◌<◌, ◌++◌, ◌∷◌, [], Some, None, ap, sym, ◌∙◌, length, arith}
+use Rattle.std.proofs.Common.{append-nil}
 use Rattle.ck_store.specs.Index.{place}
 use Rattle.ck_store.proofs.KeptLemmas.{kept-more}
 use Rattle.ck_store.proofs.bases.copy_objects.Goals.{in-Some+in_ok-kept-2+in_ok-push, in_default}

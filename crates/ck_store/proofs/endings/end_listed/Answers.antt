@@ -20,7 +20,8 @@ loop-list-preserved c = elim c.if-concerns.branch [
             c.args.lists.now c.loop-list.list-index c.list-item.result c.loop-list-test.true
             c.list-item.is c.loop-list.invariant.ended
             (λ t p there.
-            subst (λ (o : Slab ObjectRow). HasNone (is_ended_by c.args.ending) o p) (sym w.objects-is)
+            subst (λ (o : Slab ObjectRow). HasNone (is_ended_by c.args.ending) o p)
+            (sym w.objects-is)
             (w.end_objects.ensures.ended p (rw w.deref.ensures.value there)));
       }
   | else-concerns w ↦

@@ -2,6 +2,7 @@ use Rattle.std.proofs.Common.{◌++◌, ◌<◌, ◌∙◌, sym, ap, refl, lengt
 use Rattle.std.proofs.lemmas.List.{append-nil}
 use Rattle.ck_store.specs.Index.{place, object_at}
 use Rattle.ck_store.proofs.PlaceLemmas.{matching-step, match_of-some, match_of-none}
+use Rattle.ck_store.proofs.PlaceLemmas.{matching-some}
 use Rattle.ck_store.proofs.places.find_matching.Goals.{in-Some+in_ok-push, in_default}
 use Rattle.ck_store.proofs.places.find_matching.Goals as goal
 
@@ -28,3 +29,11 @@ loop-place-preserved c = λ marked.
           (match_of-none c.args.view c.args.template.now.items c.args.objects.now c.args.index.now
           object (w.in_default.ensures marked c.wanted_mark-wanted.ensures)))
     ]
+
+-- a number that found no room is one that was found
+pub returns-in_err-push-clause-none : goal.returns-in_err-push-clause-none
+returns-in_err-push-clause-none c = λ marked empty.
+    let within : c.loop-place.place-index < length c.args.index.now = omega arith in
+    absurd (matching-some c.args.view c.args.template.now.items c.args.objects.now c.args.index.now
+    c.loop-place.place-index c.in-Some.number within
+    (c.in-Some.ensures marked c.wanted_mark-wanted.ensures) empty)

@@ -12,7 +12,8 @@ returns-in-Some-clause-kept c = λ s m p row listed is.
     c.index_mut.ensures.value in
     IsListed-kept c.args.lists.now.items c.args.session c.args.private c.args.place c.in-Some.i
     c.index_mut.result.now c.push.new.self found.0 c.index_mut.ensures.value found.1
-    found.2 c.push.ensures.session c.push.ensures.private s m p (λ there. c.push.ensures.kept p row there is) listed
+    found.2 c.push.ensures.session c.push.ensures.private s m p
+    (λ there. c.push.ensures.kept p row there is) listed
 
 pub returns-in-Some-clause-added : goal.returns-in-Some-clause-added
 returns-in-Some-clause-added c =
@@ -38,20 +39,23 @@ returns-in-Some-clause-only c = λ s m p.
 pub returns-clause-kept : goal.returns-clause-kept
 returns-clause-kept c = λ s m p row listed is.
     rw c.in_ok-push-2.ensures.items
-    (IsListed-others c.args.lists.now.items c.args.session c.args.private c.args.place c.push-2.new.self
+    (IsListed-others c.args.lists.now.items c.args.session c.args.private c.args.place
+    c.push-2.new.self
     (c.in_ok-push.ensures.session ∙ c.new-list.ensures.session)
     (c.in_ok-push.ensures.private ∙ c.new-list.ensures.private) s m p listed)
 
 pub returns-clause-added : goal.returns-clause-added
 returns-clause-added c =
     rw c.in_ok-push-2.ensures.items
-    (IsListed-first c.args.lists.now.items c.args.session c.args.private c.args.place c.push-2.new.self
+    (IsListed-first c.args.lists.now.items c.args.session c.args.private c.args.place
+    c.push-2.new.self
     (c.in_ok-push.ensures.session ∙ c.new-list.ensures.session)
     (c.in_ok-push.ensures.private ∙ c.new-list.ensures.private) c.in_ok-push.ensures.added)
 
 pub returns-clause-only : goal.returns-clause-only
 returns-clause-only c = λ s m p listed.
-    IsListed-first_only c.args.lists.now.items c.args.session c.args.private c.args.place c.push-2.new.self
+    IsListed-first_only c.args.lists.now.items c.args.session c.args.private c.args.place
+    c.push-2.new.self
     (c.in_ok-push.ensures.session ∙ c.new-list.ensures.session)
     (c.in_ok-push.ensures.private ∙ c.new-list.ensures.private)
     (λ q there. elim (c.in_ok-push.ensures.only q there) [

@@ -13,7 +13,8 @@ pub returns-in_default-session-clause-listed : goal.returns-in_default-session-c
 returns-in_default-session-clause-listed c = λ index creations sound.
     IsSound-unowned c.args.objects.now index c.args.lists.now.items creations c.args.place
     (λ row is.
-    ap (λ (r : ObjectRow). r.session) (same_Some row c.in-Some.object.now (sym is ∙ sym c.in-Some.ensures))
+    ap (λ (r : ObjectRow). r.session)
+    (same_Some row c.in-Some.object.now (sym is ∙ sym c.in-Some.ensures))
     ∙ sym c.in_default-session.ensures) sound
 
 pub returns-in_err-add_to_list-clause-tried : goal.returns-in_err-add_to_list-clause-tried

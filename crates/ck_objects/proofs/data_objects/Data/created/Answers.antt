@@ -8,7 +8,7 @@ set-requires-clause-well_formed c =
     rw (c.deref_mut.ensures.value, c.in_ok-values.ensures)
     (form-created c.args.items.now c.requires.passes)
 
--- and gives no class but that of data objects
+-- and gives no class except that of data objects
 pub set-requires-clause-class : goal.set-requires-clause-class
 set-requires-clause-class c =
     rw (c.deref_mut.ensures.value, c.in_ok-values.ensures)

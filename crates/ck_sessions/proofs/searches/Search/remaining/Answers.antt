@@ -9,11 +9,12 @@ pub returns : goal.returns
 returns c = λ rises.
     let last = c.args.self.now.last in
     let found = c.as_slice-found.result.now in
-    let place = c.partition_point-place.result in
+    let start = c.partition_point-start.result in
     let parted =
-    IsPartitionPoint-from_clause (λ n. nat_le n last) found place c.partition_point-place.ensures.partitioned
+    IsPartitionPoint-from_clause (λ n. nat_le n last) found start
+    c.partition_point-start.ensures.partitioned
     (IsPartitionedBy-leb (λ n. n) found last (rw (← c.as_slice-found.ensures) at rises))
     (λ a r q k. search rules) in
-    let all = length-drop place found in
-    take_all _ (drop place found) (omega arith) ∙ drop-filter last found place parted ∙ ap
-    (filter (λ n. nat_lt last n)) c.as_slice-found.ensures
+    let all = length-drop start found in
+    take_all _ (drop start found) (omega arith) ∙ drop-filter last found start parted
+    ∙ ap (filter (λ n. nat_lt last n)) c.as_slice-found.ensures

@@ -8,5 +8,6 @@ returns c limits h agree limit =
     c.self.view_is in
     c.add_to_board.ensures
     ∙ ap (with_rows c.deref.result.now) c.new-board.ensures
-    ∙ board-agrees limits h c.args.self.now agree c.args.limit c.login_status.result c.deref.result.now
+    ∙ board-agrees limits h c.args.self.now agree c.args.limit c.login_status.result
+    c.deref.result.now
     limit (c.login_status.ensures h agree) rows

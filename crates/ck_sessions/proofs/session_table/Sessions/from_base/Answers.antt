@@ -11,7 +11,8 @@ returns c =
     let b = c.args.base.now in
     record {
       rows = c.new.ensures.items
-          ∙ sym (selected-none (is_open (start b)) (session_row (start b)) b.openings (λ k below. refl));
+          ∙ sym (selected-none (is_open (start b)) (session_row (start b)) b.openings
+          (λ k below. refl));
       openings = refl;
       login = refl;
       logins = refl;

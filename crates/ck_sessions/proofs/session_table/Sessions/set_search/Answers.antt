@@ -9,6 +9,7 @@ returns c =
     let mapped : c.map.result ≡ option_map new_search c.args.found = search rules in
     record {
       agree = λ h e call d sets agree.
-          SessionsAgree-set h _ (rw (← c.self.view_is) at agree) e _ refl refl refl refl refl call c.args.session
+          SessionsAgree-set h _ (rw (← c.self.view_is) at agree) e _ refl refl refl refl refl call
+          c.args.session
           c.args.found d sets (rw mapped at c.set_search.ensures);
     }

@@ -1,4 +1,5 @@
-use Rattle.std.proofs.Common.{◌++◌, ◌∷◌, [], Some, ap, sym, ◌∙◌, subst}
+use Rattle.std.proofs.Common.{◌++◌, ◌∷◌, [], Some, ap, sym, ◌∙◌, subst, arith, length}
+use Rattle.std.proofs.Common.{length-append}
 use Rattle.ck_store.specs.Index.{place, objects_at, IsSound}
 use Rattle.std.proofs.lemmas.Option.{same_Some}
 use Rattle.ck_store.specs.Labels.{IsMarkOf}
@@ -30,11 +31,17 @@ invariant_of-self c =
           subst (λ attributes. IsMarkOf attributes c.mark_of-mark.result)
           (ap (λ (r : ObjectRow). r.attributes)
           (sym c.new-object.ensures
-          ∙ same_Some c.new-object.result row (sym c.insert_reserved-key.ensures.updates.changed ∙ is)))
+          ∙ same_Some c.new-object.result row (sym c.insert_reserved-key.ensures.updates.changed
+          ∙ is)))
           c.mark_of-mark.ensures)
           (λ other row differs is.
           sym (c.insert_reserved-key.ensures.updates.others other differs) ∙ is)
           c.self.invariant.2,
+      let more = length-append c.self.inside.index.items
+          (place c.args.number c.insert_reserved-key.result ∷ []) in
+          let longer = ap length items in
+          let short = c.self.invariant.3 in
+          omega (arith, more, longer, short, c.insert_reserved-key.ensures.len),
     )
 
 pub returns-clause-rows : goal.returns-clause-rows

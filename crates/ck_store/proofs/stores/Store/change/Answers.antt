@@ -1,7 +1,8 @@
-use Rattle.std.proofs.Common.{◌≡◌, ◌∙◌, None, Some, refl, sym}
+use Rattle.std.proofs.Common.{◌≡◌, ◌∙◌, None, Some, refl, sym, arith}
 use Rattle.ck_objects.specs.Records.{with_given}
 use Rattle.ck_journal.specs.Objects.{named_attributes}
 use Rattle.ck_store.specs.Rows.{with_attributes}
+use Rattle.ck_store.proofs.BoundLemmas.{changed-count}
 use Rattle.ck_store.proofs.LabelLemmas.{IsChanged-none, with_attributes-other, IsMarked-changed}
 use Rattle.ck_store.proofs.Moves.{StoreAgrees-changed}
 use Rattle.ck_store.proofs.Readings.{named-row}
@@ -38,15 +39,21 @@ pub invariant_of-self : goal.invariant_of-self
 invariant_of-self c =
     let is_key = (rw c.deref.ensures.value at c.in-Some.ensures) c.self.invariant.0.indexed in
     let given = c.change_at-mark.ensures.given c.args.number is_key in (
-      IsSound-changed c.self.inside.objects c.change_at-mark.new.objects c.args.number given.attributes
+      IsSound-changed c.self.inside.objects c.change_at-mark.new.objects c.args.number
+          given.attributes
           given.changed c.self.inside.index.items c.self.inside.lists.items
           c.self.inside.unlisted c.self.inside.creations c.self.invariant.0
           given.private,
       c.self.invariant.1,
-      IsMarked-changed c.args.number given.attributes c.self.inside.objects c.change_at-mark.new.objects
+      IsMarked-changed c.args.number given.attributes c.self.inside.objects
+          c.change_at-mark.new.objects
           given.changed c.in-Some.key c.change_at-mark.result is_key c.self.inside.marks.items
           c.set_mark.new.marks.items c.set_mark.ensures.set c.set_mark.ensures.others
           c.change_at-mark.ensures.mark c.self.invariant.2,
+      let count = changed-count (with_attributes c.args.number given.attributes)
+          c.self.inside.objects c.change_at-mark.new.objects given.changed in
+          let short = c.self.invariant.3 in
+          omega (arith, count, short),
     )
 
 pub returns : goal.returns

@@ -8,18 +8,22 @@ use Rattle.ck_store.proofs.stores.Store.destroy.Goals as goal
 
 pub invariant_of-self : goal.invariant_of-self
 invariant_of-self c =
-    let left = (rw c.deref.ensures.value at c.remove_numbered.ensures.left) c.self.invariant.0.indexed in (
+    let left = (rw c.deref.ensures.value at c.remove_numbered.ensures.left)
+    c.self.invariant.0.indexed in
+    let sound =
+    IsSound-fewer c.self.inside.objects c.remove_numbered.new.objects c.self.inside.index.items
+    c.self.inside.lists.items c.self.inside.unlisted c.self.inside.creations c.self.invariant.0
+    (IsLeft-was (has_number c.args.number) c.self.inside.objects c.remove_numbered.new.objects left)
+    in (
       IsSound-reindexed c.remove_numbered.new.objects c.self.inside.index.items
           c.compact.new.index.items c.self.inside.lists.items c.self.inside.unlisted
-          c.self.inside.creations
-          (IsSound-fewer c.self.inside.objects c.remove_numbered.new.objects c.self.inside.index.items
-          c.self.inside.lists.items c.self.inside.unlisted c.self.inside.creations c.self.invariant.0
-          (IsLeft-was (has_number c.args.number) c.self.inside.objects c.remove_numbered.new.objects left))
-          c.compact.ensures.is_index c.compact.ensures.only,
+          c.self.inside.creations sound c.compact.ensures.is_index c.compact.ensures.only,
       c.self.invariant.1,
       IsMarked-fewer c.self.inside.objects c.remove_numbered.new.objects c.self.inside.marks.items
           c.self.invariant.2
-          (IsLeft-was (has_number c.args.number) c.self.inside.objects c.remove_numbered.new.objects left),
+          (IsLeft-was (has_number c.args.number) c.self.inside.objects c.remove_numbered.new.objects
+          left),
+      c.compact.ensures.short sound.indexed,
     )
 
 pub returns : goal.returns
@@ -30,7 +34,8 @@ returns c = record {
       (rw c.deref.ensures.value at c.remove_numbered.ensures.left) c.self.invariant.0.indexed in
       let ended =
       (rw c.deref.ensures.value at c.remove_numbered.ensures.ended) c.self.invariant.0.indexed in
-      StoreAgrees-destroyed h _ here e _ refl session object c.args.number named c.self.invariant.1 d
+      StoreAgrees-destroyed h _ here e _ refl session object c.args.number named c.self.invariant.1
+      d
       (c.compact.ensures.objects
       ∙ objects_at-left (has_number c.args.number) c.self.inside.objects
       c.remove_numbered.new.objects left ended c.self.inside.index.items);

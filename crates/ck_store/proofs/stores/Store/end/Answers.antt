@@ -14,22 +14,24 @@ invariant_of-self c =
     let walked = rw c.deref.ensures.value at c.end_listed.ensures.ended in
     let are : c.retain.new.self.items
     ≡ filter (is_kept c.args.ending) c.self.inside.lists.items =
-    filter_same _ _ _ (λ x b f' k. search rules) _ _ c.retain.ensures.filtered in (
+    filter_same _ _ _ (λ x b f' k. search rules) _ _ c.retain.ensures.filtered in
+    let sound =
+    IsSound-closed c.args.ending c.self.inside.objects c.end_newest.new.objects
+    c.self.inside.index.items c.self.inside.lists.items c.self.inside.unlisted
+    c.self.inside.creations c.self.invariant.0 left
+    (λ session private p listed t.
+    HasNone-later (is_ended_by c.args.ending) c.end_listed.new.objects
+    c.end_newest.new.objects c.end_newest.ensures.left p (walked session private p listed t))
+    c.end_newest.ensures.ended c.retain.new.self.items are in (
       IsSound-reindexed c.end_newest.new.objects c.self.inside.index.items
           c.compact.new.index.items c.retain.new.self.items c.self.inside.unlisted
-          c.self.inside.creations
-          (IsSound-closed c.args.ending c.self.inside.objects c.end_newest.new.objects
-          c.self.inside.index.items c.self.inside.lists.items c.self.inside.unlisted
-          c.self.inside.creations c.self.invariant.0 left
-          (λ session private p listed t.
-          HasNone-later (is_ended_by c.args.ending) c.end_listed.new.objects
-          c.end_newest.new.objects c.end_newest.ensures.left p (walked session private p listed t))
-          c.end_newest.ensures.ended c.retain.new.self.items are)
-          c.compact.ensures.is_index c.compact.ensures.only,
+          c.self.inside.creations sound c.compact.ensures.is_index c.compact.ensures.only,
       c.self.invariant.1,
       IsMarked-fewer c.self.inside.objects c.end_newest.new.objects c.self.inside.marks.items
           c.self.invariant.2
-          (IsLeft-was (is_ended_by c.args.ending) c.self.inside.objects c.end_newest.new.objects left),
+          (IsLeft-was (is_ended_by c.args.ending) c.self.inside.objects c.end_newest.new.objects
+          left),
+      c.compact.ensures.short sound.indexed,
     )
 
 pub returns-clause-rows : goal.returns-clause-rows
@@ -39,7 +41,8 @@ returns-clause-rows c =
     c.end_newest.new.objects c.end_listed.ensures.left c.end_newest.ensures.left in
     let walked = rw c.deref.ensures.value at c.end_listed.ensures.ended in
     c.compact.ensures.objects
-    ∙ objects_at-left (is_ended_by c.args.ending) c.self.inside.objects c.end_newest.new.objects left
+    ∙ objects_at-left (is_ended_by c.args.ending) c.self.inside.objects c.end_newest.new.objects
+    left
     (EndsAll-walked c.args.ending c.self.inside.objects c.end_newest.new.objects
     c.self.inside.index.items c.self.inside.lists.items c.self.inside.unlisted
     c.self.inside.creations c.self.invariant.0 left
@@ -47,4 +50,5 @@ returns-clause-rows c =
     HasNone-later (is_ended_by c.args.ending) c.end_listed.new.objects
     c.end_newest.new.objects c.end_newest.ensures.left p (walked session private p listed t))
     c.end_newest.ensures.ended) c.self.inside.index.items
-    ∙ ap (λ s. filter (λ (row : ObjectRow). not (is_ended_by c.args.ending row)) s.rows) c.self.view_is
+    ∙ ap (λ s. filter (λ (row : ObjectRow). not (is_ended_by c.args.ending row)) s.rows)
+    c.self.view_is

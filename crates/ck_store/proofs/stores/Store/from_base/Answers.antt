@@ -29,6 +29,7 @@ invariant_of-store c = (
       (rw (← c.store-2.view_is) at c.loop-object.invariant.first.within) c.store-2.invariant.0,
   c.requires.creations,
   c.store-2.invariant.2,
+  c.store-2.invariant.3,
 )
 
 pub returns : goal.returns

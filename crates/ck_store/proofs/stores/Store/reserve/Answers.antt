@@ -11,6 +11,7 @@ invariant_of-self c = (
       c.self.invariant.0,
   c.self.invariant.1,
   c.self.invariant.2,
+  c.self.invariant.3,
 )
 
 pub invariant_of-self-in_err-reserve : goal.invariant_of-self-in_err-reserve
@@ -23,6 +24,7 @@ invariant_of-self-in_err-reserve c = (
   c.self.invariant.1,
   IsMarked-fewer c.self.inside.objects c.reserve.new.self c.self.inside.marks.items
       c.self.invariant.2 (λ key row is. sym (ap (λ s. get s key) c.reserve.ensures.rest_kept) ∙ is),
+  rw c.reserve.ensures.rest_kept c.self.invariant.3,
 )
 
 pub invariant_of-self-in_err-reserve-2 : goal.invariant_of-self-in_err-reserve-2
@@ -37,6 +39,7 @@ invariant_of-self-in_err-reserve-2 c = (
   c.self.invariant.1,
   IsMarked-fewer c.self.inside.objects c.reserve.new.self c.self.inside.marks.items
       c.self.invariant.2 (λ key row is. sym (ap (λ s. get s key) c.reserve.ensures.rest_kept) ∙ is),
+  rw (c.reserve.ensures.rest_kept, c.reserve-2.ensures.items) c.self.invariant.3,
 )
 
 pub invariant_of-self-2 : goal.invariant_of-self-2
@@ -53,4 +56,5 @@ invariant_of-self-2 c = (
       (IsMarked-fewer c.self.inside.objects c.reserve.new.self c.self.inside.marks.items
       c.self.invariant.2 (λ key row is. sym (ap (λ s. get s key) c.reserve.ensures.rest_kept) ∙ is))
       c.grow_marks.ensures,
+  rw (c.reserve.ensures.rest_kept, c.reserve-2.ensures.items) c.self.invariant.3,
 )

@@ -1,5 +1,6 @@
-use Rattle.std.proofs.Common.{refl}
+use Rattle.std.proofs.Common.{refl, arith}
 use Rattle.ck_store.specs.Rows.{with_key_state}
+use Rattle.ck_store.proofs.BoundLemmas.{changed-count}
 use Rattle.ck_store.proofs.LabelLemmas.{IsChanged-none, with_key_state-other, IsMarked-in_state}
 use Rattle.ck_store.proofs.Moves.{StoreAgrees-state_set}
 use Rattle.ck_store.proofs.SoundLemmas.{IsSound-was, changed-was, objects_at-changed}
@@ -25,6 +26,10 @@ invariant_of-self c =
       c.self.invariant.1,
       IsMarked-in_state c.args.number c.args.state c.self.inside.objects c.set_state_at.new.objects
           c.self.inside.marks.items changed c.self.invariant.2,
+      let count = changed-count (with_key_state c.args.number c.args.state) c.self.inside.objects
+          c.set_state_at.new.objects changed in
+          let short = c.self.invariant.3 in
+          omega (arith, count, short),
     )
 
 pub returns-in-Some : goal.returns-in-Some
