@@ -3,9 +3,11 @@
  * for each: its name and how many nanoseconds a round took. `module.py` compiles and runs this.
  *
  *     module MODULE THREADS [PARAMETERS]
+ *     module MODULE few
  *
  * PARAMETERS is what the module is given at C_Initialize as NSS's library wants it; a module without
- * them is a token that is initialized here.
+ * them is a token that is initialized here. With `few` one thread makes those rounds that need no
+ * object and that `token.c` has, too.
  */
 #include <dlfcn.h>
 #include <pkcs11.h>
@@ -19,6 +21,8 @@
 #define LONGEST_MESSAGE (1u << 20)
 #define OBJECTS 10000
 #define ROUND_SECONDS 0.25
+#define WAIT_SECONDS 1.0
+#define MOST_THREADS 16
 
 static CK_FUNCTION_LIST_PTR token;
 static CK_SLOT_ID slot;
@@ -205,6 +209,27 @@ static double measure(struct worker *workers, unsigned threads, void (*round)(st
     return (now() - begin) * 1e9 / (double)rounds;
 }
 
+/* The longest that a thread waits for a session's info, in nanoseconds, while another digests
+ * messages of 1 MiB without a pause. */
+static double longest_wait(struct worker *workers)
+{
+    struct worker *digester = &workers[1];
+    double longest = 0;
+    double begin = now();
+    stop = false;
+    digester->round = digest_of_1_mib;
+    pthread_create(&digester->thread, NULL, work, digester);
+    for (double before = begin; before - begin < WAIT_SECONDS;) {
+        session_info(&workers[0]);
+        double after = now();
+        longest = after - before > longest ? after - before : longest;
+        before = after;
+    }
+    stop = true;
+    pthread_join(digester->thread, NULL);
+    return longest * 1e9;
+}
+
 /* ---- The module */
 
 static void load(const char *path, char *parameters)
@@ -247,39 +272,68 @@ static void create_objects(CK_SESSION_HANDLE session)
     }
 }
 
+struct named_round {
+    const char *name;
+    void (*round)(struct worker *);
+};
+
+static const struct named_round few_rounds[] = {
+    {"session info", session_info},
+    {"token info", token_info},
+    {"open and close", open_and_close},
+    {"digest of 64 bytes", digest_of_64_bytes},
+};
+
+static const struct named_round other_rounds[] = {
+    {"label", label},
+    {"create and destroy", create_and_destroy},
+    {"signature of 64 bytes", sign_64_bytes},
+    {"digest of 64 KiB", digest_of_64_kib},
+    {"digest of 1 MiB", digest_of_1_mib},
+};
+
+static void measure_rounds(struct worker *workers, unsigned threads,
+                           const struct named_round *rounds, size_t count)
+{
+    for (size_t i = 0; i < count; i++)
+        printf("%s: %.0f\n", rounds[i].name, measure(workers, threads, rounds[i].round));
+}
+
+static void measure_few(struct worker *workers, unsigned threads)
+{
+    for (unsigned i = 0; i < threads; i++)
+        workers[i].session = open_session();
+    measure_rounds(workers, threads, few_rounds, sizeof few_rounds / sizeof *few_rounds);
+}
+
+static void measure_others(struct worker *workers, unsigned threads)
+{
+    for (unsigned i = 0; i < threads; i++) {
+        workers[i].object = create_data(workers[i].session, "an object");
+        workers[i].key = create_key(workers[i].session);
+    }
+    measure_rounds(workers, threads, other_rounds, sizeof other_rounds / sizeof *other_rounds);
+    if (threads > 1)
+        printf("longest wait for session info beside digests of 1 MiB: %.0f\n",
+               longest_wait(workers));
+    create_objects(workers[0].session);
+    printf("find one of 10,000: %.0f\n", measure(workers, threads, find_one));
+}
+
 int main(int count, char **arguments)
 {
-    static const struct {
-        const char *name;
-        void (*round)(struct worker *);
-    } rounds[] = {
-        {"session info", session_info},
-        {"token info", token_info},
-        {"open and close", open_and_close},
-        {"label", label},
-        {"create and destroy", create_and_destroy},
-        {"digest of 64 bytes", digest_of_64_bytes},
-        {"signature of 64 bytes", sign_64_bytes},
-        {"digest of 64 KiB", digest_of_64_kib},
-        {"digest of 1 MiB", digest_of_1_mib},
-    };
-    struct worker workers[16];
-    unsigned threads = count > 2 ? (unsigned)atoi(arguments[2]) : 0;
-    if (threads < 1 || threads > 16) {
-        fprintf(stderr, "module: usage: module MODULE THREADS [PARAMETERS]\n");
+    static struct worker workers[MOST_THREADS];
+    bool is_few = count == 3 && strcmp(arguments[2], "few") == 0;
+    unsigned threads = is_few ? 1 : count > 2 ? (unsigned)atoi(arguments[2]) : 0;
+    if (threads < 1 || threads > MOST_THREADS) {
+        fprintf(stderr, "module: usage: module MODULE THREADS [PARAMETERS] or module MODULE few\n");
         return 2;
     }
     load(arguments[1], count > 3 ? arguments[3] : NULL);
     choose_slot(count <= 3);
-    for (unsigned i = 0; i < threads; i++) {
-        workers[i].session = open_session();
-        workers[i].object = create_data(workers[i].session, "an object");
-        workers[i].key = create_key(workers[i].session);
-    }
-    for (unsigned i = 0; i < sizeof rounds / sizeof rounds[0]; i++)
-        printf("%s: %.0f\n", rounds[i].name, measure(workers, threads, rounds[i].round));
-    create_objects(workers[0].session);
-    printf("find one of 10,000: %.0f\n", measure(workers, threads, find_one));
+    measure_few(workers, threads);
+    if (!is_few)
+        measure_others(workers, threads);
     expect(token->C_Finalize(NULL), "C_Finalize");
     return 0;
 }
