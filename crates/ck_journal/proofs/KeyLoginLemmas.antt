@@ -49,7 +49,7 @@ no-login limits h None pin who in_now e = cc
 no-login limits h (Some u) pin who in_now e =
     let first = (or_else-none (logged_in_error u (login h)) _ e).0 in
     let refused : logged_in_error u (Some who) ≡ None =
-        ap (logged_in_error u) (sym in_now) ∙ first in
+    ap (logged_in_error u) (sym in_now) ∙ first in
     cc
 
 call-keeps-login : (limits : Ranges) (h : History) (who : UserType) → login h ≡ Some who

@@ -1,6 +1,6 @@
 -- PINs, wrong tries and the token's initialization (PKCS #11 Base 3.0, Slot and token management
 -- functions)
-use Rattle.std.specs.Prelude.{ℕ, suc, Bool, true, false, Option, Some, None, ◌==◌, ◌||◌, ◌&&◌}
+use Rattle.std.specs.Prelude.{ℕ, suc, Bool, true, false, Option, Some, None, ◌==◌, ◌||◌}
 use Rattle.std.specs.Prelude.{if◌then◌else◌}
 use Rattle.ck_types.specs.Pins.{same_pin}
 use Rattle.ck_types.specs.Users.{user_of, same_user}
