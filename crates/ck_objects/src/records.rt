@@ -166,8 +166,8 @@ impl Record {
         Ok(copy)
     }
 
-    /// The checks of a template of C_SetAttributeValue for this object: those of `check_copy` except
-    /// the last, for the attributes that may be set (else CKR_ATTRIBUTE_READ_ONLY).
+    /// The checks of a template of C_SetAttributeValue for this object: those of `check_copy`
+    /// except the last, for the attributes that may be set (else CKR_ATTRIBUTE_READ_ONLY).
     #[tactic(auto, using(ck_types::proofs::CheckLemmas::checks))]
     pub fn check_change(&self, template: &Template) -> Result<(), RvError>
         ensures { result ≡ check_of

@@ -22,7 +22,9 @@ there_row objects p t = by_case (object_at objects p) refl t
     by_case : (o : Option ObjectRow) → object_at objects p ≡ o → is_some o ≡ true
         → (row : ObjectRow) × (get objects p.key ≡ Some row) × (row.number ≡ p.number)
     by_case None is e = absurd (cc)
-    by_case (Some row) is e = (row, object_at-Some objects p row is)
+    by_case (Some row) is e =
+        let at = object_at-Some objects p row is in
+        (row, at.0, at.1)
 
 -- the first place is below each later one
 below_later : (p : Place) (ps : List Place) → PlacesRise (p ∷ ps) → (q : Place) → Contains ps q
@@ -74,15 +76,15 @@ count-same : {X : Type 0} (xs ys : List (Option X))
 count-same [] [] same = refl
 count-same {X} [] (y ∷ ys) same =
     let rest = count-same [] ys (λ k. same (suc k)) in
-    let none = ap (λ b. cond b 1 0) (same 0) in
+    let none = ap {B = ℕ} (λ b. cond b 1 0) (same 0) in
     omega (arith, rest, none, sum_by-cons (λ (o : Option X). cond (is_some o) 1 0) y ys)
 count-same {X} (x ∷ xs) [] same =
     let rest = count-same xs [] (λ k. same (suc k)) in
-    let none = ap (λ b. cond b 1 0) (same 0) in
+    let none = ap {B = ℕ} (λ b. cond b 1 0) (same 0) in
     omega (arith, rest, none, sum_by-cons (λ (o : Option X). cond (is_some o) 1 0) x xs)
 count-same {X} (x ∷ xs) (y ∷ ys) same =
     let rest = count-same xs ys (λ k. same (suc k)) in
-    let first = ap (λ b. cond b 1 0) (same 0) in
+    let first = ap {B = ℕ} (λ b. cond b 1 0) (same 0) in
     omega (
       arith,
       rest,

@@ -527,15 +527,15 @@ module _ {X : Type 0} (test : X → Bool) where
   -- what is left passes
   pub Contains-passes : (xs : List X) (x : X) → Contains (filter test xs) x → test x ≡ true
   Contains-passes [] x there = absurd (omega (arith, there.1))
-  Contains-passes (y ∷ ys) x there = by_case (test y) refl there
+  Contains-passes (y ∷ ys) x there = by_case (Contains-passes ys x) (test y) refl there
     where
-      by_case : (t : Bool) → test y ≡ t
+      by_case : (Contains (filter test ys) x → test x ≡ true) → (t : Bool) → test y ≡ t
           → Contains (cond t (y ∷ filter test ys) (filter test ys)) x → test x ≡ true
-      by_case true passes among = elim (Contains-cons_cases y x (filter test ys) among) [
+      by_case rest true passes among = elim (Contains-cons_cases y x (filter test ys) among) [
         | inl same ↦ ap test (sym same) ∙ passes
-        | inr later ↦ Contains-passes ys x later
+        | inr later ↦ rest later
       ]
-      by_case false fails among = Contains-passes ys x among
+      by_case rest false fails among = rest among
 
   pub Contains-unfiltered : (xs : List X) (x : X) → Contains (filter test xs) x → Contains xs x
   Contains-unfiltered xs x there =

@@ -4,8 +4,8 @@ use std::error::Error;
 use std::fmt;
 
 /// A return code that is an error (CK_RV except CKR_OK; PKCS #11 Base 3.0, Function return
-/// values), with the number that the standard gives it. `HostMemory` and `KeyTypeInconsistent` are answered
-/// by no call: out of memory is `NoMemory`, and there is one key type.
+/// values), with the number that the standard gives it. `HostMemory` and `KeyTypeInconsistent` are
+/// answered by no call: out of memory is `NoMemory`, and there is one key type.
 #[derive(Clone, Copy, Debug, PartialEq, Eq)]
 pub enum RvError {
     HostMemory = 0x2,
