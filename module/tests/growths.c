@@ -659,8 +659,8 @@ static void test_initialize(void) {
 }
 
 static const struct test tests[] = {
-    {"each growth of 35 calls is refused, typed", test_typed},
-    {"each growth of 35 calls is refused, by lines", test_by_lines},
+    {"each growth of 40 calls is refused, typed", test_typed},
+    {"each growth of 40 calls is refused, by lines", test_by_lines},
     {"each growth of C_Initialize is refused, with a script and a file", test_initialize},
     {"an update of three pieces whose later piece is refused ends", test_pieces},
     {"a thread's first call without memory", test_first_call},
