@@ -6,8 +6,9 @@
  *     module MODULE few
  *
  * PARAMETERS is what the module is given at C_Initialize as NSS's library wants it; a module without
- * them is a token that is initialized here. With `few` one thread makes those rounds that need no
- * object and that `token.c` has, too.
+ * them is a token that is initialized here. With `few` one thread makes the rounds that `token.c` has
+ * too, and the best of many hundred rounds in a row counts, which other work of the machine disturbs
+ * less.
  */
 #include <dlfcn.h>
 #include <pkcs11.h>
@@ -21,6 +22,8 @@
 #define LONGEST_MESSAGE (1u << 20)
 #define OBJECTS 10000
 #define ROUND_SECONDS 0.25
+#define FEW_SECONDS 1.0
+#define ROUNDS_IN_A_ROW 500
 #define WAIT_SECONDS 1.0
 #define MOST_THREADS 16
 
@@ -209,6 +212,21 @@ static double measure(struct worker *workers, unsigned threads, void (*round)(st
     return (now() - begin) * 1e9 / (double)rounds;
 }
 
+/* The nanoseconds that a round takes in the best of the times that one thread makes many of them in
+ * a row. */
+static double measure_best(struct worker *worker, void (*round)(struct worker *))
+{
+    double best = 1;
+    double begin = now();
+    for (double before = begin; before - begin < FEW_SECONDS; before = now()) {
+        for (int i = 0; i < ROUNDS_IN_A_ROW; i++)
+            round(worker);
+        double time = now() - before;
+        best = time < best ? time : best;
+    }
+    return best * 1e9 / ROUNDS_IN_A_ROW;
+}
+
 /* The longest that a thread waits for a session's info, in nanoseconds, while another digests
  * messages of 1 MiB without a pause. */
 static double longest_wait(struct worker *workers)
@@ -277,14 +295,14 @@ struct named_round {
     void (*round)(struct worker *);
 };
 
-static const struct named_round few_rounds[] = {
+enum { ROUNDS = 9, FEW_ROUNDS = 4 };
+
+/* The few ones stand first. */
+static const struct named_round rounds[ROUNDS] = {
     {"session info", session_info},
     {"token info", token_info},
     {"open and close", open_and_close},
     {"digest of 64 bytes", digest_of_64_bytes},
-};
-
-static const struct named_round other_rounds[] = {
     {"label", label},
     {"create and destroy", create_and_destroy},
     {"signature of 64 bytes", sign_64_bytes},
@@ -292,27 +310,22 @@ static const struct named_round other_rounds[] = {
     {"digest of 1 MiB", digest_of_1_mib},
 };
 
-static void measure_rounds(struct worker *workers, unsigned threads,
-                           const struct named_round *rounds, size_t count)
+static void measure_few(struct worker *worker)
 {
-    for (size_t i = 0; i < count; i++)
-        printf("%s: %.0f\n", rounds[i].name, measure(workers, threads, rounds[i].round));
+    worker->session = open_session();
+    for (int i = 0; i < FEW_ROUNDS; i++)
+        printf("%s: %.0f\n", rounds[i].name, measure_best(worker, rounds[i].round));
 }
 
-static void measure_few(struct worker *workers, unsigned threads)
-{
-    for (unsigned i = 0; i < threads; i++)
-        workers[i].session = open_session();
-    measure_rounds(workers, threads, few_rounds, sizeof few_rounds / sizeof *few_rounds);
-}
-
-static void measure_others(struct worker *workers, unsigned threads)
+static void measure_all(struct worker *workers, unsigned threads)
 {
     for (unsigned i = 0; i < threads; i++) {
+        workers[i].session = open_session();
         workers[i].object = create_data(workers[i].session, "an object");
         workers[i].key = create_key(workers[i].session);
     }
-    measure_rounds(workers, threads, other_rounds, sizeof other_rounds / sizeof *other_rounds);
+    for (int i = 0; i < ROUNDS; i++)
+        printf("%s: %.0f\n", rounds[i].name, measure(workers, threads, rounds[i].round));
     if (threads > 1)
         printf("longest wait for session info beside digests of 1 MiB: %.0f\n",
                longest_wait(workers));
@@ -331,9 +344,10 @@ int main(int count, char **arguments)
     }
     load(arguments[1], count > 3 ? arguments[3] : NULL);
     choose_slot(count <= 3);
-    measure_few(workers, threads);
-    if (!is_few)
-        measure_others(workers, threads);
+    if (is_few)
+        measure_few(workers);
+    else
+        measure_all(workers, threads);
     expect(token->C_Finalize(NULL), "C_Finalize");
     return 0;
 }

@@ -14,6 +14,8 @@ static const CK_ULONG longest_value = 1 << 30;
 /* From how many entries on the token's journal in memory is cut. */
 static const uint64_t cut_from = 1000;
 
+uint64_t journals_begun;
+
 /* ---- Arguments */
 
 struct bytes bytes_of(const void *at, CK_ULONG length, size_t longest) {
@@ -56,7 +58,7 @@ CK_RV check_call(const struct call *call) {
 /* Threads are numbered from 1 to 8 in the order in which they first call; the ninth is 1 again. The
  * room for a thread's number is taken when the library is loaded: at a call, the C library would
  * end the process where it is refused. */
-static uint32_t caller_number(void) {
+uint32_t caller_number(void) {
     static uint32_t threads;
     static _Thread_local uint32_t number __attribute__((tls_model("initial-exec")));
     if (number == 0)
@@ -221,6 +223,9 @@ static uint32_t call_by_arguments(const struct call *call) {
     struct token *token = &library.token;
     uint32_t caller = caller_number();
     CK_ULONG session = call->session;
+    uint32_t step;
+    if (call->work != NULL && call_by_work(call, &step))
+        return step;
     switch (call->name) {
     case OPEN_SESSION:
         return ospreyrack_open_session(token, caller, call->flags);
@@ -248,8 +253,9 @@ static uint32_t call_by_arguments(const struct call *call) {
 /* ---- Both ways */
 
 void cut_journal(void) {
-    if (library.cuts_journal && ospreyrack_entries(&library.token) >= cut_from)
-        ospreyrack_cut(&library.token);
+    if (library.cuts_journal && ospreyrack_entries(&library.token) >= cut_from
+        && ospreyrack_cut(&library.token) == CUT)
+        journals_begun++;
 }
 
 CK_RV make_call(const struct call *call) {

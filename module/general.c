@@ -118,6 +118,7 @@ static CK_RV begin_token(void) {
     if (at == NULL)
         return CKR_HOST_MEMORY;
     ospreyrack_make(at);
+    journals_begun++;
     library.token.at = at;
     copy_padded(library.label, sizeof library.label, "");
     return configure() ? CKR_OK : CKR_GENERAL_ERROR;

@@ -20,7 +20,10 @@ struct application_lock {
 
 struct library library;
 
-static pthread_mutex_t own_mutex = PTHREAD_MUTEX_INITIALIZER;
+/* Most calls are short, so a thread that waits looks again for a moment before it sleeps. */
+#define NEW_MUTEX PTHREAD_ADAPTIVE_MUTEX_INITIALIZER_NP
+
+static pthread_mutex_t own_mutex = NEW_MUTEX;
 static struct application_lock application_lock;
 
 /* Never read. By it the memory of the parent stays reachable in the child of a fork, so that nobody
@@ -98,7 +101,7 @@ static void begin_in_child(void) {
     left_by_parent = library;
     library = (struct library){0};
     application_lock = (struct application_lock){0};
-    pthread_mutex_init(&own_mutex, NULL);
+    own_mutex = (pthread_mutex_t)NEW_MUTEX;
 }
 
 bool watch_forks(void) {

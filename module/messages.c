@@ -12,38 +12,50 @@ CK_RV begin_operation(const struct call *call, CK_FLAGS kind) {
     return answer(call->mechanism != NULL ? call : &cancel);
 }
 
+CK_RV answer_message(struct call call) {
+    CK_RV code = enter_with_work(&call);
+    if (code == CKR_OK)
+        code = leave(make_call(&call));
+    drop_work(&call);
+    return code;
+}
+
 /* The token answers bytes only where there is room for all of them. */
-static CK_RV make_call_for_output(struct call call, CK_BYTE *output, CK_ULONG *length) {
+static CK_RV make_call_for_output(const struct call *call, CK_BYTE *output, CK_ULONG *length) {
     uint8_t bytes[LONGEST_SIGNATURE];
     if (length == NULL)
         return CKR_ARGUMENTS_BAD;
-    call.room = (struct room){output != NULL, *length};
-    CK_RV code = make_call(&call);
+    CK_RV code = make_call(call);
     if (code != CKR_OK && code != CKR_BUFFER_TOO_SMALL)
         return code;
     size_t count = ospreyrack_bytes(&library.token, bytes, sizeof bytes);
-    if (output != NULL && count <= sizeof bytes && count <= call.room.length)
+    if (output != NULL && count <= sizeof bytes && count <= call->room.length)
         memcpy(output, bytes, count);
     *length = ospreyrack_length(&library.token);
     return code;
 }
 
 CK_RV answer_output(struct call call, CK_BYTE *output, CK_ULONG *length) {
-    CK_RV code = enter();
-    return code == CKR_OK ? leave(make_call_for_output(call, output, length)) : code;
+    if (length != NULL)
+        call.room = (struct room){output != NULL, *length};
+    CK_RV code = enter_with_work(&call);
+    if (code == CKR_OK)
+        code = leave(make_call_for_output(&call, output, length));
+    drop_work(&call);
+    return code;
 }
 
 /* A piece behind the first that isn't taken leaves a message with a hole, so the operation ends. */
-static CK_RV make_updates(struct call call, CK_FLAGS kind) {
+CK_RV answer_update(struct call call, CK_FLAGS kind) {
     const struct call cancel = {.name = SESSION_CANCEL, .session = call.session, .flags = kind};
     struct bytes left = call.bytes;
     bool is_first = true;
     do {
         call.bytes.at = left.at;
         call.bytes.length = left.length > LONGEST_MESSAGE ? LONGEST_MESSAGE : left.length;
-        CK_RV code = make_call(&call);
+        CK_RV code = answer_message(call);
         if (code != CKR_OK && !is_first)
-            make_call(&cancel);
+            answer(&cancel);
         if (code != CKR_OK)
             return code;
         left.at += call.bytes.length;
@@ -51,9 +63,4 @@ static CK_RV make_updates(struct call call, CK_FLAGS kind) {
         is_first = false;
     } while (left.length > 0);
     return CKR_OK;
-}
-
-CK_RV answer_update(struct call call, CK_FLAGS kind) {
-    CK_RV code = enter();
-    return code == CKR_OK ? leave(make_updates(call, kind)) : code;
 }

@@ -162,6 +162,8 @@ struct room {
     CK_ULONG length;
 };
 
+struct work;
+
 /* A call with its arguments; those that the call hasn't are zeros. */
 struct call {
     enum call_name name;
@@ -177,6 +179,7 @@ struct call {
     const CK_ATTRIBUTE *attributes; /* a template, or queries */
     CK_ULONG count;
     const CK_UTF8CHAR *label; /* of INIT_TOKEN */
+    struct work *work;        /* on a long message, where there is any */
 };
 
 /* The bytes that the application gave. Of what is longer than `longest` one byte more than that is
@@ -199,6 +202,13 @@ CK_RV make_call_for_handle(const struct call *call, CK_ULONG *handle);
 CK_RV answer(const struct call *call);
 CK_RV answer_handle(const struct call *call, CK_ULONG *handle);
 
+/* A thread's number as a caller. */
+uint32_t caller_number(void);
+
+/* How many journals the library's tokens have begun in memory: one when a token is made, and one at
+ * each cut. */
+extern uint64_t journals_begun;
+
 /* Makes the call of a line, and adds it to the journal's text where a journal is kept. */
 uint32_t answer_line(const uint8_t *line, size_t length);
 
@@ -213,10 +223,25 @@ bool add_reply(struct buffer *buffer);
 /* Writes a call as a line. Answers false where it is too long, or without memory. */
 bool write_line(const struct call *call, uint32_t caller, struct buffer *line);
 
+/* ---- Work on long messages: works.c */
+
+/* Takes the lock for a call: CKR_OK, or else the code to be returned at once. The bytes of a long
+ * message are taken in before, while the lock is free; then the call has work. */
+CK_RV enter_with_work(struct call *call);
+
+/* Makes the call by its work. Answers false where that doesn't count any more. */
+bool call_by_work(const struct call *call, uint32_t *step);
+
+/* Gives back the memory of a call's work, where it has any. */
+void drop_work(struct call *call);
+
 /* ---- Messages: messages.c */
 
 /* Starts an operation of the kind that the flag names, or ends it where there is no mechanism. */
 CK_RV begin_operation(const struct call *call, CK_FLAGS kind);
+
+/* Makes a call that brings a message or a piece of one. */
+CK_RV answer_message(struct call call);
 
 /* Makes a call that is answered a digest or a signature. */
 CK_RV answer_output(struct call call, CK_BYTE *output, CK_ULONG *length);

@@ -51,7 +51,7 @@ CK_RV C_Verify(CK_SESSION_HANDLE session, CK_BYTE_PTR message, CK_ULONG length,
         .bytes = bytes_of(message, length, LONGEST_MESSAGE),
         .signature = bytes_of(signature, signature_length, LONGEST_SIGNATURE),
     };
-    return answer(&call);
+    return answer_message(call);
 }
 
 CK_RV C_VerifyUpdate(CK_SESSION_HANDLE session, CK_BYTE_PTR part, CK_ULONG length) {

@@ -106,17 +106,9 @@ static void test_interfaces(void) {
     EXPECT(CKR_ARGUMENTS_BAD, p11->C_GetInterfaceList(NULL, NULL));
 }
 
-struct vendor_functions {
-    CK_VERSION version;
-    CK_RV (*C_SetKeyState)(CK_SESSION_HANDLE session, CK_OBJECT_HANDLE key, CK_ULONG state);
-};
-
 static void test_vendor_interface(void) {
-    static CK_UTF8CHAR name[] = "Vendor Ospreyrack";
-    CK_INTERFACE *interface = NULL;
     CK_MECHANISM hmac = mechanism_of(CKM_SHA256_HMAC);
-    EXPECT(CKR_OK, p11->C_GetInterface(name, NULL, &interface, 0));
-    const struct vendor_functions *vendor = interface->pFunctionList;
+    const struct vendor_functions *vendor = vendor_functions();
     EXPECT(CKR_CRYPTOKI_NOT_INITIALIZED, vendor->C_SetKeyState(1, 1, 5));
     CK_SESSION_HANDLE session = begin_token();
     CK_OBJECT_HANDLE key = create_key(session, "Jefe");

@@ -205,9 +205,11 @@ struct message {
     CK_ULONG length;
 };
 
-/* Seldom above 2^20 bytes, or NULL. */
+/* Seldom so long that it is taken in while the lock is free, above 2^20 bytes, or NULL. */
 static struct message draw_message(void) {
     size_t length = one_in(2000) ? (1 << 20) - 2 + draw(5) : draw(300);
+    if (one_in(50))
+        length = 4000 + draw(4000);
     if (one_in(5000))
         length = draw(MOST_BYTES);
     if (one_in(50))
@@ -417,18 +419,9 @@ static CK_RV set_attribute_value(void) {
                                     template.count);
 }
 
-struct vendor_functions {
-    CK_VERSION version;
-    CK_RV (*C_SetKeyState)(CK_SESSION_HANDLE session, CK_OBJECT_HANDLE key, CK_ULONG state);
-};
-
 static CK_RV set_key_state(void) {
-    static CK_UTF8CHAR name[] = "Vendor Ospreyrack";
-    CK_INTERFACE *interface = NULL;
-    EXPECT(CKR_OK, p11->C_GetInterface(name, NULL, &interface, 0));
-    const struct vendor_functions *vendor = interface->pFunctionList;
-    return vendor->C_SetKeyState(draw_session(), draw_object(),
-                                 one_in(20) ? draw_huge() : one_in(2) ? 1 : draw(6));
+    return vendor_functions()->C_SetKeyState(draw_session(), draw_object(),
+                                             one_in(20) ? draw_huge() : one_in(2) ? 1 : draw(6));
 }
 
 static CK_RV find_objects_init(void) {

@@ -92,7 +92,7 @@ struct result {
     CK_BYTE bytes[64];
 };
 
-static CK_BYTE text[3000];
+static CK_BYTE text[3000], long_text[5000];
 static CK_UTF8CHAR new_pin[5] = {'o', 't', 'h', 'e', 'r'};
 static CK_BBOOL no = CK_FALSE;
 static CK_OBJECT_CLASS data_class = CKO_DATA;
@@ -257,6 +257,17 @@ static CK_RV digest_update(struct result *result) {
     return p11->C_DigestUpdate(session, text, sizeof text);
 }
 
+/* Long messages are taken in while the lock is free. */
+static CK_RV digest_long(struct result *result) {
+    result->length = sizeof result->bytes;
+    return p11->C_Digest(session, long_text, sizeof long_text, result->bytes, &result->length);
+}
+
+static CK_RV digest_update_long(struct result *result) {
+    (void)result;
+    return p11->C_DigestUpdate(session, long_text, sizeof long_text);
+}
+
 static CK_RV digest_final(struct result *result) {
     result->length = sizeof result->bytes;
     return p11->C_DigestFinal(session, result->bytes, &result->length);
@@ -275,6 +286,16 @@ static CK_RV sign(struct result *result) {
 static CK_RV sign_update(struct result *result) {
     (void)result;
     return p11->C_SignUpdate(session, hmac_message, sizeof hmac_message);
+}
+
+static CK_RV sign_long(struct result *result) {
+    result->length = sizeof result->bytes;
+    return p11->C_Sign(session, long_text, sizeof long_text, result->bytes, &result->length);
+}
+
+static CK_RV sign_update_long(struct result *result) {
+    (void)result;
+    return p11->C_SignUpdate(session, long_text, sizeof long_text);
 }
 
 static CK_RV sign_final(struct result *result) {
@@ -300,6 +321,11 @@ static CK_RV verify(struct result *result) {
 static CK_RV verify_update(struct result *result) {
     (void)result;
     return p11->C_VerifyUpdate(session, hmac_message, sizeof hmac_message);
+}
+
+static CK_RV verify_update_long(struct result *result) {
+    (void)result;
+    return p11->C_VerifyUpdate(session, long_text, sizeof long_text);
 }
 
 static CK_RV verify_final(struct result *result) {
@@ -347,14 +373,19 @@ static const struct growth growths[] = {
     {"C_DigestInit", digest_init, {NULL}},
     {"C_Digest", digest, {digest_init}},
     {"C_DigestUpdate", digest_update, {digest_init}},
+    {"C_Digest of a long message", digest_long, {digest_init}},
+    {"C_DigestUpdate of a long piece", digest_update_long, {digest_init}},
     {"C_DigestFinal", digest_final, {digest_init, digest_update}},
     {"C_SignInit", sign_init, {NULL}},
     {"C_Sign", sign, {sign_init}},
     {"C_SignUpdate", sign_update, {sign_init}},
+    {"C_Sign of a long message", sign_long, {sign_init}},
+    {"C_SignUpdate of a long piece", sign_update_long, {sign_init}},
     {"C_SignFinal", sign_final, {sign_init, sign_update}},
     {"C_VerifyInit", verify_init, {NULL}},
     {"C_Verify", verify, {verify_init}},
     {"C_VerifyUpdate", verify_update, {verify_init}},
+    {"C_VerifyUpdate of a long piece", verify_update_long, {verify_init}},
     {"C_VerifyFinal", verify_final, {verify_init, verify_update}},
     {"C_GenerateRandom", generate_random, {NULL}},
 };
@@ -628,8 +659,8 @@ static void test_initialize(void) {
 }
 
 static const struct test tests[] = {
-    {"each growth of 35 calls is refused, typed", test_typed},
-    {"each growth of 35 calls is refused, by lines", test_by_lines},
+    {"each growth of 40 calls is refused, typed", test_typed},
+    {"each growth of 40 calls is refused, by lines", test_by_lines},
     {"each growth of C_Initialize is refused, with a script and a file", test_initialize},
     {"an update of three pieces whose later piece is refused ends", test_pieces},
     {"a thread's first call without memory", test_first_call},

@@ -22,6 +22,14 @@ void load_module(const char *path);
 /* The address of a function that the module exports, or NULL. */
 void *exported(const char *name);
 
+/* The functions of the interface "Vendor Ospreyrack". */
+struct vendor_functions {
+    CK_VERSION version;
+    CK_RV (*C_SetKeyState)(CK_SESSION_HANDLE session, CK_OBJECT_HANDLE key, CK_ULONG state);
+};
+
+const struct vendor_functions *vendor_functions(void);
+
 /* ---- Checks */
 
 /* Counts a check. One that fails is written to standard error. */

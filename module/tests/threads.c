@@ -186,6 +186,158 @@ static void *log_in_and_out(void *argument) {
     return NULL;
 }
 
+/* ---- Long messages, which are taken in while the lock is free. What is answered has to be what
+ * the same bytes give in short pieces, which never are. */
+
+enum { LONGEST_MESSAGE = 1 << 20, SHORT_PIECE = 4000, LONG_PIECE = 1 << 16, LENGTHS = 5 };
+
+static const CK_ULONG lengths[LENGTHS] = {4095, 4096, 10000, 1 << 16, LONGEST_MESSAGE};
+static CK_BYTE long_message[LONGEST_MESSAGE];
+static CK_BYTE digests[LENGTHS][32], signatures[LENGTHS][32];
+
+static int long_rounds(void) {
+    return rounds / 8 + 1;
+}
+
+/* In a journal's file the longest would be lines of 2 MiB. */
+static int number_of_lengths(void) {
+    return getenv("OSPREYRACK_JOURNAL") == NULL ? LENGTHS : LENGTHS - 1;
+}
+
+static void fill_long_message(void) {
+    for (size_t i = 0; i < sizeof long_message; i++)
+        long_message[i] = (CK_BYTE)(i * 7 + i / 251);
+}
+
+/* Adds bytes of the message in short pieces, or zeros where none are given. */
+static void add_in_short_pieces(CK_RV (*update)(CK_SESSION_HANDLE, CK_BYTE *, CK_ULONG),
+                                CK_SESSION_HANDLE session, CK_BYTE *bytes, CK_ULONG length) {
+    static CK_BYTE zeros[SHORT_PIECE];
+    for (CK_ULONG at = 0; at < length; at += SHORT_PIECE) {
+        CK_ULONG count = length - at < SHORT_PIECE ? length - at : SHORT_PIECE;
+        EXPECT(CKR_OK, update(session, bytes == NULL ? zeros : bytes + at, count));
+    }
+}
+
+static void make_expected(CK_SESSION_HANDLE session, CK_OBJECT_HANDLE key) {
+    CK_MECHANISM sha256 = mechanism_of(CKM_SHA256), hmac = mechanism_of(CKM_SHA256_HMAC);
+    CK_ULONG room = 32;
+    fill_long_message();
+    for (int i = 0; i < number_of_lengths(); i++) {
+        EXPECT(CKR_OK, p11->C_DigestInit(session, &sha256));
+        add_in_short_pieces(p11->C_DigestUpdate, session, long_message, lengths[i]);
+        EXPECT(CKR_OK, p11->C_DigestFinal(session, digests[i], &room));
+        EXPECT(CKR_OK, p11->C_SignInit(session, &hmac, key));
+        add_in_short_pieces(p11->C_SignUpdate, session, long_message, lengths[i]);
+        EXPECT(CKR_OK, p11->C_SignFinal(session, signatures[i], &room));
+    }
+}
+
+static void use_long_message(CK_SESSION_HANDLE session, CK_OBJECT_HANDLE key, int i) {
+    CK_MECHANISM sha256 = mechanism_of(CKM_SHA256), hmac = mechanism_of(CKM_SHA256_HMAC);
+    CK_BYTE out[32];
+    CK_ULONG room = sizeof out, length = lengths[i], half = length / 2;
+    EXPECT(CKR_OK, p11->C_DigestInit(session, &sha256));
+    EXPECT(CKR_OK, p11->C_Digest(session, long_message, length, out, &room));
+    CHECK(memcmp(out, digests[i], sizeof out) == 0);
+    EXPECT(CKR_OK, p11->C_SignInit(session, &hmac, key));
+    EXPECT(CKR_OK, p11->C_SignUpdate(session, long_message, half));
+    EXPECT(CKR_OK, p11->C_SignUpdate(session, long_message + half, length - half));
+    EXPECT(CKR_OK, p11->C_SignFinal(session, out, &room));
+    CHECK(memcmp(out, signatures[i], sizeof out) == 0);
+    EXPECT(CKR_OK, p11->C_VerifyInit(session, &hmac, key));
+    EXPECT(CKR_OK, p11->C_Verify(session, long_message, length, out, room));
+    EXPECT(CKR_OK, p11->C_VerifyInit(session, &hmac, key));
+    EXPECT(CKR_OK, p11->C_VerifyUpdate(session, long_message, length));
+    EXPECT(CKR_OK, p11->C_VerifyFinal(session, out, room));
+}
+
+static void *use_long_messages(void *argument) {
+    int number = *(int *)argument;
+    for (int round = 0; round < long_rounds(); round++) {
+        CK_SESSION_HANDLE session = 0;
+        EXPECT(CKR_OK, p11->C_OpenSession(0, read_write, NULL, NULL, &session));
+        int length = (number + round) % number_of_lengths();
+        use_long_message(session, create_key(session, "Jefe"), length);
+        EXPECT(CKR_OK, p11->C_CloseSession(session));
+    }
+    return NULL;
+}
+
+/* Pieces that are all zeros make one message, whatever their order is. */
+static void *add_long_zeros(void *ignored) {
+    static CK_BYTE zeros[LONG_PIECE];
+    for (int round = 0; round < long_rounds(); round++)
+        EXPECT(CKR_OK, p11->C_DigestUpdate(shared[0], zeros, sizeof zeros));
+    return ignored;
+}
+
+static void *add_short_zeros(void *ignored) {
+    for (int round = 0; round < long_rounds(); round++)
+        add_in_short_pieces(p11->C_DigestUpdate, shared[0], NULL, SHORT_PIECE);
+    return ignored;
+}
+
+/* A session that other threads close, and a key whose state they change. */
+static _Atomic CK_SESSION_HANDLE moving_session;
+
+static bool is_one_of(CK_RV code, const CK_RV *codes, size_t count) {
+    for (size_t i = 0; i < count; i++) {
+        if (code == codes[i])
+            return true;
+    }
+    return false;
+}
+
+/* Signs where the operation, the session or the key may end at any time. */
+static void *sign_long_messages(void *argument) {
+    static const CK_RV refusals[] = {
+        CKR_OPERATION_ACTIVE,           CKR_OPERATION_NOT_INITIALIZED,
+        CKR_KEY_FUNCTION_NOT_PERMITTED, CKR_SESSION_HANDLE_INVALID,
+    };
+    CK_MECHANISM hmac = mechanism_of(CKM_SHA256_HMAC);
+    CK_BYTE out[32];
+    for (int round = 0; round < 4 * long_rounds(); round++) {
+        int i = (*(int *)argument + round) % number_of_lengths();
+        CK_ULONG room = sizeof out;
+        CK_SESSION_HANDLE session = moving_session;
+        CK_RV code = p11->C_SignInit(session, &hmac, shared_key);
+        if (code == CKR_OK || code == CKR_OPERATION_ACTIVE)
+            code = p11->C_Sign(session, long_message, lengths[i], out, &room);
+        if (code == CKR_OK)
+            CHECK(memcmp(out, signatures[i], sizeof out) == 0);
+        else
+            check(is_one_of(code, refusals, sizeof refusals / sizeof *refusals), "C_Sign");
+    }
+    return NULL;
+}
+
+static void *disturb(void *argument) {
+    enum { SUSPENDED = 5, ACTIVE = 1 };
+    const struct vendor_functions *vendor = vendor_functions();
+    int number = *(int *)argument;
+    for (int round = 0; round < 20 * long_rounds(); round++) {
+        CK_SESSION_HANDLE session = moving_session, opened = 0;
+        switch ((number + round) % 4) {
+        case 0:
+            p11->C_SessionCancel(session, CKF_SIGN);
+            break;
+        case 1:
+            vendor->C_SetKeyState(shared[0], shared_key, SUSPENDED);
+            break;
+        case 2:
+            vendor->C_SetKeyState(shared[0], shared_key, ACTIVE);
+            break;
+        default:
+            if (p11->C_CloseSession(session) != CKR_OK)
+                break;
+            EXPECT(CKR_OK, p11->C_OpenSession(0, read_write, NULL, NULL, &opened));
+            moving_session = opened;
+        }
+    }
+    return NULL;
+}
+
 /* The child has this thread only, and begins anew. */
 static int see_as_child(void) {
     CK_INFO info;
@@ -286,6 +438,35 @@ static void test_both(void) {
     run_threads(work_in_own_session, work_in_shared_session);
 }
 
+static void test_long_messages(void) {
+    make_expected(shared[0], shared_key);
+    run_threads(use_long_messages, use_long_messages);
+    run_threads(use_long_messages, work_in_shared_session);
+}
+
+static void test_added_pieces(void) {
+    CK_MECHANISM sha256 = mechanism_of(CKM_SHA256);
+    CK_BYTE out[32], expected[32];
+    CK_ULONG room = sizeof out;
+    CK_ULONG added = (CK_ULONG)long_rounds() * ((CK_ULONG)(threads / 2) * LONG_PIECE
+        + (CK_ULONG)(threads - threads / 2) * SHORT_PIECE);
+    EXPECT(CKR_OK, p11->C_DigestInit(shared[0], &sha256));
+    run_threads(add_long_zeros, add_short_zeros);
+    EXPECT(CKR_OK, p11->C_DigestFinal(shared[0], out, &room));
+    EXPECT(CKR_OK, p11->C_DigestInit(shared[0], &sha256));
+    add_in_short_pieces(p11->C_DigestUpdate, shared[0], NULL, added);
+    EXPECT(CKR_OK, p11->C_DigestFinal(shared[0], expected, &room));
+    CHECK(memcmp(out, expected, sizeof out) == 0);
+}
+
+static void test_disturbed_signing(void) {
+    CK_SESSION_HANDLE session = 0;
+    EXPECT(CKR_OK, p11->C_OpenSession(0, read_write, NULL, NULL, &session));
+    moving_session = session;
+    run_threads(sign_long_messages, disturb);
+    EXPECT(CKR_OK, p11->C_CloseSession(moving_session));
+}
+
 static void test_forks(void) {
     run_threads(work_in_own_session, fork_children);
 }
@@ -305,6 +486,9 @@ static const struct test tests[] = {
     {"threads in sessions of their own", test_own_sessions},
     {"threads in sessions that they share", test_shared_sessions},
     {"threads in their own sessions and in shared ones", test_both},
+    {"long messages in sessions of their own, and short ones beside them", test_long_messages},
+    {"long and short pieces are added to one message", test_added_pieces},
+    {"long messages are signed where operations, sessions and keys change", test_disturbed_signing},
     {"threads make calls, and others fork", test_forks},
     {"threads log in and out; C_Finalize", test_logins},
 };

@@ -1,0 +1,54 @@
+-- What becomes of a call with a long message that lies in C's memory
+use Rattle.std.specs.Prelude.{◌≡◌, ⊤, ℕ, Bool, true, false, Option, Some, None, MatchBool}
+use Rattle.ck_journal.specs.declared.calls.Call.{Call}
+use Rattle.ck_journal.specs.declared.works.Work.{Work}
+use Rattle.ck_journal.specs.Histories.{History}
+use Rattle.ck_journal.specs.Works.{IsBegun, IsDone, IsAhead}
+use Rattle.ck_module.specs.Calls.{IsCalled}
+use Rattle.ck_module.specs.Steps.{step_number}
+use Rattle.ck_module.specs.declared.long_calls.LongCall.{LongCall}
+use Rattle.ck_module.specs.declared.long_calls.LongCall.TheVariants as long
+use Rattle.ck_module.specs.declared.modules.Module.{Module}
+use Rattle.ck_module.specs.declared.steps.Step.{Step}
+use Rattle.ck_module.specs.declared.steps.Step.TheVariants as step
+
+-- the call is there, or there was no memory for it
+abbrev pub IsGiven : Call → Bool → LongCall → LongCall → Type 0
+IsGiven c result old new = MatchBool result (new ≡ long.Given c) (new ≡ old)
+
+-- the work was begun, by a token with this history, for the call that was given; or nothing changed
+abbrev pub IsBegin : History → LongCall → LongCall → Type 0
+IsBegin h (long.Given c) (long.Begun begun w) = (begun ≡ c) × IsBegun h c w
+IsBegin h old new = new ≡ old
+
+abbrev pub has_begun : LongCall → Bool
+has_begun (long.Begun c w) = true
+has_begun other = false
+
+-- work that was begun is done, for the same call; or nothing changed
+abbrev pub IsTakenIn : LongCall → LongCall → Type 0
+IsTakenIn (long.Begun c begun) (long.Done same w) =
+    (same ≡ c) × ((h : History) → IsBegun h c begun → IsDone h c w)
+IsTakenIn (long.Begun c begun) new = ⊥
+IsTakenIn old new = new ≡ old
+
+-- where the work is done: the token that began it has this history, or had a front of it
+abbrev pub IsWorkOf : History → LongCall → Type 0
+IsWorkOf h (long.Done c w) = IsAhead h c w
+IsWorkOf h other = ⊤
+
+abbrev pub call_of : LongCall → Option Call
+call_of long.Empty = None
+call_of (long.Given c) = Some c
+call_of (long.Begun c w) = Some c
+call_of (long.Done c w) = Some c
+
+-- the call was made; where there is none, nothing has changed
+abbrev pub IsMadeBy : ℕ → Option Call → Step → Module → Module → Type 0
+IsMadeBy caller (Some c) made old new = IsCalled caller c made old new
+IsMadeBy caller None made old new = (made ≡ step.NoCall) × (new ≡ old)
+
+-- the same by the number that C is told
+abbrev pub IsMade : ℕ → Option Call → ℕ → Module → Module → Type 0
+IsMade caller c number old new =
+    (s : Step) × (number ≡ step_number s) × IsMadeBy caller c s old new

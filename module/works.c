@@ -1,0 +1,103 @@
+/*
+ * Work on long messages: their bytes are copied and taken in while the lock is free, so that other
+ * threads can call the token. Where a journal file is kept, calls go by lines, and all of them is
+ * done under the lock.
+ */
+#include "module.h"
+
+#include <stdlib.h>
+
+/* From how many bytes on a message is long. The token begins no work on shorter ones. */
+enum { SHORTEST_LONG_MESSAGE = 4096 };
+
+struct work {
+    struct long_call call;
+    bool has_begun;
+    uint64_t journals; /* how many journals had begun when the work was */
+    max_align_t room[];
+};
+
+/* Whether the bytes of the call's message are worth to be taken in before. Where only the length of
+ * a digest or a signature is asked for, they aren't needed. */
+static bool is_long(const struct call *call) {
+    bool has_output = call->name == DIGEST || call->name == SIGN;
+    return call->bytes.length >= SHORTEST_LONG_MESSAGE && (!has_output || call->room.has_room)
+        && check_call(call) == CKR_OK;
+}
+
+static bool give(struct long_call *given, const struct call *call) {
+    CK_ULONG session = call->session;
+    struct bytes bytes = call->bytes;
+    struct bytes signature = call->signature;
+    struct room room = call->room;
+    switch (call->name) {
+    case DIGEST:
+        return ospreyrack_long_digest(given, session, bytes.at, bytes.length, room.has_room,
+                                      room.length);
+    case DIGEST_UPDATE:
+        return ospreyrack_long_digest_update(given, session, bytes.at, bytes.length);
+    case SIGN:
+        return ospreyrack_long_sign(given, session, bytes.at, bytes.length, room.has_room,
+                                    room.length);
+    case SIGN_UPDATE:
+        return ospreyrack_long_sign_update(given, session, bytes.at, bytes.length);
+    case VERIFY:
+        return ospreyrack_long_verify(given, session, bytes.at, bytes.length, signature.at,
+                                      signature.length);
+    case VERIFY_UPDATE:
+        return ospreyrack_long_verify_update(given, session, bytes.at, bytes.length);
+    default:
+        return false;
+    }
+}
+
+/* Copies the call with its message. Answers false without memory. */
+static bool give_work(struct call *call) {
+    struct work *work = malloc(sizeof *work + ospreyrack_long_size());
+    if (work == NULL)
+        return false;
+    *work = (struct work){.call.at = work->room};
+    ospreyrack_long_make(work->room);
+    call->work = work;
+    return give(&work->call, call);
+}
+
+/* Begins the work under the lock, and answers whether there is work to be done. */
+static bool begin_work(struct work *work) {
+    if (library.journal.is_kept)
+        return false;
+    work->journals = journals_begun;
+    work->has_begun = ospreyrack_long_begin(&library.token, &work->call);
+    return work->has_begun;
+}
+
+CK_RV enter_with_work(struct call *call) {
+    if (!is_long(call))
+        return enter();
+    bool is_given = give_work(call);
+    CK_RV code = enter();
+    if (code != CKR_OK)
+        return code;
+    if (!is_given)
+        return leave(CKR_HOST_MEMORY);
+    if (!begin_work(call->work))
+        return CKR_OK;
+    leave(CKR_OK);
+    ospreyrack_long_take_in(&call->work->call);
+    return enter();
+}
+
+bool call_by_work(const struct call *call, uint32_t *step) {
+    struct work *work = call->work;
+    if (work->has_begun && work->journals != journals_begun)
+        return false;
+    *step = ospreyrack_long_call(&library.token, caller_number(), &work->call);
+    return true;
+}
+
+void drop_work(struct call *call) {
+    if (call->work != NULL)
+        ospreyrack_long_reset(&call->work->call);
+    free(call->work);
+    call->work = NULL;
+}
