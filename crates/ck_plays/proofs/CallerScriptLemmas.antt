@@ -5,7 +5,8 @@ use Rattle.std.proofs.Common.{append_assoc}
 use Rattle.std.proofs.lemmas.List.{append-nil, length_push}
 use Rattle.ck_journal.specs.declared.calls.Call.{Call}
 use Rattle.ck_script.specs.Lines.{meaning}
-use Rattle.ck_plays.specs.CallerScripts.{is_bad_for, AreGoodFor, AreCallsOf, IsRefusedFor, IsRefusedLine}
+use Rattle.ck_plays.specs.CallerScripts.{is_bad_for, AreGoodFor, AreCallsOf, IsRefusedFor}
+use Rattle.ck_plays.specs.CallerScripts.{IsRefusedLine}
 use Rattle.ck_plays.specs.Devices.{IsCount}
 use Rattle.ck_plays.specs.Plays.{with_call}
 use Rattle.ck_plays.specs.declared.faults.PlayFault.{PlayFault}

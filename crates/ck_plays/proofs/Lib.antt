@@ -1,4 +1,5 @@
 pub mod CallerScriptLemmas
+pub mod DeviceLemmas
 pub mod LineLemmas
 pub mod PlayLemmas
 pub mod PlayerLemmas

@@ -6,44 +6,43 @@ use Rattle.std.proofs.lemmas.Bool.{ltb-true, ltb-false}
 use Rattle.std.proofs.lemmas.Bool.Decides.{nat_tests}
 use Rattle.std.specs.Prelude.{◌==◌, ◌⊎◌, nat_lt as ltb, Result}
 use Rattle.std.specs.List.{onto_first}
-use Rattle.ck_script.specs.Lines.{lines_in, meaning}
+use Rattle.ck_script.specs.Lines.{line_end, lines_in, longest_line, meaning}
 use Rattle.ck_script.specs.declared.line_errors.LineError.{LineError}
 use Rattle.ck_script.specs.declared.line_errors.LineError.TheVariants as error
 use Rattle.ck_script.specs.declared.line_errors.BadLine.{BadLine}
 use Rattle.ck_script.specs.declared.line_errors.BadLine.TheVariants as bad_line
 use Rattle.ck_script.specs.declared.lines.Line.{Line}
-use Rattle.ck_script.specs.declared.lines.TheConstants.{LINE_END, LONGEST_LINE}
 use Rattle.ck_plays.specs.Plays.{is_over}
 use Rattle.ck_plays.specs.Players.{onto}
 
 -- ---- lines that are too long
 
-pub meaning-too_long : (bytes : List ℕ) → LONGEST_LINE < length bytes → meaning bytes ≡ None
+pub meaning-too_long : (bytes : List ℕ) → longest_line < length bytes → meaning bytes ≡ None
 meaning-too_long bytes long =
-    let is : ltb LONGEST_LINE (length bytes) ≡ true = grind (arith, nat_tests) in rw is
+    let is : ltb longest_line (length bytes) ≡ true = grind (arith, nat_tests) in rw is
 
 some-short : (n : ℕ) (test : Bool) (rest : Option Line) (m : Line)
-    → ltb LONGEST_LINE n ≡ test → cond test None rest ≡ Some m → n ≤ LONGEST_LINE
+    → ltb longest_line n ≡ test → cond test None rest ≡ Some m → n ≤ longest_line
 some-short n true rest m t e = cc
-some-short n false rest m t e = ltb-false LONGEST_LINE n t
+some-short n false rest m t e = ltb-false longest_line n t
 
 -- a line that means something is no longer than a line may be
 pub meaning-short : (bytes : List ℕ) (m : Line) → Some m ≡ meaning bytes
-    → length bytes ≤ LONGEST_LINE
+    → length bytes ≤ longest_line
 meaning-short bytes m e = some-short (length bytes) _ _ m refl (sym e)
 
-memory-short-by : (n : ℕ) (test : Bool) (r : Result Line LineError) → ltb LONGEST_LINE n ≡ test
-    → (LONGEST_LINE < n → r ≡ Err (error.Bad bad_line.TooLong)) → r ≡ Err error.Memory
-    → n ≤ LONGEST_LINE
+memory-short-by : (n : ℕ) (test : Bool) (r : Result Line LineError) → ltb longest_line n ≡ test
+    → (longest_line < n → r ≡ Err (error.Bad bad_line.TooLong)) → r ≡ Err error.Memory
+    → n ≤ longest_line
 memory-short-by n true r t long e =
-    let other : r ≡ Err (error.Bad bad_line.TooLong) = long (ltb-true LONGEST_LINE n t) in cc
-memory-short-by n false r t long e = ltb-false LONGEST_LINE n t
+    let other : r ≡ Err (error.Bad bad_line.TooLong) = long (ltb-true longest_line n t) in cc
+memory-short-by n false r t long e = ltb-false longest_line n t
 
 -- a line that there is no memory for is none that is too long
 pub memory-short : (n : ℕ) (r : Result Line LineError)
-    → (LONGEST_LINE < n → r ≡ Err (error.Bad bad_line.TooLong)) → r ≡ Err error.Memory
-    → n ≤ LONGEST_LINE
-memory-short n r long e = memory-short-by n (ltb LONGEST_LINE n) r refl long e
+    → (longest_line < n → r ≡ Err (error.Bad bad_line.TooLong)) → r ≡ Err error.Memory
+    → n ≤ longest_line
+memory-short n r long e = memory-short-by n (ltb longest_line n) r refl long e
 
 -- a line that is bad means nothing
 pub none-of_bad : (m : Option Line) (e : LineError) (reason : BadLine) → e ≡ error.Bad reason
@@ -73,7 +72,7 @@ has_first-step x false (l ∷ lines) = record { first = x ∷ l; rest = lines; p
 
 has_first : (xs : List ℕ) → HasFirst (lines_in xs)
 has_first [] = record { first = []; rest = []; parts = refl }
-has_first (x ∷ xs) = has_first-step x (x == LINE_END) (lines_in xs)
+has_first (x ∷ xs) = has_first-step x (x == line_end) (lines_in xs)
 
 onto-empty : (lines : List (List ℕ)) → HasFirst lines → lines ≡ onto [] lines
 onto-empty [] h = cc h.parts
@@ -101,8 +100,8 @@ glue-step x false lines more h = glue-byte x lines more h
 lines_in-append : (xs ys : List ℕ) → lines_in (xs ++ ys) ≡ glue (lines_in xs) (lines_in ys)
 lines_in-append [] ys = onto-empty (lines_in ys) (has_first ys)
 lines_in-append (x ∷ xs) ys =
-    ap (λ lines. cond (x == LINE_END) ([] ∷ lines) (onto_first x lines)) (lines_in-append xs ys)
-    ∙ glue-step x (x == LINE_END) (lines_in xs) (lines_in ys) (has_first xs)
+    ap (λ lines. cond (x == line_end) ([] ∷ lines) (onto_first x lines)) (lines_in-append xs ys)
+    ∙ glue-step x (x == line_end) (lines_in xs) (lines_in ys) (has_first xs)
 
 glue-last : (before : List (List ℕ)) (l : List ℕ) (more : List (List ℕ))
     → glue (before ++ l ∷ []) more ≡ before ++ onto l more

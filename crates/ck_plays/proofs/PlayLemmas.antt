@@ -156,7 +156,8 @@ played-ended limits most read written reads player token number count bytes A B 
 -- the end, where the last line isn't answered
 pub played-ended_stopped : (limits : Ranges) (most : ℕ) (read : Reading) (written : Writing)
     (reads : ℕ)
-    (player : PlayerState) (count : ℕ) (bytes : List ℕ) (A B : Reading → Type 0) (P Q : Writing → Type 0)
+    (player : PlayerState) (count : ℕ) (bytes : List ℕ) (A B : Reading → Type 0)
+    (P Q : Writing → Type 0)
     (f d : PlayFault)
     → f ≡ d → reads < most → count ≡ 0 → (h : IsReading limits read written reads player A P)
     → ((r : Reading) → A r → B (if count == 0 then end_read r else read_on r bytes))
@@ -174,7 +175,8 @@ played-ended_stopped limits most read written reads player count bytes A B P Q f
 -- further bytes, of which a line isn't answered
 pub played-fed_stopped : (limits : Ranges) (most : ℕ) (read : Reading) (written : Writing)
     (reads : ℕ)
-    (player : PlayerState) (count : ℕ) (bytes : List ℕ) (A B : Reading → Type 0) (P Q : Writing → Type 0)
+    (player : PlayerState) (count : ℕ) (bytes : List ℕ) (A B : Reading → Type 0)
+    (P Q : Writing → Type 0)
     (f d : PlayFault)
     → f ≡ d → reads < most → (count == 0) ≡ false
     → (h : IsReading limits read written reads player A P)
@@ -233,8 +235,11 @@ reading-nothing limits read written player A P same history empty number h w = r
       history = history;
       next_number = number;
       good = tt;
-      writer = subst (λ (xs : List ℕ). P (record { bytes = xs; failures = written.failures }))
-          (sym (append-nil written.bytes)) w;
+      writer = subst (λ (xs : List ℕ). P (record {
+        is_known = written.is_known;
+        bytes = xs;
+        failures = written.failures;
+      })) (sym (append-nil written.bytes)) w;
     };
   };
   reader =
@@ -258,8 +263,11 @@ played-nothing limits most read written A P f e h w =
           same_reading A read read.earlier read.bytes (read.bytes ++ []) read.reads
           (read.reads + 0) read.ends read.failures
           (sym (append-nil read.bytes)) (omega arith) h;
-      writer = subst (λ (xs : List ℕ). P (record { bytes = xs; failures = written.failures }))
-          (sym (append-nil written.bytes)) w;
+      writer = subst (λ (xs : List ℕ). P (record {
+        is_known = written.is_known;
+        bytes = xs;
+        failures = written.failures;
+      })) (sym (append-nil written.bytes)) w;
       within = omega arith;
       outcome = record {
         before = [];

@@ -7,11 +7,10 @@ use Rattle.ck_types.specs.TokenLimits.{Ranges}
 use Rattle.ck_journal.specs.Answers.{answer}
 use Rattle.ck_journal.specs.Histories.{History}
 use Rattle.ck_journal.specs.declared.calls.Call.{Call}
-use Rattle.ck_script.specs.Lines.{meaning}
+use Rattle.ck_script.specs.Lines.{longest_line, meaning}
 use Rattle.ck_script.specs.Replies.{reply_text}
 use Rattle.ck_script.specs.declared.line_errors.BadLine.{BadLine}
 use Rattle.ck_script.specs.declared.lines.Line.TheVariants as line
-use Rattle.ck_script.specs.declared.lines.TheConstants.{LONGEST_LINE}
 use Rattle.ck_journal.specs.TokenStates.{TokenState}
 use Rattle.ck_plays.specs.Devices.{Writing, wrote, failed_write, IsCount}
 use Rattle.ck_plays.specs.Players.{HasAnswered, IsStopped, IsUnwritten, WriteFailed, IsCalled}
@@ -113,7 +112,7 @@ stopped-bad limits written lines later ended l token number reason P is over h =
 pub stopped-memory : (limits : Ranges) (written : Writing) (lines later : List (List ℕ))
     (ended : Bool)
     (l : List ℕ) (token : TokenState) (number : ℕ) (P : Writing → Type 0)
-    → length l ≤ LONGEST_LINE → HasAnswered limits written lines token number P
+    → length l ≤ longest_line → HasAnswered limits written lines token number P
     → IsStopped limits written (lines ++ l ∷ later) ended (length lines) P fault.Memory
 stopped-memory limits written lines later ended l token number P short h = record {
   of_line = tt;

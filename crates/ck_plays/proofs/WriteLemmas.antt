@@ -9,8 +9,11 @@ use Rattle.ck_plays.specs.Players.{WriteFailed}
 -- bytes and further bytes
 pub wrote-wrote : (w : Writing) (xs ys : List ℕ) → wrote (wrote w xs) ys ≡ wrote w (xs ++ ys)
 wrote-wrote w xs ys =
-    ap (λ (bytes : List ℕ). (let r : Writing = record { bytes = bytes; failures = w.failures } in
-    r)) (append_assoc w.bytes xs ys)
+    ap (λ (bytes : List ℕ). (let r : Writing = record {
+      is_known = w.is_known;
+      bytes = bytes;
+      failures = w.failures;
+    } in r)) (append_assoc w.bytes xs ys)
 
 -- one more write of some of the bytes that are left
 pub wrote-more : (P : Writing → Type 0) (w : Writing) (xs : List ℕ) (at count : ℕ)
@@ -25,4 +28,9 @@ wrote-more P w xs at count h =
 pub broken : (P : Writing → Type 0) (w : Writing) (xs : List ℕ) (at : ℕ)
     → P (failed_write (wrote w (take at xs))) → WriteFailed P w xs
 broken P w xs at h =
-    record { part = take at xs; rest = drop at xs; parts = sym (take-append-drop at xs); writer = h }
+    record {
+      part = take at xs;
+      rest = drop at xs;
+      parts = sym (take-append-drop at xs);
+      writer = h;
+    }

@@ -1,19 +1,22 @@
 -- What was read of a source and written to a sink
-use Rattle.std.specs.Prelude.{◌≡◌, ℕ, zero, suc, Bool, ◌&&◌, ◌==◌, ◌++◌, min, not, List, [], Option}
-use Rattle.std.specs.Prelude.{Some, Result, Ok, Err, length, take, if◌then◌else◌}
+use Rattle.std.specs.Prelude.{◌≡◌, ℕ, zero, suc, Bool, true, ◌&&◌, ◌==◌, ◌++◌, min, not, List, []}
+use Rattle.std.specs.Prelude.{Option, Some, None, Result, Ok, Err, length, take, if◌then◌else◌}
+use Rattle.ck_plays.specs.declared.counts.ReadCounts.{ReadCounts}
 
--- the script, the bytes of it that were read, those that were read before the last read, and how
--- many reads were made, found the end, and failed
+-- the script, where it is known, the bytes that were read, those that were read before the last
+-- read, and how many reads were made, found the end, and failed
 pub record Reading : Type 0 where
-  pub script : List ℕ
+  pub script : Option (List ℕ)
   pub bytes : List ℕ
   pub earlier : List ℕ
   pub reads : ℕ
   pub ends : ℕ
   pub failures : ℕ
 
--- the bytes that were written, and how many writes failed or took no byte
+-- whether the sink says what it holds, the bytes that were written, and how many writes failed or
+-- took no byte
 pub record Writing : Type 0 where
+  pub is_known : Bool
   pub bytes : List ℕ
   pub failures : ℕ
 
@@ -66,31 +69,51 @@ after_read r (Err error) buffer = failed_read r
 
 -- the same and one more write, which failed or took no byte
 abbrev pub failed_write : Writing → Writing
-failed_write w = record { bytes = w.bytes; failures = suc w.failures }
+failed_write w = record {
+  is_known = w.is_known;
+  bytes = w.bytes;
+  failures = suc w.failures;
+}
 
 -- the same and these bytes more
 abbrev pub wrote : Writing → List ℕ → Writing
-wrote w bytes = record { bytes = w.bytes ++ bytes; failures = w.failures }
+wrote w bytes = record {
+  is_known = w.is_known;
+  bytes = w.bytes ++ bytes;
+  failures = w.failures;
+}
 
 -- the same and one more write, which took so many bytes of the front
 abbrev pub after_write : {E : Type 0} → Writing → Result ℕ E → List ℕ → Writing
 after_write w (Ok count) bytes = if count == 0 then failed_write w else wrote w (take count bytes)
 after_write w (Err error) bytes = failed_write w
 
--- ---- what devices know
+-- ---- what a device has to do with it
 
 -- nothing is left once the end was found
 abbrev pub IsLeft : ℕ → List ℕ → Type 0
 IsLeft zero rest = Unit {0}
 IsLeft (suc ends) rest = rest ≡ []
 
--- a reader of which these bytes are left, where that is known
-pub record IsKnownReading (left : Option (List ℕ)) (r : Reading) : Type 0 where
-  pub rest : List ℕ
-  pub known : left ≡ Some rest
-  pub parts : r.script ≡ r.bytes ++ rest
-  pub ended : IsLeft r.ends rest
+-- after these bytes, this rest of the script is left; nothing is said where the script isn't known
+abbrev pub IsRest : Option (List ℕ) → List ℕ → ℕ → Option (List ℕ) → Type 0
+IsRest None bytes ends left = Unit {0}
+IsRest (Some script) bytes ends None = ⊥
+IsRest (Some script) bytes ends (Some rest) = (script ≡ bytes ++ rest) × IsLeft ends rest
 
--- a writer that holds these bytes, where that is known
-abbrev pub IsKnownWriting : Option (List ℕ) → Writing → Type 0
-IsKnownWriting contents w = contents ≡ Some w.bytes
+-- so many reads were made, found the end, and failed
+pub record AreCounts (c : ReadCounts) (r : Reading) : Type 0 where
+  pub reads : IsCount c.reads r.reads
+  pub ends : IsCount c.ends r.ends
+  pub failures : IsCount c.failures r.failures
+
+-- this was read of a source that has these bytes left, where that is known, and has counted its
+-- reads
+abbrev pub IsReadOf : Option (List ℕ) → ReadCounts → Reading → Type 0
+IsReadOf left counts r = IsRest r.script r.bytes r.ends left × AreCounts counts r
+
+-- this was written to a sink that holds these bytes, where that is known, and has counted the
+-- writes that failed
+abbrev pub IsWrittenTo : Option (List ℕ) → ℕ → Writing → Type 0
+IsWrittenTo held failures w =
+    (w.is_known ≡ true → held ≡ Some w.bytes) × IsCount failures w.failures

@@ -4,9 +4,8 @@ use Rattle.std.specs.Prelude.{Err, length, min}
 use Rattle.ck_types.specs.TokenLimits.{Ranges}
 use Rattle.ck_journal.specs.Answers.{answer}
 use Rattle.ck_journal.specs.declared.calls.Call.{Call}
-use Rattle.ck_script.specs.Lines.{lines_in}
+use Rattle.ck_script.specs.Lines.{lines_in, longest_line}
 use Rattle.ck_script.specs.Replies.{reply_text}
-use Rattle.ck_script.specs.declared.lines.TheConstants.{LONGEST_LINE}
 use Rattle.ck_journal.specs.TokenStates.{TokenState}
 use Rattle.ck_plays.specs.Devices.{Reading, Writing, wrote, failed_write, IsCount}
 use Rattle.ck_plays.specs.Plays.{AreGood, called, history_of, output_of, Outcome, failed_writes}
@@ -30,10 +29,10 @@ pub record WriteFailed (is_written : Writing → Type 0) (w : Writing) (bytes : 
 
 -- a line of these bytes and number isn't taken: it is too long, or there is no memory for it
 abbrev pub IsRefused : ℕ → List ℕ → PlayFault → Type 0
-IsRefused number bytes (fault.Line n reason) = (n ≡ number) × (LONGEST_LINE < length bytes)
+IsRefused number bytes (fault.Line n reason) = (n ≡ number) × (longest_line < length bytes)
 IsRefused number bytes fault.Read = ⊥
 IsRefused number bytes fault.Write = ⊥
-IsRefused number bytes fault.Memory = length bytes ≤ LONGEST_LINE
+IsRefused number bytes fault.Memory = length bytes ≤ longest_line
 IsRefused number bytes fault.Turns = ⊥
 
 -- these bytes weren't written whole: the writer failed behind a front of them, or there was no

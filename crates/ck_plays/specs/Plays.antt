@@ -1,15 +1,14 @@
 -- What playing a script writes, and how it ends
-use Rattle.std.specs.Prelude.{◌≡◌, ◌⊎◌, ◌<◌, ◌≤◌, ◌+◌, ℕ, zero, suc, Bool, true, false, List, []}
-use Rattle.std.specs.Prelude.{◌∷◌, ◌++◌, Option, Some, None, Result, Ok, Err, length}
+use Rattle.std.specs.Prelude.{◌≡◌, ◌⊎◌, ◌<◌, ◌≤◌, ◌+◌, ◌^◌, ℕ, zero, suc, Bool, true, false, List}
+use Rattle.std.specs.Prelude.{[], ◌∷◌, ◌++◌, Option, Some, None, Result, Ok, Err, length}
 use Rattle.ck_types.specs.TokenLimits.{Ranges}
 use Rattle.ck_journal.specs.Bases.{empty_base}
 use Rattle.ck_journal.specs.Histories.{History, start, ◌◁◌}
 use Rattle.ck_journal.specs.declared.calls.Call.{Call}
-use Rattle.ck_script.specs.Lines.{lines_in, meaning}
+use Rattle.ck_script.specs.Lines.{lines_in, longest_line, meaning}
 use Rattle.ck_script.specs.Replies.{reply_text}
 use Rattle.ck_script.specs.declared.lines.Line.{Line}
 use Rattle.ck_script.specs.declared.lines.Line.TheVariants as line
-use Rattle.ck_script.specs.declared.lines.TheConstants.{LONGEST_LINE}
 use Rattle.ck_journal.specs.TokenStates.{after, entry_of}
 use Rattle.ck_plays.specs.Devices.{Reading, Writing, IsCount}
 use Rattle.ck_plays.specs.declared.faults.PlayFault.{PlayFault}
@@ -85,7 +84,7 @@ pub record IsFirstBadLine (limits : Ranges) (lines : List (List ℕ)) (ended : B
   pub good : AreGood before
   pub refused : is_bad (meaning bad) ≡ true
   pub bad_number : IsCount number (suc (length before))
-  pub over : (is_over later ended ≡ true) ⊎ (LONGEST_LINE < length bad)
+  pub over : (is_over later ended ≡ true) ⊎ (longest_line < length bad)
   pub on_time : earlier ≤ length before
   pub written : output ≡ output_of limits before
 
@@ -107,7 +106,7 @@ pub record LinesBeforeAnswered (limits : Ranges) (lines : List (List ℕ)) (earl
   pub later : List (List ℕ)
   pub parts : lines ≡ before ++ unanswered ∷ later
   pub good : AreGood before
-  pub short : length unanswered ≤ LONGEST_LINE
+  pub short : length unanswered ≤ longest_line
   pub on_time : earlier ≤ length before
   pub written : output ≡ output_of limits before
 
@@ -156,6 +155,10 @@ abbrev pub failed_writes : ℕ → Result (Unit {0}) PlayFault → ℕ
 failed_writes n (Err fault.Write) = suc n
 failed_writes n other = n
 
+-- the most reads of a script
+abbrev pub most_reads : ℕ
+most_reads = 2 ^ 32
+
 -- how many reads were made of those allowed: all of them where the reader doesn't end
 abbrev pub AreReads : ℕ → ℕ → Result (Unit {0}) PlayFault → Type 0
 AreReads most reads (Err fault.Turns) = reads ≡ most
@@ -190,6 +193,7 @@ pub record IsPlayed (limits : Ranges) (most : ℕ) (read : Reading) (written : W
   pub reader : is_read (after_reads read script earlier reads
       (one_if ended read.ends) (failed_reads read.failures result))
   pub writer : is_written (record {
+    is_known = written.is_known;
     bytes = written.bytes ++ output;
     failures = failed_writes written.failures result;
   })

@@ -1,3 +1,4 @@
+use crate::counts::{ReadCounts, failures_after};
 use std::io;
 
 /// Where a script comes from. It is read as std's `Read` is, and contracts see what was read of it
@@ -33,30 +34,83 @@ pub trait Sink {
             → is_written self.new (after_write w result bytes.now) };
 }
 
-/// A reader of std. Contracts see of it the bytes that it is known to have left.
+/// A reader of std. Contracts see the bytes that it is known to have left, and how many reads were
+/// made, found the end, and failed.
 #[derive(Drop)]
-pub struct ReadSource<R>(pub R);
+pub struct ReadSource<R> {
+    reader: R,
+    counts: ReadCounts,
+}
 
-impl<R: io::Read> Source for ReadSource<R> {
-    ghost use Rattle.ck_plays.specs.Devices.{IsKnownReading};
+impl<R: io::Read> ReadSource<R> {
+    ghost use Rattle.std.specs.Prelude.{◌≡◌, ℕ, List, []};
 
-    ghost is_read = { λ s r. IsKnownReading (R.remaining s.0) r };
-
-    fn read(&mut self, buffer: &mut [u8]) -> io::Result<usize> {
-        self.0.read(buffer)
+    /// A source of what the reader has left.
+    pub fn new(reader: R) -> ReadSource<R>
+        ensures counts { result.counts ≡ record { reads = 0; ends = 0; failures = 0 } }
+        ensures reading { (earlier : List ℕ) → ⟦<ReadSource<R> as Source>⟧.is_read result
+            (record {
+              script = R.remaining reader;
+              bytes = [];
+              earlier = earlier;
+              reads = 0;
+              ends = 0;
+              failures = 0;
+            }) }
+    {
+        ReadSource {
+            reader,
+            counts: ReadCounts::new(),
+        }
     }
 }
 
-/// A writer of std. Contracts see of it the bytes that it is known to hold.
+impl<R: io::Read> Source for ReadSource<R> {
+    ghost use Rattle.ck_plays.specs.Devices.{IsReadOf};
+
+    ghost is_read = { λ s r. IsReadOf (R.remaining s.reader) s.counts r };
+
+    fn read(&mut self, buffer: &mut [u8]) -> io::Result<usize> {
+        let read = self.reader.read(buffer);
+        self.counts.count(&read, buffer);
+        read
+    }
+}
+
+/// A writer of std. Contracts see the bytes that it is known to hold, and how many writes failed.
 #[derive(Drop)]
-pub struct WriteSink<W>(pub W);
+pub struct WriteSink<W> {
+    writer: W,
+    failures: u64,
+}
+
+impl<W: io::Write> WriteSink<W> {
+    ghost use Rattle.std.specs.Prelude.{◌≡◌, ℕ, List, Some, true, false};
+
+    /// A sink that writes to the writer.
+    pub fn new(writer: W) -> WriteSink<W>
+        ensures failures { result.failures ≡ 0 }
+        ensures known { (held : List ℕ) → W.contents writer ≡ Some held
+            → ⟦<WriteSink<W> as Sink>⟧.is_written result
+            (record { is_known = true; bytes = held; failures = 0 }) }
+        ensures unknown { (bytes : List ℕ) → ⟦<WriteSink<W> as Sink>⟧.is_written result
+            (record { is_known = false; bytes = bytes; failures = 0 }) }
+    {
+        WriteSink {
+            writer,
+            failures: 0,
+        }
+    }
+}
 
 impl<W: io::Write> Sink for WriteSink<W> {
-    ghost use Rattle.ck_plays.specs.Devices.{IsKnownWriting};
+    ghost use Rattle.ck_plays.specs.Devices.{IsWrittenTo};
 
-    ghost is_written = { λ s w. IsKnownWriting (W.contents s.0) w };
+    ghost is_written = { λ s w. IsWrittenTo (W.contents s.writer) s.failures w };
 
     fn write(&mut self, bytes: &[u8]) -> io::Result<usize> {
-        self.0.write(bytes)
+        let write = self.writer.write(bytes);
+        self.failures = failures_after(self.failures, &write);
+        write
     }
 }

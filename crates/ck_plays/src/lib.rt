@@ -4,6 +4,7 @@
 #![tactic(auto)]
 
 mod caller_scripts;
+mod counts;
 mod devices;
 mod faults;
 mod memory_devices;

@@ -1,6 +1,7 @@
 //! A source and a sink in memory, which fail where they are asked to.
 ghost use Rattle.std.specs.Prelude.{◌≡◌, ◌≤◌, ◌<◌, [], length, take};
 
+use crate::counts::{ReadCounts, failures_after};
 use crate::devices::{Sink, Source};
 use std::alloc::Global;
 use std::io;
@@ -21,18 +22,16 @@ fn copy_front(from: &[u8], to: &mut [u8], most: usize) -> usize
 /// A script in memory. Numbers of reads are counted from 1.
 #[derive(Drop)]
 pub struct MemorySource<'a> {
-    script: &'a [u8],
     rest: &'a [u8],
     piece: usize,
     fails_at: u64,
-    reads: u64,
-    /// How many reads found the end. Like `failures` it is read only by the contracts.
-    ends: u64,
-    failures: u64,
+    counts: ReadCounts,
 }
 
 impl<'a> MemorySource<'a> {
-    ghost use Rattle.std.specs.Prelude.{◌≡◌, ℕ, List, []};
+    ghost use Rattle.std.specs.Prelude.{◌≡◌, ◌≤◌, ◌↔◌, ℕ, suc, List, [], Some, IfOk, IsErr};
+    ghost use Rattle.std.specs.Prelude.{length, max, min};
+    ghost use Rattle.std.specs.Io.KnownBytes.{ReadConsumes};
     ghost use Rattle.ck_plays.specs.Devices.{Reading, IsCount};
 
     /// A source that gives at most `piece` bytes a read, and one at least where some are left. The
@@ -40,7 +39,7 @@ impl<'a> MemorySource<'a> {
     pub fn new(script: &'a [u8], piece: usize, fails_at: u64) -> MemorySource<'a>
         ensures reading { (earlier : List ℕ) → ⟦<MemorySource<'a> as Source>⟧.is_read result
             (record {
-              script = script.now;
+              script = Some script.now;
               bytes = [];
               earlier = earlier;
               reads = 0;
@@ -51,14 +50,30 @@ impl<'a> MemorySource<'a> {
         ensures fails_at { result.fails_at ≡ fails_at }
     {
         MemorySource {
-            script,
             rest: script,
             piece,
             fails_at,
-            reads: 0,
-            ends: 0,
-            failures: 0,
+            counts: ReadCounts::new(),
         }
+    }
+
+    /// Gives the front of what is left, or fails where this read is to fail.
+    fn give(&mut self, buffer: &mut [u8]) -> io::Result<usize>
+        ensures bound { IfOk result (λ count. count ≤ length buffer.new) }
+        ensures given { ReadConsumes (Some self.old.rest.now) (Some self.new.rest.now)
+            result buffer.new }
+        ensures piece { IfOk result (λ count. count ≤ max self.new.piece 1) }
+        ensures failing { IsErr result
+            ↔ (min (suc self.old.counts.reads) 18446744073709551615 ≡ self.new.fails_at) }
+        ensures set { (self.new.piece ≡ self.old.piece) × (self.new.fails_at ≡ self.old.fails_at)
+            × (self.new.counts ≡ self.old.counts) }
+    {
+        if self.counts.reads.saturating_add(1) == self.fails_at {
+            return Err(io::Error::from(io::ErrorKind::Other));
+        }
+        let count = copy_front(self.rest, buffer, self.piece.max(1));
+        self.rest = &self.rest[count..];
+        Ok(count)
     }
 
     /// How many reads were made.
@@ -66,37 +81,29 @@ impl<'a> MemorySource<'a> {
         ensures { (r : Reading) → ⟦<MemorySource<'a> as Source>⟧.is_read self.now r
             → IsCount result r.reads }
     {
-        self.reads
+        self.counts.reads
     }
 }
 
 impl<'a> Source for MemorySource<'a> {
     ghost use Rattle.std.specs.Prelude.{◌≡◌, ◌≤◌, ◌↔◌, length, max, IfOk, IsErr};
-    ghost use Rattle.ck_plays.specs.Devices.{Reading, after_read};
-    ghost use Rattle.ck_plays.specs.MemoryDevices.{IsReadOf};
+    ghost use Rattle.std.specs.Prelude.{Some};
+    ghost use Rattle.ck_plays.specs.Devices.{Reading, IsReadOf, after_read};
 
-    ghost is_read = { λ s r. IsReadOf s.script.now s.rest.now s.reads s.ends s.failures r };
+    ghost is_read = { λ s r. IsReadOf (Some s.rest.now) s.counts r };
 
     fn read(&mut self, buffer: &mut [u8]) -> io::Result<usize>
         ensures bound { IfOk result (λ count. count ≤ length buffer.new) }
         ensures reading { (r : Reading) → ⟦<MemorySource<'a> as Source>⟧.is_read self.old r
             → ⟦<MemorySource<'a> as Source>⟧.is_read self.new (after_read r result buffer.new) }
         ensures piece { IfOk result (λ count. count ≤ max self.new.piece 1) }
-        ensures failing { IsErr result ↔ (self.new.reads ≡ self.new.fails_at) }
+        ensures failing { IsErr result ↔ (self.new.counts.reads ≡ self.new.fails_at) }
         ensures set { (self.new.piece ≡ self.old.piece)
             × (self.new.fails_at ≡ self.old.fails_at) }
     {
-        self.reads = self.reads.saturating_add(1);
-        if self.reads == self.fails_at {
-            self.failures = self.failures.saturating_add(1);
-            return Err(io::Error::from(io::ErrorKind::Other));
-        }
-        let count = copy_front(self.rest, buffer, self.piece.max(1));
-        self.rest = &self.rest[count..];
-        if count == 0 && !buffer.is_empty() {
-            self.ends = self.ends.saturating_add(1);
-        }
-        Ok(count)
+        let read = self.give(buffer);
+        self.counts.count(&read, buffer);
+        read
     }
 }
 
@@ -108,19 +115,21 @@ pub struct MemorySink {
     fails_at: u64,
     stops_at: u64,
     writes: u64,
-    /// How many writes failed or took no byte. It is read only by the contracts.
     failures: u64,
 }
 
 impl MemorySink {
-    ghost use Rattle.std.specs.Prelude.{◌≡◌, []};
-    ghost use Rattle.ck_plays.specs.Devices.{Writing};
+    ghost use Rattle.std.specs.Prelude.{◌≡◌, ◌≤◌, ◌<◌, ◌+◌, ◌⊎◌, suc, [], true, Some, length};
+    ghost use Rattle.std.specs.Prelude.{IfOk, IsErr, OnErr, vec_len, vec_capacity};
+    ghost use Rattle.std.specs.Io.KnownBytes.{WriteAppends};
+    ghost use Rattle.ck_plays.specs.Devices.{Writing, IsCount};
+    ghost use Rattle.ck_plays.specs.MemoryDevices.{count_taken};
 
     /// A sink that takes at most `piece` bytes a write. The write of number `fails_at` fails and
     /// that of number `stops_at` takes no byte; 0 is none.
     pub fn new(alloc: Global, piece: usize, fails_at: u64, stops_at: u64) -> MemorySink
         ensures writing { ⟦<MemorySink as Sink>⟧.is_written result
-            (record { bytes = []; failures = 0 }) }
+            (record { is_known = true; bytes = []; failures = 0 }) }
         ensures writes { result.writes ≡ 0 }
         ensures piece { result.piece ≡ piece }
         ensures fails_at { result.fails_at ≡ fails_at }
@@ -136,10 +145,38 @@ impl MemorySink {
         }
     }
 
+    /// Takes a front of these bytes, or fails where this write is to fail.
+    fn take(&mut self, bytes: &[u8]) -> io::Result<usize>
+        ensures bound { IfOk result (λ count. count ≤ length bytes.now) }
+        ensures taken { WriteAppends (Some self.old.bytes.items) (Some self.new.bytes.items)
+            result bytes.now }
+        ensures counted { IsCount self.new.writes (suc self.old.writes) }
+        ensures failing { self.new.writes ≡ self.new.fails_at → IsErr result }
+        ensures stopping { self.new.writes ≡ self.new.stops_at → IfOk result (λ count. count ≡ 0) }
+        ensures piece { IfOk result (λ count. count ≡
+            count_taken (length bytes.now) self.new.piece self.new.stops_at self.new.writes) }
+        ensures err { OnErr result ((self.new.writes ≡ self.new.fails_at)
+            ⊎ (vec_capacity self.old.bytes < vec_len self.old.bytes
+            + count_taken (length bytes.now) self.new.piece self.new.stops_at self.new.writes)) }
+        ensures set { (self.new.piece ≡ self.old.piece) × (self.new.fails_at ≡ self.old.fails_at)
+            × (self.new.stops_at ≡ self.old.stops_at) × (self.new.failures ≡ self.old.failures) }
+    {
+        self.writes = self.writes.saturating_add(1);
+        let count = if self.writes == self.stops_at {
+            0
+        } else {
+            bytes.len().min(self.piece)
+        };
+        if self.writes == self.fails_at || self.bytes.extend_from_slice(&bytes[..count]).is_err() {
+            return Err(io::Error::from(io::ErrorKind::Other));
+        }
+        Ok(count)
+    }
+
     /// What was written.
     pub fn as_slice(&self) -> &[u8]
         ensures { (w : Writing) → ⟦<MemorySink as Sink>⟧.is_written self.now w
-            → result.now ≡ w.bytes }
+            → w.is_known ≡ true → result.now ≡ w.bytes }
     {
         &self.bytes
     }
@@ -147,11 +184,11 @@ impl MemorySink {
 
 impl Sink for MemorySink {
     ghost use Rattle.std.specs.Prelude.{◌≡◌, ◌≤◌, ◌<◌, ◌+◌, ◌⊎◌, suc, length, IfOk, IsErr};
-    ghost use Rattle.std.specs.Prelude.{OnErr, vec_len, vec_capacity};
-    ghost use Rattle.ck_plays.specs.Devices.{Writing, after_write, IsCount};
-    ghost use Rattle.ck_plays.specs.MemoryDevices.{IsWrittenTo, count_taken};
+    ghost use Rattle.std.specs.Prelude.{OnErr, Some, vec_len, vec_capacity};
+    ghost use Rattle.ck_plays.specs.Devices.{Writing, after_write, IsCount, IsWrittenTo};
+    ghost use Rattle.ck_plays.specs.MemoryDevices.{count_taken};
 
-    ghost is_written = { λ s w. IsWrittenTo s.bytes.items s.failures w };
+    ghost is_written = { λ s w. IsWrittenTo (Some s.bytes.items) s.failures w };
 
     fn write(&mut self, bytes: &[u8]) -> io::Result<usize>
         requires some { 0 < length bytes.now }
@@ -169,19 +206,8 @@ impl Sink for MemorySink {
         ensures set { (self.new.piece ≡ self.old.piece) × (self.new.fails_at ≡ self.old.fails_at)
             × (self.new.stops_at ≡ self.old.stops_at) }
     {
-        self.writes = self.writes.saturating_add(1);
-        let count = if self.writes == self.stops_at {
-            0
-        } else {
-            bytes.len().min(self.piece)
-        };
-        if self.writes == self.fails_at || self.bytes.extend_from_slice(&bytes[..count]).is_err() {
-            self.failures = self.failures.saturating_add(1);
-            return Err(io::Error::from(io::ErrorKind::Other));
-        }
-        if count == 0 {
-            self.failures = self.failures.saturating_add(1);
-        }
-        Ok(count)
+        let write = self.take(bytes);
+        self.failures = failures_after(self.failures, &write);
+        write
     }
 }

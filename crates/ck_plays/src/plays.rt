@@ -5,7 +5,7 @@ ghost use Rattle.ck_plays.specs.Devices.{Reading, Writing};
 ghost use Rattle.ck_plays.specs.Players.{IsReading, AnswersRead, StopsInRead};
 ghost use Rattle.ck_journal.specs.Bases.{empty_base};
 ghost use Rattle.ck_journal.specs.Histories.{start};
-ghost use Rattle.ck_plays.specs.Plays.{IsPlayed};
+ghost use Rattle.ck_plays.specs.Plays.{IsPlayed, most_reads};
 
 use crate::devices::{Sink, Source};
 use crate::faults::PlayFault;
@@ -27,7 +27,7 @@ pub fn play<G: JournaledToken, R: Source, W: Sink>(
 ) -> Result<(), PlayFault>
     ensures { (read : Reading) (written : Writing)
         → R.is_read reader.old read → W.is_written writer.old written
-        → IsPlayed limits MOST_READS read written
+        → IsPlayed limits most_reads read written
         (R.is_read reader.new) (W.is_written writer.new) result }
 {
     play_with::<G, R, W>(alloc, limits, reader, writer, MOST_READS)

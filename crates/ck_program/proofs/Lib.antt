@@ -1,2 +1,3 @@
 pub mod CallerCallLemmas
+pub mod DeviceLemmas
 pub mod NumberLemmas

@@ -1,6 +1,7 @@
 -- All callers are given back where their numbers are those that they were made with
 use Rattle.std.proofs.Common.{◌≡◌, ℕ, zero, suc, ◌==◌, ◌≤◌, ◌<◌, ◌≢◌, ◌&&◌, ◌||◌, Bool, true, false}
-use Rattle.std.proofs.Common.{List, [], ◌∷◌, ◌++◌, length, map, append_assoc, refl, sym, ap, ap₂, ◌∙◌, arith}
+use Rattle.std.proofs.Common.{List, [], ◌∷◌, ◌++◌, length, map, append_assoc, refl, sym, ap, ap₂}
+use Rattle.std.proofs.Common.{◌∙◌, arith}
 use Rattle.std.specs.Prelude.{slice_index_or}
 use Rattle.std.specs.List.{list_any}
 use Rattle.std.proofs.lemmas.Bool.{eq-eqb}
@@ -36,7 +37,8 @@ same_numbers [] (t ∷ new) same each = cc same
 same_numbers (s ∷ old) [] same each = cc same
 same_numbers (s ∷ old) (t ∷ new) same each =
     ap₂ ◌∷◌ (each 0 s (omega arith))
-    (same_numbers old new (omega (arith, same)) (λ k d below. each (suc k) d (omega (arith, below))))
+    (same_numbers old new (omega (arith, same)) (λ k d below. each (suc k) d
+    (omega (arith, below))))
 
 -- ---- whether all are given back is a matter of the numbers alone
 

@@ -3,10 +3,9 @@ use Rattle.std.specs.Prelude.{◌≡◌, ◌^◌, ◌-◌, ℕ, List, Result, Ok
 use Rattle.ck_types.specs.TokenLimits.{Ranges}
 use Rattle.ck_plays.specs.Devices.{Reading, Writing, wrote}
 use Rattle.ck_plays.specs.Players.{WriteFailed}
-use Rattle.ck_plays.specs.Plays.{IsPlayed}
+use Rattle.ck_plays.specs.Plays.{IsPlayed, most_reads}
 use Rattle.ck_plays.specs.declared.faults.PlayFault.{PlayFault}
 use Rattle.ck_plays.specs.declared.faults.PlayFault.TheVariants as fault
-use Rattle.ck_plays.specs.declared.plays.TheConstants.{MOST_READS}
 use Rattle.ck_program.specs.ThreadPlays.{IsPlayedInThreads}
 use Rattle.ck_program.specs.declared.options.Options.{Options}
 use Rattle.ck_program.specs.declared.options.Options.TheVariants as option
@@ -25,12 +24,18 @@ IsWritten text written is_written (Ok u) = is_written (wrote written text)
 IsWritten text written is_written (Err f) =
     (f ≡ fault.Write) × WriteFailed is_written written text
 
+-- a script is played, and no help is asked for
+abbrev pub IsPlay : Options → Type 0
+IsPlay option.InTurn = Unit {0}
+IsPlay (option.InThreads callers) = Unit {0}
+IsPlay (option.Help text) = ⊥
+
 -- what was read and written by these options, and how that ended
 abbrev pub IsDone : Options → Reading → Writing → (Reading → Type 0) → (Writing → Type 0)
     → Result (Unit {0}) PlayFault → Type 0
 IsDone option.InTurn read written is_read is_written result =
-    IsPlayed largest_limits MOST_READS read written is_read is_written result
+    IsPlayed largest_limits most_reads read written is_read is_written result
 IsDone (option.InThreads callers) read written is_read is_written result =
-    IsPlayedInThreads largest_limits callers.count MOST_READS read written is_read is_written result
+    IsPlayedInThreads largest_limits callers.count most_reads read written is_read is_written result
 IsDone (option.Help text) read written is_read is_written result =
     is_read read × IsWritten (string_bytes text) written is_written result

@@ -12,4 +12,4 @@ mod thread_plays;
 pub use arguments::options_of;
 pub use ck_shared::Runtime;
 pub use options::{ArgumentFault, BadArguments, Callers, Options};
-pub use programs::{play_threads, run};
+pub use programs::{play_threads, run, run_on_std};

@@ -3,17 +3,20 @@ ghost use Rattle.std.specs.Prelude.{◌≡◌, ◌⊎◌, ◌↔◌, Ok, Err};
 ghost use Rattle.ck_plays.specs.Devices.{Reading, Writing};
 ghost use Rattle.ck_plays.specs.Faults.{status_of};
 ghost use Rattle.ck_plays.specs.declared.faults.PlayFault.{PlayFault};
-ghost use Rattle.ck_program.specs.Programs.{IsDone};
+ghost use Rattle.ck_program.specs.Programs.{IsDone, IsPlay};
 ghost use Rattle.ck_program.specs.ThreadPlays.{IsPlayedInThreads};
 ghost use Rattle.ck_program.specs.declared.options.BadArguments.{BadArguments};
 
 use crate::options::{ArgumentFault, Callers, Options};
 use crate::thread_plays::play_calls;
 use ck_journal::JournaledToken;
-use ck_plays::{MOST_READS, PlayFault, Sink, Source, play, read_calls, write_all};
+use ck_plays::{
+    MOST_READS, PlayFault, ReadSource, Sink, Source, WriteSink, play, read_calls, write_all,
+};
 use ck_shared::Runtime;
 use ck_types::Limits;
 use std::alloc::Global;
+use std::io;
 
 /// The status of arguments that aren't the program's.
 const BAD_ARGUMENTS: u8 = 2;
@@ -108,4 +111,23 @@ pub fn run<G: JournaledToken + Send, R: Source, W: Sink, RT: Eprint + Runtime>(
             PlayFault::Memory.status()
         }
     }
+}
+
+/// Does as `run` does with a reader and a writer of std, from neither of which anything was read or
+/// written. It need not be known what they give and hold.
+pub fn run_on_std<G: JournaledToken + Send, R: io::Read, W: io::Write, RT: Eprint + Runtime>(
+    rt: RT,
+    alloc: Global,
+    options: Result<Options, ArgumentFault>,
+    reader: &mut ReadSource<R>,
+    writer: &mut WriteSink<W>,
+) -> u8
+    requires unread { reader.old.counts ≡ record { reads = 0; ends = 0; failures = 0 } }
+    requires unwritten { writer.old.failures ≡ 0 }
+    ensures end_found { (chosen : Options) → options ≡ Ok chosen → IsPlay chosen → result ≡ 0
+        → (reader.new.counts.ends ≡ 1) × (reader.new.counts.failures ≡ 0) }
+    ensures all_written { (chosen : Options) → options ≡ Ok chosen → result ≡ 0
+        → writer.new.failures ≡ 0 }
+{
+    run::<G, ReadSource<R>, WriteSink<W>, RT>(rt, alloc, options, reader, writer)
 }

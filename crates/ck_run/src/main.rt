@@ -18,7 +18,7 @@ mod texts;
 mod token;
 
 use ck_plays::{ReadSource, WriteSink};
-use ck_program::{ArgumentFault, Options, options_of, run};
+use ck_program::{ArgumentFault, Options, options_of, run_on_std};
 use ck_token::Token;
 use std::alloc::Global;
 use std::env::Env;
@@ -34,11 +34,11 @@ fn given_options<R: Env + Alloc<A = Global>>(rt: &R) -> Result<Options, Argument
 }
 
 fn main(rt: HostRuntime) -> ExitCode {
-    ExitCode::from(run::<Token, _, _, _>(
+    ExitCode::from(run_on_std::<Token, _, _, _>(
         rt,
         rt.alloc(),
         given_options(&rt),
-        &mut ReadSource(rt.reader()),
-        &mut WriteSink(io::writer(&rt)),
+        &mut ReadSource::new(rt.reader()),
+        &mut WriteSink::new(io::writer(&rt)),
     ))
 }

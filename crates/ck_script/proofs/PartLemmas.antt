@@ -15,14 +15,17 @@ module _ (p : ℕ → Bool) (text : List ℕ) where
   pub slice_split-some : (end : ℕ) → position p text ≡ Some end
       → slice_split p text ≡ take end text ∷ slice_split p (drop (end + 1) text)
   slice_split-some end e =
-      let found = cond_some (nat_lt (position_or_len p text) (length text)) (position_or_len p text) end e in
+      let found = cond_some (nat_lt (position_or_len p text) (length text)) (position_or_len p text)
+      end e in
       slice_split_first p text 0 (ltb-true (position_or_len p text) (length text) found.0)
       ∙ ap (λ n. take n text ∷ slice_split p (drop (n + 1) text)) found.1
 
   pub slice_split-none : position p text ≡ None → slice_split p text ≡ text ∷ []
   slice_split-none e =
-      let fails = cond_none (nat_lt (position_or_len p text) (length text)) (position_or_len p text) e in
-      let past : length text ≤ position_or_len p text = ltb-false (position_or_len p text) (length text) fails in
+      let fails = cond_none (nat_lt (position_or_len p text) (length text)) (position_or_len p text)
+      e in
+      let past : length text ≤ position_or_len p text = ltb-false (position_or_len p text)
+      (length text) fails in
       slice_split_none p text (λ k d l. fails_before_first p text k d (omega arith))
 
 -- the parts that are left before and after the next one is taken off

@@ -3,4 +3,5 @@ pub mod Arguments
 pub mod CallNames
 pub mod Calls
 pub mod Lines
+pub mod Arities
 pub mod Replies

@@ -7,12 +7,27 @@ use Rattle.ck_script.specs.Arguments.{number_in, both}
 use Rattle.ck_script.specs.Calls.{call_in}
 use Rattle.ck_script.specs.declared.lines.Line.{Line}
 use Rattle.ck_script.specs.declared.lines.Line.TheVariants as line
-use Rattle.ck_script.specs.declared.lines.TheConstants.{LINE_END, SPACE, COMMENT, LONGEST_LINE}
+
+-- the byte that ends a line
+abbrev pub line_end : ℕ
+line_end = 10
+
+-- the byte between two words of a line
+abbrev pub space : ℕ
+space = 32
+
+-- the byte with which a comment begins
+abbrev pub comment : ℕ
+comment = 35
+
+-- the most bytes of a line
+abbrev pub longest_line : ℕ
+longest_line = 4194304
 
 -- the lines of these bytes; the last is the one that has no end yet, and is empty where the bytes
 -- end with a line end
 abbrev pub lines_in : List ℕ → List (List ℕ)
-lines_in bytes = slice_split (λ b. b == LINE_END) bytes
+lines_in bytes = slice_split (λ b. b == line_end) bytes
 
 -- callers are numbered 1 to 8
 abbrev pub caller_of : ℕ → Option ℕ
@@ -29,11 +44,11 @@ words_meaning others = None
 
 -- an empty line, and one that begins as a comment
 abbrev pub is_skipped : List ℕ → Bool
-is_skipped bytes = length bytes == 0 || slice_index bytes 0 == COMMENT
+is_skipped bytes = length bytes == 0 || slice_index bytes 0 == comment
 
 -- what a line means, and None for a bad one; words stand between single spaces
 abbrev pub meaning : List ℕ → Option Line
 meaning bytes =
-    if nat_lt LONGEST_LINE (length bytes) then None
+    if nat_lt longest_line (length bytes) then None
     else if is_skipped bytes then Some line.Skipped
-    else words_meaning (parts_of SPACE bytes)
+    else words_meaning (parts_of space bytes)

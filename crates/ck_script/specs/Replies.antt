@@ -11,7 +11,7 @@ use Rattle.ck_journal.specs.declared.replies.Body.{Body}
 use Rattle.ck_journal.specs.declared.replies.Body.TheVariants as body
 use Rattle.ck_journal.specs.declared.replies.Reply.{Reply}
 use Rattle.ck_script.specs.Arguments.{comma}
-use Rattle.ck_script.specs.declared.lines.TheConstants.{LINE_END}
+use Rattle.ck_script.specs.Lines.{line_end}
 
 -- a number in hexadecimal, in lower case
 abbrev pub hexadecimal : ℕ → List ℕ
@@ -57,4 +57,4 @@ abbrev pub reply_line : Reply → List ℕ
 reply_line reply = hexadecimal (number_of reply.rv) ++ body_text reply.body
 
 abbrev pub reply_text : Reply → List ℕ
-reply_text reply = reply_line reply ++ LINE_END ∷ []
+reply_text reply = reply_line reply ++ line_end ∷ []

@@ -1,5 +1,5 @@
 ghost use Rattle.std.specs.Prelude.{◌≡◌, ◌≤◌, ◌⊎◌, ℕ, List, Option, Some, None};
-ghost use Rattle.std.specs.Prelude.{IfOk, IfErr, IsAscii};
+ghost use Rattle.std.specs.Prelude.{Err, IfOk, IfErr, IsAscii, length};
 ghost use Rattle.std.specs.List.{list_all};
 ghost use Rattle.std.specs.Result.{result_ok};
 ghost use Rattle.std.specs.Char.{is_ascii_digit};
@@ -168,6 +168,7 @@ where
         two_in A.value_in B.value_in parts.entry ≡ Some values) }
     ensures bad { IfErr result (λ e. (e ≡ LineError.Memory)
         ⊎ (two_in A.value_in B.value_in parts.entry ≡ None)) }
+    ensures memory { result ≡ Err LineError.Memory → length parts.entry ≡ 2 }
 {
     let (first, second) = parts.two().ok_or(reason)?;
     pair_in(alloc, first, second)

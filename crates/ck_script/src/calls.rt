@@ -1,5 +1,7 @@
-ghost use Rattle.std.specs.Prelude.{◌≡◌, ◌⊎◌, Some, None, IfOk, IfErr};
+ghost use Rattle.std.specs.Prelude.{◌≡◌, ◌⊎◌, Some, None, Err, IfOk, IfErr, length};
 ghost use Rattle.ck_journal.specs.declared.calls.Call.{Call};
+ghost use Rattle.ck_script.specs.Arities.{arity, HasArguments};
+ghost use Rattle.ck_script.specs.CallNames.{row_named};
 ghost use Rattle.ck_script.specs.Splits.{with_none, with_one};
 ghost use Rattle.ck_script.specs.Arguments.{two_in};
 ghost use Rattle.ck_script.specs.Calls.{three_in, four_in, call_of, call_in};
@@ -28,6 +30,7 @@ impl<'a> Arguments<'a> {
             (with_none call self.entry.parts ≡ Some call) × F.post make call) }
         ensures bad { IfErr result (λ e. (e ≡ LineError.Memory)
             ⊎ ((call : Call) → with_none call self.entry.parts ≡ None)) }
+        ensures memory { result ≡ Err LineError.Memory → ⊥ }
     {
         if self.parts.none() {
             Ok(make())
@@ -43,6 +46,8 @@ impl<'a> Arguments<'a> {
             × (with_one A.value_in self.entry.parts ≡ Some a) × F.post make a call) }
         ensures bad { IfErr result (λ e. (e ≡ LineError.Memory)
             ⊎ (with_one A.value_in self.entry.parts ≡ None)) }
+        ensures memory { result ≡ Err LineError.Memory
+            → length self.entry.parts ≡ 1 }
     {
         let count = BadLine::ArgumentCount(self.name, Arity::One);
         let first = self.parts.one().ok_or(count)?;
@@ -62,6 +67,8 @@ impl<'a> Arguments<'a> {
             × F.post make a b call) }
         ensures bad { IfErr result (λ e. (e ≡ LineError.Memory)
             ⊎ (two_in A.value_in B.value_in self.entry.parts ≡ None)) }
+        ensures memory { result ≡ Err LineError.Memory
+            → length self.entry.parts ≡ 2 }
     {
         let count = BadLine::ArgumentCount(self.name, Arity::Two);
         let (first, second) = two_in(self.alloc, self.parts, count)?;
@@ -81,6 +88,8 @@ impl<'a> Arguments<'a> {
             × F.post make a b c call) }
         ensures bad { IfErr result (λ e. (e ≡ LineError.Memory)
             ⊎ (three_in A.value_in B.value_in C.value_in self.entry.parts ≡ None)) }
+        ensures memory { result ≡ Err LineError.Memory
+            → length self.entry.parts ≡ 3 }
     {
         let count = BadLine::ArgumentCount(self.name, Arity::Three);
         let (first, second, third) = self.parts.three().ok_or(count)?;
@@ -104,6 +113,8 @@ impl<'a> Arguments<'a> {
             × F.post make a b c d call) }
         ensures bad { IfErr result (λ e. (e ≡ LineError.Memory)
             ⊎ (four_in A.value_in B.value_in C.value_in D.value_in self.entry.parts ≡ None)) }
+        ensures memory { result ≡ Err LineError.Memory
+            → length self.entry.parts ≡ 4 }
     {
         let count = BadLine::ArgumentCount(self.name, Arity::Four);
         let (first, second, third, fourth) = self.parts.four().ok_or(count)?;
@@ -118,6 +129,8 @@ fn call_of(arguments: Arguments) -> Result<Call, LineError>
         call_of arguments.entry.name.0 arguments.entry.parts ≡ Some call) }
     ensures bad { IfErr result (λ e. (e ≡ LineError.Memory)
         ⊎ (call_of arguments.entry.name.0 arguments.entry.parts ≡ None)) }
+    ensures memory { result ≡ Err LineError.Memory
+        → length arguments.entry.parts ≡ arity arguments.entry.name.0 }
 {
     match arguments.name.0 {
         Function::InitToken => arguments.one(|pin| Call::InitToken { pin }),
@@ -242,6 +255,8 @@ pub(crate) fn call_in(alloc: Global, name: &[u8], arguments: Split) -> Result<Ca
     ensures call { IfOk result (λ call. call_in name.now arguments.entry ≡ Some call) }
     ensures bad { IfErr result (λ e. (e ≡ LineError.Memory)
         ⊎ (call_in name.now arguments.entry ≡ None)) }
+    ensures memory { result ≡ Err LineError.Memory
+        → HasArguments (row_named name.now) arguments.entry }
 {
     match CallName::of(name) {
         Some(name) => call_of(Arguments {

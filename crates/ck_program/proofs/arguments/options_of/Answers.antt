@@ -14,9 +14,15 @@ returns-in-Ok c =
     let same = c.in_ok-command.ensures in
     let taken = subst (λ (a : App). fault_of a words ≡ []) same
     (c.in-Ok.ensures.kinds (ap is_simple_and_free same)) in
-    let rows = (c.in-Ok.ensures.matches (ap is_simple same)).0 ∙ ap (λ (a : App). matches_of a words) same in
-    let text = first_value-rows (found_of c.in-Ok.matches) (codes "callers") ∙ ap (first_of (codes "callers")) rows in
-    inl (taken, subst (λ (t : Option Text). IsChosenBy t c.options_in.result) text c.options_in.ensures)
+    let rows = (c.in-Ok.ensures.matches (ap is_simple same)).0
+    ∙ ap (λ (a : App). matches_of a words) same in
+    let text = first_value-rows (found_of c.in-Ok.matches) (codes "callers")
+    ∙ ap (first_of (codes "callers")) rows in
+    inl (
+      taken,
+      subst (λ (t : Option Text). IsChosenBy t c.options_in.result) text
+          c.options_in.ensures,
+    )
 
 pub returns : goal.returns
 returns c =
@@ -34,7 +40,8 @@ returns c =
           elim c.refusal.ensures [
             | inl refusal ↦ inr (inr (inl (refused, refusal)))
             | inr memory ↦ inr (inr (inr (
-                ap (λ (f : ArgumentFault). (let r : Result Options ArgumentFault = Err f in r)) memory
+                ap (λ (f : ArgumentFault). (let r : Result Options ArgumentFault = Err f in r))
+                memory
                 )))
           ]
     ]

@@ -15,7 +15,8 @@ loop-script-preserved g c = (
       let left = subst (All (IsPlayedAll calls)) c.in-Some.ensures.steps.0 before.1 in
       let made = c.in_ok-caller.ensures.made calls (left 0 c.in-Some.script (omega arith)) in (
         subst (All (HasMadeAll calls)) (sym c.in_ok-push.ensures.items)
-            (All-push (HasMadeAll calls) (vec_items c.loop-script.callers) c.in_ok-caller.caller before.0 made),
+            (All-push (HasMadeAll calls) (vec_items c.loop-script.callers) c.in_ok-caller.caller
+            before.0 made),
         All-tail (IsPlayedAll calls) c.in-Some.script (into_iter_items c.next.new.self) left,
       ),
   one_moved (λ x. x.number) (λ s. s.caller.number) (vec_items c.loop-script.callers)

@@ -8,8 +8,10 @@ use Rattle.ck_program.proofs.thread_plays.callers_of.Given as goal
 -- numbers
 abbrev pub invariant-loop-script : goal.invariant-loop-script
 invariant-loop-script g l =
-    (goal.iterator-loop-script g).can_next l.script-iterator × (goal.iterator-loop-script g).is_finite l.script-iterator
+    (goal.iterator-loop-script g).can_next l.script-iterator
+    × (goal.iterator-loop-script g).is_finite l.script-iterator
     × ((calls : List (ℕ × Call)) → All (IsPlayedAll calls) (vec_items l.fn.scripts)
-    → All (HasMadeAll calls) (vec_items l.callers) × All (IsPlayedAll calls) (into_iter_items l.script-iterator))
+    → All (HasMadeAll calls) (vec_items l.callers) × All (IsPlayedAll calls)
+    (into_iter_items l.script-iterator))
     × (numbers (vec_items l.callers) ++ script_numbers (into_iter_items l.script-iterator)
     ≡ script_numbers (vec_items l.fn.scripts))

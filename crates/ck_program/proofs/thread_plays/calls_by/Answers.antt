@@ -11,5 +11,6 @@ loop-call-preserved c =
     let within : index < length calls = omega arith in
     c.in_ok-add_if_by.ensures
     ∙ ap (λ own. own ++ calls_by c.args.number (call ∷ [])) c.loop-call.invariant
-    ∙ ap (λ x. calls_by c.args.number (take index calls) ++ calls_by c.args.number (x ∷ [])) c.call-item.is
+    ∙ ap (λ x. calls_by c.args.number (take index calls) ++ calls_by c.args.number (x ∷ []))
+    c.call-item.is
     ∙ sym (calls_by-next c.args.number index calls call within)

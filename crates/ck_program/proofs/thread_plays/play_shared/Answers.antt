@@ -18,17 +18,21 @@ pub unreachable-requires : goal.unreachable-requires
 unreachable-requires g c =
     let all = all_back g.K.HistoryId.base g.K.TokenId.callers (vec_items c.in_ok-callers.callers)
     (c.in_ok-callers.ensures.numbers
-    ∙ ap numbers (c.in_ok-token.ensures ∙ ap (new_callers g.K.HistoryId.base) c.requires.callers.2)) in
+    ∙ ap numbers (c.in_ok-token.ensures ∙ ap (new_callers g.K.HistoryId.base) c.requires.callers.2))
+    in
     let no : true ≡ false = sym all ∙ c.in-Err.ensures.missing in cc no
 
 pub returns-clause-new : goal.returns-clause-new
 returns-clause-new g c =
-    was_new c.args.calls.now (g.G.JournaledToken.state c.in-Ok.token).history g.K.TokenId.callers (vec_items c.in_ok-callers.callers)
-    (subst (λ (n : ℕ). 1 ≤ n) c.requires.callers.2 c.requires.callers.0) c.in-Ok.ensures.all c.in-Ok.ensures.settled
+    was_new c.args.calls.now (g.G.JournaledToken.state c.in-Ok.token).history g.K.TokenId.callers
+    (vec_items c.in_ok-callers.callers)
+    (subst (λ (n : ℕ). 1 ≤ n) c.requires.callers.2 c.requires.callers.0) c.in-Ok.ensures.all
+    c.in-Ok.ensures.settled
     c.in_ok-callers.ensures.made
 
 pub returns-clause-all : goal.returns-clause-all
 returns-clause-all g c number low high =
-    of_each c.args.calls.now (g.G.JournaledToken.state c.in-Ok.token).history g.K.TokenId.callers (vec_items c.in_ok-callers.callers)
+    of_each c.args.calls.now (g.G.JournaledToken.state c.in-Ok.token).history g.K.TokenId.callers
+    (vec_items c.in_ok-callers.callers)
     c.in-Ok.ensures.all c.in-Ok.ensures.settled c.in_ok-callers.ensures.made number low
     (subst (λ (n : ℕ). number ≤ n) c.requires.callers.2 high)

@@ -8,7 +8,8 @@ use Rattle.ck_program.proofs.thread_plays.scripts_of.Goals as goal
 
 pub script_of-requires : goal.script_of-requires
 script_of-requires g c =
-    subst (All IsNewCaller) c.in-Some.ensures.steps.0 c.loop-caller.invariant.3 0 c.in-Some.caller (omega arith)
+    subst (All IsNewCaller) c.in-Some.ensures.steps.0 c.loop-caller.invariant.3 0 c.in-Some.caller
+    (omega arith)
 
 pub loop-caller-preserved : goal.loop-caller-preserved
 loop-caller-preserved g c =
@@ -17,7 +18,8 @@ loop-caller-preserved g c =
       tt,
       tt,
       subst (All (IsUnplayed calls)) (sym c.in_ok-push.ensures.items)
-          (All-push (IsUnplayed calls) (vec_items c.loop-caller.scripts) c.in_ok-script.script c.loop-caller.invariant.2
+          (All-push (IsUnplayed calls) (vec_items c.loop-caller.scripts) c.in_ok-script.script
+          c.loop-caller.invariant.2
           c.in_ok-script.ensures.unplayed),
       All-tail IsNewCaller c.in-Some.caller (into_iter_items c.next.new.self) left,
       one_moved (λ s. s.caller.number) (λ x. x.number) (vec_items c.loop-caller.scripts)

@@ -7,7 +7,8 @@ use Rattle.ck_program.proofs.thread_plays.scripts_of.Given as goal
 -- are the callers of the other numbers
 abbrev pub invariant-loop-caller : goal.invariant-loop-caller
 invariant-loop-caller g l =
-    (goal.iterator-loop-caller g).can_next l.caller-iterator × (goal.iterator-loop-caller g).is_finite l.caller-iterator
+    (goal.iterator-loop-caller g).can_next l.caller-iterator
+    × (goal.iterator-loop-caller g).is_finite l.caller-iterator
     × All (IsUnplayed l.calls) (vec_items l.scripts)
     × All IsNewCaller (into_iter_items l.caller-iterator)
     × (script_numbers (vec_items l.scripts) ++ numbers (into_iter_items l.caller-iterator)

@@ -1,0 +1,225 @@
+#!/usr/bin/env python3
+"""Runs the program ck_run from outside, as its users do: its arguments, scripts on standard input,
+what it writes to standard output and standard error, and its status.
+
+The program is crates/ck_run/out/ck_run, which `rt ci` leaves and `rt run` in its folder builds, or
+the one that is named. For each test a line is printed that begins with passed or FAILED, and the
+status is 1 where one failed. This needs Linux, which has the device /dev/full.
+"""
+import os
+import subprocess
+import sys
+
+HERE = os.path.dirname(os.path.abspath(__file__))
+PROGRAM = os.path.join(HERE, "..", "crates", "ck_run", "out", "ck_run")
+
+LONGEST_LINE = 4_194_304
+SECONDS = 120
+
+FIRST_CALLS = b"""\
+1 InitToken 31323334
+1 OpenSession 6
+1 CreateObject 1 0=0000000000000000,3=6162
+1 GetAttributeValue 1 1 3:8,11:?
+1 DestroyObject 1 1
+1 GetAttributeValue 1 1 3:8
+"""
+FIRST_REPLIES = b"0\n0 1\n0 1\n0 =6162,:0\n0\n82\n"
+
+# Two callers: the first makes six calls, the second two.
+TWO_CALLERS = FIRST_CALLS + b"2 CloseSession 1\n2 CloseSession 1\n"
+
+HELP = b"""\
+Plays a script of PKCS #11 calls, read from standard input, on a new token
+
+Usage: ck_run [OPTIONS]
+
+Options:
+      --callers <N>  Play each caller's lines in a thread of its own; N is 1 to 8
+  -h, --help         Print help
+"""
+
+CALLERS = b"--callers takes a number from 1 to 8"
+MORE = b"\n\nFor more information, try '--help'."
+USAGE = b"\n\nUsage: ck_run [OPTIONS]" + MORE
+
+# A reason of bad arguments for these words.
+BAD_ARGUMENTS = [
+    (["--callers", "0"], CALLERS),
+    (["--callers", "9"], CALLERS),
+    (["--callers", "x"], CALLERS),
+    (["--callers", "02"], CALLERS),
+    (["--callers", "+2"], CALLERS),
+    (["--callers", ""], CALLERS),
+    (["--callers=9"], CALLERS),
+    (["--callers"], b"a value is required for '--callers <N>' but none was supplied" + MORE),
+    (["--callers", "2", "--callers", "2"],
+     b"the argument '--callers <N>' cannot be used multiple times"
+     b"\n\nUsage: ck_run [OPTIONS]" + MORE),
+    (["--nothing"], b"unexpected argument '--nothing' found" + USAGE),
+    (["-c"], b"unexpected argument '-c' found" + USAGE),
+    (["script.txt"], b"unexpected argument 'script.txt' found" + USAGE),
+    (["--callers", "2", "script.txt"], b"unexpected argument 'script.txt' found" + USAGE),
+]
+
+TOO_MANY_SPACES = b"a space too many stands in the line, whose words stand between single spaces"
+
+# A bad line, and the reason that is given.
+BAD_LINES = [
+    (b"Nope", b"a line is a caller, a call and its arguments"),
+    (b"0 Logout 1", b"the caller is a number from 1 to 8"),
+    (b"9 Logout 1", b"the caller is a number from 1 to 8"),
+    (b"1 Nope", b"no call has this name"),
+    (b"1 Logn 1 1 31", b"no call has this name, the nearest is Login"),
+    (b"1 Login 1 1", b"Login takes 3 arguments"),
+    (b"1 GetTokenInfo 1", b"GetTokenInfo takes no arguments"),
+    (b"1 Logout x", b"a number is written in decimal digits"),
+    (b"1 Logout 01", b"a number has no leading zero"),
+    (b"1 Logout 18446744073709551616", b"a number is below 2^64"),
+    (b"1 OpenSession 0x6",
+     b"a code number is written in the digits 0 to 9 and a to f, without 0x"),
+    (b"1 InitToken 313",
+     b"bytes are written in two hexadecimal digits each, and no bytes as -"),
+    (b"1 Logout  1", TOO_MANY_SPACES),
+    (b" # x", TOO_MANY_SPACES),
+    (b"1 Logout 1\r", b"a carriage return stands at the end of the line"),
+    (b"1\tLogout 1", b"a tab stands in the line, whose words stand between single spaces"),
+    (b"\xef\xbb\xbf1 Logout 1", b"a byte order mark stands before the line"),
+    (b"1 DigestInit 1 250:00:00",
+     b"a mechanism is written as type, or with its parameter as type:bytes"),
+    (b"1 CreateObject 1 3", b"a template is written as type=bytes,.. and an empty one as -"),
+    (b"1 GetAttributeValue 1 1 3", b"queries are written as type:room,.. and none as -"),
+]
+
+
+class Tests:
+    """The tests of one program. A test ends with its line."""
+
+    def __init__(self, program):
+        self.program = program
+        self.failed = 0
+        self.faults = []
+
+    def run(self, words, script, **files):
+        """What the program writes to standard output and to standard error, and its status."""
+        files = {"stdout": subprocess.PIPE, "stderr": subprocess.PIPE, **files}
+        if "stdin" not in files:
+            files["input"] = script
+        ended = subprocess.run([self.program, *words], timeout=SECONDS, **files)
+        return ended.stdout, ended.stderr, ended.returncode
+
+    def check(self, words, script, output, errors, status, **files):
+        """The program writes this and ends so."""
+        made = self.run(words, script, **files)
+        if made != (output, errors, status):
+            shown = script if len(script or b"") < 200 else f"a script of {len(script)} bytes"
+            made = f"{made[0]!r:.300} {made[1]!r:.300} {made[2]}"
+            wanted = f"{output!r:.300} {errors!r:.300} {status}"
+            self.faults.append(f"{words} {shown} {files}: {made}, and not {wanted}")
+
+    def end(self, name):
+        for fault in self.faults:
+            print(f"  {fault}", file=sys.stderr)
+        self.failed += bool(self.faults)
+        print(f"{'FAILED' if self.faults else 'passed'} program: {name}", flush=True)
+        self.faults = []
+
+
+def scripts(tests):
+    tests.check([], b"", b"", b"", 0)
+    tests.check([], b"1 InitToken 31323334", b"0\n", b"", 0)
+    tests.check([], FIRST_CALLS, FIRST_REPLIES, b"", 0)
+    tests.check([], TWO_CALLERS, FIRST_REPLIES + b"0\nb3\n", b"", 0)
+    tests.check([], b"1 InitToken 31323334\n\n# x\n1 Nope\n", b"0\n",
+                b"ck_run: line 4: bad script: no call has this name\n", 1)
+    tests.end("a script is played line by line")
+
+
+def bad_lines(tests):
+    for line, reason in BAD_LINES:
+        errors = b"ck_run: line 2: bad script: " + reason + b"\n"
+        script = b"1 InitToken 31323334\n" + line + b"\n1 GetTokenInfo\n"
+        tests.check([], script, b"0\n", errors, 1)
+        tests.check(["--callers", "8"], script, b"", errors, 1)
+    tests.end("each reason of a bad line")
+
+
+def longest_lines(tests):
+    errors = b"ck_run: line 1: bad script: a line has at most 4194304 bytes\n"
+    comment = b"#" * LONGEST_LINE
+    call = b"1 InitToken " + b"31" * ((LONGEST_LINE - 12) // 2)
+    tests.check([], comment, b"", b"", 0)
+    tests.check([], comment + b"\n1 InitToken 31323334\n", b"0\n", b"", 0)
+    tests.check([], comment + b"#\n", b"", errors, 1)
+    tests.check([], comment + b"#", b"", errors, 1)
+    tests.check([], call + b"\n", b"a2\n", b"", 0)
+    tests.check([], call + b"3\n", b"", errors, 1)
+    for words in (["--callers", "1"], ["--callers", "8"]):
+        tests.check(words, comment, b"entries 0\naudit ok\n", b"", 0)
+        tests.check(words, comment + b"#\n", b"", errors, 1)
+    tests.end("lines of 4,194,304 bytes and of one more")
+
+
+def callers(tests):
+    for words in (["--callers", "2"], ["--callers=2"], ["--callers", "8"]):
+        tests.check(words, TWO_CALLERS, b"entries 8\naudit ok\n", b"", 0)
+    tests.check(["--callers", "1"], FIRST_CALLS, b"entries 6\naudit ok\n", b"", 0)
+    tests.check(["--callers=3"], b"3 GetTokenInfo\n", b"entries 1\naudit ok\n", b"", 0)
+    tests.check(["--callers", "2"], b"", b"entries 0\naudit ok\n", b"", 0)
+    tests.check(["--callers", "2"], TWO_CALLERS + b"3 GetTokenInfo\n", b"",
+                b"ck_run: line 9: bad script: the caller is a number from 1 to 2\n", 1)
+    tests.end("callers in threads")
+
+
+def arguments(tests):
+    for words in (["--help"], ["-h"], ["--callers", "2", "--help"]):
+        tests.check(words, b"Nope\n", HELP, b"", 0)
+    for words, reason in BAD_ARGUMENTS:
+        errors = b"ck_run: bad arguments: " + reason + b"\n"
+        tests.check(words, b"1 InitToken 31323334\n", b"", errors, 2)
+    tests.end("arguments")
+
+
+def readers(tests):
+    errors = b"ck_run: read fault\n"
+    folder = os.open("/", os.O_RDONLY)
+    for words in ([], ["--callers", "2"]):
+        tests.check(words, None, b"", errors, 3, stdin=folder)
+        tests.check(words, None, b"", errors, 3, stdin=subprocess.DEVNULL,
+                    preexec_fn=lambda: os.close(0))
+    os.close(folder)
+    tests.end("a reader that fails")
+
+
+def writers(tests):
+    errors = b"ck_run: write fault\n"
+    for words in ([], ["--callers", "2"], ["--help"]):
+        with open("/dev/full", "wb") as full:
+            tests.check(words, TWO_CALLERS, None, errors, 3, stdout=full)
+        reading, writing = os.pipe()
+        os.close(reading)
+        tests.check(words, TWO_CALLERS, None, errors, 3, stdout=writing)
+        os.close(writing)
+        tests.check(words, TWO_CALLERS, b"", errors, 3, preexec_fn=lambda: os.close(1))
+    with open("/dev/full", "wb") as full:
+        tests.check([], b"", None, b"", 0, stdout=full)
+        tests.check(["--callers", "9"], b"", None,
+                    b"ck_run: bad arguments: " + CALLERS + b"\n", 2, stdout=full)
+        tests.check([], b"Nope\n", b"", None, 1, stderr=full)
+    tests.end("a writer that fails")
+
+
+def main(program):
+    tests = Tests(program)
+    scripts(tests)
+    bad_lines(tests)
+    longest_lines(tests)
+    callers(tests)
+    arguments(tests)
+    readers(tests)
+    writers(tests)
+    return 1 if tests.failed else 0
+
+
+if __name__ == "__main__":
+    sys.exit(main(sys.argv[1] if len(sys.argv) > 1 else PROGRAM))
