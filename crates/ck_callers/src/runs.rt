@@ -15,7 +15,7 @@ use std::alloc::Global;
 use std::snapshot::Snapshot;
 use std::sync::Wait;
 use std::sync::atomic::{AtomicBool, Ordering};
-use std::thread::{Promise, PromisedHandle, Scope, Threads};
+use std::thread::{Promise, Threads};
 use std::{mem, thread};
 
 /// Takes the steps in their order, up to the first that finds no memory.

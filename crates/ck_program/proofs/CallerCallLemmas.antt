@@ -2,8 +2,8 @@
 use Rattle.std.proofs.Common.{◌≡◌, ℕ, zero, suc, ◌+◌, ◌==◌, ◌≤◌, ◌<◌, ◌≢◌, ◌||◌, Bool, true, false, List}
 use Rattle.std.proofs.Common.{[], ◌∷◌, ◌++◌, Ok, length, map, take, get_or, if◌then◌else◌, refl, sym, ap}
 use Rattle.std.proofs.Common.{◌∙◌, subst, arith}
-use Rattle.std.specs.Prelude.{All, Result, Err, MatchResult, vec_items}
-use Rattle.std.specs.List.{list_any}
+use Rattle.std.specs.Prelude.{All, Result, Err, MatchBool, MatchResult, vec_items}
+use Rattle.std.specs.List.{AllZip, list_any}
 use Rattle.std.proofs.Math.Seq.{take-suc}
 use Rattle.std.proofs.lemmas.Bool.{eqb-true, eq-eqb, and_parts}
 use Rattle.std.proofs.lemmas.List.Elements.{All-nil, All-cons, All-tail}
@@ -61,11 +61,15 @@ all_answered : (result : Result (Unit {0}) NoMemory) (n m : ℕ) → result ≡ 
 all_answered (Ok u) n m is made = made
 all_answered (Err e) n m is made = cc is
 
+in_thread : (P Q : Type 0) (b : Bool) → b ≡ true → MatchBool b P Q → P
+in_thread P Q true is holds = holds
+in_thread P Q false is holds = cc is
+
 -- a script that was played from its first call on
 pub played_all : {K : Type 0} (calls : List (ℕ × Call)) (old new : Script K Call Reply)
     → IsUnplayed calls old → IsPlayed old new → IsPlayedAll calls new
-played_all calls old new unplayed played done =
-    let p = played.0 in
+played_all calls old new unplayed played started done =
+    let p = (in_thread _ _ new.started started played).0 in
     let all = all_answered new.outcome (length (vec_items new.replies)) (length (vec_items old.steps)) done p.made in (
       subst (λ n. HasEntriesOf calls n new.caller.last) (sym p.number) (record {
         replies = vec_items new.replies;
@@ -78,6 +82,17 @@ played_all calls old new unplayed played done =
       }),
       subst (λ h. IsFront h new.caller.seen) unplayed.1.1 p.front,
     )
+
+-- so it is of all scripts
+pub all_played_all : {K : Type 0} (calls : List (ℕ × Call)) (old new : List (Script K Call Reply))
+    → AllZip IsPlayed old new → All (IsUnplayed calls) old → All (IsPlayedAll calls) new
+all_played_all calls [] [] each unplayed = All-nil (IsPlayedAll calls)
+all_played_all calls [] (t ∷ new) each unplayed = absurd each
+all_played_all calls (s ∷ old) [] each unplayed = absurd each
+all_played_all calls (s ∷ old) (t ∷ new) each unplayed =
+    All-cons (IsPlayedAll calls) t new
+    (played_all calls s t (unplayed 0 s (omega arith)) each.0)
+    (all_played_all calls old new each.1 (All-tail (IsUnplayed calls) s old unplayed))
 
 -- ---- all callers are given back
 
