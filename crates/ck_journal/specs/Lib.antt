@@ -21,3 +21,4 @@ pub mod Replies
 pub mod Searches
 pub mod Sessions
 pub mod TokenStates
+pub mod Works

@@ -230,6 +230,7 @@ impl Call {
     ghost use Rattle.ck_journal.specs.Boards.{LeavesBoard};
     ghost use Rattle.ck_journal.specs.Effects.{effects_of};
     ghost use Rattle.ck_journal.specs.Operations.{added_bytes};
+    ghost use Rattle.ck_journal.specs.Works.{taken_bytes};
 
     /// The bytes that an update adds to the message of its operation; none for every other call.
     pub fn added_bytes(&self) -> &[u8]
@@ -238,6 +239,22 @@ impl Call {
         match self {
             Call::DigestUpdate { bytes, .. }
             | Call::SignUpdate { bytes, .. }
+            | Call::VerifyUpdate { bytes, .. } => bytes.as_slice(),
+            _ => &[],
+        }
+    }
+
+    /// The bytes of a message that the call brings, as a whole or as one piece; none for a call that
+    /// brings none.
+    pub fn taken_bytes(&self) -> &[u8]
+        ensures { result.now ≡ taken_bytes self.now }
+    {
+        match self {
+            Call::Digest { bytes, .. }
+            | Call::DigestUpdate { bytes, .. }
+            | Call::Sign { bytes, .. }
+            | Call::SignUpdate { bytes, .. }
+            | Call::Verify { bytes, .. }
             | Call::VerifyUpdate { bytes, .. } => bytes.as_slice(),
             _ => &[],
         }

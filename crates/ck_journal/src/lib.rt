@@ -14,6 +14,7 @@ mod replies;
 mod session_flags;
 mod tokens;
 mod views;
+mod works;
 
 pub use bases::{Base, KeptObject};
 pub use boards::{LoginStatus, TokenBoard, session_state};
@@ -25,3 +26,4 @@ pub use replies::{Answer, Body, Reply};
 pub use session_flags::{READ_WRITE, RW_SESSION, SERIAL_SESSION, is_read_write};
 pub use tokens::JournaledToken;
 pub use views::{View, number_of_handle};
+pub use works::Work;

@@ -3,18 +3,21 @@ use crate::boards::TokenBoard;
 use crate::calls::Call;
 use crate::journals::Journal;
 use crate::replies::Reply;
+use crate::works::Work;
 use ck_types::{Limits, NoMemory};
 use std::alloc::Global;
 
 /// What answers calls and enters each in a journal: a token. What threads share, what audits a
 /// journal and what plays a script stand on this alone.
 pub trait JournaledToken: Drop {
-    ghost use Rattle.std.specs.Prelude.{◌≡◌, IfOk, OnErr};
+    ghost use Rattle.std.specs.Prelude.{◌≡◌, IfOk, IfSome, OnErr};
+    ghost use Rattle.std.specs.Option.{option_copied};
     ghost use Rattle.ck_journal.specs.Answers.{IsLegal};
     ghost use Rattle.ck_journal.specs.Bases.{empty_base, IsSound};
     ghost use Rattle.ck_journal.specs.Boards.{board_of};
     ghost use Rattle.ck_journal.specs.Histories.{start};
     ghost use Rattle.ck_journal.specs.TokenStates.{TokenState, IsAnswered, IsUnchanged};
+    ghost use Rattle.ck_journal.specs.Works.{IsBegun, IsAhead};
 
     // the token's limits and its history
     ghost state: { Self → TokenState };
@@ -33,6 +36,28 @@ pub trait JournaledToken: Drop {
     /// Answers a call and enters it in the journal. Where there is no memory for it, nothing has
     /// changed and the call isn't in the journal.
     fn call(&mut self, alloc: Global, caller: u32, call: Call) -> Result<Reply, NoMemory>
+        ensures answered { IfOk result (λ reply.
+            IsAnswered (state self.old) (state self.new) caller call reply) }
+        ensures unchanged { OnErr result (IsUnchanged (state self.old) (state self.new)) }
+        ensures legal { IsLegal (state self.new).limits (state self.new).history };
+
+    /// Begins the work on a long message that the call brings, so that its bytes can be taken in
+    /// before the call is made. It takes no memory. `None` where this saves nothing: the message is
+    /// short, or there is none.
+    fn work(&self, call: &Call) -> Option<Work>
+        ensures { IfSome result (IsBegun (state self.now).history call.now) };
+
+    /// As `call`, by work that was begun for this call and is done. The work counts only where the
+    /// call's operation hasn't changed since; the reply and the entry are those of `call` in any
+    /// case.
+    fn call_after(
+        &mut self,
+        alloc: Global,
+        caller: u32,
+        call: Call,
+        work: Option<&Work>,
+    ) -> Result<Reply, NoMemory>
+        requires { IfSome (option_copied work) (IsAhead (state self.old).history call) }
         ensures answered { IfOk result (λ reply.
             IsAnswered (state self.old) (state self.new) caller call reply) }
         ensures unchanged { OnErr result (IsUnchanged (state self.old) (state self.new)) }

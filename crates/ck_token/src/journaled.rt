@@ -1,5 +1,5 @@
 use crate::tokens::Token;
-use ck_journal::{Base, Call, Journal, JournaledToken, Reply, TokenBoard};
+use ck_journal::{Base, Call, Journal, JournaledToken, Reply, TokenBoard, Work};
 use ck_types::{Limits, NoMemory};
 use std::alloc::Global;
 
@@ -16,6 +16,21 @@ impl JournaledToken for Token {
 
     #[inline(always)]
     fn call(&mut self, alloc: Global, caller: u32, call: Call) -> Result<Reply, NoMemory> {
+        Token::call(self, alloc, caller, call)
+    }
+
+    fn work(&self, _call: &Call) -> Option<Work> {
+        None
+    }
+
+    #[inline(always)]
+    fn call_after(
+        &mut self,
+        alloc: Global,
+        caller: u32,
+        call: Call,
+        _work: Option<&Work>,
+    ) -> Result<Reply, NoMemory> {
         Token::call(self, alloc, caller, call)
     }
 

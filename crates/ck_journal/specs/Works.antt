@@ -1,0 +1,65 @@
+-- Work on a call's message that is done before the call is made
+use Rattle.std.specs.Prelude.{◌≡◌, ℕ, Bool, List, [], ◌++◌, Some, ◌==◌, ◌||◌, not, length}
+use Rattle.std.specs.Prelude.{if◌then◌else◌}
+use Rattle.std.specs.Option.{option_map_or}
+use Rattle.ck_mac.specs.Computations.{HoldsTag}
+use Rattle.ck_mac.specs.declared.running_tags.RunningTag.{RunningTag}
+use Rattle.ck_journal.specs.declared.calls.Call.{Call}
+use Rattle.ck_journal.specs.declared.calls.Entry.{Entry}
+use Rattle.ck_journal.specs.declared.operations.OperationKind.{OperationKind}
+use Rattle.ck_journal.specs.declared.works.Work.{Work}
+use Rattle.ck_journal.specs.Fronts.{IsFront}
+use Rattle.ck_journal.specs.Histories.{History, start, ◌◁◌, done, entry_count}
+use Rattle.ck_journal.specs.OperationCalls.{Step, take_whole, add_piece, OperationStep}
+use Rattle.ck_journal.specs.OperationCalls.{operation_step}
+use Rattle.ck_journal.specs.Operations.{starts, piece_of, computation_in, message_in}
+
+-- the bytes of the message that a step brings, as a whole or as one piece
+abbrev pub bytes_taken : Step → List ℕ
+bytes_taken (take_whole bytes) = bytes
+bytes_taken (add_piece bytes) = bytes
+bytes_taken other = []
+
+-- those of a call; none for a call that brings none
+abbrev pub taken_bytes : Call → List ℕ
+taken_bytes c = option_map_or (λ (o : OperationStep). bytes_taken o.step) (operation_step c) []
+
+-- ---- whether an operation is as it was
+
+-- the entry starts the session's operation of the kind, or adds a piece to its message
+abbrev pub changes_message : OperationKind → Entry → ℕ → Bool
+changes_message k e s = starts (done e) k s || not (length (piece_of (done e) k s) == 0)
+
+-- how many entries there were before the last one that did so
+abbrev pub changed_in : OperationKind → History → ℕ → ℕ
+changed_in k (start b) s = 0
+changed_in k (e ◁ h) s = if changes_message k e s then entry_count h else changed_in k h s
+
+-- ---- what work is of
+
+-- the running tag computes what the call's operation does, and has taken in the operation's message
+abbrev pub HoldsBefore : History → Call → RunningTag → Type 0
+HoldsBefore h c running =
+    (o : OperationStep) → operation_step c ≡ Some o
+    → HoldsTag (computation_in o.kind h o.session) running (message_in o.kind h o.session)
+
+-- and then the bytes of the call
+abbrev pub HoldsAfter : History → Call → RunningTag → Type 0
+HoldsAfter h c running =
+    (o : OperationStep) → operation_step c ≡ Some o
+    → HoldsTag (computation_in o.kind h o.session) running
+    (message_in o.kind h o.session ++ bytes_taken o.step)
+
+-- the work on the call's message was begun just after this history
+pub record IsBegun (h : History) (c : Call) (w : Work) : Type 0 where
+  pub entries : w.entries ≡ entry_count h
+  pub holds : HoldsBefore h c w.running
+
+-- it was begun then, and has taken in the bytes of the call
+pub record IsDone (h : History) (c : Call) (w : Work) : Type 0 where
+  pub entries : w.entries ≡ entry_count h
+  pub holds : HoldsAfter h c w.running
+
+-- it was begun at some front of this history, and is done
+abbrev pub IsAhead : History → Call → Work → Type 0
+IsAhead h c w = (f : History) × IsFront f h × IsDone f c w
