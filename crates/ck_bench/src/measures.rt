@@ -131,7 +131,7 @@ impl<'a, R: Wait + CpuClock + Print> CallerWork<R> for AllSections<'a> {
 
     type Output = anyhow::Result<()>;
 
-    ghost holds = { λ work caller done. ⊤ };
+    ghost holds = { λ work before after done. ⊤ };
 
     fn act<K: TokenId, G: Gate<K>>(
         &self,

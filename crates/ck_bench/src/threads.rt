@@ -189,7 +189,7 @@ impl<'a, R: Wait + Clock> CallerWork<R> for Tasks<'a> {
     /// The nanoseconds of the caller's task.
     type Output = anyhow::Result<u128>;
 
-    ghost holds = { λ work caller time. ⊤ };
+    ghost holds = { λ work before after time. ⊤ };
 
     /// Opens a session, and does the caller's task in it.
     fn act<K: TokenId, G: Gate<K>>(

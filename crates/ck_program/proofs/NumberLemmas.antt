@@ -1,9 +1,8 @@
 -- All callers are given back where their numbers are those that they were made with
-use Rattle.std.proofs.Common.{◌≡◌, ℕ, zero, suc, ◌==◌, ◌≤◌, ◌<◌, ◌≢◌, ◌&&◌, ◌||◌, Bool, true, false}
-use Rattle.std.proofs.Common.{List, [], ◌∷◌, ◌++◌, length, map, append_assoc, refl, sym, ap, ap₂}
-use Rattle.std.proofs.Common.{◌∙◌, arith}
-use Rattle.std.specs.Prelude.{slice_index_or}
-use Rattle.std.specs.List.{list_any}
+use Rattle.std.proofs.Common.{◌≡◌, ℕ, zero, suc, ◌==◌, ◌≤◌, ◌≢◌, ◌&&◌, ◌||◌, Bool, true, false}
+use Rattle.std.proofs.Common.{List, [], ◌∷◌, ◌++◌, map, append_assoc, refl, sym, ap, ap₂, ◌∙◌, arith}
+use Rattle.std.specs.List.{AllZip, list_any}
+use Rattle.std.specs.Prelude.{MatchBool, vec_items}
 use Rattle.std.proofs.lemmas.Bool.{eq-eqb}
 use Rattle.std.proofs.lemmas.List.{map-append}
 use Rattle.std.proofs.lemmas.List.Folds.{list_any-append}
@@ -12,6 +11,8 @@ use Rattle.ck_journal.specs.declared.calls.Call.{Call}
 use Rattle.ck_journal.specs.declared.replies.Reply.{Reply}
 use Rattle.ck_callers.specs.Accounts.{AccountState, new_account, new_accounts}
 use Rattle.ck_callers.specs.Callers.{CallerState, are_all, new_caller, new_callers}
+use Rattle.ck_callers.specs.Runs.{IsLeft, IsPlayed}
+use Rattle.ck_callers.specs.Scripts.{HasPlayed}
 use Rattle.ck_callers.specs.declared.scripts.Script.{Script}
 use Rattle.ck_program.specs.CallerCalls.{numbers, script_numbers}
 
@@ -27,18 +28,24 @@ one_moved f g moved longer a left rest b all before next pushed same =
     ∙ ap (λ n. map f moved ++ n ∷ map g rest) same
     ∙ ap (λ xs. map f moved ++ map g xs) (sym next) ∙ before
 
--- scripts keep the numbers of their callers where each does
-pub same_numbers : {K : Type 0} (old new : List (Script K Call Reply)) → length new ≡ length old
-    → ((k : ℕ) (d : Script K Call Reply) → k < length old
-    → (slice_index_or new k d).caller.number ≡ (slice_index_or old k d).caller.number)
+-- a script keeps the number of its caller
+same_number : {K : Type 0} (old new : Script K Call Reply) (started : Bool)
+    → MatchBool started
+    (HasPlayed old.caller (vec_items old.steps) (vec_items new.replies) new.outcome new.caller
+    × (vec_items new.steps ≡ []))
+    (IsLeft old new)
+    → new.caller.number ≡ old.caller.number
+same_number old new true played = played.0.number
+same_number old new false left = ap (λ c. c.number) left.0
+
+-- so do all
+pub same_numbers : {K : Type 0} (old new : List (Script K Call Reply)) → AllZip IsPlayed old new
     → script_numbers new ≡ script_numbers old
-same_numbers [] [] same each = refl
-same_numbers [] (t ∷ new) same each = cc same
-same_numbers (s ∷ old) [] same each = cc same
-same_numbers (s ∷ old) (t ∷ new) same each =
-    ap₂ ◌∷◌ (each 0 s (omega arith))
-    (same_numbers old new (omega (arith, same)) (λ k d below. each (suc k) d
-    (omega (arith, below))))
+same_numbers [] [] each = refl
+same_numbers [] (t ∷ new) each = absurd each
+same_numbers (s ∷ old) [] each = absurd each
+same_numbers (s ∷ old) (t ∷ new) each =
+    ap₂ ◌∷◌ (same_number s t t.started each.0) (same_numbers old new each.1)
 
 -- ---- whether all are given back is a matter of the numbers alone
 

@@ -1,5 +1,5 @@
 -- The calls of each caller of a script, and what comes of them
-use Rattle.std.specs.Prelude.{◌≡◌, ◌==◌, ℕ, List, [], ◌∷◌, Ok, length, map, if◌then◌else◌}
+use Rattle.std.specs.Prelude.{◌≡◌, ◌==◌, ℕ, true, List, [], ◌∷◌, Ok, length, map, if◌then◌else◌}
 use Rattle.std.specs.Prelude.{vec_items}
 use Rattle.ck_journal.specs.Bases.{empty_base}
 use Rattle.ck_journal.specs.Callers.{entries_by}
@@ -46,6 +46,7 @@ abbrev pub IsUnplayed : {K : Type 0} → List (ℕ × Call) → Script K Call Re
 IsUnplayed calls s =
     (vec_items s.steps ≡ calls_by s.caller.number calls) × IsNewCaller s.caller
 
--- the script was played: where that ended well, its caller has made all of its calls
+-- the script was played: where it had a thread and that ended well, its caller has made all of its
+-- calls
 abbrev pub IsPlayedAll : {K : Type 0} → List (ℕ × Call) → Script K Call Reply → Type 0
-IsPlayedAll calls s = s.outcome ≡ Ok tt → HasMadeAll calls s.caller
+IsPlayedAll calls s = s.started ≡ true → s.outcome ≡ Ok tt → HasMadeAll calls s.caller

@@ -79,12 +79,16 @@ fn scripts_of<K: TokenId>(
     Ok(scripts)
 }
 
-/// The caller of a script that was played to its end.
+/// The caller of a script that was played to its end. A script that had no thread ends as one
+/// without memory.
 fn caller_of<K: TokenId>(script: Script<K>) -> Result<Caller<K>, NoMemory>
     ensures made { (calls : List (ℕ × Call)) → IsPlayedAll calls script
         → IfOk result (HasMadeAll calls) }
     ensures number { IfOk result (λ caller. caller.number ≡ script.caller.number) }
 {
+    if !script.started() {
+        return Err(NoMemory);
+    }
     script.outcome()?;
     Ok(script.into_parts().0)
 }
@@ -119,9 +123,8 @@ fn play_scripts<K: TokenId + Send + Sync, G: JournaledToken + Send, R: Runtime>(
     ensures made { IfOk result (λ callers. All (HasMadeAll calls.now) callers.items) }
     ensures numbers { IfOk result (λ back. numbers back.items ≡ numbers callers.items) }
 {
-    let mut scripts = scripts_of(alloc, callers, calls)?;
-    run_scripts(&rt, alloc, token, scripts.as_mut_slice());
-    callers_of(alloc, scripts)
+    let scripts = scripts_of(alloc, callers, calls)?;
+    callers_of(alloc, run_scripts(&rt, alloc, token, scripts))
 }
 
 /// Shares a new token among callers, which play their calls, and takes it back.

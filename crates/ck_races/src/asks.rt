@@ -113,9 +113,10 @@ fn state_after(entries: u64) -> &'static str {
     if entries == FIRST { "0 2 6" } else { "0 3 6" }
 }
 
-/// All steps of a script were taken. With each answer comes how many entries the caller knows: it
+/// All steps of a script were taken in its thread. With each answer comes how many entries the caller knows: it
 /// is that of their state, and what is known stays.
 fn check_script<K: TokenId>(alloc: Global, script: &AskingScript<K>) -> anyhow::Result<()> {
+    expect(script.started())?;
     script.outcome()?;
     let mut known = FIRST;
     for answer in script.replies() {
@@ -248,12 +249,13 @@ fn ask<K: TokenId + Send + Sync, G: JournaledToken + Send, R: Runtime>(
     rt: &R,
     alloc: Global,
     token: &SharedToken<K, G, R>,
-    scripts: &mut [AskingScript<K>],
+    scripts: &mut Vec<AskingScript<K>>,
     state: &str,
 ) -> anyhow::Result<()> {
     prepare(rt, alloc, token, scripts, state)?;
     let older = caller_at(scripts, 0)?.news();
-    run_steps(rt, alloc, token, scripts);
+    let untaken = mem::replace(scripts, Vec::new(alloc));
+    *scripts = run_steps(rt, alloc, token, untaken);
     check_all_after(alloc, scripts, &older)
 }
 

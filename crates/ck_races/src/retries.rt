@@ -75,7 +75,7 @@ impl<'a, R: Wait> CallerWork<R> for AllCalls<'a> {
     /// How many calls were made again.
     type Output = anyhow::Result<u64>;
 
-    ghost holds = { λ work caller retries. ⊤ };
+    ghost holds = { λ work before after retries. ⊤ };
 
     fn act<K: TokenId, G: Gate<K>>(
         &self,

@@ -64,7 +64,7 @@ impl<'a, R: Wait> CallerWork<R> for OrderedCalls<'a> {
     /// The caller's number and its replies.
     type Output = anyhow::Result<CallerReplies>;
 
-    ghost holds = { λ work caller replies. ⊤ };
+    ghost holds = { λ work before after replies. ⊤ };
 
     /// Makes the calls of the caller.
     fn act<K: TokenId, G: Gate<K>>(

@@ -23,7 +23,7 @@ impl<R: Wait> CallerWork<R> for ThreeSessions {
     /// How many calls of the caller were answered.
     type Output = u64;
 
-    ghost holds = { λ work caller count. count ≡ caller.count };
+    ghost holds = { λ work before after count. count ≡ after.count };
 
     fn act<K: TokenId, G: Gate<K>>(
         &self,
