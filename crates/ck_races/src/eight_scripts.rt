@@ -17,6 +17,9 @@ use std::sync::atomic::Ordering;
 /// How many callers there are.
 const CALLERS: u32 = 8;
 
+/// One entry for each call of a script, and one for the first call.
+const ENTRIES: usize = 8 * 20 + 1;
+
 /// The calls of each caller. Session `$session` is that of the caller's number, whoever opens it.
 const SCRIPT: [&str; 20] = [
     "OpenSession 6",
@@ -99,7 +102,7 @@ pub(crate) fn run_eight_scripts<R: Runtime>(rt: R, alloc: Global) -> anyhow::Res
     let entries = token.journal().entries();
     check_replies(entries.get(1..).unwrap_or(&[]), all)?;
     ensure!(
-        entries.len() == 1 + SCRIPT.len() * CALLERS as usize,
+        entries.len() == ENTRIES,
         "not an entry for each call"
     );
     check_audit(alloc, &token)

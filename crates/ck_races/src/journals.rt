@@ -21,7 +21,7 @@ pub(crate) fn in_order_of_callers(
     for (index, output) in outputs.into_iter().enumerate() {
         let (number, replies) = output?;
         ensure!(
-            number as usize == index + 1,
+            number as usize == index.saturating_add(1),
             "what comes of the callers is not in the order of their numbers"
         );
         all.push((number, replies))?;
