@@ -9,6 +9,7 @@ pub mod Opening
 pub mod Places
 pub mod Playing
 pub mod Prefixes
+pub mod Running
 pub mod Settling
 pub mod Taking
 pub mod Turning

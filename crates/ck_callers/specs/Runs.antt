@@ -1,5 +1,5 @@
 -- Scripts that were played
-use Rattle.std.specs.Prelude.{◌≡◌, [], vec_items}
+use Rattle.std.specs.Prelude.{◌≡◌, [], MatchBool, vec_items}
 use Rattle.ck_types.specs.TokenLimits.{Ranges}
 use Rattle.ck_journal.specs.declared.calls.Call.{Call}
 use Rattle.ck_journal.specs.declared.replies.Reply.{Reply}
@@ -11,23 +11,34 @@ use Rattle.ck_callers.specs.declared.scripts.Script.{Script}
 use Rattle.ck_callers.specs.declared.steps.Answered.{Answered}
 use Rattle.ck_callers.specs.declared.steps.Step.{Step}
 
--- the caller of the script has made its calls, and none are left
+-- no thread could be made for the script: its caller has taken none of its steps, which are left
+abbrev pub IsLeft : {K S A : Type 0} → Script K S A → Script K S A → Type 0
+IsLeft old new =
+    (new.caller ≡ old.caller) × (vec_items new.steps ≡ vec_items old.steps)
+    × (vec_items new.replies ≡ [])
+
+-- the caller of the script has made its calls in a thread, and none are left
 abbrev pub IsPlayed : {K : Type 0} → Script K Call Reply → Script K Call Reply → Type 0
 IsPlayed old new =
-    HasPlayed old.caller (vec_items old.steps) (vec_items new.replies) new.outcome new.caller
-    × (vec_items new.steps ≡ [])
+    MatchBool new.started
+    (HasPlayed old.caller (vec_items old.steps) (vec_items new.replies) new.outcome new.caller
+    × (vec_items new.steps ≡ []))
+    (IsLeft old new)
 
--- the caller of the script has taken its steps, and none are left
+-- the caller of the script has taken its steps in a thread, and none are left
 abbrev pub AreTaken : {K : Type 0} → Ranges → Script K Step Answered
     → Script K Step Answered → Type 0
 AreTaken limits old new =
-    HasTaken limits old.caller (vec_items old.steps) (vec_items new.replies) new.outcome new.caller
-    × (vec_items new.steps ≡ [])
+    MatchBool new.started
+    (HasTaken limits old.caller (vec_items old.steps) (vec_items new.replies) new.outcome
+    new.caller × (vec_items new.steps ≡ []))
+    (IsLeft old new)
 
 -- the same of any script
 abbrev pub HasRun : {K S A : Type 0} → (CallerState → S → A → CallerState → Type 0)
     → (S → Type 0) → Script K S A → Script K S A → Type 0
 HasRun Does MayFail old new =
-    HasMade Does MayFail old.caller (vec_items old.steps)
-    (vec_items new.replies) new.outcome new.caller
-    × (vec_items new.steps ≡ [])
+    MatchBool new.started
+    (HasMade Does MayFail old.caller (vec_items old.steps) (vec_items new.replies) new.outcome
+    new.caller × (vec_items new.steps ≡ []))
+    (IsLeft old new)

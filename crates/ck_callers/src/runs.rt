@@ -1,5 +1,6 @@
-ghost use Rattle.std.specs.Prelude.{◌≡◌, ◌≤◌, ◌<◌, ℕ, [], length, slice_index_or};
-ghost use Rattle.std.specs.Prelude.{vec_len, vec_capacity};
+ghost use Rattle.std.specs.List.{AllZip};
+ghost use Rattle.std.specs.Prelude.{◌≡◌, ◌<◌, ◌≤◌, [], ◌∷◌, ◌++◌, vec_items, vec_len, vec_capacity};
+ghost use Rattle.std.specs.Thread.{IsSync};
 ghost use Rattle.ck_callers.specs.Runs.{HasRun, AreTaken, IsPlayed};
 ghost use Rattle.ck_callers.specs.Turns.{HasMade};
 
@@ -11,8 +12,10 @@ use crate::steps::{Answered, Step};
 use crate::turns::Turn;
 use ck_types::NoMemory;
 use std::alloc::Global;
+use std::snapshot::Snapshot;
 use std::sync::Wait;
-use std::thread::Threads;
+use std::sync::atomic::{AtomicBool, Ordering};
+use std::thread::{Promise, PromisedHandle, Scope, Threads};
 use std::{mem, thread};
 
 /// Takes the steps in their order, up to the first that finds no memory.
@@ -35,17 +38,20 @@ fn take_steps<K: TokenId, S: Turn<K, A>, A: Drop, G: Gate<K>, W: Wait>(
     Ok(())
 }
 
-/// Runs one script.
-fn run_script<K: TokenId, S: Turn<K, A>, A: Drop, G: Gate<K>, W: Wait>(
+/// Plays a script.
+fn play_script<K: TokenId, S: Turn<K, A>, A: Drop, G: Gate<K>, W: Wait>(
     rt: &W,
     alloc: Global,
     gate: &G,
     script: &mut Script<K, S, A>,
 )
-    ensures { HasRun S.does S.may_fail script.old script.new }
+    requires { vec_items script.old.replies ≡ [] }
+    ensures made { HasMade S.does S.may_fail script.old.caller (vec_items script.old.steps)
+        (vec_items script.new.replies) script.new.outcome script.new.caller }
+    ensures steps { vec_items script.new.steps ≡ [] }
+    ensures started { script.new.started ≡ script.old.started }
 {
     let steps = mem::replace(&mut script.steps, Vec::new(alloc));
-    script.replies.clear();
     script.outcome = take_steps(
         rt,
         alloc,
@@ -56,6 +62,35 @@ fn run_script<K: TokenId, S: Turn<K, A>, A: Drop, G: Gate<K>, W: Wait>(
     );
 }
 
+/// Plays a script where it has a thread. Else it stays as it is, without replies.
+fn run_script<K: TokenId, S: Turn<K, A>, A: Drop, G: Gate<K>, W: Wait>(
+    rt: &W,
+    alloc: Global,
+    gate: &G,
+    has_thread: &AtomicBool,
+    script: Script<K, S, A>,
+) -> Script<K, S, A>
+    ensures { HasRun S.does S.may_fail script result }
+{
+    let mut script = script;
+    script.replies.clear();
+    script.started = has_thread.load(Ordering::SeqCst);
+    if script.started {
+        play_script(rt, alloc, gate, &mut script);
+    }
+    script
+}
+
+/// That a script comes back as it is after a run of this one.
+#[derive(Drop)]
+struct RunOf<K: TokenId, S: Drop, A: Drop>(Snapshot<Script<K, S, A>>);
+
+impl<K: TokenId, S: Turn<K, A>, A: Drop> Promise<Script<K, S, A>> for RunOf<K, S, A> {
+    ghost use Rattle.ck_callers.specs.Runs.{HasRun};
+
+    ghost kept_by = { λ run script. HasRun S.does S.may_fail run.0.value script };
+}
+
 /// Runs all scripts, each in a thread of its own.
 fn run_all<
     K: TokenId + Send + Sync,
@@ -63,36 +98,57 @@ fn run_all<
     A: Drop + Send,
     G: Gate<K> + Sync,
     R: Threads + Wait + Sync,
->(rt: &R, alloc: Global, gate: &G, scripts: &mut [Script<K, S, A>])
-    ensures { (k : ℕ) (d : _) → k < length scripts.old
-        → HasRun S.does S.may_fail
-        (slice_index_or scripts.old k d) (slice_index_or scripts.new k d) }
+>(rt: &R, alloc: Global, gate: &G, scripts: Vec<Script<K, S, A>>) -> Vec<Script<K, S, A>>
+    ensures scripts { AllZip (HasRun S.does S.may_fail) scripts.items result.items }
+    ensures room { vec_capacity scripts ≤ vec_capacity result }
 {
-    let most = scripts.len();
-    if most > 0 {
-        thread::for_each_mut(
-            rt,
-            scripts,
-            most,
-            &|_: usize, script: &mut Script<K, S, A>|
-                ensures { HasRun S.does S.may_fail script.entry.now script.exit.now }
-            { run_script(rt, alloc, gate, script) },
-        );
-    }
+    let mut scripts = scripts;
+    let Some(script) = scripts.pop() else {
+        return scripts;
+    };
+    let has_thread = &AtomicBool::new(true);
+    thread::scope(
+        thread::scope_env(),
+        rt,
+        move |scope| -> Vec<Script<K, S, A>>
+            requires sync { IsSync R.row × IsSync G.row }
+            requires room { vec_len scripts < vec_capacity scripts }
+            ensures scripts { AllZip (HasRun S.does S.may_fail)
+                (scripts.items ++ script ∷ []) result.items }
+            ensures room { vec_capacity scripts ≤ vec_capacity result }
+        {
+            let run = scope.spawn_with(
+                RunOf(Snapshot::of(&script)),
+                move || -> Script<K, S, A>
+                    ensures { HasRun S.does S.may_fail script result }
+                { run_script(rt, alloc, gate, has_thread, script) },
+            );
+            let mut others = run_all(rt, alloc, gate, scripts);
+            let script = match run {
+                Ok(thread) => thread.join(rt),
+                Err(refused) => {
+                    has_thread.store(false, Ordering::SeqCst);
+                    (refused.value)()
+                }
+            };
+            others.push_reserved(script);
+            others
+        },
+    )
 }
 
-/// Runs all scripts of calls, each in a thread of its own. Scripts for which no thread can be made
-/// are run one after the other. It takes no memory except what the calls take.
+/// Runs all scripts of calls, each in a thread of its own. They come back in their order. One for
+/// which no thread can be made comes back as it was (`Script::started`). It takes no memory except
+/// what the calls and the threads take.
 pub fn run_scripts<K: TokenId + Send + Sync, G: Gate<K> + Sync, R: Threads + Wait + Sync>(
     rt: &R,
     alloc: Global,
     gate: &G,
-    scripts: &mut [Script<K>],
-)
-    ensures { (k : ℕ) (d : _) → k < length scripts.old
-        → IsPlayed (slice_index_or scripts.old k d) (slice_index_or scripts.new k d) }
+    scripts: Vec<Script<K>>,
+) -> Vec<Script<K>>
+    ensures { AllZip IsPlayed scripts.items result.items }
 {
-    run_all(rt, alloc, gate, scripts);
+    run_all(rt, alloc, gate, scripts)
 }
 
 /// As `run_scripts`, for scripts of calls and questions. A question takes no memory.
@@ -100,10 +156,9 @@ pub fn run_steps<K: TokenId + Send + Sync, G: Gate<K> + Sync, R: Threads + Wait 
     rt: &R,
     alloc: Global,
     gate: &G,
-    scripts: &mut [Script<K, Step, Answered>],
-)
-    ensures { (k : ℕ) (d : _) → k < length scripts.old → AreTaken K.limits
-        (slice_index_or scripts.old k d) (slice_index_or scripts.new k d) }
+    scripts: Vec<Script<K, Step, Answered>>,
+) -> Vec<Script<K, Step, Answered>>
+    ensures { AllZip (AreTaken K.limits) scripts.items result.items }
 {
-    run_all(rt, alloc, gate, scripts);
+    run_all(rt, alloc, gate, scripts)
 }

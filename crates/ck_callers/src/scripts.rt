@@ -14,11 +14,12 @@ pub struct Script<K: TokenId, S: Drop = Call, A: Drop = Reply> {
     pub(crate) steps: Vec<S>,
     pub(crate) replies: Vec<A>,
     pub(crate) outcome: Result<(), NoMemory>,
+    pub(crate) started: bool,
     pub ghost room: { vec_len steps ≤ vec_capacity replies },
 }
 
 impl<K: TokenId, S: Drop, A: Drop> Script<K, S, A> {
-    ghost use Rattle.std.specs.Prelude.{◌≡◌, [], Ok, IfOk, IfErr};
+    ghost use Rattle.std.specs.Prelude.{◌≡◌, [], false, Ok, IfOk, IfErr};
 
     /// A script that is still to be played. Where there is no room for the replies, the caller and
     /// the steps come back.
@@ -31,6 +32,7 @@ impl<K: TokenId, S: Drop, A: Drop> Script<K, S, A> {
         ensures steps { IfOk result (λ script. script.steps ≡ steps) }
         ensures replies { IfOk result (λ script. script.replies.items ≡ []) }
         ensures outcome { IfOk result (λ script. script.outcome ≡ Ok tt) }
+        ensures started { IfOk result (λ script. script.started ≡ false) }
         ensures back { IfErr result (λ refused. refused ≡ (caller, steps)) }
     {
         match Vec::with_capacity(alloc, steps.len()) {
@@ -39,9 +41,18 @@ impl<K: TokenId, S: Drop, A: Drop> Script<K, S, A> {
                 steps,
                 replies,
                 outcome: Ok(()),
+                started: false,
             }),
             Err(_) => Err((caller, steps)),
         }
+    }
+
+    /// Whether it was played in a thread of its own: not before `run_scripts` or `run_steps`, nor
+    /// where these could have no thread for it.
+    pub fn started(&self) -> bool
+        ensures { result ≡ self.now.started }
+    {
+        self.started
     }
 
     /// The replies to the steps that were taken when the script was played, in their order.

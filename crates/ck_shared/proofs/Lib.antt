@@ -1,3 +1,4 @@
 pub mod CallerNumbers
+pub mod OutputLemmas
 pub mod Settling
 pub mod Shown

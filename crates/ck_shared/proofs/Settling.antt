@@ -18,3 +18,9 @@ pub settled_last : (g h : History) (left all : List CallerState) → g ≡ h →
     → (All (IsSettled h) left → All (IsSettled h) all) → All (IsSettled g) all
 settled_last g h left all same none then =
     subst (λ x. All (IsSettled x) all) (sym same) (then (λ k d below. absurd (omega arith)))
+
+-- where all that are left but one are so, and that one is, all are
+pub all_next : {X : Type 0} (P : X → Type 0) (x : X) (left rest all : List X) → left ≡ x ∷ rest
+    → P x → (All P left → All P all) → All P rest → All P all
+all_next P x left rest all is one then others =
+    then (subst (All P) (sym is) (All-cons P x rest one others))

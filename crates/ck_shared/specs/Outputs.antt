@@ -1,9 +1,10 @@
--- What comes of a caller's work
+-- What comes of the work of callers
 use Rattle.ck_journal.specs.Histories.{History}
 use Rattle.ck_callers.specs.Callers.{CallerState, IsSettled}
 
--- it says this of a caller, and what that caller knows is a front of the history, which has no
--- other entries of it than those of its calls
-abbrev pub IsOfCaller : {Output : Type 0} → (CallerState → Output → Type 0) → History → Output
-    → Type 0
-IsOfCaller holds h output = (caller : CallerState) × IsSettled h caller × holds caller output
+-- this holds of the caller before its work, of it afterwards and of the output; what it then knows
+-- is a front of the history, which has no other entries of it than those of its calls
+abbrev pub IsOfCaller : {Output : Type 0} → (CallerState → CallerState → Output → Type 0)
+    → History → CallerState → Output → Type 0
+IsOfCaller holds h caller output =
+    (after : CallerState) × IsSettled h after × holds caller after output

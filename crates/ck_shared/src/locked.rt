@@ -69,18 +69,23 @@ fn add_slot<K: TokenId, R: Wait + Drop>(
     }
 }
 
-/// Publishes what is pending, until the board that is published is that of the known history.
-fn show<K: TokenId, R: Wait + Drop, W: Wait>(
+/// Shows the token's board by way of a slot, which is pending.
+fn show<K: TokenId, G: JournaledToken, R: Wait + Drop, W: Wait>(
     rt: &W,
     writer: &mut WriteHandle<BoardCopy<K>, EntrySlot<K>, R>,
+    slot: &EntrySlot<K>,
+    token: &G,
     known: &KnownHistory<K>,
 )
+    requires limits { (G.state token.now).limits ≡ K.limits }
+    requires history { known.now.history ≡ (G.state token.now).history }
     ensures board { Covers known.now (published writer.new) }
     ensures pending { pending writer.new ≡ [] }
 {
     // It turns once: what was published is read off the board, since no contract of the writer
     // says what its copies took in.
     for _ in rt.forever() {
+        slot.fill(token.board(), known);
         if writer.publish().is_ok() && known.covers(writer.published().known()) {
             return;
         }
@@ -104,8 +109,7 @@ fn show_by<K: TokenId, G: JournaledToken, R: Wait + Drop, W: Wait>(
     ensures pending { pending writer.new ≡ [] }
 {
     if let Some(slot) = slot {
-        slot.fill(token.board(), known);
-        show(rt, writer, known);
+        show(rt, writer, &slot, token, known);
     }
 }
 
@@ -202,8 +206,15 @@ impl<K: TokenId, G: JournaledToken, R: Wait + Drop> Locked<K, G, R> {
         self.token
     }
 
+    /// The token, to be read under the lock.
+    pub fn token(&self) -> &G
+        ensures { G.state result.now ≡ self.now }
+    {
+        &self.token
+    }
+
     /// One call of a caller. Where there is no memory for it, nothing has changed. Where the call
-    /// may change the board or finds no memory, it may wait for those who still read an older copy.
+    /// may change the board, it may wait for those who still read an older copy.
     pub fn step<W: Wait>(
         &mut self,
         rt: &W,
@@ -223,7 +234,7 @@ impl<K: TokenId, G: JournaledToken, R: Wait + Drop> Locked<K, G, R> {
         let leaves = call.leaves_board();
         let slot = add_slot(alloc, &mut self.writer, leaves)?;
         let Ok(reply) = self.token.call(alloc, number, call) else {
-            show(rt, &mut self.writer, &self.known);
+            show_by(rt, &mut self.writer, slot, &self.token, &self.known);
             return Err(NoMemory);
         };
         // Tells the prover that one more entry can be counted.

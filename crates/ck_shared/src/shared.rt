@@ -3,7 +3,7 @@ use ck_callers::{Caller, CallerCount, NewIdentity, Opened, TokenId};
 use ck_journal::{Call, JournaledToken, Reply};
 use ck_types::{Limits, NoMemory};
 use std::alloc::Global;
-use std::sync::{Mutex, Wait};
+use std::sync::{Mutex, MutexGuard, Wait};
 
 /// A token behind a lock, which its callers share. `K` stands for the token's history, `G` is the
 /// token's type, and `R` the runtime.
@@ -24,6 +24,7 @@ impl<K: TokenId, G: JournaledToken, R: Wait + Drop> SharedToken<K, G, R> {
     ghost use Rattle.std.specs.Prelude.{◌≡◌, ◌≤◌, ℕ, true, false, All, IfOk, OnOk, IfErr, OnErr};
     ghost use Rattle.ck_journal.specs.Bases.{empty_base};
     ghost use Rattle.ck_journal.specs.Callers.{AreCallers};
+    ghost use Rattle.ck_journal.specs.Fronts.{IsFront};
     ghost use Rattle.ck_journal.specs.Histories.{start};
     ghost use Rattle.ck_callers.specs.Accounts.{name_of};
     ghost use Rattle.ck_callers.specs.Callers.{HasCalled, IsSettled, are_all, new_callers};
@@ -82,6 +83,12 @@ impl<K: TokenId, G: JournaledToken, R: Wait + Drop> SharedToken<K, G, R> {
         SharedToken::adopt(rt, alloc, token, callers, identity).map_err(|refused| refused.1)
     }
 
+    /// Takes the lock. Whoever has it makes calls by `Locked::step`, with no others between them,
+    /// and reads the token by `Locked::token`. The board answers without the lock meanwhile.
+    pub fn lock<W: Wait>(&self, rt: &W) -> MutexGuard<'_, Locked<K, G, R>> {
+        self.lock.lock(rt)
+    }
+
     /// One call of a caller, under the lock.
     pub fn call<W: Wait>(
         &self,
@@ -110,6 +117,7 @@ impl<K: TokenId, G: JournaledToken, R: Wait + Drop> SharedToken<K, G, R> {
         ensures back { IfErr result (λ refused. refused.1 ≡ callers) }
         ensures limits { IfOk result (λ token. (G.state token).limits ≡ K.limits) }
         ensures callers { IfOk result (λ token. AreCallers K.callers (G.state token).history) }
+        ensures base { IfOk result (λ token. IsFront (start K.base) (G.state token).history) }
         ensures settled { IfOk result (λ token.
             All (IsSettled (G.state token).history) callers.items) }
     {
@@ -123,7 +131,17 @@ impl<K: TokenId, G: JournaledToken, R: Wait + Drop> SharedToken<K, G, R> {
         Ok(locked.into_token())
     }
 
-    /// What lies under the lock, whatever has come of the callers.
+    /// Takes the token back, whatever has come of its callers: those that are left make no more
+    /// calls. It may wait for those who still read the board.
+    pub fn into_token(self) -> G
+        ensures limits { (G.state result).limits ≡ K.limits }
+        ensures callers { AreCallers K.callers (G.state result).history }
+        ensures base { IsFront (start K.base) (G.state result).history }
+    {
+        self.into_locked().into_token()
+    }
+
+    /// What lies under the lock.
     pub(crate) fn into_locked(self) -> Locked<K, G, R> {
         self.lock.into_inner()
     }

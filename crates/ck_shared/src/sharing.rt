@@ -1,9 +1,12 @@
 //! A token that is shared while each of its callers does some work in a thread of its own.
-ghost use Rattle.std.specs.Prelude.{◌≡◌, ◌≤◌, ℕ, [], All, IfOk, vec_len, vec_capacity};
+ghost use Rattle.std.specs.List.{AllZip};
+ghost use Rattle.std.specs.Prelude.{◌≡◌, ◌≤◌, ℕ, [], All, IfOk, map};
+ghost use Rattle.std.specs.Prelude.{vec_len, vec_capacity};
 ghost use Rattle.ck_journal.specs.Callers.{AreCallers};
 ghost use Rattle.ck_journal.specs.Fronts.{IsFront};
 ghost use Rattle.ck_journal.specs.Histories.{start, start_of};
 ghost use Rattle.ck_callers.specs.Accounts.{name_of};
+ghost use Rattle.ck_callers.specs.Callers.{IsSettled, new_callers};
 ghost use Rattle.ck_shared.specs.Outputs.{IsOfCaller};
 
 use crate::locked::Locked;
@@ -25,8 +28,8 @@ pub trait CallerWork<R> {
     /// What comes of it.
     type Output: Send + Drop;
 
-    // what holds of what comes of it: of the work, the caller in the end and the output
-    ghost holds: { Self → CallerState → Self.Output → Type 0 };
+    // what holds of what comes of it: of the work, the caller before and after it, and the output
+    ghost holds: { Self → CallerState → CallerState → Self.Output → Type 0 };
 
     /// What this caller does at the gate, which is the shared token.
     fn act<K: TokenId, G: Gate<K>>(
@@ -36,10 +39,11 @@ pub trait CallerWork<R> {
         gate: &G,
         caller: &mut Caller<K>,
     ) -> Self::Output
-        ensures { holds self.now caller.new result };
+        ensures { holds self.now caller.old caller.new result };
 }
 
-/// All callers do their work, each in a thread of its own. They come back with what came of it.
+/// All callers do their work, each in a thread of its own. They come back with what came of it, in
+/// their order.
 fn act_together<
     K: TokenId + Send + Sync,
     G: Gate<K> + Sync,
@@ -53,14 +57,16 @@ fn act_together<
     work: &S,
 ) -> Result<Vec<(S::Output, Caller<K>)>, NoMemory>
     ensures len { IfOk result (λ done. vec_len done ≡ vec_len callers) }
-    ensures outputs { IfOk result (λ done. All (λ d. S.holds work.now d.1 d.0) done.items) }
+    ensures done { IfOk result (λ done.
+        AllZip (λ c d. S.holds work.now c d.1 d.0) callers.items done.items) }
 {
     let done = thread::map_vec(
         rt,
         callers,
-        &|mut caller: Caller<K>|
-            ensures { S.holds work.entry.now result.1 result.0 }
+        &|caller: Caller<K>|
+            ensures { S.holds work.entry.now caller result.1 result.0 }
         {
+            let mut caller = caller;
             let output = work.act(rt, alloc, gate, &mut caller);
             (output, caller)
         },
@@ -69,19 +75,17 @@ fn act_together<
 }
 
 /// Takes all callers back, and keeps what came of their work.
-fn settle_all<K: TokenId, G: JournaledToken, S: CallerWork<R>, R: Wait + Drop>(
+fn settle_all<K: TokenId, G: JournaledToken, X: Drop, R: Wait + Drop>(
     rt: &R,
     locked: &mut Locked<K, G, R>,
-    work: &S,
-    done: Vec<(S::Output, Caller<K>)>,
-    outputs: &mut Vec<S::Output>,
+    done: Vec<(X, Caller<K>)>,
+    outputs: &mut Vec<X>,
 )
     requires none { outputs.old.items ≡ [] }
     requires room { vec_len done ≤ vec_capacity outputs.old }
-    requires outputs { All (λ d. S.holds work.now d.1 d.0) done.items }
     ensures same { locked.new ≡ locked.old }
-    ensures outputs { All (IsOfCaller (S.holds work.now) locked.old.history) outputs.new.items }
-    ensures len { vec_len outputs.new ≡ vec_len done }
+    ensures settled { All (λ d. IsSettled locked.old.history d.1) done.items }
+    ensures outputs { outputs.new.items ≡ map (λ d. d.0) done.items }
 {
     for (output, caller) in done {
         locked.settle(rt, caller);
@@ -107,16 +111,17 @@ fn work_on<
     ensures base { IsFront (start K.base) (G.state result.0).history }
     ensures count { IfOk result.1 (λ outputs. vec_len outputs ≡ vec_len callers) }
     ensures outputs { IfOk result.1 (λ outputs.
-        All (IsOfCaller (S.holds work.now) (G.state result.0).history) outputs.items) }
+        AllZip (IsOfCaller (S.holds work.now) (G.state result.0).history)
+        callers.items outputs.items) }
 {
     let Ok(mut outputs) = Vec::with_capacity(alloc, callers.len()) else {
-        return (shared.into_locked().into_token(), Err(NoMemory));
+        return (shared.into_token(), Err(NoMemory));
     };
     let done = act_together(rt, alloc, &shared, callers, work);
     let mut locked = shared.into_locked();
     match done {
         Ok(done) => {
-            settle_all(rt, &mut locked, work, done, &mut outputs);
+            settle_all(rt, &mut locked, done, &mut outputs);
             (locked.into_token(), Ok(outputs))
         }
         Err(error) => (locked.into_token(), Err(error)),
@@ -147,7 +152,8 @@ fn share_as<
     ensures callers { AreCallers callers (G.state token.new).history }
     ensures count { IfOk result (λ outputs. vec_len outputs ≡ callers) }
     ensures outputs { IfOk result (λ outputs.
-        All (IsOfCaller (S.holds work.now) (G.state token.new).history) outputs.items) }
+        AllZip (IsOfCaller (S.holds work.now) (G.state token.new).history)
+        (new_callers K.base callers) outputs.items) }
 {
     let limits = token.limits();
     let own = mem::replace(token, G::new(alloc, limits));
@@ -186,7 +192,8 @@ pub fn share<G: JournaledToken + Send, S: CallerWork<R> + Sync, R: Runtime>(
     ensures callers { AreCallers callers (G.state token.new).history }
     ensures count { IfOk result (λ outputs. vec_len outputs ≡ callers) }
     ensures outputs { IfOk result (λ outputs.
-        All (IsOfCaller (S.holds work.now) (G.state token.new).history) outputs.items) }
+        AllZip (IsOfCaller (S.holds work.now) (G.state token.new).history)
+        (new_callers (start_of (G.state token.old).history) callers) outputs.items) }
 {
     share_as::<Brand, G, S, R>(rt, alloc, token, callers, NewIdentity::new(), work)
 }

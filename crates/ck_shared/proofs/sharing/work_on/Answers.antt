@@ -1,7 +1,10 @@
-use Rattle.std.proofs.Common.{sym, ◌∙◌, subst}
-use Rattle.std.specs.Prelude.{All, vec_items}
+use Rattle.std.proofs.Common.{sym, ap, ◌∙◌, length, subst}
+use Rattle.std.specs.List.{AllZip}
+use Rattle.std.specs.Prelude.{List, map, vec_items}
+use Rattle.std.proofs.lemmas.List.{length-map}
 use Rattle.ck_journal.specs.TokenStates.{TokenState}
 use Rattle.ck_shared.specs.Outputs.{IsOfCaller}
+use Rattle.ck_shared.proofs.OutputLemmas.{of_callers}
 use Rattle.ck_shared.proofs.sharing.work_on.Goals as goal
 
 pub returns-in_default : goal.returns-in_default
@@ -24,10 +27,19 @@ pub returns-in-Ok-done-clause-base : goal.returns-in-Ok-done-clause-base
 returns-in-Ok-done-clause-base g c = c.into_token-in-Ok-done.ensures.base
 
 pub returns-in-Ok-done-clause-count : goal.returns-in-Ok-done-clause-count
-returns-in-Ok-done-clause-count g c = c.settle_all.ensures.len ∙ c.in-Ok-done.ensures.len
+returns-in-Ok-done-clause-count g c =
+    c.settle_all.new.outputs.ok.0 ∙ ap length c.settle_all.ensures.outputs
+    ∙ length-map (vec_items c.in-Ok-done.done) (λ d. d.0) ∙ sym c.in-Ok-done.done.ok.0
+    ∙ c.in-Ok-done.ensures.len
 
 pub returns-in-Ok-done-clause-outputs : goal.returns-in-Ok-done-clause-outputs
 returns-in-Ok-done-clause-outputs g c =
-    subst (λ (t : TokenState).
-    All (IsOfCaller (g.S.CallerWork.holds c.args.work.now) t.history) (vec_items c.settle_all.new.outputs))
-    (sym (c.into_token-in-Ok-done.ensures.token ∙ c.settle_all.ensures.same)) c.settle_all.ensures.outputs
+    let holds = g.S.CallerWork.holds c.args.work.now in
+    let callers = vec_items c.args.callers in
+    let history = (c.into_token-in-Ok-done.ensures.token ∙ c.settle_all.ensures.same) in
+    subst (λ (t : TokenState). AllZip (IsOfCaller holds t.history) callers
+    (vec_items c.settle_all.new.outputs)) (sym history)
+    (subst (AllZip (IsOfCaller holds c.into_locked-locked.result.history) callers)
+    (sym c.settle_all.ensures.outputs)
+    (of_callers holds c.into_locked-locked.result.history callers (vec_items c.in-Ok-done.done)
+    c.in-Ok-done.ensures.done c.settle_all.ensures.settled))

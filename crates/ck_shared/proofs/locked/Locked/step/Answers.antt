@@ -22,6 +22,14 @@ invariant_of-self g c =
       c.in_err-slot.ensures.unchanged ∙ c.self.invariant.1,
     )
 
+pub show_by-requires-clause-shown : goal.show_by-requires-clause-shown
+show_by-requires-clause-shown g c =
+    if_none c.in_ok-slot.slot c.in_ok-slot.ensures.none (λ kept. (
+      subst (Covers c.self.inside.known) (sym c.in_ok-slot.ensures.published)
+          c.self.invariant.0.published,
+      kept.1 ∙ c.self.invariant.1,
+    ))
+
 pub invariant_of-self-in_default : goal.invariant_of-self-in_default
 invariant_of-self-in_default g c =
     let tied = c.self.invariant.0 in
@@ -31,9 +39,9 @@ invariant_of-self-in_default g c =
         callers = subst (AreCallers g.K.TokenId.callers) (sym same.history) tied.callers;
         books = tied.books ∙ ap call_counts (sym same.history);
         history = tied.history ∙ sym same.history;
-        published = c.show.ensures.board;
+        published = c.show_by.ensures.board;
       },
-      c.show.ensures.pending,
+      c.show_by.ensures.pending,
     )
 
 pub extend-requires-clause-next : goal.extend-requires-clause-next
@@ -85,8 +93,8 @@ follow-requires-2 g c =
     } in
     (c.args.call, c.in-Ok.reply, next)
 
-pub show_by-requires-clause-shown : goal.show_by-requires-clause-shown
-show_by-requires-clause-shown g c =
+pub show_by-requires-2-clause-shown : goal.show_by-requires-2-clause-shown
+show_by-requires-2-clause-shown g c =
     let h = (g.G.JournaledToken.state c.self.inside.token).history in
     let answered = c.in-Ok.ensures.answered in
     let entered : (g.G.JournaledToken.state c.call.new.self).history ≡ entry_by c.number-number.result c.args.call c.in-Ok.reply ◁ h =
@@ -131,9 +139,9 @@ invariant_of-self-2 g c =
             (c.number-number.ensures.range.0, c.number-number.ensures.caller, tied.callers);
         books = c.follow-2.ensures.books ∙ ap call_counts known;
         history = known;
-        published = c.show_by.ensures.board;
+        published = c.show_by-2.ensures.board;
       },
-      c.show_by.ensures.pending,
+      c.show_by-2.ensures.pending,
     )
 
 pub returns-clause-answered : goal.returns-clause-answered
