@@ -1,7 +1,7 @@
 //! Of three callers of a token one logs in. Meanwhile another, which has learnt of the calls
 //! before, asks for the state of a session, without the lock, until it sees the login. The last
 //! makes no call: it asks before the first call and after the last.
-use crate::scripts::add_script;
+use crate::scripts::{add_script, check_taken};
 use crate::shared_work::{SharedWork, share_with};
 use crate::tokens::initialized_token;
 use anyhow::{Context, bail, ensure};
@@ -151,7 +151,7 @@ fn state_after(entries: u64) -> &'static str {
 /// All steps of a script were taken. With each answer comes how many entries the caller knows: it
 /// is that of their state, and what is known stays.
 fn check_script<K: TokenId>(alloc: Global, script: &AskingScript<K>) -> anyhow::Result<()> {
-    script.outcome()?;
+    check_taken(script)?;
     let mut known = FIRST;
     for answer in script.replies() {
         if let Answered::Status(status, seen) = answer {
@@ -309,8 +309,8 @@ impl<R: Runtime> SharedWork<R> for LoginAndAsks {
         };
         prepare(rt, alloc, token, callers, state)?;
         let older = caller_at(callers, 0)?.news();
-        let mut scripts = scripts_of(alloc, mem::replace(callers, Vec::new(alloc)))?;
-        run_steps(rt, alloc, token, &mut scripts);
+        let scripts = scripts_of(alloc, mem::replace(callers, Vec::new(alloc)))?;
+        let scripts = run_steps(rt, alloc, token, scripts);
         check_scripts(alloc, scripts, callers)?;
         check_after(alloc, callers, &older)
     }

@@ -108,7 +108,7 @@ impl<R: Wait> CallerWork<R> for DrawnCalls {
 
     type Output = anyhow::Result<CallerReplies>;
 
-    ghost holds = { λ work caller replies. ⊤ };
+    ghost holds = { λ work before after replies. ⊤ };
 
     /// The draws follow from the caller's number.
     fn act<K: TokenId, G: Gate<K>>(

@@ -86,8 +86,7 @@ impl<R: Runtime> SharedWork<R> for EightScripts {
         let pin = Pin::of(b"1234");
         token.call(rt, alloc, first, Call::InitToken { pin })?;
         let owned = mem::replace(callers, Vec::new(alloc));
-        let mut scripts = scripts_of(alloc, owned)?;
-        run_scripts(rt, alloc, token, &mut scripts);
+        let scripts = run_scripts(rt, alloc, token, scripts_of(alloc, owned)?);
         let mut all = Vec::new(alloc);
         finish(scripts, callers, &mut all)?;
         Ok(all)
@@ -101,9 +100,6 @@ pub(crate) fn run_eight_scripts<R: Runtime>(rt: R, alloc: Global) -> anyhow::Res
     let (token, all) = share_with(rt, alloc, token, CALLERS, &EightScripts)?;
     let entries = token.journal().entries();
     check_replies(entries.get(1..).unwrap_or(&[]), all)?;
-    ensure!(
-        entries.len() == ENTRIES,
-        "not an entry for each call"
-    );
+    ensure!(entries.len() == ENTRIES, "not an entry for each call");
     check_audit(alloc, &token)
 }

@@ -3,7 +3,7 @@
 //! it would come too late. The one that was first sees the other's session by asking only.
 use crate::asks::{await_status, check_ask, check_status, expect};
 use crate::orders::{CallOrder, HeldGate};
-use crate::scripts::add_script;
+use crate::scripts::{add_script, check_taken};
 use crate::shared_work::{SharedWork, share_with};
 use crate::tokens::initialized_token;
 use anyhow::bail;
@@ -72,7 +72,7 @@ fn check_script<K: TokenId>(
     script: &OpeningScript<K>,
     entry: u64,
 ) -> anyhow::Result<()> {
-    script.outcome()?;
+    check_taken(script)?;
     let answers = script.replies();
     expect(matches!(answers.first(), Some(Answered::Reply(_, seen)) if *seen == entry))?;
     for answer in answers {
@@ -134,8 +134,8 @@ impl<'a, R: Runtime> SharedWork<R> for Openings<'a> {
         callers: &mut Vec<Caller<K>>,
     ) -> anyhow::Result<()> {
         let owned = mem::replace(callers, Vec::new(alloc));
-        let mut scripts = scripts_of(alloc, owned)?;
-        run_steps(rt, alloc, &HeldGate::new(token, self.order), &mut scripts);
+        let scripts = scripts_of(alloc, owned)?;
+        let scripts = run_steps(rt, alloc, &HeldGate::new(token, self.order), scripts);
         check_scripts(alloc, scripts, callers, u64::from(self.first))?;
         for caller in callers {
             check_after(rt, alloc, token, caller)?;

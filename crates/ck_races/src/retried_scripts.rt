@@ -12,7 +12,7 @@ use ck_types::NoMemory;
 use std::alloc::Global;
 
 /// A caller makes calls by a script. It comes back with how many were answered: where not all
-/// were, the next one found no memory.
+/// were, the next one found no memory, or there was none for a thread.
 fn make_calls<K: TokenId + Send + Sync, R: Runtime>(
     rt: &R,
     alloc: Global,
@@ -22,9 +22,10 @@ fn make_calls<K: TokenId + Send + Sync, R: Runtime>(
 ) -> anyhow::Result<(Caller<K>, usize)> {
     let mut scripts = Vec::new(alloc);
     add_script(alloc, caller, calls_of(alloc, lines)?, &mut scripts)?;
-    run_scripts(rt, alloc, token, &mut scripts);
-    let script = scripts.pop().context("a script is missing")?;
-    let is_done = script.outcome().is_ok();
+    let script = run_scripts(rt, alloc, token, scripts)
+        .pop()
+        .context("a script is missing")?;
+    let is_done = script.started() && script.outcome().is_ok();
     let (caller, replies) = script.into_parts();
     ensure!(
         is_done == (replies.len() == lines.len()),

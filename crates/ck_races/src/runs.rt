@@ -51,7 +51,7 @@ impl<'a, R: Wait> CallerWork<R> for OrderedCalls<'a> {
     /// The caller's number and its replies.
     type Output = anyhow::Result<CallerReplies>;
 
-    ghost holds = { λ work caller replies. ⊤ };
+    ghost holds = { λ work before after replies. ⊤ };
 
     /// Makes the calls of the caller, each when it is the next one of the order.
     fn act<K: TokenId, G: Gate<K>>(

@@ -3,6 +3,7 @@ use crate::journals::CallerReplies;
 use crate::orders::{CallOrder, HeldGate};
 use crate::races::RaceLine;
 use crate::shared_work::SharedWork;
+use anyhow::ensure;
 use ck_journal::Call;
 use ck_shared::{Caller, Runtime, Script, SharedToken, TokenId, run_scripts};
 use ck_token::Token;
@@ -56,14 +57,23 @@ fn scripts_of<K: TokenId>(
     Ok(scripts)
 }
 
+/// All steps of a script were taken, in a thread of its own.
+pub(crate) fn check_taken<K: TokenId, S: Drop, A: Drop>(
+    script: &Script<K, S, A>,
+) -> anyhow::Result<()> {
+    ensure!(script.started(), "a script had no thread");
+    script.outcome()?;
+    Ok(())
+}
+
 /// The callers of scripts come back. What each was answered is added to all replies.
 pub(crate) fn finish<K: TokenId>(
     scripts: Vec<Script<K>>,
     callers: &mut Vec<Caller<K>>,
     all: &mut Vec<CallerReplies>,
-) -> Result<(), NoMemory> {
+) -> anyhow::Result<()> {
     for script in scripts {
-        script.outcome()?;
+        check_taken(&script)?;
         let (caller, replies) = script.into_parts();
         all.push((caller.number(), replies))?;
         callers.push(caller)?;
@@ -90,8 +100,8 @@ impl<'a, R: Runtime> SharedWork<R> for HeldScripts<'a> {
         callers: &mut Vec<Caller<K>>,
     ) -> anyhow::Result<Vec<CallerReplies>> {
         let owned = mem::replace(callers, Vec::new(alloc));
-        let mut scripts = scripts_of(alloc, owned, self.lines)?;
-        run_scripts(rt, alloc, &HeldGate::new(token, self.order), &mut scripts);
+        let scripts = scripts_of(alloc, owned, self.lines)?;
+        let scripts = run_scripts(rt, alloc, &HeldGate::new(token, self.order), scripts);
         let mut all = Vec::new(alloc);
         finish(scripts, callers, &mut all)?;
         Ok(all)
