@@ -69,7 +69,7 @@ impl<'a, R: Wait> CallerWork<R> for OrderedCalls<'a> {
 }
 
 /// Checks what came of a race, and what is made afterwards: no call was made too early, each caller
-/// got the replies of its entries, these are as the race says, and an audit finds the journal legal.
+/// got the replies of its entries, these are as the race says, and the journal is legal.
 fn check_run(
     alloc: Global,
     token: &mut Token,

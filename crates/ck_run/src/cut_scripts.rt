@@ -66,7 +66,11 @@ fn check_cuts(rt: &impl Abort, alloc: Global, index: usize) -> Result<(), Fail> 
         let (mut script, mut replies) = lines_before(alloc, index)?;
         let (left, cut) = line.split_at(count);
         script.push_str(left)?;
-        let came = if cut.is_empty() { Some(reply) } else { reply_to(left) };
+        let came = if cut.is_empty() {
+            Some(reply)
+        } else {
+            reply_to(left)
+        };
         let end = if came.is_some() || left.is_empty() {
             "played"
         } else {

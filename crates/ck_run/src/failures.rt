@@ -36,7 +36,7 @@ fn lines_are_answered_before_the_next_read(rt: HostRuntime) {
     check_play(&rt, rt.alloc(), SCRIPT, one_more, REPLIES, "played");
 }
 
-/// A comment of two bytes and its end are read by three reads, and the end of the script by one more.
+/// A comment of two bytes and its end take three reads, and one more finds the end of the script.
 #[test]
 fn the_end_is_found_by_a_read(rt: HostRuntime) {
     for (most_reads, end) in [(3, "reader does not end"), (4, "played")] {

@@ -45,7 +45,14 @@ fn check_template(rt: &impl Abort, alloc: Global, last: &str, reply: &str) -> Re
     )?;
     let replies = format!(in alloc; "0\n0 1\n{reply}\n")?;
     let (script, replies) = (script.as_bytes(), replies.as_bytes());
-    check_play(rt, alloc, script, Devices::of(LONGEST_LINE), replies, "played");
+    check_play(
+        rt,
+        alloc,
+        script,
+        Devices::of(LONGEST_LINE),
+        replies,
+        "played",
+    );
     Ok(())
 }
 
