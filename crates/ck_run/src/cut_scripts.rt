@@ -42,10 +42,10 @@ const BAD_LINES: [&str; 8] = [
 ];
 
 /// The reply to what is left of a line, where that is a call.
-fn reply_to(beginning: &str) -> Option<&'static str> {
+fn reply_to(beginning: &[u8]) -> Option<&'static str> {
     BEGINNINGS
         .iter()
-        .find(|(text, _)| *text == beginning)
+        .find(|(text, _)| text.as_bytes() == beginning)
         .map(|(_, reply)| *reply)
 }
 
@@ -62,11 +62,13 @@ fn lines_before(alloc: Global, index: usize) -> Result<(String, String), Fail> {
 /// The line of this index is cut, also where nothing or all of it is left.
 fn check_cuts(rt: &impl Abort, alloc: Global, index: usize) -> Result<(), Fail> {
     let (line, reply) = LINES.get(index).copied().ok_or("there is no such line")?;
+    let line = line.as_bytes();
     for count in 0..=line.len() {
-        let (mut script, mut replies) = lines_before(alloc, index)?;
-        let (left, cut) = line.split_at(count);
-        script.push_str(left)?;
-        let came = if cut.is_empty() {
+        let (before, mut replies) = lines_before(alloc, index)?;
+        let left = line.split_at(count.min(line.len())).0;
+        let mut script = Vec::from_slice(alloc, before.as_bytes())?;
+        script.extend_from_slice(left)?;
+        let came = if count == line.len() {
             Some(reply)
         } else {
             reply_to(left)
@@ -79,8 +81,7 @@ fn check_cuts(rt: &impl Abort, alloc: Global, index: usize) -> Result<(), Fail> 
         if let Some(came) = came {
             write!(replies, "{came}\n")?;
         }
-        let (script, replies) = (script.as_bytes(), replies.as_bytes());
-        check_play(rt, alloc, script, Devices::of(9), replies, end);
+        check_play(rt, alloc, &script, Devices::of(9), replies.as_bytes(), end);
     }
     Ok(())
 }
