@@ -10,7 +10,7 @@ pub(crate) enum FileError {
     #[error("out of memory")]
     Memory,
     #[error("{0}")]
-    Unread(io::Error),
+    Io(io::Error),
     #[error("line {0} isn't text in UTF-8")]
     NotText(u64),
     #[error("line {0} ends with a carriage return (CR LF), and lines end with a line feed only")]
@@ -21,7 +21,7 @@ impl From<io::Error> for FileError {
     fn from(error: io::Error) -> FileError {
         match error.kind() {
             io::ErrorKind::OutOfMemory => FileError::Memory,
-            _ => FileError::Unread(error),
+            _ => FileError::Io(error),
         }
     }
 }

@@ -37,7 +37,7 @@ fn play_bytes<R: Print + Eprint + AllocGlobal>(
 ) -> io::Result<Status> {
     let text = match text_of(bytes) {
         Ok(text) => text,
-        Err(error) => return report_unread(rt, name, &error),
+        Err(error) => return report_file_error(rt, name, &error),
     };
     match play_text(rt.alloc(), name, text, options) {
         Ok(played) => {
@@ -56,11 +56,11 @@ fn play_bytes<R: Print + Eprint + AllocGlobal>(
 }
 
 /// Writes why a file isn't read.
-fn report_unread<R: Eprint>(rt: &R, name: &str, error: &FileError) -> io::Result<Status> {
+fn report_file_error<R: Eprint>(rt: &R, name: &str, error: &FileError) -> io::Result<Status> {
     eprintln!(rt; "ck_cases: {name}: {error}")?;
     match error {
         FileError::Memory => Ok(Status::Wrong),
-        _ => Ok(Status::Unread),
+        _ => Ok(Status::BadInput),
     }
 }
 
@@ -72,7 +72,7 @@ fn play_file<R: Files + Print + Eprint + AllocGlobal>(
 ) -> io::Result<Status> {
     match read_file(rt, name) {
         Ok(bytes) => play_bytes(rt, name, bytes.as_slice(), options),
-        Err(error) => report_unread(rt, name, &error),
+        Err(error) => report_file_error(rt, name, &error),
     }
 }
 
@@ -103,7 +103,7 @@ fn run<R: Env + Files + Print + Eprint + AllocGlobal>(rt: &R) -> io::Result<Stat
             eprint!(rt; "{error}")?;
             match error {
                 ArgumentError::Memory => Ok(Status::Wrong),
-                _ => Ok(Status::Unread),
+                _ => Ok(Status::BadInput),
             }
         }
     }

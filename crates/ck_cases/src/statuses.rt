@@ -8,7 +8,7 @@ pub(crate) enum Status {
     /// A line differs or is bad, or a file couldn't be played to its end.
     Wrong = 1,
     /// The arguments are bad, or a file can't be read.
-    Unread = 2,
+    BadInput = 2,
 }
 
 impl Status {

@@ -1,7 +1,7 @@
-//! Scripts that are cut, and readers and writers that fail.
+//! Readers and writers that fail, and readers that do not end in time.
 use crate::devices::{Devices, check_play};
 
-/// Three lines of 16 bytes, each of which is bad where it is cut.
+/// Three lines of 16 bytes.
 const SCRIPT: &[u8] = b"1 OpenSession 6\n1 SignFinal 7 ?\n1 OpenSession 4\n";
 
 /// The replies to its lines, each of three bytes.
@@ -10,33 +10,6 @@ const REPLIES: &[u8] = b"e1\nb3\ne1\n";
 /// The first `count` bytes.
 fn front(bytes: &'static [u8], count: usize) -> &'static [u8] {
     bytes.split_at(count.min(bytes.len())).0
-}
-
-/// How many lines are answered where the script is cut behind `count` bytes, and how playing ends.
-fn end_of_cut(count: usize) -> (usize, &'static str) {
-    match (count / 16, count % 16) {
-        (lines, 0) => (lines, "played"),
-        (lines, 15) => (lines + 1, "played"),
-        (0, _) => (0, "line 1"),
-        (1, _) => (1, "line 2"),
-        (lines, _) => (lines, "line 3"),
-    }
-}
-
-#[test]
-fn a_script_may_be_cut_at_every_byte(rt: HostRuntime) {
-    for count in 0..=SCRIPT.len() {
-        let (lines, end) = end_of_cut(count);
-        let devices = Devices::of(9);
-        check_play(
-            &rt,
-            rt.alloc(),
-            front(SCRIPT, count),
-            devices,
-            front(REPLIES, lines.saturating_mul(3)),
-            end,
-        );
-    }
 }
 
 /// Bytes are read one by one, and a read fails or isn't made. The last read finds the end.
@@ -61,6 +34,18 @@ fn lines_are_answered_before_the_next_read(rt: HostRuntime) {
     let mut one_more = Devices::of(1);
     one_more.most_reads = 49;
     check_play(&rt, rt.alloc(), SCRIPT, one_more, REPLIES, "played");
+}
+
+/// A comment of two bytes and its end take three reads, and one more finds the end of the script.
+#[test]
+fn the_end_is_found_by_a_read(rt: HostRuntime) {
+    for (most_reads, end) in [(3, "reader does not end"), (4, "played")] {
+        let devices = Devices {
+            most_reads,
+            ..Devices::of(1)
+        };
+        check_play(&rt, rt.alloc(), b"#x\n", devices, b"", end);
+    }
 }
 
 /// Bytes are written one by one, and a write fails or takes none.

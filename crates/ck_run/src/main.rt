@@ -3,9 +3,15 @@
 #![tactic(auto)]
 
 #[cfg(test)]
+mod audits;
+#[cfg(test)]
+mod cut_scripts;
+#[cfg(test)]
 mod devices;
 #[cfg(test)]
 mod failures;
+#[cfg(test)]
+mod long_lines;
 #[cfg(test)]
 mod plays;
 #[cfg(test)]

@@ -12,7 +12,7 @@ use std::test::Fail;
 type Play = (&'static str, &'static str, &'static str);
 
 #[rattlefmt::skip]
-const PLAYS: [Play; 17] = [
+const PLAYS: [Play; 27] = [
     ("# x", "", "played"),
     ("", "", "played"),
     ("\n\n# x\n", "", "played"),
@@ -30,6 +30,16 @@ const PLAYS: [Play; 17] = [
     ("1 InitToken 31323334\n1 OpenSession 6\n1 CreateObject 1 0=00", "0\n0 1\n13\n", "played"),
     ("1 InitToken 31323334\n1 OpenSession 6\n1 CreateObject 1 3=61", "0\n0 1\nd0\n", "played"),
     ("1 InitToken 31323334\n1 OpenSession 6\n1 CreateObject 1 3=6", "0\n0 1\n", "line 3"),
+    ("1 OpenSession E", "", "line 1"),
+    ("1 OpenSession 06", "", "line 1"),
+    ("1  OpenSession 6", "", "line 1"),
+    ("1 OpenSession 6 ", "", "line 1"),
+    ("1 OpenSession 6\r", "", "line 1"),
+    ("9 OpenSession 6", "", "line 1"),
+    ("1 CloseSession 18446744073709551616", "", "line 1"),
+    ("1 CreateObject 1 0=", "", "line 1"),
+    ("1 CreateObject 1 3=61,", "", "line 1"),
+    ("1 InitToken 3", "", "line 1"),
 ];
 
 fn check_plays(rt: &impl Abort, alloc: Global, plays: &[Play], devices: Devices) {

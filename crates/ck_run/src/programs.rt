@@ -14,6 +14,18 @@ type Play = (&'static str, &'static str, u64, u64, &'static str, u8);
 /// A script of two callers.
 const SCRIPT: &str = "1 InitToken 31323334\n1 OpenSession 6\n2 CloseSession 7\n";
 
+/// A script whose session is closed twice, the last two lines by a second caller.
+const CLOSED_TWICE: &str = "\
+1 InitToken 31323334
+1 OpenSession 6
+1 CreateObject 1 0=0000000000000000,3=6162
+1 GetAttributeValue 1 1 3:8,11:?
+1 DestroyObject 1 1
+1 GetAttributeValue 1 1 3:8
+2 CloseSession 1
+2 CloseSession 1
+";
+
 /// How the program is used.
 const HELP: &str = "\
 Plays a script of PKCS #11 calls, read from standard input, on a new token
@@ -26,7 +38,7 @@ Options:
 ";
 
 #[rattlefmt::skip]
-const PLAYS: [Play; 26] = [
+const PLAYS: [Play; 28] = [
     ("ck_run", "", 0, 0, "", 0),
     ("ck_run", "1 InitToken 31323334", 0, 0, "0\n", 0),
     ("ck_run", "1 InitToken 31\n1 Login", 0, 0, "a2\n", 1),
@@ -38,7 +50,9 @@ const PLAYS: [Play; 26] = [
     ("ck_run --callers 1", SCRIPT, 0, 0, "", 1),
     ("ck_run --callers 2", SCRIPT, 0, 0, "entries 3\naudit ok\n", 0),
     ("ck_run --callers=2", SCRIPT, 0, 0, "entries 3\naudit ok\n", 0),
+    ("ck_run --callers 2", CLOSED_TWICE, 0, 0, "entries 8\naudit ok\n", 0),
     ("ck_run --callers 2", "1 GetTokenInfo\n1 Nope\n", 0, 0, "", 1),
+    ("ck_run --callers 2", "1 GetTokenInfo\n3 GetTokenInfo\n", 0, 0, "", 1),
     ("ck_run --callers 2", SCRIPT, 5, 0, "", 3),
     ("ck_run --callers 2", SCRIPT, 0, 2, "e", 3),
     ("ck_run --callers 8", "", 0, 0, "entries 0\naudit ok\n", 0),
