@@ -2,6 +2,7 @@ use crate::operations::OperationKind;
 use crate::replies::Reply;
 use ck_objects::Template;
 use ck_types::{Bytes, Mechanism, Pin, Sequence};
+use std::alloc::AllocError;
 
 /// What C_GetAttributeValue is asked of one attribute: its type, and the room for its value in
 /// bytes. Room `None`, like a NULL pValue, asks for the value's length alone (PKCS #11 Base 3.0,
@@ -14,7 +15,7 @@ pub struct AttributeQuery {
 
 /// A call of the application with its arguments, named after the standard's function (PKCS #11 Base
 /// 3.0, Functions). SetKeyState alone is no function of the standard.
-#[derive(Clone, Drop)]
+#[derive(Drop)]
 pub enum Call {
     InitToken {
         pin: Pin,
@@ -162,6 +163,67 @@ pub enum Call {
         session: u64,
         signature: Bytes,
     },
+}
+
+/// A copy of a call: of each variant the fields that are copied, and behind `;` those that are
+/// cloned, since they own memory.
+macro_rules! copy_of {
+    ($call:expr, $($name:ident { $($copied:ident),* $(; $($cloned:ident),+)? })+) => {
+        match $call {
+            $(Call::$name { $($copied,)* $($($cloned,)+)? } => Call::$name {
+                $($copied: *$copied,)*
+                $($($cloned: $cloned.clone()?,)+)?
+            },)+
+        }
+    };
+}
+
+// Not derived: that clones the numbers too, which makes its proof many times as long.
+impl Clone for Call {
+    ghost use Rattle.std.specs.Prelude.{◌≡◌};
+
+    ghost is_clone = { λ call copy. copy ≡ call };
+
+    fn clone(&self) -> Result<Call, AllocError> {
+        let copy = copy_of! {
+            self,
+            InitToken { pin }
+            InitPin { session, pin }
+            SetPin { session, old, new }
+            OpenSession { flags }
+            CloseSession { session }
+            CloseAllSessions {}
+            Login { session, user, pin }
+            Logout { session }
+            GetSessionInfo { session }
+            GetTokenInfo {}
+            GetMechanismList {}
+            SessionCancel { session, flags }
+            CreateObject { session; template }
+            GenerateKey { session; mechanism, template, random }
+            CopyObject { session, object; template }
+            GetAttributeValue { session, object; queries }
+            SetAttributeValue { session, object; template }
+            SetKeyState { session, key, state }
+            DestroyObject { session, object }
+            FindObjectsInit { session; template }
+            FindObjects { session, max }
+            FindObjectsFinal { session }
+            DigestInit { session; mechanism }
+            Digest { session, room; bytes }
+            DigestUpdate { session; bytes }
+            DigestFinal { session, room }
+            SignInit { session, key; mechanism }
+            Sign { session, room; bytes }
+            SignUpdate { session; bytes }
+            SignFinal { session, room }
+            VerifyInit { session, key; mechanism }
+            Verify { session; bytes, signature }
+            VerifyUpdate { session; bytes }
+            VerifyFinal { session; signature }
+        };
+        Ok(copy)
+    }
 }
 
 impl Call {
