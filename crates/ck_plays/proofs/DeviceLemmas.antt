@@ -1,15 +1,11 @@
--- What a device has left or holds, after one more read or write
+-- What a device has left, after one more read
 use Rattle.std.proofs.Common.{◌≡◌, ◌<◌, ℕ, zero, suc, Bool, true, false, List, [], ◌∷◌, ◌++◌}
 use Rattle.std.proofs.Common.{Option, Some, None, Ok, Err, length, take, refl, sym, ap, ◌∙◌, subst}
 use Rattle.std.proofs.Common.{append_assoc, arith}
 use Rattle.std.proofs.lemmas.Bool.Decides.{nat_tests}
-use Rattle.std.proofs.lemmas.List.{append-nil}
 use Rattle.std.specs.Prelude.{◌==◌, ◌&&◌, not, Result, if◌then◌else◌}
-use Rattle.std.specs.Io.KnownBytes.{Consumes, IsAtEnd, Keeps, ReadConsumes, Appends, WriteAppends}
-use Rattle.ck_plays.specs.Devices.{Reading, Writing, IsRest, IsLeft, is_end, after_read, end_read}
-use Rattle.ck_plays.specs.Devices.{read_on, after_write, failed_write, wrote}
-
--- ---- reads
+use Rattle.std.specs.Io.KnownBytes.{Consumes, IsAtEnd, Keeps, ReadConsumes}
+use Rattle.ck_plays.specs.Devices.{Reading, IsRest, IsLeft, is_end, after_read, end_read, read_on}
 
 append-none : (front more : List ℕ) → front ++ more ≡ [] → more ≡ []
 append-none [] more e = e
@@ -77,39 +73,3 @@ rest-after old new r (Ok count) buffer consumes rest =
     rest-step (is_end count buffer) r count buffer old new refl consumes.0 consumes.1 rest
 rest-after old new r (Err e) buffer consumes rest =
     rest-Keeps r.script r.bytes r.ends old new consumes rest
-
--- ---- writes
-
-held-Keeps : (old new : Option (List ℕ)) (held : List ℕ) → Keeps old new → old ≡ Some held
-    → new ≡ Some held
-held-Keeps None new held keeps e = cc
-held-Keeps (Some xs) None held keeps e = absurd keeps
-held-Keeps (Some xs) (Some ys) held keeps e = cc
-
-held-Appends : (old new : Option (List ℕ)) (held more : List ℕ) → Appends old new more
-    → old ≡ Some held → new ≡ Some (held ++ more)
-held-Appends None new held more appends e = cc
-held-Appends (Some xs) None held more appends e = absurd appends
-held-Appends (Some xs) (Some ys) held more appends e = cc
-
-held-step : (none : Bool) (w : Writing) (count : ℕ) (bytes : List ℕ) (old new : Option (List ℕ))
-    → (count == 0) ≡ none → Appends old new (take count bytes)
-    → (w.is_known ≡ true → old ≡ Some w.bytes)
-    → (let v : Writing = if none then failed_write w else wrote w (take count bytes) in
-    v.is_known ≡ true → new ≡ Some v.bytes)
-held-step true w count bytes old new is appends held known =
-    let none : count ≡ 0 = grind (arith, nat_tests) in
-    held-Appends old new w.bytes []
-    (subst (λ (n : ℕ). Appends old new (take n bytes)) none appends) (held known)
-    ∙ ap Some (append-nil w.bytes)
-held-step false w count bytes old new is appends held known =
-    held-Appends old new w.bytes (take count bytes) appends (held known)
-
-pub held-after : {E : Type 0} (old new : Option (List ℕ)) (w : Writing) (write : Result ℕ E)
-    (bytes : List ℕ)
-    → WriteAppends old new write bytes → (w.is_known ≡ true → old ≡ Some w.bytes)
-    → (let v : Writing = after_write w write bytes in v.is_known ≡ true → new ≡ Some v.bytes)
-held-after old new w (Ok count) bytes appends held =
-    held-step (count == 0) w count bytes old new refl appends held
-held-after old new w (Err e) bytes keeps held known =
-    held-Keeps old new w.bytes keeps (held known)

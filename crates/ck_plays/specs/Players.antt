@@ -79,6 +79,7 @@ pub record IsStopped (limits : Ranges) (written : Writing) (lines : List (List â
   pub of_line : IsOfLine f
   pub output : List â„•
   pub writer : is_written (record {
+    is_known = written.is_known;
     bytes = written.bytes ++ output;
     failures = failed_writes written.failures (Err f);
   })
