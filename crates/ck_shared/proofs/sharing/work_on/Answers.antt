@@ -1,6 +1,6 @@
 use Rattle.std.proofs.Common.{sym, ap, ◌∙◌, length, subst}
 use Rattle.std.specs.List.{AllZip}
-use Rattle.std.specs.Prelude.{List, map, vec_items}
+use Rattle.std.specs.Prelude.{vec_items}
 use Rattle.std.proofs.lemmas.List.{length-map}
 use Rattle.ck_journal.specs.TokenStates.{TokenState}
 use Rattle.ck_shared.specs.Outputs.{IsOfCaller}

@@ -7,7 +7,7 @@ use Rattle.ck_journal.specs.TokenStates.{IsAnswered, entry_of}
 use Rattle.ck_callers.specs.Callers.{IsNextCall, entry_by}
 use Rattle.ck_callers.specs.KnownHistories.{Covers}
 use Rattle.ck_shared.proofs.Shown.{covered_on, if_none}
-use Rattle.ck_shared.proofs.locked.Locked.step.Goals as goal
+use Rattle.ck_shared.proofs.locked.Locked.step_after.Goals as goal
 
 pub invariant_of-self : goal.invariant_of-self
 invariant_of-self g c =
@@ -77,7 +77,7 @@ follow-requires-2 g c =
     let caller = c.args.caller.now in
     let h = (g.G.JournaledToken.state c.self.inside.token).history in
     let answered = c.in-Ok.ensures.answered in
-    let entered : (g.G.JournaledToken.state c.call.new.self).history ≡ entry_by caller.number c.args.call c.in-Ok.reply ◁ h =
+    let entered : (g.G.JournaledToken.state c.answer.new.token).history ≡ entry_by caller.number c.args.call c.in-Ok.reply ◁ h =
     answered.entered ∙ ap (λ r. entry_by c.number-number.result c.args.call r ◁ h) (sym answered.answered)
     ∙ ap (λ n. entry_by n c.args.call c.in-Ok.reply ◁ h) (c.number-number.ensures.value ∙ c.account.ensures.number) in
     let front : IsFront caller.seen h =
@@ -97,7 +97,7 @@ pub show_by-requires-2-clause-shown : goal.show_by-requires-2-clause-shown
 show_by-requires-2-clause-shown g c =
     let h = (g.G.JournaledToken.state c.self.inside.token).history in
     let answered = c.in-Ok.ensures.answered in
-    let entered : (g.G.JournaledToken.state c.call.new.self).history ≡ entry_by c.number-number.result c.args.call c.in-Ok.reply ◁ h =
+    let entered : (g.G.JournaledToken.state c.answer.new.token).history ≡ entry_by c.number-number.result c.args.call c.in-Ok.reply ◁ h =
     answered.entered ∙ ap (λ r. entry_by c.number-number.result c.args.call r ◁ h) (sym answered.answered) in
     if_none c.in_ok-slot.slot c.in_ok-slot.ensures.none (λ kept. (
       covered_on (entry_by c.number-number.result c.args.call c.in-Ok.reply) c.leaves_board-leaves.result
@@ -114,7 +114,7 @@ returns-clause-called g c =
     let caller = c.args.caller.now in
     let h = (g.G.JournaledToken.state c.self.inside.token).history in
     let answered = c.in-Ok.ensures.answered in
-    let entered : (g.G.JournaledToken.state c.call.new.self).history ≡ entry_by caller.number c.args.call c.in-Ok.reply ◁ h =
+    let entered : (g.G.JournaledToken.state c.answer.new.token).history ≡ entry_by caller.number c.args.call c.in-Ok.reply ◁ h =
     answered.entered ∙ ap (λ r. entry_by c.number-number.result c.args.call r ◁ h) (sym answered.answered)
     ∙ ap (λ n. entry_by n c.args.call c.in-Ok.reply ◁ h) (c.number-number.ensures.value ∙ c.account.ensures.number) in
     let front : IsFront caller.seen h =
@@ -147,6 +147,6 @@ invariant_of-self-2 g c =
 pub returns-clause-answered : goal.returns-clause-answered
 returns-clause-answered g c =
     let old = g.G.JournaledToken.state c.self.inside.token in
-    let new = g.G.JournaledToken.state c.call.new.self in
+    let new = g.G.JournaledToken.state c.answer.new.token in
     rw (← c.self.view_is) (subst (λ n. IsAnswered old new n c.args.call c.in-Ok.reply)
     (c.number-number.ensures.value ∙ c.account.ensures.number) c.in-Ok.ensures.answered)
