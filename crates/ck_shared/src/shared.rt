@@ -97,8 +97,8 @@ impl<K: TokenId, G: JournaledToken, R: Wait + Drop> SharedToken<K, G, R> {
         self.lock.lock(rt)
     }
 
-    /// One call of a caller, under the lock. The bytes of a long message are taken in while the lock
-    /// is free.
+    /// One call of a caller, under the lock. The bytes of a long message are taken in while the
+    /// lock is free.
     pub fn call<W: Wait>(
         &self,
         rt: &W,
@@ -116,8 +116,8 @@ impl<K: TokenId, G: JournaledToken, R: Wait + Drop> SharedToken<K, G, R> {
         self.lock.lock(rt).step(rt, alloc, caller, call)
     }
 
-    /// One call of a caller, which brings many bytes. The lock is taken twice, shortly: to begin the
-    /// work on them, and to make the call once it is done.
+    /// One call of a caller, which brings many bytes. The lock is taken twice, shortly: to begin
+    /// the work on them, and to make the call once it is done.
     #[inline(never)]
     fn call_with_work<W: Wait>(
         &self,
