@@ -1,6 +1,7 @@
 -- The exchange that adds an entry keeps the rule
 use Rattle.std.proofs.Common.{◌≡◌, ℕ, ◌+◌, ◌<◌, ◌≤◌, ◌==◌, Bool, true, false, List, [], ◌∷◌, ◌++◌}
-use Rattle.std.proofs.Common.{length, refl, ap, sym, subst, arith, inl, length-append, None, MatchBool}
+use Rattle.std.proofs.Common.{length, refl, ap, sym, subst, arith, inl, length-append, None}
+use Rattle.std.proofs.Common.{MatchBool}
 use Rattle.std.proofs.lemmas.List.{append-nil}
 use Rattle.std.proofs.lemmas.Bool.Decides.{nat_tests}
 use Rattle.std.proofs.lemmas.Bool.{eq-eqb}
@@ -37,7 +38,8 @@ adds_goes log v e old len pre true is =
     )
 adds_goes log v e old len pre false is =
     let all : log ++ [] ≡ log = append-nil log in
-    let n : either (length log == old) (old + 1) (length log) ≡ length (log ++ []) = rw is (ap length (sym all)) in (
+    let n : either (length log == old) (old + 1) (length log) ≡ length (log ++ []) =
+    rw is (ap length (sym all)) in (
       keeps,
       [],
       None,
@@ -52,7 +54,8 @@ pub adds_moves : (v : List Entry) (e : Entry) (old : ℕ) → old ≤ length v
     → Moves IsKept shown moved 0 (v, (no_nib, None)) (λ n. either (n == old) (old + 1) n)
     (Adds (step 0 old (old + 1) e) (v, (no_nib, None)))
 adds_moves v e old len cs log kept pre away =
-    let P : List Cell → Type 0 = λ c. (0 < length c) × ((cell c 0).1 ≡ true) × Goes IsKept shown moved 0
+    let P : List Cell → Type 0 = λ c. (0 < length c) × ((cell c 0).1 ≡ true)
+    × Goes IsKept shown moved 0
     (v, (no_nib, None)) (λ n. either (n == old) (old + 1) n)
     (Adds (step 0 old (old + 1) e) (v, (no_nib, None))) c log in
     subst P (sym kept) (omega arith, refl, adds_goes log v e old len pre (length log == old) refl)
@@ -62,4 +65,5 @@ pub adds_found : (old found : ℕ) (e : Entry) (before after : List Entry) → f
     → MatchBool (found == old) ((after ≡ before ++ e ∷ []) × (length before ≡ old)) (Unit {0})
     → (after ≡ before ++ e ∷ []) × (length before ≡ old)
 adds_found old found e before after is adds =
-    subst (λ t. MatchBool t ((after ≡ before ++ e ∷ []) × (length before ≡ old)) (Unit {0})) (eq-eqb found old is) adds
+    subst (λ t. MatchBool t ((after ≡ before ++ e ∷ []) × (length before ≡ old)) (Unit {0}))
+    (eq-eqb found old is) adds

@@ -1,5 +1,6 @@
 -- A caller after one more reply, and the books
-use Rattle.std.proofs.Common.{◌≡◌, ℕ, ◌+◌, ◌-◌, ◌<◌, ◌≤◌, ◌^◌, List, ◌∷◌, length, slice_index, slice_set}
+use Rattle.std.proofs.Common.{◌≡◌, ℕ, ◌+◌, ◌-◌, ◌<◌, ◌≤◌, ◌^◌, List, ◌∷◌, length, slice_index}
+use Rattle.std.proofs.Common.{slice_set}
 use Rattle.std.proofs.Common.{refl, sym, ap, ◌∙◌, arith}
 use Rattle.ck_types.specs.TokenLimits.{Ranges}
 use Rattle.ck_journal.specs.Answers.{IsLegal}
@@ -18,15 +19,23 @@ module _ (c : CallerState) (counts : List ℕ) (call : Call) (reply : Reply) (h 
     (low : 1 ≤ c.number) (high : c.number ≤ 8) where
   known_count : slice_index counts (c.number - 1) ≡ call_count c.number next.before
   known_count =
-      ap (λ xs. slice_index xs (c.number - 1)) next.counted ∙ call_counts-at c.number next.before low high
+      ap (λ xs. slice_index xs (c.number - 1)) next.counted
+      ∙ call_counts-at c.number next.before low high
 
   pub count_fits : entry_count h < 2 ^ 64 → slice_index counts (c.number - 1) + 1 < 2 ^ 64
   count_fits room =
-      omega (arith, known_count, call_count-within c.number next.before, ap entry_count next.next, room)
+      omega (
+        arith,
+        known_count,
+        call_count-within c.number next.before,
+        ap entry_count next.next,
+        room,
+      )
 
   -- the caller's entries are those from before and this one
   own_next : entries_by c.number h ≡ entry_by c.number call reply ∷ entries_by c.number next.before
-  own_next = ap (entries_by c.number) next.next ∙ entries_by-own (entry_by c.number call reply) next.before
+  own_next = ap (entries_by c.number) next.next ∙ entries_by-own (entry_by c.number call reply)
+      next.before
 
   module _ (audited : c.count ≡ slice_index counts (c.number - 1)) where
     pub count_next : call_count c.number h ≡ c.count + 1
@@ -39,8 +48,14 @@ module _ (c : CallerState) (counts : List ℕ) (call : Call) (reply : Reply) (h 
         ∙ sym (call_counts-next c.number (entry_by c.number call reply) next.before refl low high)
         ∙ ap call_counts (sym next.next)
 
-    pub called : (limits : Ranges) → IsFront c.last c.seen → call_count c.number c.last ≡ c.count → IsLegal limits h
-        → HasCalled limits c call reply (record { number = c.number; count = c.count + 1; last = h; seen = h })
+    pub called : (limits : Ranges) → IsFront c.last c.seen → call_count c.number c.last ≡ c.count
+        → IsLegal limits h
+        → HasCalled limits c call reply (record {
+          number = c.number;
+          count = c.count + 1;
+          last = h;
+          seen = h;
+        })
     called limits known made legal = record {
       number = refl;
       count = refl;
@@ -50,6 +65,7 @@ module _ (c : CallerState) (counts : List ℕ) (call : Call) (reply : Reply) (h 
       front = next.front;
       next = next.next;
       own = own_next ∙ ap (λ es. entry_by c.number call reply ∷ es)
-          (entries_by-front c.number c.last next.before (front_trans c.last c.seen next.before known next.front)
+          (entries_by-front c.number c.last next.before
+          (front_trans c.last c.seen next.before known next.front)
           (sym known_count ∙ sym audited ∙ sym made));
     }

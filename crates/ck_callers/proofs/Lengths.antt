@@ -11,7 +11,8 @@ use Rattle.ck_journal.proofs.FrontLemmas.{entry_count-log, front_of_prefix, hist
 use Rattle.ck_callers.proofs.Prefixes.{prefix_shorter, prefix_whole, prefix_length}
 
 module _ (b : Base) where
-  pub count_is : (log : List Entry) (h : History) (n : ℕ) → n ≡ length log → history_of b log ≡ h → n ≡ entry_count h
+  pub count_is : (log : List Entry) (h : History) (n : ℕ) → n ≡ length log → history_of b log ≡ h
+      → n ≡ entry_count h
   count_is log h n len is = len ∙ sym (entry_count-log b log) ∙ ap entry_count is
 
   module _ (one two all : List Entry) (g h : History) (p : IsPrefix one all) (q : IsPrefix two all)
@@ -31,7 +32,8 @@ module _ (b : Base) where
 
     pub added_next : history_of b log ≡ e ◁ g
     added_next =
-        ap (history_of b) added ∙ history_of-next b seen e ∙ ap (λ xs. e ◁ history_of b xs) (sym same_seen)
+        ap (history_of b) added ∙ history_of-next b seen e
+        ∙ ap (λ xs. e ◁ history_of b xs) (sym same_seen)
         ∙ ap (λ x. e ◁ x) is
 
     pub added_other : IsFront h g
@@ -39,7 +41,8 @@ module _ (b : Base) where
         let short : length two ≤ length one = omega (arith, prefix_length two seen q) in
         shorter_begins two one seen h g q p also is short
 
-    pub added_legal : (limits : Ranges) → IsLegal limits (history_of b one) → e.reply ≡ answer limits g e.call
+    pub added_legal : (limits : Ranges) → IsLegal limits (history_of b one)
+        → e.reply ≡ answer limits g e.call
         → IsLegal limits (history_of b log)
     added_legal limits legal answered =
         subst (IsLegal limits) (sym added_next) (answered, subst (IsLegal limits) is legal)

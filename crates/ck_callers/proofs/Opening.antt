@@ -7,9 +7,11 @@ use Rattle.ck_callers.specs.Accounts.{AccountState, AreNew}
 use Rattle.ck_callers.specs.Callers.{CallerState, new_caller}
 
 -- these callers were made, and these accounts are left
-module _ (base : Base) (accounts : List AccountState) (made : List CallerState) (left : List AccountState)
+module _ (base : Base) (accounts : List AccountState) (made : List CallerState)
+    (left : List AccountState)
     (so_far : made ++ map (new_caller base) left ≡ map (new_caller base) accounts) where
-  pub made_next : (account : AccountState) (rest : List AccountState) → left ≡ account ∷ rest → AreNew left
+  pub made_next : (account : AccountState) (rest : List AccountState) → left ≡ account ∷ rest
+      → AreNew left
       → (caller : CallerState) → caller ≡ new_caller base account
       → (all : List CallerState) → all ≡ made ++ caller ∷ []
       → AreNew rest × (all ++ map (new_caller base) rest ≡ map (new_caller base) accounts)
@@ -23,4 +25,5 @@ module _ (base : Base) (accounts : List AccountState) (made : List CallerState) 
 
   pub made_all : length left ≡ 0 → made ≡ map (new_caller base) accounts
   made_all none =
-      sym (append-nil made) ∙ ap (λ l. made ++ map (new_caller base) l) (sym (nil_from_length left none)) ∙ so_far
+      sym (append-nil made) ∙ ap (λ l. made ++ map (new_caller base) l)
+      (sym (nil_from_length left none)) ∙ so_far

@@ -19,10 +19,12 @@ entry_at-later g (e ∷ later) n within =
     ∙ entry_at-later g later n within
 
 entry_at-newest : (e : Entry) (h : History) → entry_at (e ◁ h) (entry_count (e ◁ h)) ≡ Some e
-entry_at-newest e h = ap (λ t. cond t (Some e) (entry_at h (suc (entry_count h)))) (same_number (suc (entry_count h)))
+entry_at-newest e h = ap (λ t. cond t (Some e) (entry_at h (suc (entry_count h))))
+    (same_number (suc (entry_count h)))
 
 -- the newest entry of a front stands at the front's length
-pub entry_at-front : (e : Entry) (h all : History) → IsFront (e ◁ h) all → entry_at all (entry_count (e ◁ h)) ≡ Some e
+pub entry_at-front : (e : Entry) (h all : History) → IsFront (e ◁ h) all
+    → entry_at all (entry_count (e ◁ h)) ≡ Some e
 entry_at-front e h all f =
     ap (λ x. entry_at x (entry_count (e ◁ h))) f.1
     ∙ entry_at-later (e ◁ h) f.0 (entry_count (e ◁ h)) (omega arith)
@@ -35,7 +37,8 @@ front_at-whole (start b) = refl
 front_at-whole (e ◁ h) =
     ap (λ t. cond t (e ◁ h) (front_at h (suc (entry_count h)))) (same_number (suc (entry_count h)))
 
-front_at-later : (g : History) (later : List Entry) → front_at (followed_by g later) (entry_count g) ≡ g
+front_at-later : (g : History) (later : List Entry) → front_at (followed_by g later) (entry_count g)
+    ≡ g
 front_at-later g [] = front_at-whole g
 front_at-later g (e ∷ later) =
     let longer = longer_later g later in

@@ -14,18 +14,21 @@ use Rattle.ck_callers.specs.Turns.{EndsAt, HasMade}
 
 none_made : (MayFail : Call → Type 0) (calls : List Call) (outcome : Result (Unit {0}) NoMemory)
     → EndsAt MayFail calls outcome
-    → MatchResult outcome (λ done. length {A = Reply} [] ≡ length calls) (λ none. length {A = Reply} [] < length calls)
+    → MatchResult outcome (λ done. length {A = Reply} [] ≡ length calls)
+    (λ none. length {A = Reply} [] < length calls)
 none_made MayFail calls (Ok done) end = ap length (sym end)
 none_made MayFail [] (Err none) end = absurd end
 none_made MayFail (c ∷ calls) (Err none) end = omega arith
 
-one_more_made : (outcome : Result (Unit {0}) NoMemory) (m n : ℕ) → MatchResult outcome (λ done. m ≡ n) (λ none. m < n)
+one_more_made : (outcome : Result (Unit {0}) NoMemory) (m n : ℕ)
+    → MatchResult outcome (λ done. m ≡ n) (λ none. m < n)
     → MatchResult outcome (λ done. suc m ≡ suc n) (λ none. suc m < suc n)
 one_more_made (Ok done) m n made = omega arith
 one_more_made (Err none) m n made = omega arith
 
 pub played_none : (old : CallerState) (MayFail : Call → Type 0) (calls : List Call)
-    (outcome : Result (Unit {0}) NoMemory) (new : CallerState) → new ≡ old → EndsAt MayFail calls outcome
+    (outcome : Result (Unit {0}) NoMemory) (new : CallerState) → new ≡ old
+    → EndsAt MayFail calls outcome
     → HasPlayed old calls [] outcome new
 played_none old MayFail calls outcome new same end =
     let count : new.count ≡ old.count = ap (λ c. c.count) same in record {
@@ -39,29 +42,36 @@ played_none old MayFail calls outcome new same end =
 module _ (limits : Ranges) (old : CallerState) (call : Call) (reply : Reply) (now : CallerState)
     (does : HasCalled limits old call reply now) where
   pub front_called : IsFront old.seen now.seen
-  front_called = front_trans old.seen does.before now.seen does.front (entry_by old.number call reply ∷ [], does.next)
+  front_called = front_trans old.seen does.before now.seen does.front
+      (entry_by old.number call reply ∷ [], does.next)
 
-  own_one : entries_by old.number now.last ≡ entry_by old.number call reply ∷ entries_by old.number old.last
+  own_one : entries_by old.number now.last ≡ entry_by old.number call reply
+      ∷ entries_by old.number old.last
   own_one = ap (entries_by old.number) does.last ∙ does.own
 
-  pub played_call : (calls : List Call) (replies : List Reply) (outcome : Result (Unit {0}) NoMemory)
+  pub played_call : (calls : List Call) (replies : List Reply)
+      (outcome : Result (Unit {0}) NoMemory)
       (new : CallerState) → HasPlayed now calls replies outcome new
       → HasPlayed old (call ∷ calls) (reply ∷ replies) outcome new
   played_call calls replies outcome new rest = record {
     number = rest.number ∙ does.number;
     count = omega (arith, rest.count, does.count);
     front = front_trans old.seen now.seen new.seen front_called rest.front;
-    own = subst (λ n. entries_by n new.last ≡ answered n calls replies (entries_by n now.last)) does.number rest.own
+    own = subst (λ n. entries_by n new.last ≡ answered n calls replies (entries_by n now.last))
+        does.number rest.own
         ∙ ap (answered old.number calls replies) own_one;
     made = one_more_made outcome (length replies) (length calls) rest.made;
   }
 
 module _ (limits : Ranges) where
   -- calls that were made in turn were played
-  pub played : (old : CallerState) (calls : List Call) (replies : List Reply) (outcome : Result (Unit {0}) NoMemory)
-      (new : CallerState) → HasMade (HasCalled limits) (λ call. Unit {0}) old calls replies outcome new
+  pub played : (old : CallerState) (calls : List Call) (replies : List Reply)
+      (outcome : Result (Unit {0}) NoMemory)
+      (new : CallerState) → HasMade (HasCalled limits) (λ call. Unit {0}) old calls replies outcome
+      new
       → HasPlayed old calls replies outcome new
-  played old calls [] outcome new made = played_none old (λ call. Unit {0}) calls outcome new made.0 made.1
+  played old calls [] outcome new made = played_none old (λ call. Unit {0}) calls outcome new made.0
+      made.1
   played old [] (reply ∷ replies) outcome new made = absurd made
   played old (call ∷ calls) (reply ∷ replies) outcome new made =
       played_call limits old call reply made.0 made.1 calls replies outcome new

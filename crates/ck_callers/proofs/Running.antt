@@ -27,7 +27,8 @@ match_weaker P Q R true then holds = then holds
 match_weaker P Q R false then holds = holds
 
 module _ {K : Type 0} (limits : Ranges) where
-  script_played : (old new : Script K Call Reply) → HasRun (HasCalled limits) (λ call. Unit {0}) old new
+  script_played : (old new : Script K Call Reply) → HasRun (HasCalled limits) (λ call. Unit {0}) old
+      new
       → IsPlayed old new
   script_played old new = match_weaker _ _ _ new.started (λ made. (
     played limits old.caller (vec_items old.steps) (vec_items new.replies) new.outcome new.caller

@@ -1,5 +1,6 @@
 -- Steps of a caller, one after the other
-use Rattle.std.proofs.Common.{◌≡◌, ℕ, ◌<◌, List, [], ◌∷◌, Option, Some, None, sym, ap, ◌∙◌, subst, arith}
+use Rattle.std.proofs.Common.{◌≡◌, ℕ, ◌<◌, List, [], ◌∷◌, Option, Some, None, sym, ap, ◌∙◌, subst}
+use Rattle.std.proofs.Common.{arith}
 use Rattle.std.specs.Prelude.{Result, Ok, Err, IfSome}
 use Rattle.ck_types.specs.TokenLimits.{Ranges}
 use Rattle.ck_types.specs.declared.memory.NoMemory.{NoMemory}
@@ -35,17 +36,22 @@ calls_end [] (Err none) end = end
 calls_end (step.Call call ∷ steps) (Err none) end = tt
 calls_end (step.Ask ask ∷ steps) (Err none) end = absurd end
 
-taken_none : (limits : Ranges) (old : CallerState) (steps : List Step) (outcome : Result (Unit {0}) NoMemory)
-    (new : CallerState) → new ≡ old → EndsAt IsCall steps outcome → HasTaken limits old steps [] outcome new
+taken_none : (limits : Ranges) (old : CallerState) (steps : List Step)
+    (outcome : Result (Unit {0}) NoMemory)
+    (new : CallerState) → new ≡ old → EndsAt IsCall steps outcome
+    → HasTaken limits old steps [] outcome new
 taken_none limits old steps outcome new same end = record {
-  calls = played_none old (λ call. Unit {0}) (calls_of steps) outcome new same (calls_end steps outcome end);
+  calls = played_none old (λ call. Unit {0}) (calls_of steps) outcome new same
+      (calls_end steps outcome end);
   numbers = ap (λ c. entry_count c.seen) (sym same);
   places = tt;
   end = end;
 }
 
-module _ (limits : Ranges) (old : CallerState) (now : CallerState) (n : ℕ) (length_is : n ≡ entry_count now.seen)
-    (steps : List Step) (answers : List Answered) (outcome : Result (Unit {0}) NoMemory) (new : CallerState)
+module _ (limits : Ranges) (old : CallerState) (now : CallerState) (n : ℕ)
+    (length_is : n ≡ entry_count now.seen)
+    (steps : List Step) (answers : List Answered) (outcome : Result (Unit {0}) NoMemory)
+    (new : CallerState)
     (rest : HasTaken limits now steps answers outcome new) where
   rises_rest : Rises n answers (entry_count new.seen)
   rises_rest = subst (λ m. Rises m answers (entry_count new.seen)) (sym length_is) rest.numbers
@@ -64,11 +70,17 @@ module _ (limits : Ranges) (old : CallerState) (now : CallerState) (n : ℕ) (le
         ∙ entry_at-front (entry_by old.number call reply) does.before new.seen
         (subst (λ h. IsFront h new.seen) does.next rest.calls.front)
 
-    taken_call : HasTaken limits old (step.Call call ∷ steps) (answered.Reply reply n ∷ answers) outcome new
+    taken_call : HasTaken limits old (step.Call call ∷ steps) (answered.Reply reply n ∷ answers)
+        outcome new
     taken_call = record {
-      calls = played_call limits old call reply now does (calls_of steps) (replies_of answers) outcome new rest.calls;
+      calls = played_call limits old call reply now does (calls_of steps) (replies_of answers)
+          outcome new rest.calls;
       numbers = (rises_reply, rises_rest);
-      places = (place_of_reply, subst (λ k. AreAnswersIn limits k new.seen steps answers) does.number rest.places);
+      places = (
+        place_of_reply,
+        subst (λ k. AreAnswersIn limits k new.seen steps answers)
+            does.number rest.places,
+      );
       end = rest.end;
     }
 
@@ -85,45 +97,65 @@ module _ (limits : Ranges) (old : CallerState) (now : CallerState) (n : ℕ) (le
           count = omega (arith, rest.calls.count);
           front = front_trans old.seen now.seen new.seen does.front rest.calls.front;
           own = subst (λ k. entries_by k new.last
-              ≡ answered k (calls_of steps) (replies_of answers) (entries_by k now.last)) same_number rest.calls.own
-              ∙ ap (λ h. answered old.number (calls_of steps) (replies_of answers) (entries_by old.number h))
+              ≡ answered k (calls_of steps) (replies_of answers) (entries_by k now.last))
+              same_number rest.calls.own
+              ∙ ap (λ h. answered old.number (calls_of steps) (replies_of answers)
+              (entries_by old.number h))
               (ap (λ c. c.last) does.same);
           made = rest.calls.made;
         }
 
-    place_of_status : IfSome status (λ s. reply_of s ≡ answer limits (front_at new.seen n) (call_of ask))
+    place_of_status : IfSome status (λ s. reply_of s ≡ answer limits (front_at new.seen n)
+        (call_of ask))
     place_of_status =
         subst (λ h. IfSome status (λ s. reply_of s ≡ answer limits h (call_of ask)))
-        (sym (ap (front_at new.seen) length_is ∙ front_at-front now.seen new.seen rest.calls.front)) does.answer
+        (sym (ap (front_at new.seen) length_is ∙ front_at-front now.seen new.seen rest.calls.front))
+        does.answer
 
-    taken_ask : Rises (entry_count old.seen) (answered.Status status n ∷ answers) (entry_count new.seen)
-        → HasTaken limits old (step.Ask ask ∷ steps) (answered.Status status n ∷ answers) outcome new
+    taken_ask : Rises (entry_count old.seen) (answered.Status status n ∷ answers)
+        (entry_count new.seen)
+        → HasTaken limits old (step.Ask ask ∷ steps) (answered.Status status n ∷ answers) outcome
+        new
     taken_ask rises = record {
       calls = played_ask;
       numbers = rises;
-      places = (place_of_status, subst (λ k. AreAnswersIn limits k new.seen steps answers) same_number rest.places);
+      places = (
+        place_of_status,
+        subst (λ k. AreAnswersIn limits k new.seen steps answers)
+            same_number rest.places,
+      );
       end = rest.end;
     }
 
   taken_asked : (ask : Ask) (status : Option Status) → HasAsked limits old ask status now
       → HasTaken limits old (step.Ask ask ∷ steps) (answered.Status status n ∷ answers) outcome new
   taken_asked ask (Some s) does =
-      let longer = longer_front old.seen now.seen does.front in taken_ask ask (Some s) does (omega arith, rises_rest)
+      let longer = longer_front old.seen now.seen does.front in taken_ask ask (Some s) does
+      (omega arith, rises_rest)
   taken_asked ask None does =
-      taken_ask ask None does (ap (λ c. entry_count c.seen) (sym does.unchanged) ∙ sym length_is, rises_rest)
+      taken_ask ask None does (
+        ap (λ c. entry_count c.seen) (sym does.unchanged)
+            ∙ sym length_is,
+        rises_rest,
+      )
 
 module _ (limits : Ranges) where
   -- steps that were made in turn were taken
-  pub taken : (old : CallerState) (steps : List Step) (answers : List Answered) (outcome : Result (Unit {0}) NoMemory)
+  pub taken : (old : CallerState) (steps : List Step) (answers : List Answered)
+      (outcome : Result (Unit {0}) NoMemory)
       (new : CallerState) → HasMade (HasStepped limits) IsCall old steps answers outcome new
       → HasTaken limits old steps answers outcome new
   taken old steps [] outcome new made = taken_none limits old steps outcome new made.0 made.1
   taken old [] (a ∷ answers) outcome new made = absurd made
   taken old (step.Call call ∷ steps) (answered.Reply reply n ∷ answers) outcome new made =
-      taken_call limits old made.0 n made.1.1 steps answers outcome new (taken made.0 steps answers outcome new made.2)
+      taken_call limits old made.0 n made.1.1 steps answers outcome new
+      (taken made.0 steps answers outcome new made.2)
       call reply made.1.0
-  taken old (step.Call call ∷ steps) (answered.Status status n ∷ answers) outcome new made = absurd made.1
-  taken old (step.Ask ask ∷ steps) (answered.Reply reply n ∷ answers) outcome new made = absurd made.1
+  taken old (step.Call call ∷ steps) (answered.Status status n ∷ answers) outcome new made =
+      absurd made.1
+  taken old (step.Ask ask ∷ steps) (answered.Reply reply n ∷ answers) outcome new made =
+      absurd made.1
   taken old (step.Ask ask ∷ steps) (answered.Status status n ∷ answers) outcome new made =
-      taken_asked limits old made.0 n made.1.1 steps answers outcome new (taken made.0 steps answers outcome new made.2)
+      taken_asked limits old made.0 n made.1.1 steps answers outcome new
+      (taken made.0 steps answers outcome new made.2)
       ask status made.1.0

@@ -8,8 +8,10 @@ use Rattle.ck_callers.specs.Callers.{CallerState}
 use Rattle.ck_callers.specs.Turns.{EndsAt, HasMade}
 
 -- these replies were given, and these are left: whatever comes of them comes of all
-pub record IsMaking {S A : Type 0} (Does : CallerState → S → A → CallerState → Type 0) (MayFail : S → Type 0)
-    (old : CallerState) (steps : List S) (replies : List A) (left : List S) (now : CallerState) : Type 0 where
+pub record IsMaking {S A : Type 0} (Does : CallerState → S → A → CallerState → Type 0)
+    (MayFail : S → Type 0)
+    (old : CallerState) (steps : List S) (replies : List A) (left : List S) (now : CallerState) :
+    Type 0 where
   pub all : (more : List A) (outcome : Result (Unit {0}) NoMemory) (new : CallerState)
       → HasMade Does MayFail now left more outcome new
       → HasMade Does MayFail old steps (replies ++ more) outcome new
@@ -26,10 +28,12 @@ module _ {S A : Type 0} (Does : CallerState → S → A → CallerState → Type
         subst (λ rs. HasMade Does MayFail old steps rs outcome last)
         (sym (append_assoc replies (reply ∷ []) more) ∙ ap (λ rs. rs ++ more) (sym gives))
         (at.all (reply ∷ more) outcome last
-        (subst (λ ss. HasMade Does MayFail now ss (reply ∷ more) outcome last) (sym is) (new, does, made)));
+        (subst (λ ss. HasMade Does MayFail now ss (reply ∷ more) outcome last) (sym is)
+        (new, does, made)));
   }
 
-  made_now : (outcome : Result (Unit {0}) NoMemory) → EndsAt MayFail left outcome → (new : CallerState) → new ≡ now
+  made_now : (outcome : Result (Unit {0}) NoMemory) → EndsAt MayFail left outcome
+      → (new : CallerState) → new ≡ now
       → HasMade Does MayFail old steps replies outcome new
   made_now outcome end new same =
       subst (λ rs. HasMade Does MayFail old steps rs outcome new) (append-nil replies)

@@ -6,9 +6,11 @@ use Rattle.ck_journal.specs.Histories.{History}
 use Rattle.ck_callers.specs.Callers.{CallerState, IsSettled}
 
 -- where all that are left but one are settled, and so is that one, all are
-pub settled_next : (g h : History) (c : CallerState) (left rest all : List CallerState) → g ≡ h → left ≡ c ∷
+pub settled_next : (g h : History) (c : CallerState) (left rest all : List CallerState) → g ≡ h
+    → left ≡ c ∷
     rest → IsSettled h c
-    → (All (IsSettled h) left → All (IsSettled h) all) → All (IsSettled g) rest → All (IsSettled g) all
+    → (All (IsSettled h) left → All (IsSettled h) all) → All (IsSettled g) rest
+    → All (IsSettled g) all
 settled_next g h c left rest all same is one then others =
     subst (λ x. All (IsSettled x) all) (sym same)
     (then (subst (All (IsSettled h)) (sym is) (All-cons (IsSettled h) c rest one

@@ -1,12 +1,16 @@
-ghost use Rattle.std.specs.Prelude.{◌≡◌, [], ◌<◌, ◌-◌, ◌^◌, IfNone, IfOk, IsTrue, OnErr};
+ghost use Rattle.std.specs.Option.{option_copied};
+ghost use Rattle.std.specs.Prelude.{◌≡◌, [], ◌<◌, ◌-◌, ◌^◌, IfNone, IfSome, IfOk, IsTrue, OnErr};
 ghost use Rattle.left_right.specs.Handles.{published, pending};
+ghost use Rattle.ck_journal.specs.Answers.{IsLegal};
 ghost use Rattle.ck_journal.specs.Fronts.{IsFront};
 ghost use Rattle.ck_journal.specs.Histories.{◌◁◌, entry_count};
+ghost use Rattle.ck_journal.specs.TokenStates.{IsAnswered, IsUnchanged};
+ghost use Rattle.ck_journal.specs.Works.{IsAhead};
 ghost use Rattle.ck_callers.specs.KnownHistories.{Covers};
 ghost use Rattle.ck_journal.specs.declared.calls.Entry.{Entry};
 
 use ck_callers::{BoardCopy, CallBooks, Caller, EntrySlot, Front, Head, KnownHistory, TokenId};
-use ck_journal::{Call, JournaledToken, Reply};
+use ck_journal::{Call, JournaledToken, Reply, Work};
 use ck_types::NoMemory;
 use left_right::{Absorb, WriteHandle};
 use std::alloc::Global;
@@ -113,6 +117,27 @@ fn show_by<K: TokenId, G: JournaledToken, R: Wait + Drop, W: Wait>(
     }
 }
 
+/// What the token answers to a call of this caller, by work that is done where there is any.
+#[inline(always)]
+fn answer<G: JournaledToken>(
+    token: &mut G,
+    alloc: Global,
+    caller: u32,
+    call: Call,
+    work: Option<&Work>,
+) -> Result<Reply, NoMemory>
+    requires { IfSome (option_copied work) (IsAhead (G.state token.old).history call) }
+    ensures answered { IfOk result (λ reply.
+        IsAnswered (G.state token.old) (G.state token.new) caller call reply) }
+    ensures unchanged { OnErr result (IsUnchanged (G.state token.old) (G.state token.new)) }
+    ensures legal { IsLegal (G.state token.new).limits (G.state token.new).history }
+{
+    match work {
+        None => token.call(alloc, caller, call),
+        Some(work) => token.call_after(alloc, caller, call, Some(work)),
+    }
+}
+
 /// Adds the token's newest entry to the history. The other front is then one of the history before.
 fn extend<K: TokenId, G: JournaledToken, W: Wait>(
     rt: &W,
@@ -153,12 +178,14 @@ fn await_front<K: TokenId, W: Wait>(rt: &W, other: &Front<K>, front: &Front<K>)
 }
 
 impl<K: TokenId, G: JournaledToken, R: Wait + Drop> Locked<K, G, R> {
-    ghost use Rattle.std.specs.Prelude.{◌≡◌, [], IfOk, OnOk, OnErr};
+    ghost use Rattle.std.specs.Prelude.{◌≡◌, [], IfOk, IfSome, OnOk, OnErr};
+    ghost use Rattle.std.specs.Option.{option_copied};
     ghost use Rattle.left_right.specs.Handles.{published, pending};
     ghost use Rattle.ck_journal.specs.Callers.{AreCallers};
     ghost use Rattle.ck_journal.specs.Fronts.{IsFront};
     ghost use Rattle.ck_journal.specs.Histories.{start};
     ghost use Rattle.ck_journal.specs.TokenStates.{IsAnswered, IsUnchanged};
+    ghost use Rattle.ck_journal.specs.Works.{IsBegun, IsAhead};
     ghost use Rattle.ck_callers.specs.Callers.{HasCalled, IsSettled};
     ghost use Rattle.ck_shared.specs.Locked.{IsTied};
 
@@ -213,6 +240,22 @@ impl<K: TokenId, G: JournaledToken, R: Wait + Drop> Locked<K, G, R> {
         &self.token
     }
 
+    /// Begins the work on the bytes that a call brings, and gives the history as it then is. `None`
+    /// where this saves nothing.
+    pub fn begin(&self, call: &Call) -> Option<(Work, Front<K>)>
+        ensures { IfSome result (λ begun. IsBegun begun.1 call.now begun.0) }
+    {
+        let work = self.token.work(call)?;
+        Some((work, self.known.front().duplicate()))
+    }
+
+    /// Waits until the history has all entries of a front of it.
+    pub fn catch_up<W: Wait>(&self, rt: &W, front: &Front<K>)
+        ensures { IsFront front.now self.now.history }
+    {
+        await_front(rt, front, self.known.front());
+    }
+
     /// One call of a caller. Where there is no memory for it, nothing has changed. Where the call
     /// may change the board, it may wait for those who still read an older copy.
     pub fn step<W: Wait>(
@@ -230,10 +273,31 @@ impl<K: TokenId, G: JournaledToken, R: Wait + Drop> Locked<K, G, R> {
         ensures unchanged { OnErr result (IsUnchanged self.old self.new) }
         ensures caller { OnErr result (caller.new ≡ caller.old) }
     {
+        self.step_after(rt, alloc, caller, call, None)
+    }
+
+    /// As `step`, by work on the bytes of the call that is done, where there is any.
+    pub fn step_after<W: Wait>(
+        &mut self,
+        rt: &W,
+        alloc: Global,
+        caller: &mut Caller<K>,
+        call: Call,
+        work: Option<&Work>,
+    ) -> Result<Reply, NoMemory>
+        requires { IfSome (option_copied work) (IsAhead self.old.history call) }
+        ensures answered { IfOk result (λ reply.
+            IsAnswered self.old self.new caller.old.number call reply) }
+        ensures called { IfOk result (λ reply.
+            HasCalled K.limits caller.old call reply caller.new) }
+        ensures seen { OnOk result (caller.new.seen ≡ self.new.history) }
+        ensures unchanged { OnErr result (IsUnchanged self.old self.new) }
+        ensures caller { OnErr result (caller.new ≡ caller.old) }
+    {
         let number = caller.account().number();
         let leaves = call.leaves_board();
         let slot = add_slot(alloc, &mut self.writer, leaves)?;
-        let Ok(reply) = self.token.call(alloc, number, call) else {
+        let Ok(reply) = answer(&mut self.token, alloc, number, call, work) else {
             show_by(rt, &mut self.writer, slot, &self.token, &self.known);
             return Err(NoMemory);
         };

@@ -20,6 +20,14 @@ pub struct Ends<K: TokenId, G: JournaledToken, R: Wait + Drop> {
     pub callers: Vec<Caller<K>>,
 }
 
+/// With fewer bytes a call takes the lock once: to take it twice would take longer than the bytes.
+const MANY_BYTES: usize = 4096;
+
+/// Whether a call brings many bytes of a message.
+fn brings_many_bytes(call: &Call) -> bool {
+    call.taken_bytes().len() >= MANY_BYTES
+}
+
 impl<K: TokenId, G: JournaledToken, R: Wait + Drop> SharedToken<K, G, R> {
     ghost use Rattle.std.specs.Prelude.{◌≡◌, ◌≤◌, ℕ, true, false, All, IfOk, OnOk, IfErr, OnErr};
     ghost use Rattle.ck_journal.specs.Bases.{empty_base};
@@ -89,7 +97,8 @@ impl<K: TokenId, G: JournaledToken, R: Wait + Drop> SharedToken<K, G, R> {
         self.lock.lock(rt)
     }
 
-    /// One call of a caller, under the lock.
+    /// One call of a caller, under the lock. The bytes of a long message are taken in while the
+    /// lock is free.
     pub fn call<W: Wait>(
         &self,
         rt: &W,
@@ -101,7 +110,34 @@ impl<K: TokenId, G: JournaledToken, R: Wait + Drop> SharedToken<K, G, R> {
             HasCalled K.limits caller.old call reply caller.new) }
         ensures caller { OnErr result (caller.new ≡ caller.old) }
     {
+        if brings_many_bytes(&call) {
+            return self.call_with_work(rt, alloc, caller, call);
+        }
         self.lock.lock(rt).step(rt, alloc, caller, call)
+    }
+
+    /// One call of a caller, which brings many bytes. The lock is taken twice, shortly: to begin
+    /// the work on them, and to make the call once it is done.
+    #[inline(never)]
+    fn call_with_work<W: Wait>(
+        &self,
+        rt: &W,
+        alloc: Global,
+        caller: &mut Caller<K>,
+        call: Call,
+    ) -> Result<Reply, NoMemory>
+        ensures called { IfOk result (λ reply.
+            HasCalled K.limits caller.old call reply caller.new) }
+        ensures caller { OnErr result (caller.new ≡ caller.old) }
+    {
+        let begun = self.lock.lock(rt).begin(&call);
+        let Some((mut work, front)) = begun else {
+            return self.lock.lock(rt).step(rt, alloc, caller, call);
+        };
+        work.finish(&call);
+        let mut locked = self.lock.lock(rt);
+        locked.catch_up(rt, &front);
+        locked.step_after(rt, alloc, caller, call, Some(&work))
     }
 
     /// Takes the token back, where all of its callers are given back, of which each then knew a

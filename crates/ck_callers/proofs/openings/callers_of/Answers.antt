@@ -11,10 +11,12 @@ caller_of-requires-clause-count g c =
 
 pub loop-account-preserved : goal.loop-account-preserved
 loop-account-preserved g c =
-    let next = made_next g.K.HistoryId.base (vec_items c.args.accounts) (vec_items c.loop-account.callers)
+    let next = made_next g.K.HistoryId.base (vec_items c.args.accounts)
+    (vec_items c.loop-account.callers)
     (into_iter_items c.loop-account.account-iterator) c.loop-account.invariant.3 c.in-Some.account
     (into_iter_items c.next.new.self) c.in-Some.ensures.steps.0 c.loop-account.invariant.2
-    c.in_ok-caller_of.field-0 c.in_ok-caller_of.ensures (vec_items c.push.new.self) c.in_ok-push.ensures.items in
+    c.in_ok-caller_of.field-0 c.in_ok-caller_of.ensures (vec_items c.push.new.self)
+    c.in_ok-push.ensures.items in
     (tt, tt, next.0, next.1)
 
 pub returns : goal.returns

@@ -8,8 +8,10 @@ use Rattle.ck_callers.proofs.openings.callers_of.Given as goal
 -- the callers that were made, and then those of the accounts that are left
 abbrev pub invariant-loop-account : goal.invariant-loop-account
 invariant-loop-account g l =
-    (goal.iterator-loop-account g).can_next l.account-iterator × (goal.iterator-loop-account g).is_finite
+    (goal.iterator-loop-account g).can_next l.account-iterator
+    × (goal.iterator-loop-account g).is_finite
     l.account-iterator
     × AreNew (into_iter_items l.account-iterator)
-    × (vec_items l.callers ++ map (new_caller g.K.HistoryId.base) (into_iter_items l.account-iterator)
+    × (vec_items l.callers ++ map (new_caller g.K.HistoryId.base)
+    (into_iter_items l.account-iterator)
     ≡ map (new_caller g.K.HistoryId.base) (vec_items l.fn.accounts))

@@ -7,7 +7,9 @@ use Rattle.ck_callers.proofs.runs.take_steps.Given as goal
 -- the steps up to those that are left were answered, and the replies to those have room
 abbrev pub invariant-loop-step : goal.invariant-loop-step
 invariant-loop-step g l =
-    (goal.iterator-loop-step g).can_next l.step-iterator × (goal.iterator-loop-step g).is_finite l.step-iterator
-    × IsMaking g.S.Turn.does g.S.Turn.may_fail l.fn.caller (vec_items l.fn.steps) (vec_items l.replies)
+    (goal.iterator-loop-step g).can_next l.step-iterator
+    × (goal.iterator-loop-step g).is_finite l.step-iterator
+    × IsMaking g.S.Turn.does g.S.Turn.may_fail l.fn.caller (vec_items l.fn.steps)
+    (vec_items l.replies)
     (into_iter_items l.step-iterator) l.caller
     × (vec_len l.replies + length (into_iter_items l.step-iterator) ≤ vec_capacity l.replies)

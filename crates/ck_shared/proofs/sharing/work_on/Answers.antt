@@ -1,6 +1,6 @@
 use Rattle.std.proofs.Common.{sym, ap, ◌∙◌, length, subst}
 use Rattle.std.specs.List.{AllZip}
-use Rattle.std.specs.Prelude.{List, map, vec_items}
+use Rattle.std.specs.Prelude.{vec_items}
 use Rattle.std.proofs.lemmas.List.{length-map}
 use Rattle.ck_journal.specs.TokenStates.{TokenState}
 use Rattle.ck_shared.specs.Outputs.{IsOfCaller}
@@ -10,12 +10,24 @@ use Rattle.ck_shared.proofs.sharing.work_on.Goals as goal
 pub returns-in_default : goal.returns-in_default
 returns-in_default g c =
     let taken = c.into_token.ensures in
-    record { limits = taken.limits; callers = taken.callers; base = taken.base; count = tt; outputs = tt }
+    record {
+      limits = taken.limits;
+      callers = taken.callers;
+      base = taken.base;
+      count = tt;
+      outputs = tt;
+    }
 
 pub returns-in-Err : goal.returns-in-Err
 returns-in-Err g c =
     let taken = c.into_token-in-Err.ensures in
-    record { limits = taken.limits; callers = taken.callers; base = taken.base; count = tt; outputs = tt }
+    record {
+      limits = taken.limits;
+      callers = taken.callers;
+      base = taken.base;
+      count = tt;
+      outputs = tt;
+    }
 
 pub returns-in-Ok-done-clause-limits : goal.returns-in-Ok-done-clause-limits
 returns-in-Ok-done-clause-limits g c = c.into_token-in-Ok-done.ensures.limits

@@ -12,5 +12,6 @@ returns-clause-settled g c = λ h counted front.
       count = c.self.inside.account.count;
       last = c.self.inside.last;
       seen = c.self.inside.seen.history;
-    }) c.args.books.now c.compare.ensures.range.0 c.compare.ensures.range.1 counted c.compare.ensures.same
+    }) c.args.books.now c.compare.ensures.range.0 c.compare.ensures.range.1 counted
+    c.compare.ensures.same
     c.self.invariant.0 c.self.invariant.1 known)

@@ -15,7 +15,12 @@ count-requires g c =
     let high : c.self.inside.account.number ≤ 8 =
     omega (arith, c.number-number.ensures.value, c.number-number.ensures.range.1) in
     let room : entry_count c.args.known.now.history < 2 ^ 64 =
-    omega (arith, c.len-entries.ensures.length, ap entry_count c.front.ensures, c.len-entries.type_inv) in
+    omega (
+      arith,
+      c.len-entries.ensures.length,
+      ap entry_count c.front.ensures,
+      c.len-entries.type_inv,
+    ) in
     count_fits _ _ c.requires.0 c.requires.1 c.args.known.now.history next low high room
 
 pub invariant_of-self : goal.invariant_of-self
@@ -28,12 +33,14 @@ invariant_of-self g c =
     omega (arith, c.number-number.ensures.value, c.number-number.ensures.range.1) in
     rw (c.duplicate-2.ensures, c.duplicate.ensures, c.front-2.ensures, c.count.ensures.account) (
       front_refl c.args.known.now.history,
-      count_next _ _ c.requires.0 c.requires.1 c.args.known.now.history next low high c.count.ensures.same,
+      count_next _ _ c.requires.0 c.requires.1 c.args.known.now.history next low high
+          c.count.ensures.same,
     )
 
 pub returns-clause-called : goal.returns-clause-called
 returns-clause-called g c = λ call reply entered.
-    let next = subst (λ (s : CallerState). IsNextCall s c.args.books.now call reply c.args.known.now.history)
+    let next = subst (λ (s : CallerState). IsNextCall s c.args.books.now call reply
+    c.args.known.now.history)
     (sym c.self.view_is) entered in
     let low : 1 ≤ c.self.inside.account.number =
     omega (arith, c.number-number.ensures.value, c.number-number.ensures.range.0) in
@@ -46,7 +53,8 @@ returns-clause-called g c = λ call reply entered.
       c.duplicate.ensures,
       c.front-2.ensures,
       c.count.ensures.account,
-    ) (called _ _ call reply c.args.known.now.history next low high c.count.ensures.same g.K.HistoryId.limits
+    ) (called _ _ call reply c.args.known.now.history next low high c.count.ensures.same
+    g.K.HistoryId.limits
     c.self.invariant.0 c.self.invariant.1 legal)
 
 pub returns-clause-seen : goal.returns-clause-seen
@@ -60,5 +68,6 @@ returns-clause-books g c =
     omega (arith, c.number-number.ensures.value, c.number-number.ensures.range.0) in
     let high : c.self.inside.account.number ≤ 8 =
     omega (arith, c.number-number.ensures.value, c.number-number.ensures.range.1) in
-    c.count.ensures.books ∙ books_next _ _ c.requires.0 c.requires.1 c.args.known.now.history next low high
+    c.count.ensures.books ∙ books_next _ _ c.requires.0 c.requires.1 c.args.known.now.history next
+    low high
     c.count.ensures.same

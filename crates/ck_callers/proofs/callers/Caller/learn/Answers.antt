@@ -8,9 +8,11 @@ pub invariant_of-self : goal.invariant_of-self
 invariant_of-self g c =
     let front : IsFront c.self.inside.seen.history c.news.inside.known.history =
     subst (λ h. IsFront h c.news.inside.known.history) c.front.ensures
-    (subst (IsFront c.front.result.now) c.front-2.ensures (c.begins.ensures.front c.if-begins.true)) in (
+    (subst (IsFront c.front.result.now) c.front-2.ensures
+    (c.begins.ensures.front c.if-begins.true)) in (
       subst (λ (k : KnownState). IsFront c.self.inside.last k.history) (sym c.duplicate.ensures)
-          (front_trans c.self.inside.last c.self.inside.seen.history c.news.inside.known.history c.self.invariant.0
+          (front_trans c.self.inside.last c.self.inside.seen.history c.news.inside.known.history
+          c.self.invariant.0
           front),
       c.self.invariant.1,
     )
@@ -19,15 +21,18 @@ pub returns-then-begins-clause-own : goal.returns-then-begins-clause-own
 returns-then-begins-clause-own g c =
     let front : IsFront c.self.inside.seen.history c.news.inside.known.history =
     subst (λ h. IsFront h c.news.inside.known.history) c.front.ensures
-    (subst (IsFront c.front.result.now) c.front-2.ensures (c.begins.ensures.front c.if-begins.true)) in
+    (subst (IsFront c.front.result.now) c.front-2.ensures
+    (c.begins.ensures.front c.if-begins.true)) in
     rw (← c.self.view_is, c.duplicate.ensures) front
 
 pub returns-then-begins-clause-news : goal.returns-then-begins-clause-news
-returns-then-begins-clause-news g c = rw (← c.news.view_is, c.duplicate.ensures) (front_refl c.news.inside.known.history)
+returns-then-begins-clause-news g c = rw (← c.news.view_is, c.duplicate.ensures)
+    (front_refl c.news.inside.known.history)
 
 pub returns-else-begins-clause-news : goal.returns-else-begins-clause-news
 returns-else-begins-clause-news g c =
     let longer : IsFront c.news.inside.known.history c.self.inside.seen.history =
     subst (IsFront c.news.inside.known.history) c.front.ensures
-    (subst (λ h. IsFront h c.front.result.now) c.front-2.ensures (c.begins.ensures.longer c.if-begins.false)) in
+    (subst (λ h. IsFront h c.front.result.now) c.front-2.ensures
+    (c.begins.ensures.longer c.if-begins.false)) in
     rw (← c.self.view_is, ← c.news.view_is) longer

@@ -1,4 +1,5 @@
-use Rattle.std.proofs.Common.{◌≡◌, ◌≤◌, ◌++◌, ◌∷◌, [], List, length, length-append, sym, ap, ◌∙◌, subst, arith}
+use Rattle.std.proofs.Common.{◌≡◌, ◌≤◌, ◌++◌, ◌∷◌, [], List, length, length-append, sym, ap, ◌∙◌}
+use Rattle.std.proofs.Common.{subst, arith}
 use mathlib.Core.List.{IsPrefix}
 use Rattle.ck_journal.specs.Histories.{entry_count}
 use Rattle.ck_journal.specs.declared.calls.Entry.{Entry}
@@ -9,12 +10,14 @@ use Rattle.ck_callers.proofs.histories.Front.add_after.Goals as goal
 
 pub overflow_add-count : goal.overflow_add-count
 overflow_add-count g c =
-    let n : c.self.inside.count ≡ entry_count c.args.self.now = count_is _ _ _ _ c.self.invariant.0 c.self.view_is in
+    let n : c.self.inside.count ≡ entry_count c.args.self.now =
+    count_is _ _ _ _ c.self.invariant.0 c.self.view_is in
     omega (arith, c.requires.room)
 
 pub overflow_add-self : goal.overflow_add-self
 overflow_add-self g c =
-    let n : c.self.inside.count ≡ entry_count c.args.self.now = count_is _ _ _ _ c.self.invariant.0 c.self.view_is in
+    let n : c.self.inside.count ≡ entry_count c.args.self.now =
+    count_is _ _ _ _ c.self.invariant.0 c.self.view_is in
     omega (arith, c.requires.room)
 
 pub compare_exchange-found-requires : goal.compare_exchange-found-requires
@@ -23,9 +26,11 @@ compare_exchange-found-requires g c =
     let offer = c.plain-offer.ensures in
     let pen = c.no_pen-pen.ensures in
     let book : c.learn.new.self.book ≡ c.args.head.now.head.book =
-    c.learn.ensures.0 ∙ ap (λ s. s.book) c.again-both.ensures ∙ c.self.invariant.1 ∙ sym (ap (λ w. w.book) h) in
+    c.learn.ensures.0 ∙ ap (λ s. s.book) c.again-both.ensures ∙ c.self.invariant.1
+    ∙ sym (ap (λ w. w.book) h) in
     let p : IsPrefix c.self.inside.seen.log c.learn.new.self.log =
-    subst (λ (l : List Entry). IsPrefix l c.learn.new.self.log) (ap (λ s. s.log) c.again-both.ensures)
+    subst (λ (l : List Entry). IsPrefix l c.learn.new.self.log)
+    (ap (λ s. s.log) c.again-both.ensures)
     c.learn.ensures.2 in
     let len : c.self.inside.count ≤ length c.learn.new.self.log = omega
     (arith, c.self.invariant.0, prefix_length _ _ p) in (
@@ -33,22 +38,27 @@ compare_exchange-found-requires g c =
       book,
       pen.0 ∙ book,
       offer.0,
-      rw (ap (λ w. w.key) h, pen.1, offer.1, offer.3) (adds_moves c.learn.new.self.log c.args.entry.now
+      rw (ap (λ w. w.key) h, pen.1, offer.1, offer.3) (adds_moves c.learn.new.self.log
+          c.args.entry.now
           c.self.inside.count len),
     )
 
 pub invariant_of-self : goal.invariant_of-self
 invariant_of-self g c =
     let p : IsPrefix c.self.inside.seen.log c.learn.new.self.log =
-    subst (λ (l : List Entry). IsPrefix l c.learn.new.self.log) (ap (λ s. s.log) c.again-both.ensures)
+    subst (λ (l : List Entry). IsPrefix l c.learn.new.self.log)
+    (ap (λ s. s.log) c.again-both.ensures)
     c.learn.ensures.2 in
     let q : IsPrefix c.other.inside.seen.log c.learn.new.self.log = c.learn.ensures.3 in
-    let found = adds_found c.self.inside.count c.compare_exchange-found.result c.plain-offer.result.ask
+    let found = adds_found c.self.inside.count c.compare_exchange-found.result
+    c.plain-offer.result.ask
     c.learn.new.self.log c.compare_exchange-found.new.seen.log c.if-found-count.false
     c.compare_exchange-found.ensures.7 in
-    let added : c.compare_exchange-found.new.seen.log ≡ c.learn.new.self.log ++ c.args.entry.now ∷ [] =
+    let added : c.compare_exchange-found.new.seen.log ≡ c.learn.new.self.log ++ c.args.entry.now
+    ∷ [] =
     found.0 ∙ ap (λ (e : Entry). c.learn.new.self.log ++ e ∷ []) c.plain-offer.ensures.1 in
-    let len : length c.learn.new.self.log ≡ length c.self.inside.seen.log = found.1 ∙ c.self.invariant.0 in (
+    let len : length c.learn.new.self.log ≡ length c.self.inside.seen.log = found.1
+    ∙ c.self.invariant.0 in (
       omega (
         arith,
         c.self.invariant.0,
@@ -60,7 +70,8 @@ invariant_of-self g c =
       c.compare_exchange-found.ensures.0 ∙ c.learn.ensures.0 ∙ ap (λ s. s.book) c.again-both.ensures
           ∙ c.self.invariant.1,
       added_legal _ c.self.inside.seen.log c.other.inside.seen.log c.learn.new.self.log
-          c.compare_exchange-found.new.seen.log c.args.entry.now _ _ p q c.self.view_is c.other.view_is len
+          c.compare_exchange-found.new.seen.log c.args.entry.now _ _ p q c.self.view_is
+          c.other.view_is len
           added
           _ c.self.invariant.2 c.requires.legal,
     )
@@ -68,19 +79,25 @@ invariant_of-self g c =
 pub returns : goal.returns
 returns g c =
     let p : IsPrefix c.self.inside.seen.log c.learn.new.self.log =
-    subst (λ (l : List Entry). IsPrefix l c.learn.new.self.log) (ap (λ s. s.log) c.again-both.ensures)
+    subst (λ (l : List Entry). IsPrefix l c.learn.new.self.log)
+    (ap (λ s. s.log) c.again-both.ensures)
     c.learn.ensures.2 in
     let q : IsPrefix c.other.inside.seen.log c.learn.new.self.log = c.learn.ensures.3 in
-    let found = adds_found c.self.inside.count c.compare_exchange-found.result c.plain-offer.result.ask
+    let found = adds_found c.self.inside.count c.compare_exchange-found.result
+    c.plain-offer.result.ask
     c.learn.new.self.log c.compare_exchange-found.new.seen.log c.if-found-count.false
     c.compare_exchange-found.ensures.7 in
-    let added : c.compare_exchange-found.new.seen.log ≡ c.learn.new.self.log ++ c.args.entry.now ∷ [] =
+    let added : c.compare_exchange-found.new.seen.log ≡ c.learn.new.self.log ++ c.args.entry.now
+    ∷ [] =
     found.0 ∙ ap (λ (e : Entry). c.learn.new.self.log ++ e ∷ []) c.plain-offer.ensures.1 in
-    let len : length c.learn.new.self.log ≡ length c.self.inside.seen.log = found.1 ∙ c.self.invariant.0 in (
+    let len : length c.learn.new.self.log ≡ length c.self.inside.seen.log = found.1
+    ∙ c.self.invariant.0 in (
       added_next _ c.self.inside.seen.log c.other.inside.seen.log c.learn.new.self.log
-          c.compare_exchange-found.new.seen.log c.args.entry.now _ _ p q c.self.view_is c.other.view_is len
+          c.compare_exchange-found.new.seen.log c.args.entry.now _ _ p q c.self.view_is
+          c.other.view_is len
           added,
       added_other _ c.self.inside.seen.log c.other.inside.seen.log c.learn.new.self.log
-          c.compare_exchange-found.new.seen.log c.args.entry.now _ _ p q c.self.view_is c.other.view_is len
+          c.compare_exchange-found.new.seen.log c.args.entry.now _ _ p q c.self.view_is
+          c.other.view_is len
           added,
     )

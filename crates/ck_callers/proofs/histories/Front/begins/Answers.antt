@@ -8,8 +8,10 @@ use Rattle.ck_callers.proofs.histories.Front.begins.Goals as goal
 
 pub returns-clause-shorter : goal.returns-clause-shorter
 returns-clause-shorter g c =
-    let one : c.self.inside.count ≡ entry_count c.args.self.now = count_is _ _ _ _ c.self.invariant.0 c.self.view_is in
-    let two : c.other.inside.count ≡ entry_count c.args.other.now = count_is _ _ _ _ c.other.invariant.0
+    let one : c.self.inside.count ≡ entry_count c.args.self.now =
+    count_is _ _ _ _ c.self.invariant.0 c.self.view_is in
+    let two : c.other.inside.count ≡ entry_count c.args.other.now =
+    count_is _ _ _ _ c.other.invariant.0
     c.other.view_is in
     ((λ t. grind (arith, nat_tests)), (λ le. grind (arith, nat_tests)))
 
@@ -19,7 +21,8 @@ returns-clause-front g c t =
     let len : length c.self.inside.seen.log ≤ length c.other.inside.seen.log = omega
     (arith, c.self.invariant.0, c.other.invariant.0) in
     let p : IsPrefix c.self.inside.seen.log c.learn.new.self.log =
-    subst (λ (l : List Entry). IsPrefix l c.learn.new.self.log) (ap (λ s. s.log) c.again-both.ensures)
+    subst (λ (l : List Entry). IsPrefix l c.learn.new.self.log)
+    (ap (λ s. s.log) c.again-both.ensures)
     c.learn.ensures.2 in
     shorter_begins _ c.self.inside.seen.log c.other.inside.seen.log c.learn.new.self.log _ _ p
     c.learn.ensures.3 c.self.view_is c.other.view_is len
@@ -30,7 +33,9 @@ returns-clause-longer g c f =
     let len : length c.other.inside.seen.log ≤ length c.self.inside.seen.log = omega
     (arith, c.self.invariant.0, c.other.invariant.0) in
     let p : IsPrefix c.self.inside.seen.log c.learn.new.self.log =
-    subst (λ (l : List Entry). IsPrefix l c.learn.new.self.log) (ap (λ s. s.log) c.again-both.ensures)
+    subst (λ (l : List Entry). IsPrefix l c.learn.new.self.log)
+    (ap (λ s. s.log) c.again-both.ensures)
     c.learn.ensures.2 in
-    shorter_begins _ c.other.inside.seen.log c.self.inside.seen.log c.learn.new.self.log _ _ c.learn.ensures.3 p
+    shorter_begins _ c.other.inside.seen.log c.self.inside.seen.log c.learn.new.self.log _ _
+    c.learn.ensures.3 p
     c.other.view_is c.self.view_is len

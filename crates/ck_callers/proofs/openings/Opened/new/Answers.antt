@@ -10,4 +10,5 @@ writer_and_callers-requires-clause-counts g c =
 
 pub returns-clause-callers : goal.returns-clause-callers
 returns-clause-callers g c =
-    c.in_ok-writer.ensures.callers ∙ ap (map (new_caller g.K.HistoryId.base)) c.in_ok-books.ensures.accounts
+    c.in_ok-writer.ensures.callers ∙ ap (map (new_caller g.K.HistoryId.base))
+    c.in_ok-books.ensures.accounts

@@ -19,7 +19,8 @@ loop-caller-preserved g c = (
   tt,
   settled_next c.settle.new.self.history c.loop-caller.locked.history c.in-Some.caller
       (into_iter_items c.loop-caller.caller-iterator)
-      (into_iter_items c.next.new.self) (vec_items c.args.callers) (ap (λ t. t.history) c.settle.ensures.same)
+      (into_iter_items c.next.new.self) (vec_items c.args.callers)
+      (ap (λ t. t.history) c.settle.ensures.same)
       c.in-Some.ensures.steps.0
       c.settle.ensures.settled c.loop-caller.invariant.2,
 )

@@ -6,6 +6,8 @@ use Rattle.ck_shared.proofs.shared.SharedToken.close.Given as goal
 -- where the callers that are left are settled, all are
 abbrev pub invariant-loop-caller : goal.invariant-loop-caller
 invariant-loop-caller g l =
-    (goal.iterator-loop-caller g).can_next l.caller-iterator × (goal.iterator-loop-caller g).is_finite l.caller-iterator
-    × (All (IsSettled l.locked.history) (into_iter_items l.caller-iterator) → All (IsSettled l.locked.history)
+    (goal.iterator-loop-caller g).can_next l.caller-iterator
+    × (goal.iterator-loop-caller g).is_finite l.caller-iterator
+    × (All (IsSettled l.locked.history) (into_iter_items l.caller-iterator)
+    → All (IsSettled l.locked.history)
     (vec_items l.fn.callers))

@@ -7,7 +7,7 @@ use Rattle.ck_journal.specs.TokenStates.{IsAnswered, entry_of}
 use Rattle.ck_callers.specs.Callers.{IsNextCall, entry_by}
 use Rattle.ck_callers.specs.KnownHistories.{Covers}
 use Rattle.ck_shared.proofs.Shown.{covered_on, if_none}
-use Rattle.ck_shared.proofs.locked.Locked.step.Goals as goal
+use Rattle.ck_shared.proofs.locked.Locked.step_after.Goals as goal
 
 pub invariant_of-self : goal.invariant_of-self
 invariant_of-self g c =
@@ -17,7 +17,8 @@ invariant_of-self g c =
         callers = tied.callers;
         books = tied.books;
         history = tied.history;
-        published = subst (Covers c.self.inside.known) (sym c.in_err-slot.ensures.published) tied.published;
+        published = subst (Covers c.self.inside.known) (sym c.in_err-slot.ensures.published)
+            tied.published;
       },
       c.in_err-slot.ensures.unchanged ∙ c.self.invariant.1,
     )
@@ -77,14 +78,19 @@ follow-requires-2 g c =
     let caller = c.args.caller.now in
     let h = (g.G.JournaledToken.state c.self.inside.token).history in
     let answered = c.in-Ok.ensures.answered in
-    let entered : (g.G.JournaledToken.state c.call.new.self).history ≡ entry_by caller.number c.args.call c.in-Ok.reply ◁ h =
-    answered.entered ∙ ap (λ r. entry_by c.number-number.result c.args.call r ◁ h) (sym answered.answered)
-    ∙ ap (λ n. entry_by n c.args.call c.in-Ok.reply ◁ h) (c.number-number.ensures.value ∙ c.account.ensures.number) in
+    let entered : (g.G.JournaledToken.state c.answer.new.token).history
+    ≡ entry_by caller.number c.args.call c.in-Ok.reply ◁ h =
+    answered.entered ∙ ap (λ r. entry_by c.number-number.result c.args.call r ◁ h)
+    (sym answered.answered)
+    ∙ ap (λ n. entry_by n c.args.call c.in-Ok.reply ◁ h)
+    (c.number-number.ensures.value ∙ c.account.ensures.number) in
     let front : IsFront caller.seen h =
     subst (λ seen. IsFront seen h) (c.front-2.ensures ∙ c.known.ensures)
     (subst (IsFront c.front-2.result.now)
-    (c.duplicate-front.ensures ∙ c.front.ensures ∙ c.self.invariant.0.history) c.extend.ensures.1) in
-    let next : IsNextCall caller c.self.inside.books c.args.call c.in-Ok.reply c.follow.new.self.history =
+    (c.duplicate-front.ensures ∙ c.front.ensures ∙ c.self.invariant.0.history)
+    c.extend.ensures.1) in
+    let next : IsNextCall caller c.self.inside.books c.args.call c.in-Ok.reply
+    c.follow.new.self.history =
     record {
       before = h;
       front = front;
@@ -97,10 +103,13 @@ pub show_by-requires-2-clause-shown : goal.show_by-requires-2-clause-shown
 show_by-requires-2-clause-shown g c =
     let h = (g.G.JournaledToken.state c.self.inside.token).history in
     let answered = c.in-Ok.ensures.answered in
-    let entered : (g.G.JournaledToken.state c.call.new.self).history ≡ entry_by c.number-number.result c.args.call c.in-Ok.reply ◁ h =
-    answered.entered ∙ ap (λ r. entry_by c.number-number.result c.args.call r ◁ h) (sym answered.answered) in
+    let entered : (g.G.JournaledToken.state c.answer.new.token).history
+    ≡ entry_by c.number-number.result c.args.call c.in-Ok.reply ◁ h =
+    answered.entered ∙ ap (λ r. entry_by c.number-number.result c.args.call r ◁ h)
+    (sym answered.answered) in
     if_none c.in_ok-slot.slot c.in_ok-slot.ensures.none (λ kept. (
-      covered_on (entry_by c.number-number.result c.args.call c.in-Ok.reply) c.leaves_board-leaves.result
+      covered_on (entry_by c.number-number.result c.args.call c.in-Ok.reply)
+          c.leaves_board-leaves.result
           c.self.inside.known c.follow.new.self h c.extend.new.front
           (published c.self.inside.writer) (published c.add_slot.new.writer) kept.0
           c.follow.ensures.changed c.follow.ensures.history (c.extend.ensures.0 ∙ entered)
@@ -114,13 +123,17 @@ returns-clause-called g c =
     let caller = c.args.caller.now in
     let h = (g.G.JournaledToken.state c.self.inside.token).history in
     let answered = c.in-Ok.ensures.answered in
-    let entered : (g.G.JournaledToken.state c.call.new.self).history ≡ entry_by caller.number c.args.call c.in-Ok.reply ◁ h =
-    answered.entered ∙ ap (λ r. entry_by c.number-number.result c.args.call r ◁ h) (sym answered.answered)
-    ∙ ap (λ n. entry_by n c.args.call c.in-Ok.reply ◁ h) (c.number-number.ensures.value ∙ c.account.ensures.number) in
+    let entered : (g.G.JournaledToken.state c.answer.new.token).history
+    ≡ entry_by caller.number c.args.call c.in-Ok.reply ◁ h =
+    answered.entered ∙ ap (λ r. entry_by c.number-number.result c.args.call r ◁ h)
+    (sym answered.answered)
+    ∙ ap (λ n. entry_by n c.args.call c.in-Ok.reply ◁ h)
+    (c.number-number.ensures.value ∙ c.account.ensures.number) in
     let front : IsFront caller.seen h =
     subst (λ seen. IsFront seen h) (c.front-2.ensures ∙ c.known.ensures)
     (subst (IsFront c.front-2.result.now)
-    (c.duplicate-front.ensures ∙ c.front.ensures ∙ c.self.invariant.0.history) c.extend.ensures.1) in
+    (c.duplicate-front.ensures ∙ c.front.ensures ∙ c.self.invariant.0.history)
+    c.extend.ensures.1) in
     c.follow-2.ensures.called c.args.call c.in-Ok.reply (record {
       before = h;
       front = front;
@@ -147,6 +160,6 @@ invariant_of-self-2 g c =
 pub returns-clause-answered : goal.returns-clause-answered
 returns-clause-answered g c =
     let old = g.G.JournaledToken.state c.self.inside.token in
-    let new = g.G.JournaledToken.state c.call.new.self in
+    let new = g.G.JournaledToken.state c.answer.new.token in
     rw (← c.self.view_is) (subst (λ n. IsAnswered old new n c.args.call c.in-Ok.reply)
     (c.number-number.ensures.value ∙ c.account.ensures.number) c.in-Ok.ensures.answered)
