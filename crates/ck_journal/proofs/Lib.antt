@@ -30,3 +30,4 @@ pub mod SessionMoves
 pub mod SessionObjectLemmas
 pub mod ValueLemmas
 pub mod VisibilityLemmas
+pub mod WorkLemmas

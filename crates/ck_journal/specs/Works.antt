@@ -1,6 +1,6 @@
 -- Work on a call's message that is done before the call is made
-use Rattle.std.specs.Prelude.{◌≡◌, ℕ, Bool, List, [], ◌++◌, Some, ◌==◌, ◌||◌, not, length}
-use Rattle.std.specs.Prelude.{if◌then◌else◌}
+use Rattle.std.specs.Prelude.{◌≡◌, ℕ, Bool, List, [], ◌++◌, Option, Some, ◌==◌, ◌||◌, not, length}
+use Rattle.std.specs.Prelude.{option_map, if◌then◌else◌}
 use Rattle.std.specs.Option.{option_map_or}
 use Rattle.ck_mac.specs.Computations.{HoldsTag}
 use Rattle.ck_mac.specs.declared.running_tags.RunningTag.{RunningTag}
@@ -13,6 +13,10 @@ use Rattle.ck_journal.specs.Histories.{History, start, ◌◁◌, done, entry_co
 use Rattle.ck_journal.specs.OperationCalls.{Step, take_whole, add_piece, OperationStep}
 use Rattle.ck_journal.specs.OperationCalls.{operation_step}
 use Rattle.ck_journal.specs.Operations.{starts, piece_of, computation_in, message_in}
+
+-- the kind and the session of the operation that a call starts, goes on with or finishes
+abbrev pub operation_of : Call → Option (OperationKind × ℕ)
+operation_of c = option_map (λ (o : OperationStep). (o.kind, o.session)) (operation_step c)
 
 -- the bytes of the message that a step brings, as a whole or as one piece
 abbrev pub bytes_taken : Step → List ℕ
@@ -37,6 +41,11 @@ changed_in k (e ◁ h) s = if changes_message k e s then entry_count h else chan
 
 -- ---- what work is of
 
+-- the running tag computes what the session's operation of the kind does, and has taken in its
+-- message and then these bytes
+abbrev pub HoldsWith : OperationKind → History → ℕ → List ℕ → RunningTag → Type 0
+HoldsWith k h s bytes running = HoldsTag (computation_in k h s) running (message_in k h s ++ bytes)
+
 -- the running tag computes what the call's operation does, and has taken in the operation's message
 abbrev pub HoldsBefore : History → Call → RunningTag → Type 0
 HoldsBefore h c running =
@@ -47,8 +56,7 @@ HoldsBefore h c running =
 abbrev pub HoldsAfter : History → Call → RunningTag → Type 0
 HoldsAfter h c running =
     (o : OperationStep) → operation_step c ≡ Some o
-    → HoldsTag (computation_in o.kind h o.session) running
-    (message_in o.kind h o.session ++ bytes_taken o.step)
+    → HoldsWith o.kind h o.session (bytes_taken o.step) running
 
 -- the work on the call's message was begun just after this history
 pub record IsBegun (h : History) (c : Call) (w : Work) : Type 0 where

@@ -1,3 +1,4 @@
+use crate::operations::OperationKind;
 use crate::replies::Reply;
 use ck_objects::Template;
 use ck_types::{Bytes, Mechanism, Pin, Sequence};
@@ -230,7 +231,28 @@ impl Call {
     ghost use Rattle.ck_journal.specs.Boards.{LeavesBoard};
     ghost use Rattle.ck_journal.specs.Effects.{effects_of};
     ghost use Rattle.ck_journal.specs.Operations.{added_bytes};
-    ghost use Rattle.ck_journal.specs.Works.{taken_bytes};
+    ghost use Rattle.ck_journal.specs.Works.{operation_of, taken_bytes};
+
+    /// The kind and the session of the operation that the call starts, goes on with or finishes.
+    pub fn operation(&self) -> Option<(OperationKind, u64)>
+        ensures { result ≡ operation_of self.now }
+    {
+        match self {
+            Call::DigestInit { session, .. }
+            | Call::Digest { session, .. }
+            | Call::DigestUpdate { session, .. }
+            | Call::DigestFinal { session, .. } => Some((OperationKind::Digest, *session)),
+            Call::SignInit { session, .. }
+            | Call::Sign { session, .. }
+            | Call::SignUpdate { session, .. }
+            | Call::SignFinal { session, .. } => Some((OperationKind::Sign, *session)),
+            Call::VerifyInit { session, .. }
+            | Call::Verify { session, .. }
+            | Call::VerifyUpdate { session, .. }
+            | Call::VerifyFinal { session, .. } => Some((OperationKind::Verify, *session)),
+            _ => None,
+        }
+    }
 
     /// The bytes that an update adds to the message of its operation; none for every other call.
     pub fn added_bytes(&self) -> &[u8]

@@ -1,6 +1,7 @@
 use crate::digests::Running;
 use crate::macs::Mac;
 use crate::tags::Tag;
+use std::alloc::AllocError;
 
 /// The tag of a message that comes in pieces: a digest or an HMAC.
 #[derive(Drop)]
@@ -65,5 +66,21 @@ impl RunningTag {
                 mac.finish()
             }
         }
+    }
+}
+
+/// A clone takes no memory and never fails.
+impl Clone for RunningTag {
+    ghost use Rattle.std.specs.Prelude.{◌≡◌, ⊤};
+
+    ghost is_clone = { λ running clone. clone ≡ running };
+
+    ghost is_infallible = { λ _. ⊤ };
+
+    fn clone(&self) -> Result<RunningTag, AllocError> {
+        Ok(match self {
+            RunningTag::Digest(running) => RunningTag::Digest(running.clone()?),
+            RunningTag::Mac(mac) => RunningTag::Mac(mac.clone()?),
+        })
     }
 }

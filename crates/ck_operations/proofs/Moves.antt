@@ -2,18 +2,19 @@
 use Rattle.std.proofs.Common.{◌≡◌, ℕ, suc, Bool, true, false, cond, not, List, [], ◌∷◌, ◌++◌, Option}
 use Rattle.std.proofs.Common.{Some, None, length, refl, sym, ap, ◌∙◌, subst, append-nil, append_assoc}
 use Rattle.std.proofs.Common.{arith}
-use Rattle.std.specs.Prelude.{◌==◌, ◌&&◌, filter, find, option_map, option_and_then}
+use Rattle.std.specs.Prelude.{◌==◌, ◌&&◌, filter, find, option_map, option_and_then, IfSome}
 use Rattle.std.specs.List.{concat}
 use Rattle.std.specs.Option.{option_or}
 use Rattle.std.proofs.lemmas.Bool.{ne_eqb, eqb-true, and_parts}
 use Rattle.std.proofs.lemmas.List.Folds.{find-append}
 use Rattle.ck_journal.specs.declared.calls.Entry.{Entry}
 use Rattle.ck_journal.specs.declared.operations.OperationKind.{OperationKind}
-use Rattle.ck_journal.specs.Histories.{History, ◌◁◌, done}
+use Rattle.ck_journal.specs.Histories.{History, ◌◁◌, done, entry_count}
 use Rattle.ck_journal.specs.Objects.{object_named}
 use Rattle.ck_journal.specs.OperationCalls.{same_kind}
 use Rattle.ck_journal.specs.Operations.{is_active, computation_in, key_in, pieces_in}
 use Rattle.ck_journal.specs.Operations.{started_computation, init_key, names_kind}
+use Rattle.ck_journal.specs.Works.{changed_in, HoldsWith}
 use Rattle.ck_journal.proofs.NumberTests.{eqb-swap}
 use Rattle.ck_mac.specs.Computations.{Computation, HoldsTag}
 use Rattle.ck_mac.specs.declared.running_tags.RunningTag.{RunningTag}
@@ -22,7 +23,7 @@ use Rattle.ck_operations.specs.Agreement.{OperationAgrees, OperationsAgree}
 use Rattle.ck_operations.specs.Moves.{Move, Stay, Start, Add, End, Does, OnlyIn, OnlyInSession}
 use Rattle.ck_operations.specs.Moves.{OnlyNamed, InAll, IsStartOf}
 use Rattle.ck_operations.specs.Rows.{is_operation, is_of_session, is_named, new_operation}
-use Rattle.ck_operations.specs.Rows.{IsUpdateOfRows, IsUpdateOfOption}
+use Rattle.ck_operations.specs.Rows.{Piece, IsReady, IsUpdateOfRows, IsUpdateOfOption}
 use Rattle.ck_operations.specs.declared.active_operations.Operation.{Operation}
 use Rattle.ck_operations.proofs.RowLemmas.{find-kept, find-removed, operation-is, same_kind-eq}
 use Rattle.ck_operations.proofs.RowLemmas.{same_kind-swap}
@@ -43,7 +44,11 @@ abbrev moved : ActiveOperation → Move → Option ActiveOperation → Option Ac
 moved started Stay before = before
 moved started Start before = Some started
 moved started (Add bytes) before =
-    option_map (λ (a : ActiveOperation). record a { message = a.message ++ bytes; updated = true }) before
+    option_map (λ (a : ActiveOperation). record a {
+      message = a.message ++ bytes;
+      updated = true;
+      changed = started.changed;
+    }) before
 moved started End before = None
 
 -- what an entry starts
@@ -53,37 +58,42 @@ started_by h e = record {
   key = option_and_then (object_named h) (init_key (done e));
   message = [];
   updated = false;
+  changed = entry_count h;
 }
 
 -- the operation by the facts of it
-abbrev operation_by : Bool → Computation → Option ℕ → List (List ℕ) → Option ActiveOperation
-operation_by active computation key pieces =
+abbrev operation_by : Bool → Computation → Option ℕ → List (List ℕ) → ℕ → Option ActiveOperation
+operation_by active computation key pieces changed =
     cond active
     (Some (record {
       computation = computation;
       key = key;
       message = concat pieces;
       updated = not (length pieces == 0);
+      changed = changed;
     }))
     None
 
 by-added : (started : ActiveOperation) (bytes : List ℕ) (active : Bool) (computation : Computation)
-    (key : Option ℕ) (pieces : List (List ℕ))
-    → operation_by active computation key (pieces ++ bytes ∷ [])
-    ≡ moved started (Add bytes) (operation_by active computation key pieces)
-by-added started bytes false computation key pieces = refl
-by-added started bytes true computation key pieces = rw (concat-append pieces bytes, not-empty pieces bytes) refl
+    (key : Option ℕ) (pieces : List (List ℕ)) (changed : ℕ)
+    → operation_by active computation key (pieces ++ bytes ∷ []) started.changed
+    ≡ moved started (Add bytes) (operation_by active computation key pieces changed)
+by-added started bytes false computation key pieces changed = refl
+by-added started bytes true computation key pieces changed =
+    rw (concat-append pieces bytes, not-empty pieces bytes) refl
 
 module _ (k : OperationKind) (e : Entry) (h : History) (s : ℕ) where
   pub operation_at-moved : (move : Move) → Does move e k s
       → operation_at k (e ◁ h) s ≡ moved (started_by h e) move (operation_at k h s)
   operation_at-moved Stay does =
       rw (does.0, does.1, does.2)
-      (ap (operation_by (is_active k h s) (computation_in k h s) (key_in k h s)) (append-nil (pieces_in k h s)))
+      (ap (λ pieces. operation_by (is_active k h s) (computation_in k h s) (key_in k h s) pieces
+      (changed_in k h s)) (append-nil (pieces_in k h s)))
   operation_at-moved Start does = rw does refl
   operation_at-moved (Add bytes) does =
       rw (does.0, does.1, does.2)
-      (by-added (started_by h e) bytes (is_active k h s) (computation_in k h s) (key_in k h s) (pieces_in k h s))
+      (by-added (started_by h e) bytes (is_active k h s) (computation_in k h s) (key_in k h s)
+      (pieces_in k h s) (changed_in k h s))
   operation_at-moved End does = rw (does.0, does.1) refl
 
 -- ---- operations that are looked for, and those of the history
@@ -94,20 +104,40 @@ none-found None same = refl
 none-found (Some o) same = absurd same
 
 idle-none : (k : OperationKind) (h : History) (s : ℕ) → is_active k h s ≡ false → operation_at k h s ≡ None
-idle-none k h s idle = ap (λ t. operation_by t (computation_in k h s) (key_in k h s) (pieces_in k h s)) idle
+idle-none k h s idle =
+    ap (λ t. operation_by t (computation_in k h s) (key_in k h s) (pieces_in k h s)
+    (changed_in k h s)) idle
 
-added-same : (started : ActiveOperation) (bytes : List ℕ) (old new : Option Operation) (before : Option ActiveOperation)
-    → IsUpdateOfOption bytes old new → OptionAgrees old before → OptionAgrees new (moved started (Add bytes) before)
-added-same started bytes (Some a) (Some b) (Some before) added same = record {
-  message = added.message before.computation before.message same.message;
+-- the tag that is ready is right for the operation, where one is active
+abbrev IsReadyFor : Piece → Option ActiveOperation → Type 0
+IsReadyFor piece None = Unit {0}
+IsReadyFor piece (Some a) = IsReady a.computation a.message piece
+
+added-same : (started : ActiveOperation) (piece : Piece) (old new : Option Operation)
+    (before : Option ActiveOperation)
+    → piece.entries ≡ started.changed → IsReadyFor piece before → IsUpdateOfOption piece old new
+    → OptionAgrees old before → OptionAgrees new (moved started (Add piece.bytes) before)
+added-same started piece (Some a) (Some b) (Some before) now ready added same = record {
+  message = added.message before.computation before.message ready same.message;
   key = added.key ∙ same.key;
   updated = added.updated;
+  changed = added.changed ∙ now;
 }
-added-same started bytes (Some a) (Some b) None added same = absurd same
-added-same started bytes (Some a) None before added same = absurd added
-added-same started bytes None (Some b) before added same = absurd added
-added-same started bytes None None (Some before) added same = absurd same
-added-same started bytes None None None added same = tt
+added-same started piece (Some a) (Some b) None now ready added same = absurd same
+added-same started piece (Some a) None before now ready added same = absurd added
+added-same started piece None (Some b) before now ready added same = absurd added
+added-same started piece None None (Some before) now ready added same = absurd same
+added-same started piece None None None now ready added same = tt
+
+ready-for : (piece : Piece) (k : OperationKind) (h : History) (s : ℕ)
+    → IfSome piece.ready (HoldsWith k h s piece.bytes) → IsReadyFor piece (operation_at k h s)
+ready-for piece k h s ready = cases (is_active k h s)
+  where
+    cases : (active : Bool) → IsReadyFor piece
+        (operation_by active (computation_in k h s) (key_in k h s) (pieces_in k h s)
+        (changed_in k h s))
+    cases true = ready
+    cases false = tt
 
 or-none : (found : Option Operation) → option_or found None ≡ found
 or-none None = refl
@@ -181,37 +211,47 @@ module _ (h : History) (old : OperationsState) (agree : OperationsAgree h old) (
   abbrev only : OperationKind → ℕ → Move → OperationKind → ℕ → Move
   only kind session move k s = cond (same_kind kind k && session == s) move Stay
 
-  pub operations-added : (kind : OperationKind) (session : ℕ) (bytes : List ℕ) → OnlyIn kind session (Add bytes) e
-      → (new : OperationsState) → IsUpdateOfRows kind session bytes old.rows new.rows → OperationsAgree (e ◁ h) new
-  operations-added kind session bytes does new is =
-      moves new (only kind session (Add bytes)) does (λ k s. added k s (same_kind kind k && session == s) refl)
+  pub operations-added : (kind : OperationKind) (session : ℕ) (piece : Piece)
+      → piece.entries ≡ entry_count h
+      → IfSome piece.ready (HoldsWith kind h session piece.bytes)
+      → OnlyIn kind session (Add piece.bytes) e
+      → (new : OperationsState) → IsUpdateOfRows kind session piece old.rows new.rows
+      → OperationsAgree (e ◁ h) new
+  operations-added kind session piece now ready does new is =
+      moves new (only kind session (Add piece.bytes)) does
+      (λ k s. added k s (same_kind kind k && session == s) refl)
     where
       added : (k : OperationKind) (s : ℕ) (t : Bool) → (same_kind kind k && session == s) ≡ t
-          → OptionAgrees (find (is_operation k s) new.rows) (after (cond t (Add bytes) Stay) k s)
+          → OptionAgrees (find (is_operation k s) new.rows)
+          (after (cond t (Add piece.bytes) Stay) k s)
       added k s true here =
           let both = and_parts (same_kind kind k) (session == s) here in
           rw (← same_kind-eq kind k both.0, ← eqb-true session s both.1)
-          (added-same (started_by h e) bytes (find (is_operation kind session) old.rows)
+          (added-same (started_by h e) piece (find (is_operation kind session) old.rows)
           (find (is_operation kind session) new.rows)
-          (operation_at kind h session) is.added (agree.each kind session))
+          (operation_at kind h session) now (ready-for piece kind h session ready) is.added
+          (agree.each kind session))
       added k s false there =
           subst (λ found. OptionAgrees found (operation_at k h s)) (sym (is.others k s there)) (agree.each k s)
 
-  pub operations-started : (kind : OperationKind) (session : ℕ) (running : RunningTag) (key : Option ℕ)
-      (computation : Computation) → HoldsTag computation running [] → IsStartOf h e computation key
+  pub operations-started : (kind : OperationKind) (session : ℕ) (running : RunningTag)
+      (key : Option ℕ) (entries : ℕ) (computation : Computation) → entries ≡ entry_count h
+      → HoldsTag computation running [] → IsStartOf h e computation key
       → OnlyIn kind session Start e → is_active kind h session ≡ false → (new : OperationsState)
-      → new.rows ≡ old.rows ++ new_operation kind session running key ∷ [] → OperationsAgree (e ◁ h) new
-  operations-started kind session running key computation holds of does idle new rows =
+      → new.rows ≡ old.rows ++ new_operation kind session running key entries ∷ []
+      → OperationsAgree (e ◁ h) new
+  operations-started kind session running key entries computation now holds of does idle new rows =
       moves new (only kind session Start) does (λ k s. started k s (same_kind kind k && session == s) refl)
     where
       o : Operation
-      o = new_operation kind session running key
+      o = new_operation kind session running key entries
 
       agrees : OperationAgrees o (started_by h e)
       agrees = record {
         message = subst (λ c. HoldsTag c running []) (sym of.computation) holds;
         key = sym of.key;
         updated = refl;
+        changed = now;
       }
 
       started : (k : OperationKind) (s : ℕ) (t : Bool) → (same_kind kind k && session == s) ≡ t

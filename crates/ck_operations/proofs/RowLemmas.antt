@@ -15,7 +15,8 @@ use Rattle.ck_operations.specs.declared.active_operations.Operation.{Operation}
 use Rattle.ck_journal.proofs.Changes.{change_first-place}
 use Rattle.ck_journal.proofs.Selections.{cond_none}
 use Rattle.ck_journal.specs.OperationCalls.{same_kind}
-use Rattle.ck_operations.specs.Rows.{is_operation, IsUpdateOfRows, IsUpdateOf, IsUpdateOfOption}
+use Rattle.ck_operations.specs.Rows.{is_operation, Piece, IsUpdateOfRows, IsUpdateOf}
+use Rattle.ck_operations.specs.Rows.{IsUpdateOfOption}
 
 module _ {X : Type 0} (test keeps : X → Bool) where
   kept-step : (x : X) (xs : List X) → (test x ≡ true → keeps x ≡ true)
@@ -111,21 +112,21 @@ find-nowhere test rows none =
     find_at test rows
     ∙ slice_get_past rows (position_or_len test rows) (ltb-false _ _ (cond_none _ (position_or_len test rows) none))
 
-has-added : (bytes : List ℕ) (old new : Operation) (a b : Option Operation) → a ≡ Some old → b ≡ Some new
-    → IsUpdateOf bytes old new → IsUpdateOfOption bytes a b
-has-added bytes old new a b x y is = rw (x, y) is
+has-added : (piece : Piece) (old new : Operation) (a b : Option Operation) → a ≡ Some old
+    → b ≡ Some new → IsUpdateOf piece old new → IsUpdateOfOption piece a b
+has-added piece old new a b x y is = rw (x, y) is
 
-module _ (k : OperationKind) (session : ℕ) (bytes : List ℕ) (rows : List Operation) where
+module _ (k : OperationKind) (session : ℕ) (piece : Piece) (rows : List Operation) where
   pub added-at : (place : ℕ) (old new : Operation) → Some place ≡ position (is_operation k session) rows
-      → old ≡ get_or rows place old → IsUpdateOf bytes old new
-      → IsUpdateOfRows k session bytes rows (set rows place new)
+      → old ≡ get_or rows place old → IsUpdateOf piece old new
+      → IsUpdateOfRows k session piece rows (set rows place new)
   added-at place old new found item is =
       let at = position-Some (is_operation k session) rows place old (sym found) in
       let p = cond_some _ (position_or_len (is_operation k session) rows) place (sym found) in
       let passes : is_operation k session old ≡ true = ap (is_operation k session) item ∙ at.1 in
       let passes-new : is_operation k session new ≡ true = rw (is.session, is.kind) passes in
       record {
-        added = has-added bytes old new _ _
+        added = has-added piece old new _ _
             (find_at (is_operation k session) rows ∙ ap (slice_get rows) p.1 ∙ slice_get-get_or rows place old
             at.0 ∙ ap Some (sym item))
             (find-set (is_operation k session) rows place new (sym p.1) at.0 passes-new)
@@ -137,10 +138,11 @@ module _ (k : OperationKind) (session : ℕ) (bytes : List ℕ) (rows : List Ope
             (apart k l session s apart-from) rows;
       }
 
-  nothing-added : (found : Option Operation) → found ≡ None → IsUpdateOfOption bytes found found
+  nothing-added : (found : Option Operation) → found ≡ None → IsUpdateOfOption piece found found
   nothing-added found e = rw e tt
 
-  pub added-nowhere : None ≡ position (is_operation k session) rows → IsUpdateOfRows k session bytes rows rows
+  pub added-nowhere : None ≡ position (is_operation k session) rows
+      → IsUpdateOfRows k session piece rows rows
   added-nowhere none = record {
     added = nothing-added (find (is_operation k session) rows) (find-nowhere (is_operation k session) rows (sym none));
     others = λ l s apart-from. refl;

@@ -1,6 +1,6 @@
 -- The active operations as contracts see them
 use Rattle.std.specs.Prelude.{◌≡◌, ℕ, Bool, true, false, List, ◌++◌, Option, Some, None, ◌==◌}
-use Rattle.std.specs.Prelude.{◌&&◌, find}
+use Rattle.std.specs.Prelude.{◌&&◌, find, IfSome}
 use Rattle.ck_journal.specs.OperationCalls.{same_kind}
 use Rattle.ck_journal.specs.Operations.{names_kind}
 use Rattle.ck_journal.specs.declared.operations.OperationKind.{OperationKind}
@@ -31,30 +31,54 @@ operation_key o = o.key
 abbrev pub has_update : Operation → Bool
 has_update o = o.updated
 
--- an operation before its first update
-abbrev pub new_operation : OperationKind → ℕ → RunningTag → Option ℕ → Operation
-new_operation k s running key =
-    record { kind = k; session = s; running = running; key = key; updated = false }
+-- how many entries there were before the one that last started it or added to its message
+abbrev pub last_change : Operation → ℕ
+last_change o = o.changed
+
+-- an operation before its first update, started by the entry that comes after so many
+abbrev pub new_operation : OperationKind → ℕ → RunningTag → Option ℕ → ℕ → Operation
+new_operation k s running key entries = record {
+  kind = k;
+  session = s;
+  running = running;
+  key = key;
+  updated = false;
+  changed = entries;
+}
+
+-- a piece that an update adds: its bytes, the tag of the message with these bytes where that is
+-- ready, and how many entries there were before
+pub record Piece : Type 0 where
+  pub bytes : List ℕ
+  pub ready : Option RunningTag
+  pub entries : ℕ
+
+-- the tag that is ready is what it should be, after this message
+abbrev pub IsReady : Computation → List ℕ → Piece → Type 0
+IsReady computation message piece =
+    IfSome piece.ready (λ running. HoldsTag computation running (message ++ piece.bytes))
 
 -- the operation after an update
-pub record IsUpdateOf (bytes : List ℕ) (old new : Operation) : Type 0 where
+pub record IsUpdateOf (piece : Piece) (old new : Operation) : Type 0 where
   pub kind : new.kind ≡ old.kind
   pub session : new.session ≡ old.session
   pub message : (computation : Computation) (message : List ℕ)
-      → HoldsMessage computation old message → HoldsMessage computation new (message ++ bytes)
+      → IsReady computation message piece → HoldsMessage computation old message
+      → HoldsMessage computation new (message ++ piece.bytes)
   pub key : new.key ≡ old.key
   pub updated : new.updated ≡ true
+  pub changed : new.changed ≡ piece.entries
 
 -- where there is one
-abbrev pub IsUpdateOfOption : List ℕ → Option Operation → Option Operation → Type 0
-IsUpdateOfOption bytes (Some old) (Some new) = IsUpdateOf bytes old new
-IsUpdateOfOption bytes None None = Unit {0}
-IsUpdateOfOption bytes old new = ⊥
+abbrev pub IsUpdateOfOption : Piece → Option Operation → Option Operation → Type 0
+IsUpdateOfOption piece (Some old) (Some new) = IsUpdateOf piece old new
+IsUpdateOfOption piece None None = Unit {0}
+IsUpdateOfOption piece old new = ⊥
 
 -- the first operation of this kind in this session after an update, and the others as they were
-pub record IsUpdateOfRows (k : OperationKind) (session : ℕ) (bytes : List ℕ)
+pub record IsUpdateOfRows (k : OperationKind) (session : ℕ) (piece : Piece)
     (old new : List Operation) : Type 0 where
-  pub added : IsUpdateOfOption bytes (find (is_operation k session) old)
+  pub added : IsUpdateOfOption piece (find (is_operation k session) old)
       (find (is_operation k session) new)
   pub others : (l : OperationKind) (s : ℕ) → (same_kind k l && session == s) ≡ false
       → find (is_operation l s) new ≡ find (is_operation l s) old

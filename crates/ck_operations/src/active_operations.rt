@@ -1,7 +1,9 @@
-ghost use Rattle.std.specs.Prelude.{◌≡◌, ℕ, List, ◌++◌};
-ghost use Rattle.ck_mac.specs.Computations.{Computation, tag_of, tag_size};
+ghost use Rattle.std.specs.Prelude.{◌≡◌, ℕ, List, ◌++◌, IfSome};
+ghost use Rattle.ck_mac.specs.Computations.{Computation, HoldsTag, tag_of, tag_size};
 ghost use Rattle.ck_operations.specs.Rows.{is_operation, is_of_session, is_named, IsUpdateOf};
 ghost use Rattle.ck_operations.specs.Rows.{HoldsMessage, operation_key, has_update, new_operation};
+ghost use Rattle.ck_operations.specs.Rows.{last_change};
+ghost use Rattle.std.specs.Option.{option_copied};
 
 use ck_journal::OperationKind;
 use ck_mac::{RunningTag, Tag};
@@ -18,17 +20,21 @@ pub struct Operation {
     key: Option<u64>,
     /// Whether there was an update, be it of no bytes.
     updated: bool,
+    /// How many entries the journal had before the one that last started the operation or added to
+    /// its message.
+    changed: u64,
 }
 
 impl Operation {
-    /// An operation before its first update.
+    /// An operation before its first update, which the entry after these starts.
     pub(crate) fn new(
         kind: OperationKind,
         session: u64,
         running: RunningTag,
         key: Option<u64>,
+        entries: u64,
     ) -> Operation
-        ensures { result ≡ new_operation kind session running key }
+        ensures { result ≡ new_operation kind session running key entries }
     {
         Operation {
             kind,
@@ -36,6 +42,7 @@ impl Operation {
             running,
             key,
             updated: false,
+            changed: entries,
         }
     }
 
@@ -71,6 +78,23 @@ impl Operation {
         self.updated
     }
 
+    /// How many entries the journal had before the one that last started the operation or added to
+    /// its message.
+    pub fn changed(&self) -> u64
+        ensures { result ≡ last_change self.now }
+    {
+        self.changed
+    }
+
+    /// The running tag of the message so far.
+    pub fn running(&self) -> &RunningTag
+        ensures { (computation : Computation) (message : List ℕ)
+            → HoldsMessage computation self.now message
+            → HoldsTag computation result.now message }
+    {
+        &self.running
+    }
+
     /// How many bytes its tag has.
     pub fn len(&self) -> u64
         ensures { (computation : Computation) (message : List ℕ)
@@ -87,20 +111,35 @@ impl Operation {
         self.running.tag()
     }
 
-    /// The tag of the message so far, followed by these bytes.
-    pub fn tag_with(&self, bytes: &[u8]) -> Tag
+    /// The tag of the message so far, followed by these bytes. `ready`, where it is given, is the
+    /// running tag that has taken them in already.
+    pub fn tag_with(&self, bytes: &[u8], ready: Option<&RunningTag>) -> Tag
         ensures { (computation : Computation) (message : List ℕ)
+            → IfSome (option_copied ready.entry)
+            (λ running. HoldsTag computation running (message ++ bytes.now))
             → HoldsMessage computation self.now message
             → result ≡ tag_of computation (message ++ bytes.now) }
     {
-        self.running.tag_with(bytes)
+        match ready {
+            Some(running) => running.tag(),
+            None => self.running.tag_with(bytes),
+        }
     }
 
-    /// Adds a piece to its message.
-    pub(crate) fn add_piece(&mut self, bytes: &[u8])
-        ensures { IsUpdateOf bytes.now self.old self.new }
+    /// Adds a piece to its message, by the entry after these. `ready`, where it is given, is the
+    /// running tag that has taken it in already.
+    pub(crate) fn add_piece(&mut self, bytes: &[u8], ready: Option<&RunningTag>, entries: u64)
+        ensures { IsUpdateOf (record {
+          bytes = bytes.now;
+          ready = option_copied ready.entry;
+          entries = entries;
+        }) self.old self.new }
     {
-        self.running.update(bytes);
+        match ready {
+            Some(running) => self.running = running.clone().unwrap(),
+            None => self.running.update(bytes),
+        }
         self.updated = true;
+        self.changed = entries;
     }
 }

@@ -27,11 +27,12 @@ impl Model for Operations {
 }
 
 impl Operations {
-    ghost use Rattle.std.specs.Prelude.{◌≡◌, ◌<◌, [], false, Option, OnOk, IsOk};
+    ghost use Rattle.std.specs.Prelude.{◌≡◌, ◌<◌, [], false, Option, OnOk, IsOk, IfSome};
     ghost use Rattle.std.specs.Option.{option_copied};
     ghost use Rattle.ck_journal.specs.declared.bases.Base.{Base};
-    ghost use Rattle.ck_journal.specs.Histories.{History, start, ◌◁◌};
+    ghost use Rattle.ck_journal.specs.Histories.{History, start, ◌◁◌, entry_count};
     ghost use Rattle.ck_journal.specs.Operations.{is_active};
+    ghost use Rattle.ck_journal.specs.Works.{HoldsWith};
     ghost use Rattle.ck_journal.specs.declared.calls.Entry.{Entry};
     ghost use Rattle.ck_operations.specs.Agreement.{OperationsAgree, OptionAgrees, operation_at};
     ghost use Rattle.ck_mac.specs.Computations.{Computation, HoldsTag};
@@ -68,30 +69,44 @@ impl Operations {
     // ---- changes, each by what the entry of an answered call does to operations
 
     /// Starts an operation where the session has none of the kind and there is room for it, and
-    /// takes no memory. The tag is that of the empty message; `key` is the number of its key.
+    /// takes no memory. The tag is that of the empty message; `key` is the number of its key;
+    /// `entries` is how many entries the journal has before this one.
     pub fn start(
         &mut self,
         kind: OperationKind,
         session: u64,
         running: RunningTag,
         key: Option<u64>,
+        entries: u64,
     )
         requires { 0 < self.old.spare }
         ensures agree { (h : History) (e : Entry) (computation : Computation)
+            → entries ≡ entry_count h
             → HoldsTag computation running [] → IsStartOf h e computation key
             → OnlyIn kind session Start e → is_active kind h session ≡ false
             → OperationsAgree h self.old → OperationsAgree (e ◁ h) self.new }
     {
-        let operation = Operation::new(kind, session, running, key);
+        let operation = Operation::new(kind, session, running, key, entries);
         self.rows.push_reserved(operation);
     }
 
-    /// Adds a piece to the message of the session's operation of the kind.
-    pub fn add_piece(&mut self, kind: OperationKind, session: u64, bytes: &[u8])
-        ensures agree { (h : History) (e : Entry) → OnlyIn kind session (Add bytes.now) e
+    /// Adds a piece to the message of the session's operation of the kind. `ready`, where it is
+    /// given, is the running tag that has taken it in already, and then takes the place of the
+    /// operation's; `entries` is how many entries the journal has before this one.
+    pub fn add_piece(
+        &mut self,
+        kind: OperationKind,
+        session: u64,
+        bytes: &[u8],
+        ready: Option<&RunningTag>,
+        entries: u64,
+    )
+        ensures agree { (h : History) (e : Entry) → entries ≡ entry_count h
+            → IfSome (option_copied ready.entry) (HoldsWith kind h session bytes.now)
+            → OnlyIn kind session (Add bytes.now) e
             → OperationsAgree h self.old → OperationsAgree (e ◁ h) self.new }
     {
-        add_piece(&mut self.rows, kind, session, bytes);
+        add_piece(&mut self.rows, kind, session, bytes, ready, entries);
     }
 
     /// Ends the session's operation of the kind, where one is active.

@@ -5,6 +5,7 @@ ghost use Rattle.ck_operations.specs.Rows.{is_operation, is_of_session, is_named
 
 use crate::active_operations::Operation;
 use ck_journal::OperationKind;
+use ck_mac::RunningTag;
 
 pub(crate) fn find_operation(
     rows: &[Operation],
@@ -23,12 +24,23 @@ fn place_of(rows: &[Operation], kind: OperationKind, session: u64) -> Option<usi
 }
 
 /// Adds a piece to the message of the session's operation of the kind, where there is one.
-pub(crate) fn add_piece(rows: &mut Vec<Operation>, kind: OperationKind, session: u64, bytes: &[u8])
-    ensures { IsUpdateOfRows kind session bytes.now rows.old.items rows.new.items }
+pub(crate) fn add_piece(
+    rows: &mut Vec<Operation>,
+    kind: OperationKind,
+    session: u64,
+    bytes: &[u8],
+    ready: Option<&RunningTag>,
+    entries: u64,
+)
+    ensures { IsUpdateOfRows kind session (record {
+      bytes = bytes.now;
+      ready = option_copied ready.entry;
+      entries = entries;
+    }) rows.old.items rows.new.items }
 {
     if let Some(place) = place_of(rows, kind, session) {
         let row = &mut rows[place];
-        row.add_piece(bytes);
+        row.add_piece(bytes, ready, entries);
     }
 }
 

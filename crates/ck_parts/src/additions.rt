@@ -6,7 +6,7 @@ ghost use Rattle.std.specs.Prelude.{unwrap_or};
 ghost use Rattle.ck_types.specs.Hashes.{digest_length};
 ghost use Rattle.ck_objects.specs.Records.{key_value};
 ghost use Rattle.ck_mac.specs.Computations.{digest_by, hmac_by};
-ghost use Rattle.ck_journal.specs.Histories.{History, ◌◁◌, done};
+ghost use Rattle.ck_journal.specs.Histories.{History, ◌◁◌, done, entry_count};
 ghost use Rattle.ck_journal.specs.Objects.{attributes_named, object_at};
 ghost use Rattle.ck_journal.specs.Objects.{creates, creation_session, creation_attributes};
 ghost use Rattle.ck_journal.specs.Operations.{is_active};
@@ -38,16 +38,17 @@ pub(crate) fn create_object(objects: &mut Store, session: u64, attributes: Boxed
     objects.create(session, attributes.into_inner());
 }
 
-/// Starts a digest, where the session has none and there is room for it.
+/// Starts a digest, where the session has none and there is room for it, by the entry after these.
 #[inline(never)]
-pub(crate) fn start_digest(operations: &mut Operations, session: u64, hash: Hash)
+pub(crate) fn start_digest(operations: &mut Operations, session: u64, hash: Hash, entries: u64)
     requires { 0 < operations.old.spare }
-    ensures { (h : History) (e : Entry) → IsStartOf h e (digest_by hash) None
+    ensures { (h : History) (e : Entry) → entries ≡ entry_count h
+        → IsStartOf h e (digest_by hash) None
         → OnlyIn kind.Digest session Start e → is_active kind.Digest h session ≡ false
         → OperationsAgree h operations.old → OperationsAgree (e ◁ h) operations.new }
 {
     let running = RunningTag::Digest(Running::new(hash));
-    operations.start(OperationKind::Digest, session, running, None);
+    operations.start(OperationKind::Digest, session, running, None, entries);
 }
 
 /// The bytes of the key of this number; none where there is no such object.
@@ -62,7 +63,7 @@ fn key_value(objects: &Store, number: u64) -> &[u8]
 }
 
 /// Starts a signing or a verifying under the key of this number, where the session has none of the
-/// kind and there is room for it. A signature has `len` bytes.
+/// kind and there is room for it, by the entry after these. A signature has `len` bytes.
 #[inline(never)]
 pub(crate) fn start_hmac(
     operations: &mut Operations,
@@ -72,14 +73,15 @@ pub(crate) fn start_hmac(
     hash: Hash,
     key: u64,
     len: u64,
+    entries: u64,
 )
     requires room { 0 < operations.old.spare }
     requires length { (1 ≤ len) × (len ≤ digest_length hash) }
-    ensures { (h : History) (e : Entry) → StoreAgrees h objects.now
+    ensures { (h : History) (e : Entry) → entries ≡ entry_count h → StoreAgrees h objects.now
         → IsStartOf h e (hmac_by hash (key_value (unwrap_or (object_at h key) [])) len) (Some key)
         → OnlyIn kind session Start e → is_active kind h session ≡ false
         → OperationsAgree h operations.old → OperationsAgree (e ◁ h) operations.new }
 {
     let mac = Mac::general(hash, key_value(objects, key), len);
-    operations.start(kind, session, RunningTag::Mac(mac), Some(key));
+    operations.start(kind, session, RunningTag::Mac(mac), Some(key), entries);
 }

@@ -1,6 +1,7 @@
 use crate::additions::{create_object, start_digest, start_hmac};
 use crate::changes::Change;
 use ck_journal::{Base, Call};
+use ck_mac::RunningTag;
 use ck_operations::Operations;
 use ck_sessions::Sessions;
 use ck_store::Store;
@@ -17,11 +18,13 @@ pub struct Parts {
 }
 
 impl Parts {
-    ghost use Rattle.std.specs.Prelude.{◌≡◌, IfOk, IsOk, OnOk, false};
+    ghost use Rattle.std.specs.Prelude.{◌≡◌, IfOk, IfSome, IsOk, OnOk, false};
+    ghost use Rattle.std.specs.Option.{option_copied};
     ghost use Rattle.ck_types.specs.TokenLimits.{Ranges};
     ghost use Rattle.ck_journal.specs.Answers.{IsLegal};
     ghost use Rattle.ck_journal.specs.Bases.{empty_base, IsSound};
-    ghost use Rattle.ck_journal.specs.Histories.{History, start, ◌◁◌};
+    ghost use Rattle.ck_journal.specs.Histories.{History, start, ◌◁◌, entry_count};
+    ghost use Rattle.ck_journal.specs.Works.{HoldsAfter};
     ghost use Rattle.ck_journal.specs.declared.calls.Entry.{Entry};
     ghost use Rattle.ck_parts.specs.Agreement.{PartsAgree, adds, HasRoom, IsCounted};
     ghost use Rattle.ck_parts.specs.Changes.{effect};
@@ -64,12 +67,15 @@ impl Parts {
         }
     }
 
-    /// Carries out the change of an answered call, and takes no memory.
-    pub fn apply(&mut self, change: Change, call: &Call)
+    /// Carries out the change of an answered call, and takes no memory. `ready`, where it is given,
+    /// is the running tag of the call's operation that has taken in the bytes of the call already;
+    /// `entries` is how many entries the journal has before this one.
+    pub fn apply(&mut self, change: Change, call: &Call, ready: Option<&RunningTag>, entries: u64)
         requires room { HasRoom self.old change }
         requires counted { IsCounted self.old change }
         ensures agree { (limits : Ranges) (h : History) (e : Entry) → IsLegal limits (e ◁ h)
             → change ≡ effect h e.call e.reply → call.now ≡ e.call
+            → entries ≡ entry_count h → IfSome (option_copied ready.entry) (HoldsAfter h e.call)
             → PartsAgree h self.old → PartsAgree (e ◁ h) self.new }
     {
         match change {
@@ -110,7 +116,7 @@ impl Parts {
                 self.sessions.advance_search(session, number)
             }
             Change::StartDigest { session, hash } => {
-                start_digest(&mut self.operations, session, hash)
+                start_digest(&mut self.operations, session, hash, entries)
             }
             Change::StartHmac {
                 kind,
@@ -126,9 +132,11 @@ impl Parts {
                 hash,
                 key,
                 len,
+                entries,
             ),
             Change::AddPiece { kind, session } => {
-                self.operations.add_piece(kind, session, call.added_bytes())
+                self.operations
+                    .add_piece(kind, session, call.added_bytes(), ready, entries)
             }
             Change::FinishOperation {
                 kind,

@@ -19,19 +19,19 @@ impl JournaledToken for Token {
         Token::call(self, alloc, caller, call)
     }
 
-    fn work(&self, _call: &Call) -> Option<Work> {
-        None
+    fn work(&self, call: &Call) -> Option<Work> {
+        Token::work(self, call)
     }
 
-    #[inline(always)]
+    #[inline(never)]
     fn call_after(
         &mut self,
         alloc: Global,
         caller: u32,
         call: Call,
-        _work: Option<&Work>,
+        work: Option<&Work>,
     ) -> Result<Reply, NoMemory> {
-        Token::call(self, alloc, caller, call)
+        Token::call_after(self, alloc, caller, call, work)
     }
 
     #[inline(always)]

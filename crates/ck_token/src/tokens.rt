@@ -1,11 +1,13 @@
-ghost use Rattle.std.specs.Prelude.{◌≡◌, ◌<◌, ◌≤◌, false, IfOk, IsOk, OnOk};
+ghost use Rattle.std.specs.Prelude.{◌≡◌, ◌<◌, ◌≤◌, false, IfOk, IfSome, IsOk, OnOk};
+ghost use Rattle.std.specs.Option.{option_copied};
 ghost use Rattle.ck_journal.specs.Histories.{History};
 ghost use Rattle.ck_journal.specs.Replies.{has_list};
 ghost use Rattle.ck_parts.specs.Agreement.{PartsAgree, adds, HasRoom};
 
 use crate::cuts::Uncut;
 use crate::decisions::{Decision, Refused};
-use ck_journal::{Base, Body, Call, Entry, Journal, OperationKind, Reply, TokenBoard};
+use ck_journal::{Base, Body, Call, Entry, Journal, OperationKind, Reply, TokenBoard, Work};
+use ck_mac::RunningTag;
 use ck_parts::{Change, Parts};
 use ck_types::{Limits, NoMemory, Rv};
 use std::alloc::Global;
@@ -18,6 +20,7 @@ mod pin_calls;
 mod readings;
 mod search_calls;
 mod session_calls;
+mod works;
 
 /// A token with its sessions, objects and operations, wholly in memory. Contracts see its limits,
 /// the history of its journal and for how many more entries the journal has room; that its parts
@@ -103,6 +106,7 @@ impl Token {
     ghost use Rattle.ck_token.specs.Cuts.{IsCut};
     ghost use Rattle.ck_token.specs.Decisions.{IsDecision, may_run_out, reply_of};
     ghost use Rattle.ck_journal.specs.TokenStates.{IsAnswered, IsUnchanged};
+    ghost use Rattle.ck_journal.specs.Works.{IsAhead, HoldsAfter};
 
     /// A token that has answered no call, which takes no memory.
     pub fn new(alloc: Global, limits: Limits) -> Token
@@ -212,13 +216,39 @@ impl Token {
         ensures room { OnOk result (self.old.spare ≤ self.new.spare + 1) }
         ensures spare { OnErr result (self.old.spare ≤ self.new.spare) }
     {
-        let Ok(Decision { rv, body, change }) = self.decide(alloc, &call) else {
+        self.call_after(alloc, caller, call, None)
+    }
+
+    /// As `call`, by work that was begun for this call (`work`) and is done. The work counts only
+    /// where the call's operation hasn't changed since; the reply and the entry are those of `call`
+    /// in any case.
+    // It becomes a part of `call`, so that a call without work takes no time for it.
+    #[inline(always)]
+    pub fn call_after(
+        &mut self,
+        alloc: Global,
+        caller: u32,
+        call: Call,
+        work: Option<&Work>,
+    ) -> Result<Reply, NoMemory>
+        requires { IfSome (option_copied work) (IsAhead self.old.history call) }
+        ensures answered { IfOk result (λ reply. IsAnswered self.old self.new caller call reply) }
+        ensures unchanged { OnErr result (IsUnchanged self.old self.new) }
+        ensures legal { IsLegal self.new.limits self.new.history }
+        ensures succeeds { 0 < self.old.spare
+            → may_run_out self.old.limits self.old.history call ≡ false → IsOk result }
+        ensures room { OnOk result (self.old.spare ≤ self.new.spare + 1) }
+        ensures spare { OnErr result (self.old.spare ≤ self.new.spare) }
+    {
+        let ready = self.ready(&call, work);
+        let Ok(Decision { rv, body, change }) = self.decide(alloc, &call, ready) else {
             return Err(out_of_memory(call));
         };
         let Ok(entered) = prepare(&mut self.parts, &mut self.journal, alloc, &body, &change) else {
             return Err(out_of_memory((call, body, change)));
         };
-        self.parts.apply(change, &call);
+        let entries = self.journal.len();
+        self.parts.apply(change, &call, ready, entries);
         self.journal.push_reserved(Entry {
             caller,
             call,
@@ -227,9 +257,16 @@ impl Token {
         Ok(reply_with(rv, body))
     }
 
-    /// The reply to a call, and what the call changes.
+    /// The reply to a call, and what the call changes. `ready`, where it is given, is the running
+    /// tag of the call's operation that has taken in the bytes of the call already.
     #[inline(always)]
-    fn decide(&self, alloc: Global, call: &Call) -> Result<Decision, NoMemory>
+    fn decide(
+        &self,
+        alloc: Global,
+        call: &Call,
+        ready: Option<&RunningTag>,
+    ) -> Result<Decision, NoMemory>
+        requires { IfSome (option_copied ready) (HoldsAfter self.now.history call.now) }
         ensures reply { IfOk result (λ decision.
             reply_of decision ≡ answer self.now.limits self.now.history call.now) }
         ensures change { IfOk result (λ decision.
@@ -237,7 +274,7 @@ impl Token {
         ensures succeeds { OnErr result
             (may_run_out self.now.limits self.now.history call.now ≡ true) }
     {
-        match self.decision(alloc, call) {
+        match self.decision(alloc, call, ready) {
             Ok(decision) => Ok(decision),
             Err(Refused::Error { error, change }) => Ok(Decision {
                 rv: Rv::Error(error),
@@ -249,7 +286,13 @@ impl Token {
     }
 
     #[inline(always)]
-    fn decision(&self, alloc: Global, call: &Call) -> Result<Decision, Refused>
+    fn decision(
+        &self,
+        alloc: Global,
+        call: &Call,
+        ready: Option<&RunningTag>,
+    ) -> Result<Decision, Refused>
+        requires { IfSome (option_copied ready) (HoldsAfter self.now.history call.now) }
         ensures { IsDecision self.now.limits self.now.history call.now result }
     {
         match call {
@@ -311,6 +354,7 @@ impl Token {
                 *session,
                 bytes.as_slice(),
                 *room,
+                ready,
             ),
             Call::DigestUpdate { session, bytes } => {
                 self.update(OperationKind::Digest, *session, bytes.as_slice())
@@ -333,6 +377,7 @@ impl Token {
                 *session,
                 bytes.as_slice(),
                 *room,
+                ready,
             ),
             Call::SignUpdate { session, bytes } => {
                 self.update(OperationKind::Sign, *session, bytes.as_slice())
@@ -349,7 +394,7 @@ impl Token {
                 session,
                 bytes,
                 signature,
-            } => self.verify(*session, bytes.as_slice(), signature.as_slice()),
+            } => self.verify(*session, bytes.as_slice(), signature.as_slice(), ready),
             Call::VerifyUpdate { session, bytes } => {
                 self.update(OperationKind::Verify, *session, bytes.as_slice())
             }

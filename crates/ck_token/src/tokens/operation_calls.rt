@@ -1,8 +1,10 @@
-ghost use Rattle.std.specs.Prelude.{◌≡◌, ℕ, true, List, length, IfOk, MatchOption};
+ghost use Rattle.std.specs.Prelude.{◌≡◌, ℕ, true, List, length, IfOk, IfSome, MatchOption};
+ghost use Rattle.std.specs.Option.{option_copied};
 ghost use Rattle.ck_types.specs.Checks.{check_of};
 ghost use Rattle.ck_types.specs.declared.return_codes.Rv.TheVariants as rv;
 ghost use Rattle.ck_journal.specs.Answers.{ok, bytes_reply, key_state_error, may_serve, usage_flag};
 ghost use Rattle.ck_journal.specs.Answers.{usage_error};
+ghost use Rattle.ck_journal.specs.declared.operations.OperationKind.TheVariants as kind;
 ghost use Rattle.ck_journal.specs.declared.replies.Body.TheVariants as body;
 ghost use Rattle.ck_parts.specs.Changes.{finish_change};
 ghost use Rattle.ck_parts.specs.declared.changes.Change.TheVariants as change;
@@ -12,7 +14,7 @@ use super::Token;
 use super::object_calls::check_no_parameter;
 use crate::decisions::{Decision, Refused};
 use ck_journal::{Body, OperationKind, is_long_piece};
-use ck_mac::Tag;
+use ck_mac::{RunningTag, Tag};
 use ck_objects::{Attribute, KeyState, Record};
 use ck_operations::Operation;
 use ck_parts::Change;
@@ -139,6 +141,7 @@ impl Token {
     ghost use Rattle.ck_journal.specs.Answers.{update_error, hmac_init_error, tag_in};
     ghost use Rattle.ck_journal.specs.Objects.{object_named};
     ghost use Rattle.ck_journal.specs.Operations.{message_in, is_updated};
+    ghost use Rattle.ck_journal.specs.Works.{HoldsWith};
     ghost use Rattle.ck_journal.specs.declared.calls.Call.TheVariants as call;
     ghost use Rattle.ck_operations.specs.Agreement.{OperationAgrees, active_operation};
     ghost use Rattle.ck_parts.specs.Changes.{end_if_too_long, start_hmac};
@@ -290,7 +293,7 @@ impl Token {
 
     /// C_Digest and C_Sign, of a single-part message. Checks: those of `check_unused`, and then
     /// CKR_BUFFER_TOO_SMALL (150). Each reply ends the operation, except one that has only a
-    /// length.
+    /// length. `ready` is as that of `Operation::tag_with`.
     pub(super) fn finish_single_part(
         &self,
         alloc: Global,
@@ -298,7 +301,10 @@ impl Token {
         session: u64,
         bytes: &[u8],
         room: Option<u64>,
+        ready: Option<&RunningTag>,
     ) -> Result<Decision, Refused>
+        requires { IfSome (option_copied ready)
+            (HoldsWith kind self.now.history session bytes.now) }
         ensures { IsDecided (message_error kind self.now.history session bytes.now)
             (bytes_reply room (tag_in kind self.now.history session bytes.now))
             (λ b. finish_change kind session rv.Ok b)
@@ -311,7 +317,8 @@ impl Token {
         if let Some(length) = length_decision(kind, session, operation.len(), room) {
             return Ok(length);
         }
-        Ok(bytes_decision(alloc, kind, session, &operation.tag_with(bytes))?)
+        let tag = operation.tag_with(bytes, ready);
+        Ok(bytes_decision(alloc, kind, session, &tag)?)
     }
 
     /// C_DigestUpdate, C_SignUpdate and C_VerifyUpdate. Checks: those of `check_active`, and
@@ -359,13 +366,21 @@ impl Token {
     }
 
     /// The checks of C_Verify: those of `check_unused`, CKR_SIGNATURE_LEN_RANGE (c1),
-    /// CKR_SIGNATURE_INVALID (c0).
-    fn check_verify(&self, session: u64, bytes: &[u8], signature: &[u8]) -> Result<(), RvError>
+    /// CKR_SIGNATURE_INVALID (c0). `ready` is as that of `Operation::tag_with`.
+    fn check_verify(
+        &self,
+        session: u64,
+        bytes: &[u8],
+        signature: &[u8],
+        ready: Option<&RunningTag>,
+    ) -> Result<(), RvError>
+        requires { IfSome (option_copied ready)
+            (HoldsWith kind.Verify self.now.history session bytes.now) }
         ensures { result
             ≡ check_of (verify_error self.now.history session bytes.now signature.now) }
     {
         let operation = self.check_unused(OperationKind::Verify, session, bytes)?;
-        operation.tag_with(bytes).check(signature)
+        operation.tag_with(bytes, ready).check(signature)
     }
 
     /// The checks of C_VerifyFinal: those of `check_may_finish`, CKR_SIGNATURE_LEN_RANGE (c1),
@@ -377,17 +392,21 @@ impl Token {
         operation.tag().check(signature)
     }
 
-    /// C_Verify. Checks: those of `check_verify`. Each reply ends the operation.
+    /// C_Verify. Checks: those of `check_verify`. Each reply ends the operation. `ready` is as that
+    /// of `Operation::tag_with`.
     pub(super) fn verify(
         &self,
         session: u64,
         bytes: &[u8],
         signature: &[u8],
+        ready: Option<&RunningTag>,
     ) -> Result<Decision, Refused>
+        requires { IfSome (option_copied ready)
+            (HoldsWith kind.Verify self.now.history session bytes.now) }
         ensures { IsDecision self.now.limits self.now.history
             (call.Verify session bytes.now signature.now) result }
     {
-        match self.check_verify(session, bytes, signature) {
+        match self.check_verify(session, bytes, signature, ready) {
             Err(error) => Err(ending_refusal(OperationKind::Verify, session, error)),
             Ok(()) => Ok(Decision::of_change(finish_operation(
                 OperationKind::Verify,

@@ -6,7 +6,7 @@ use Rattle.ck_journal.specs.Objects.{object_at}
 use Rattle.ck_parts.proofs.additions.start_hmac.Goals as goal
 
 pub returns : goal.returns
-returns c = λ h e agree.
+returns c = λ h e now agree.
     c.start.ensures.agree h e
-    (hmac_by c.args.hash (key_value (unwrap_or (object_at h c.args.key) [])) c.args.len)
+    (hmac_by c.args.hash (key_value (unwrap_or (object_at h c.args.key) [])) c.args.len) now
     (rw (c.key_value.ensures h agree) at c.general-mac.ensures)

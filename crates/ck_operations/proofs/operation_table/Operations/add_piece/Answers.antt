@@ -4,6 +4,7 @@ use Rattle.ck_operations.proofs.operation_table.Operations.add_piece.Goals as go
 pub returns : goal.returns
 returns c = record {
   agree =
-      λ h e does agree. operations-added h _ (rw (← c.self.view_is) at agree) e c.args.kind c.args.session
-      c.args.bytes.now does _ c.add_piece.ensures;
+      λ h e now ready does agree.
+      operations-added h _ (rw (← c.self.view_is) at agree) e c.args.kind c.args.session _
+      now ready does _ c.add_piece.ensures;
 }

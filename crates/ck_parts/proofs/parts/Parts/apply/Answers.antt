@@ -9,6 +9,7 @@ use Rattle.ck_journal.specs.OperationCalls.{initialize, add_piece, operation_ste
 use Rattle.ck_journal.specs.Operations.{added_bytes, started_computation, init_key}
 use Rattle.ck_journal.specs.declared.operations.OperationKind.TheVariants as kind
 use Rattle.ck_journal.proofs.LegalLemmas.{passed-done, is_searching-next}
+use Rattle.ck_journal.proofs.WorkLemmas.{ready-for}
 use Rattle.ck_operations.specs.Moves.{Add, OnlyIn}
 use Rattle.ck_operations.proofs.Moves.{operations-left}
 use Rattle.ck_parts.specs.Agreement.{IsCounted}
@@ -26,7 +27,7 @@ use Rattle.ck_parts.proofs.parts.Parts.apply.Goals as goal
 
 pub returns-in-Nothing : goal.returns-in-Nothing
 returns-in-Nothing c = record {
-  agree = λ limits h e legal is called agree.
+  agree = λ limits h e legal is called now ready agree.
       let is = sym c.in-Nothing.is ∙ is in
       record {
         sessions = sessions-unchanged h e _ is agree.sessions;
@@ -38,7 +39,7 @@ returns-in-Nothing c = record {
 
 pub returns-in-WrongTry : goal.returns-in-WrongTry
 returns-in-WrongTry c = record {
-  agree = λ limits h e legal is called agree.
+  agree = λ limits h e legal is called now ready agree.
       let t = tried h e c.in-WrongTry.user (sym c.in-WrongTry.is ∙ is) in
       record {
         sessions = c.count_wrong_try.ensures.agree h e t.0 t.1 agree.sessions;
@@ -50,7 +51,7 @@ returns-in-WrongTry c = record {
 
 pub returns-in-InitToken : goal.returns-in-InitToken
 returns-in-InitToken c = record {
-  agree = λ limits h e legal is called agree.
+  agree = λ limits h e legal is called now ready agree.
       let made = of-effect h e (change.InitToken c.in-InitToken.pin) (sym c.in-InitToken.is ∙ is) refl in
       let d = made.0 ∙ ap Some made.1 in
       record {
@@ -62,7 +63,7 @@ returns-in-InitToken c = record {
 
 pub returns-in-InitPin : goal.returns-in-InitPin
 returns-in-InitPin c = record {
-  agree = λ limits h e legal is called agree.
+  agree = λ limits h e legal is called now ready agree.
       let made = of-effect h e (change.InitPin c.in-InitPin.pin) (sym c.in-InitPin.is ∙ is) refl in
       let of = made.1 in
       let d = made.0 ∙ ap Some of.1 in
@@ -75,7 +76,7 @@ returns-in-InitPin c = record {
 
 pub returns-in-SetPin : goal.returns-in-SetPin
 returns-in-SetPin c = record {
-  agree = λ limits h e legal is called agree.
+  agree = λ limits h e legal is called now ready agree.
       let made = of-effect h e (change.SetPin c.in-SetPin.owner c.in-SetPin.pin) (sym c.in-SetPin.is ∙ is) refl in
       let of = made.1 in
       let d = made.0 ∙ ap Some of.2 in
@@ -88,7 +89,7 @@ returns-in-SetPin c = record {
 
 pub returns-in-OpenSession : goal.returns-in-OpenSession
 returns-in-OpenSession c = record {
-  agree = λ limits h e legal is called agree.
+  agree = λ limits h e legal is called now ready agree.
       let made = of-effect h e (change.OpenSession c.in-OpenSession.flags) (sym c.in-OpenSession.is ∙ is) refl in
       let d = made.0 ∙ ap Some made.1 in
       record {
@@ -100,7 +101,7 @@ returns-in-OpenSession c = record {
 
 pub returns-in-CloseSession : goal.returns-in-CloseSession
 returns-in-CloseSession c = record {
-  agree = λ limits h e legal is called agree.
+  agree = λ limits h e legal is called now ready agree.
       let made = of-effect h e (change.CloseSession c.in-CloseSession.session) (sym c.in-CloseSession.is ∙ is) refl in
       let d = made.0 ∙ ap Some made.1 in
       record {
@@ -113,7 +114,7 @@ returns-in-CloseSession c = record {
 
 pub returns-in-CloseAllSessions : goal.returns-in-CloseAllSessions
 returns-in-CloseAllSessions c = record {
-  agree = λ limits h e legal is called agree.
+  agree = λ limits h e legal is called now ready agree.
       let made = of-effect h e change.CloseAllSessions (sym c.in-CloseAllSessions.is ∙ is) refl in
       let d = made.0 ∙ ap Some made.1 in
       record {
@@ -125,7 +126,7 @@ returns-in-CloseAllSessions c = record {
 
 pub returns-in-LogIn : goal.returns-in-LogIn
 returns-in-LogIn c = record {
-  agree = λ limits h e legal is called agree.
+  agree = λ limits h e legal is called now ready agree.
       let made = of-effect h e (change.LogIn c.in-LogIn.user) (sym c.in-LogIn.is ∙ is) refl in
       let of = made.1 in
       let d = made.0 ∙ ap Some of.3 in
@@ -139,7 +140,7 @@ returns-in-LogIn c = record {
 
 pub returns-in-LogOut : goal.returns-in-LogOut
 returns-in-LogOut c = record {
-  agree = λ limits h e legal is called agree.
+  agree = λ limits h e legal is called now ready agree.
       let made = of-effect h e change.LogOut (sym c.in-LogOut.is ∙ is) refl in
       let of = made.1 in
       let d = made.0 ∙ ap Some of.1 in
@@ -152,7 +153,7 @@ returns-in-LogOut c = record {
 
 pub returns-in-CreateObject : goal.returns-in-CreateObject
 returns-in-CreateObject c = record {
-  agree = λ limits h e legal is called agree.
+  agree = λ limits h e legal is called now ready agree.
       let made = of-effect h e (change.CreateObject c.in-CreateObject.session c.in-CreateObject.attributes)
       (sym c.in-CreateObject.is ∙ is) refl in
       let of = made.1 in
@@ -169,7 +170,7 @@ change-requires c =
 
 pub returns-in-SetAttributes : goal.returns-in-SetAttributes
 returns-in-SetAttributes c = record {
-  agree = λ limits h e legal is called agree.
+  agree = λ limits h e legal is called now ready agree.
       let number = c.in-SetAttributes.number in
       let values = c.in-SetAttributes.values in
       let made = of-effect h e (change.SetAttributes number values)
@@ -187,7 +188,7 @@ returns-in-SetAttributes c = record {
 
 pub returns-in-SetKeyState : goal.returns-in-SetKeyState
 returns-in-SetKeyState c = record {
-  agree = λ limits h e legal is called agree.
+  agree = λ limits h e legal is called now ready agree.
       let number = c.in-SetKeyState.number in
       let state = c.in-SetKeyState.state in
       let made = of-effect h e (change.SetKeyState number state) (sym c.in-SetKeyState.is ∙ is) refl in
@@ -205,7 +206,7 @@ returns-in-SetKeyState c = record {
 
 pub returns-in-DestroyObject : goal.returns-in-DestroyObject
 returns-in-DestroyObject c = record {
-  agree = λ limits h e legal is called agree.
+  agree = λ limits h e legal is called now ready agree.
       let made = of-effect h e (change.DestroyObject c.in-DestroyObject.number)
       (sym c.in-DestroyObject.is ∙ is) refl in
       let of = made.1 in
@@ -220,7 +221,7 @@ returns-in-DestroyObject c = record {
 
 pub returns-in-SetSearch : goal.returns-in-SetSearch
 returns-in-SetSearch c = record {
-  agree = λ limits h e legal is called agree.
+  agree = λ limits h e legal is called now ready agree.
       let session = c.in-SetSearch.session in
       let found = c.in-SetSearch.found in
       let made = of-effect h e (change.SetSearch session found) (sym c.in-SetSearch.is ∙ is) refl in
@@ -234,7 +235,7 @@ returns-in-SetSearch c = record {
 
 pub returns-in-AdvanceSearch : goal.returns-in-AdvanceSearch
 returns-in-AdvanceSearch c = record {
-  agree = λ limits h e legal is called agree.
+  agree = λ limits h e legal is called now ready agree.
       let made = of-effect h e (change.AdvanceSearch c.in-AdvanceSearch.session c.in-AdvanceSearch.number)
       (sym c.in-AdvanceSearch.is ∙ is) refl in
       let of = made.1 in
@@ -248,7 +249,7 @@ returns-in-AdvanceSearch c = record {
 
 pub returns-in-StartDigest : goal.returns-in-StartDigest
 returns-in-StartDigest c = record {
-  agree = λ limits h e legal is called agree.
+  agree = λ limits h e legal is called now ready agree.
       let session = c.in-StartDigest.session in
       let hash = c.in-StartDigest.hash in
       let made = of-effect h e (change.StartDigest session hash) (sym c.in-StartDigest.is ∙ is) refl in
@@ -258,7 +259,7 @@ returns-in-StartDigest c = record {
       record {
         sessions = sessions-kept h e _ d _ refl refl agree.sessions;
         objects = objects-kept h e _ d _ refl agree.objects;
-        operations = c.start_digest.ensures h e
+        operations = c.start_digest.ensures h e now
             (record {
               computation = ap (started_computation h) d ∙ ap digest_by (sym of.2);
               key = ap (λ d. option_and_then (object_named h) (init_key d)) d;
@@ -270,7 +271,7 @@ returns-in-StartDigest c = record {
 
 pub returns-in-StartHmac : goal.returns-in-StartHmac
 returns-in-StartHmac c = record {
-  agree = λ limits h e legal is called agree.
+  agree = λ limits h e legal is called now ready agree.
       let k = c.in-StartHmac.kind in
       let session = c.in-StartHmac.session in
       let hash = c.in-StartHmac.hash in
@@ -289,7 +290,7 @@ returns-in-StartHmac c = record {
       record {
         sessions = step-sessions h e _ starts.step _ agree.sessions;
         objects = step-objects h e _ starts.step _ agree.objects;
-        operations = c.start_hmac.ensures h e agree.objects
+        operations = c.start_hmac.ensures h e now agree.objects
             (record {
               computation =
                   ap (started_computation h) made.0 ∙ starts.computation
@@ -304,7 +305,7 @@ returns-in-StartHmac c = record {
 
 pub returns-in-AddPiece : goal.returns-in-AddPiece
 returns-in-AddPiece c = record {
-  agree = λ limits h e legal is called agree.
+  agree = λ limits h e legal is called now ready agree.
       let k = c.in-AddPiece.kind in
       let session = c.in-AddPiece.session in
       let made = of-effect h e (change.AddPiece k session) (sym c.in-AddPiece.is ∙ is) refl in
@@ -313,7 +314,8 @@ returns-in-AddPiece c = record {
       record {
         sessions = step-sessions h e _ step _ agree.sessions;
         objects = step-objects h e _ step _ agree.objects;
-        operations = c.add_piece.ensures.agree h e
+        operations = c.add_piece.ensures.agree h e now
+            (rw bytes (ready-for h e.call k session (add_piece (added_bytes e.call)) step _ ready))
             (subst (λ bytes. OnlyIn k session (Add bytes) e) (sym bytes)
             (does-add h e.caller e.call e.reply.rv e.reply.body k session (add_piece (added_bytes e.call)) step
             (added_bytes e.call) (cond_some (is_ok e.reply.rv) e.call _ made.0).0 refl))
@@ -323,7 +325,7 @@ returns-in-AddPiece c = record {
 
 pub returns-then-ends : goal.returns-then-ends
 returns-then-ends c = record {
-  agree = λ limits h e legal is called agree.
+  agree = λ limits h e legal is called now ready agree.
       let k = c.in-FinishOperation.kind in
       let session = c.in-FinishOperation.session in
       let f = finished-is h e.call e.reply.rv e.reply.body k session _ (sym c.in-FinishOperation.is ∙ is) in
@@ -337,7 +339,7 @@ returns-then-ends c = record {
 
 pub returns-else-ends : goal.returns-else-ends
 returns-else-ends c = record {
-  agree = λ limits h e legal is called agree.
+  agree = λ limits h e legal is called now ready agree.
       let k = c.in-FinishOperation.kind in
       let session = c.in-FinishOperation.session in
       let f = finished-is h e.call e.reply.rv e.reply.body k session _ (sym c.in-FinishOperation.is ∙ is) in
@@ -351,7 +353,7 @@ returns-else-ends c = record {
 
 pub returns-in-CancelOperations : goal.returns-in-CancelOperations
 returns-in-CancelOperations c = record {
-  agree = λ limits h e legal is called agree.
+  agree = λ limits h e legal is called now ready agree.
       let session = c.in-CancelOperations.session in
       let flags = c.in-CancelOperations.flags in
       let made = of-effect h e (change.CancelOperations session flags) (sym c.in-CancelOperations.is ∙ is) refl in

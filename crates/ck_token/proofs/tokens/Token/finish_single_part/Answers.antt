@@ -40,7 +40,7 @@ returns c =
     let given =
     gives-bytes k c.args.session _ _ _ _ c.in_ok-bytes_decision.ensures
     (c.in_default.ensures tag len)
-    (c.tag_with.ensures computation message holds
+    (c.tag_with-tag.ensures computation message c.requires holds
     ∙ ap (λ m. tag_of computation (m ++ c.args.bytes.now))
     (unused-message k h c.args.session c.in-Ok.ensures.unused)) in
     (c.in-Ok.ensures.passes, given.0, given.1)

@@ -1,6 +1,7 @@
 use Rattle.std.proofs.lemmas.Grind.{common_steps}
 use Rattle.std.proofs.Common.{arith}
 use Rattle.std.proofs.Common.{ap, ◌∙◌}
+use Rattle.ck_journal.specs.Histories.{entry_count}
 use Rattle.ck_journal.specs.declared.replies.Body.{Body}
 use Rattle.ck_journal.specs.declared.replies.Reply.{Reply}
 use Rattle.ck_token.specs.Agreement.{TokenAgrees}
@@ -8,7 +9,7 @@ use Rattle.ck_token.specs.Decisions.{reply_of}
 use Rattle.ck_parts.proofs.Counts.{counted}
 use Rattle.ck_token.proofs.DecisionLemmas.{no_list, adds_nothing}
 use Rattle.ck_token.proofs.Entering.{entered-agrees}
-use Rattle.ck_token.proofs.tokens.Token.call.Goals as goal
+use Rattle.ck_token.proofs.tokens.Token.call_after.Goals as goal
 
 pub returns-in_default-prepare-clause-succeeds : goal.returns-in_default-prepare-clause-succeeds
 returns-in_default-prepare-clause-succeeds c = λ room free.
@@ -48,6 +49,8 @@ whole c =
     (c.reply_with.ensures ∙ ap with_body c.in-Ok-prepare.ensures.copy) is
     (c.push_reserved.ensures.history ∙ rw c.prepare.ensures.history)
     (λ e legal change called. c.apply.ensures.agree c.self.inside.limits h e legal change called
+    (c.len-entries.ensures ∙ ap entry_count c.prepare.ensures.history)
+    (rw (← called) (rw (← c.self.view_is) at c.ready-ready.ensures))
     (c.prepare.ensures.agree h agree.parts))
 
 pub invariant_of-self-2 : goal.invariant_of-self-2

@@ -1,0 +1,65 @@
+use super::Token;
+use ck_journal::{Call, Work, is_long_piece};
+use ck_mac::RunningTag;
+use ck_operations::Operation;
+
+/// How many bytes a long message has at least. Taking in fewer is as fast as beginning the work.
+const LONG_MESSAGE: usize = 4096;
+
+/// Whether the call takes in a long message: it isn't refused for its length or for an earlier
+/// update, and its reply has more than a length.
+fn takes_long_message(call: &Call, operation: &Operation) -> bool {
+    let bytes = call.taken_bytes();
+    if bytes.len() < LONG_MESSAGE || is_long_piece(bytes) {
+        return false;
+    }
+    match call {
+        Call::Digest { room, .. } | Call::Sign { room, .. } => match room {
+            None => false,
+            Some(room) => operation.len() <= *room && !operation.is_updated(),
+        },
+        Call::Verify { .. } => !operation.is_updated(),
+        _ => true,
+    }
+}
+
+/// Long messages, which may be taken in before their call is made.
+impl Token {
+    ghost use Rattle.std.specs.Prelude.{IfSome};
+    ghost use Rattle.std.specs.Option.{option_copied};
+    ghost use Rattle.ck_journal.specs.Works.{IsBegun, IsAhead, HoldsAfter};
+
+    /// Begins the work on a long message that the call brings, so that its bytes can be taken in
+    /// before the call is made. It takes no memory. `None` where this saves nothing: the message has
+    /// fewer than 4,096 bytes, or the call is refused, or it asks for a length.
+    pub fn work(&self, call: &Call) -> Option<Work>
+        ensures { IfSome result (IsBegun self.now.history call.now) }
+    {
+        let (kind, session) = call.operation()?;
+        let operation = self.parts.operations.get(kind, session)?;
+        if !takes_long_message(call, operation) {
+            return None;
+        }
+        Some(Work {
+            entries: self.journal.len(),
+            running: operation.running().clone().unwrap(),
+        })
+    }
+
+    /// The running tag of the work, where the call's operation was last changed before the work was
+    /// begun.
+    #[inline(always)]
+    pub(super) fn ready<'a>(&self, call: &Call, work: Option<&'a Work>) -> Option<&'a RunningTag>
+        requires { IfSome (option_copied work) (IsAhead self.now.history call.now) }
+        ensures { IfSome (option_copied result) (HoldsAfter self.now.history call.now) }
+    {
+        let work = work?;
+        let (kind, session) = call.operation()?;
+        let operation = self.parts.operations.get(kind, session)?;
+        if operation.changed() < work.entries {
+            Some(&work.running)
+        } else {
+            None
+        }
+    }
+}
