@@ -6,9 +6,9 @@
  *     module MODULE few
  *
  * PARAMETERS is what the module is given at C_Initialize as NSS's library wants it; a module without
- * them is a token that is initialized here. With `few` one thread makes the rounds that `token.c` has
- * too, and the best of many hundred rounds in a row counts, which other work of the machine disturbs
- * less.
+ * them is a token that is initialized here. Of one thread the best row of rounds counts, half a
+ * millisecond long, which other work of the machine disturbs less than the mean of all. With `few`
+ * one thread makes the rounds that `token.c` has, too.
  */
 #include <dlfcn.h>
 #include <pkcs11.h>
@@ -21,9 +21,8 @@
 
 #define LONGEST_MESSAGE (1u << 20)
 #define OBJECTS 10000
-#define ROUND_SECONDS 0.25
-#define FEW_SECONDS 1.0
-#define ROUNDS_IN_A_ROW 500
+#define ROUND_SECONDS 0.5
+#define ROW_SECONDS 0.0005
 #define WAIT_SECONDS 1.0
 #define MOST_THREADS 16
 
@@ -212,19 +211,26 @@ static double measure(struct worker *workers, unsigned threads, void (*round)(st
     return (now() - begin) * 1e9 / (double)rounds;
 }
 
-/* The nanoseconds that a round takes in the best of the times that one thread makes many of them in
- * a row. */
-static double measure_best(struct worker *worker, void (*round)(struct worker *))
+/* The seconds that so many rounds take. */
+static double time_row(struct worker *worker, void (*round)(struct worker *), unsigned long rounds)
 {
-    double best = 1;
     double begin = now();
-    for (double before = begin; before - begin < FEW_SECONDS; before = now()) {
-        for (int i = 0; i < ROUNDS_IN_A_ROW; i++)
-            round(worker);
-        double time = now() - before;
+    for (unsigned long i = 0; i < rounds; i++)
+        round(worker);
+    return now() - begin;
+}
+
+/* The nanoseconds that a round takes in the best row of them. */
+static double measure_alone(struct worker *worker, void (*round)(struct worker *))
+{
+    double first = time_row(worker, round, 1);
+    unsigned long rounds = first < ROW_SECONDS ? (unsigned long)(ROW_SECONDS / first) : 1;
+    double best = first * (double)rounds;
+    for (double begin = now(); now() - begin < ROUND_SECONDS;) {
+        double time = time_row(worker, round, rounds);
         best = time < best ? time : best;
     }
-    return best * 1e9 / ROUNDS_IN_A_ROW;
+    return best * 1e9 / (double)rounds;
 }
 
 /* The longest that a thread waits for a session's info, in nanoseconds, while another digests
@@ -295,10 +301,8 @@ struct named_round {
     void (*round)(struct worker *);
 };
 
-enum { ROUNDS = 9, FEW_ROUNDS = 4 };
-
 /* The few ones stand first. */
-static const struct named_round rounds[ROUNDS] = {
+static const struct named_round rounds[] = {
     {"session info", session_info},
     {"token info", token_info},
     {"open and close", open_and_close},
@@ -310,27 +314,37 @@ static const struct named_round rounds[ROUNDS] = {
     {"digest of 1 MiB", digest_of_1_mib},
 };
 
+enum { FEW_ROUNDS = 4, ALL_ROUNDS = sizeof rounds / sizeof *rounds };
+
+static void print_round(const struct named_round *named, struct worker *workers, unsigned threads)
+{
+    double time = threads == 1 ? measure_alone(workers, named->round)
+                               : measure(workers, threads, named->round);
+    printf("%s: %.0f\n", named->name, time);
+}
+
 static void measure_few(struct worker *worker)
 {
     worker->session = open_session();
     for (int i = 0; i < FEW_ROUNDS; i++)
-        printf("%s: %.0f\n", rounds[i].name, measure_best(worker, rounds[i].round));
+        print_round(&rounds[i], worker, 1);
 }
 
 static void measure_all(struct worker *workers, unsigned threads)
 {
+    static const struct named_round search = {"find one of 10,000", find_one};
     for (unsigned i = 0; i < threads; i++) {
         workers[i].session = open_session();
         workers[i].object = create_data(workers[i].session, "an object");
         workers[i].key = create_key(workers[i].session);
     }
-    for (int i = 0; i < ROUNDS; i++)
-        printf("%s: %.0f\n", rounds[i].name, measure(workers, threads, rounds[i].round));
+    for (int i = 0; i < ALL_ROUNDS; i++)
+        print_round(&rounds[i], workers, threads);
     if (threads > 1)
         printf("longest wait for session info beside digests of 1 MiB: %.0f\n",
                longest_wait(workers));
     create_objects(workers[0].session);
-    printf("find one of 10,000: %.0f\n", measure(workers, threads, find_one));
+    print_round(&search, workers, threads);
 }
 
 int main(int count, char **arguments)

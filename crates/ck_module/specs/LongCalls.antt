@@ -1,7 +1,6 @@
 -- What becomes of a call with a long message that lies in C's memory
 use Rattle.std.specs.Prelude.{◌≡◌, ⊤, ℕ, Bool, true, false, Option, Some, None, MatchBool}
 use Rattle.ck_journal.specs.declared.calls.Call.{Call}
-use Rattle.ck_journal.specs.declared.works.Work.{Work}
 use Rattle.ck_journal.specs.Histories.{History}
 use Rattle.ck_journal.specs.Works.{IsBegun, IsDone, IsAhead}
 use Rattle.ck_module.specs.Calls.{IsCalled}

@@ -7,7 +7,7 @@ ghost use Rattle.ck_module.specs.declared.long_calls.LongCall.TheVariants as lon
 
 use crate::modules::Module;
 use crate::steps::Step;
-use ck_journal::{Call, JournaledToken, Work};
+use ck_journal::{Call, Work};
 use ck_token::Token;
 use ck_types::NoMemory;
 use std::alloc::Global;

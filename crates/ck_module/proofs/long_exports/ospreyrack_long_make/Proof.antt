@@ -1,10 +1,10 @@
 -- `ospreyrack_long_make` makes the value and writes it through the pointer. `V` is the value's row.
-use Rattle.std.proofs.Common.{◌≡◌, List, [], ◌∷◌, refl}
+use Rattle.std.proofs.Common.{◌≡◌, [], ◌∷◌, refl}
 use Rattle.std.proofs.raw_atomic.Walks.{proved}
 use base.Fraction.{full_share}
 use base.Logic.{sep, id⊢, ex_e, snd∗}
 use base.Fml.{ftrue}
-use mir.Val.{Val, vunit}
+use mir.Val.{vunit}
 use prog.Wp.{WpFn}
 use types.Logic.{sem}
 use contract.Monad.{fact}
