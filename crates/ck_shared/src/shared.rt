@@ -2,8 +2,26 @@ use crate::locked::Locked;
 use ck_callers::{Caller, CallerCount, NewIdentity, Opened, TokenId};
 use ck_journal::{Call, JournaledToken, Reply};
 use ck_types::{Limits, NoMemory};
+use crossbeam_utils::Backoff;
 use std::alloc::Global;
-use std::sync::{Mutex, Wait};
+use std::sync::{Mutex, MutexGuard, Wait};
+use std::thread;
+
+/// How often a thread looks whether the lock is free before it sleeps, and how many of these looks
+/// follow one another within about a microsecond.
+const LOOKS: u32 = 12;
+
+const QUICK_LOOKS: u32 = 5;
+
+/// How often a thread lets others run between two slow looks.
+const YIELDS: u32 = 160;
+
+/// Lets other threads run for some microseconds.
+fn let_others_run() {
+    for _ in 0..YIELDS {
+        thread::yield_now();
+    }
+}
 
 /// A token behind a lock, which its callers share. `K` stands for the token's history, `G` is the
 /// token's type, and `R` the runtime.
@@ -82,6 +100,25 @@ impl<K: TokenId, G: JournaledToken, R: Wait + Drop> SharedToken<K, G, R> {
         SharedToken::adopt(rt, alloc, token, callers, identity).map_err(|refused| refused.1)
     }
 
+    /// Takes the lock. A call is soon over, so a thread first looks again at once. Where the lock
+    /// isn't free then, several threads make calls, and it waits longer than a call takes: what lies
+    /// under the lock moves from one processor to another each time that another thread takes it,
+    /// which takes longer than a call, so each thread gains where one makes several calls in a row.
+    fn lock<W: Wait>(&self, rt: &W) -> MutexGuard<'_, Locked<K, G, R>> {
+        let backoff = Backoff::new();
+        for look in 0..LOOKS {
+            if let Some(locked) = self.lock.try_lock() {
+                return locked;
+            }
+            if look < QUICK_LOOKS {
+                backoff.spin();
+            } else {
+                let_others_run();
+            }
+        }
+        self.lock.lock(rt)
+    }
+
     /// One call of a caller, under the lock.
     pub fn call<W: Wait>(
         &self,
@@ -94,7 +131,7 @@ impl<K: TokenId, G: JournaledToken, R: Wait + Drop> SharedToken<K, G, R> {
             HasCalled K.limits caller.old call reply caller.new) }
         ensures caller { OnErr result (caller.new ≡ caller.old) }
     {
-        self.lock.lock(rt).step(rt, alloc, caller, call)
+        self.lock(rt).step(rt, alloc, caller, call)
     }
 
     /// Takes the token back, where all of its callers are given back, of which each then knew a
