@@ -10,6 +10,7 @@
 
 mod measures;
 mod sections;
+mod tasks;
 mod threads;
 
 use anyhow::bail;

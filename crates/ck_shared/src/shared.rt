@@ -2,8 +2,10 @@ use crate::locked::Locked;
 use ck_callers::{Caller, CallerCount, NewIdentity, Opened, TokenId};
 use ck_journal::{Call, JournaledToken, Reply};
 use ck_types::{Limits, NoMemory};
+use crossbeam_utils::Backoff;
 use std::alloc::Global;
 use std::sync::{Mutex, MutexGuard, Wait};
+use std::thread;
 
 /// A token behind a lock, which its callers share. `K` stands for the token's history, `G` is the
 /// token's type, and `R` the runtime.
@@ -18,6 +20,22 @@ pub struct SharedToken<K: TokenId, G: JournaledToken, R: Wait + Drop> {
 pub struct Ends<K: TokenId, G: JournaledToken, R: Wait + Drop> {
     pub token: SharedToken<K, G, R>,
     pub callers: Vec<Caller<K>>,
+}
+
+/// How often a thread looks whether the lock is free before it sleeps. The first looks follow one
+/// another within about a microsecond.
+const LOOKS: u32 = 24;
+
+const QUICK_LOOKS: u32 = 5;
+
+/// How often a thread lets others run between two of the later looks.
+const YIELDS: u32 = 40;
+
+/// Lets other threads run for some microseconds.
+fn let_others_run() {
+    for _ in 0..YIELDS {
+        thread::yield_now();
+    }
 }
 
 /// With fewer bytes a call takes the lock once: to take it twice would take longer than the bytes.
@@ -94,6 +112,20 @@ impl<K: TokenId, G: JournaledToken, R: Wait + Drop> SharedToken<K, G, R> {
     /// Takes the lock. Whoever has it makes calls by `Locked::step`, with no others between them,
     /// and reads the token by `Locked::token`. The board answers without the lock meanwhile.
     pub fn lock<W: Wait>(&self, rt: &W) -> MutexGuard<'_, Locked<K, G, R>> {
+        let backoff = Backoff::new();
+        for look in 0..LOOKS {
+            if let Some(locked) = self.lock.try_lock() {
+                return locked;
+            }
+            // What lies under the lock moves to another processor each time that another thread
+            // takes it, which takes longer than a call. So after a while a thread waits longer
+            // than a call takes, and whoever has the lock makes several calls in a row.
+            if look < QUICK_LOOKS {
+                backoff.spin();
+            } else {
+                let_others_run();
+            }
+        }
         self.lock.lock(rt)
     }
 
@@ -113,7 +145,7 @@ impl<K: TokenId, G: JournaledToken, R: Wait + Drop> SharedToken<K, G, R> {
         if brings_many_bytes(&call) {
             return self.call_with_work(rt, alloc, caller, call);
         }
-        self.lock.lock(rt).step(rt, alloc, caller, call)
+        self.lock(rt).step(rt, alloc, caller, call)
     }
 
     /// One call of a caller, which brings many bytes. The lock is taken twice, shortly: to begin
@@ -130,12 +162,12 @@ impl<K: TokenId, G: JournaledToken, R: Wait + Drop> SharedToken<K, G, R> {
             HasCalled K.limits caller.old call reply caller.new) }
         ensures caller { OnErr result (caller.new ≡ caller.old) }
     {
-        let begun = self.lock.lock(rt).begin(&call);
+        let begun = self.lock(rt).begin(&call);
         let Some((mut work, front)) = begun else {
-            return self.lock.lock(rt).step(rt, alloc, caller, call);
+            return self.lock(rt).step(rt, alloc, caller, call);
         };
         work.finish(&call);
-        let mut locked = self.lock.lock(rt);
+        let mut locked = self.lock(rt);
         locked.catch_up(rt, &front);
         locked.step_after(rt, alloc, caller, call, Some(&work))
     }
