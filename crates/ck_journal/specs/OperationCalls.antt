@@ -62,8 +62,3 @@ step_of c k s = step_in (operation_step c) k s
 abbrev pub piece_in : Option Step → List (List ℕ)
 piece_in (Some (add_piece bytes)) = bytes ∷ []
 piece_in other = []
-
--- the bytes that a step adds
-abbrev pub bytes_added : Step → List ℕ
-bytes_added (add_piece bytes) = bytes
-bytes_added other = []

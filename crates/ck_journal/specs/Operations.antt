@@ -4,7 +4,6 @@ use Rattle.std.specs.Prelude.{ℕ, ◌^◌, Bool, true, false, List, [], ◌++�
 use Rattle.std.specs.Prelude.{◌==◌, ◌&&◌, ◌||◌, not, nat_lt, length, bit_and}
 use Rattle.std.specs.Prelude.{option_and_then, unwrap_or, if◌then◌else◌}
 use Rattle.std.specs.List.{concat}
-use Rattle.std.specs.Option.{option_map_or}
 use Rattle.ck_types.specs.Mechanisms.{digest_hash, hmac_hash, tag_length}
 use Rattle.ck_objects.specs.Records.{key_value}
 use Rattle.ck_types.specs.declared.errors.RvError.TheVariants as rv_error
@@ -24,8 +23,7 @@ use Rattle.ck_journal.specs.declared.replies.Reply.{Reply}
 use Rattle.ck_journal.specs.Histories.{History, start, ◌◁◌, done}
 use Rattle.ck_journal.specs.Objects.{object_named, named_attributes}
 use Rattle.ck_journal.specs.OperationCalls.{Step, initialize, take_whole, add_piece, finish}
-use Rattle.ck_journal.specs.OperationCalls.{operation_step, step_of, piece_in, bytes_added}
-use Rattle.ck_journal.specs.OperationCalls.{OperationStep}
+use Rattle.ck_journal.specs.OperationCalls.{step_of, piece_in}
 use Rattle.ck_journal.specs.Sessions.{ends_operations}
 
 -- ---- whether one is active
@@ -135,10 +133,6 @@ key_in k (e ◁ h) s =
 abbrev pub piece_of : Option Call → OperationKind → ℕ → List (List ℕ)
 piece_of None k s = []
 piece_of (Some c) k s = piece_in (step_of c k s)
-
--- the bytes that an update adds, whatever its session; none for every other call
-abbrev pub added_bytes : Call → List ℕ
-added_bytes c = option_map_or (λ (o : OperationStep). bytes_added o.step) (operation_step c) []
 
 -- the pieces of the session's last operation of the kind, in their order
 abbrev pub pieces_in : OperationKind → History → ℕ → List (List ℕ)

@@ -230,7 +230,6 @@ impl Call {
     ghost use Rattle.std.specs.Prelude.{◌≡◌, not, Some, IsTrue};
     ghost use Rattle.ck_journal.specs.Boards.{LeavesBoard};
     ghost use Rattle.ck_journal.specs.Effects.{effects_of};
-    ghost use Rattle.ck_journal.specs.Operations.{added_bytes};
     ghost use Rattle.ck_journal.specs.Works.{operation_of, taken_bytes};
 
     /// The kind and the session of the operation that the call starts, goes on with or finishes.
@@ -251,18 +250,6 @@ impl Call {
             | Call::VerifyUpdate { session, .. }
             | Call::VerifyFinal { session, .. } => Some((OperationKind::Verify, *session)),
             _ => None,
-        }
-    }
-
-    /// The bytes that an update adds to the message of its operation; none for every other call.
-    pub fn added_bytes(&self) -> &[u8]
-        ensures { result.now ≡ added_bytes self.now }
-    {
-        match self {
-            Call::DigestUpdate { bytes, .. }
-            | Call::SignUpdate { bytes, .. }
-            | Call::VerifyUpdate { bytes, .. } => bytes.as_slice(),
-            _ => &[],
         }
     }
 

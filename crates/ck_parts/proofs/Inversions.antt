@@ -31,7 +31,8 @@ use Rattle.ck_journal.specs.Sessions.{state_of}
 use Rattle.ck_journal.specs.Answers.{call_error, hmac_init_error}
 use Rattle.ck_journal.specs.OperationCalls.{Step, initialize, take_whole, add_piece, finish}
 use Rattle.ck_journal.specs.OperationCalls.{OperationStep, operation_step}
-use Rattle.ck_journal.specs.Operations.{added_bytes, started_computation, hmac_with, init_key}
+use Rattle.ck_journal.specs.Works.{taken_bytes}
+use Rattle.ck_journal.specs.Operations.{started_computation, hmac_with, init_key}
 use Rattle.ck_sessions.specs.SearchCalls.{SetsSearch}
 use Rattle.ck_parts.specs.Changes.{change_of, start_hmac, wrong_try_change, refused_by, refused_step}
 use Rattle.ck_parts.specs.Changes.{effect, effect_by}
@@ -123,7 +124,7 @@ IsChangeOf h b (change.StartHmac k session made number len) c =
     × (change.StartHmac k session made number len ≡ start_hmac k session mechanism (object_named h key))
     × IsHmacInit limits h c k session mechanism key
 IsChangeOf h b (change.AddPiece k session) c =
-    operation_step c ≡ Some (record { kind = k; session = session; step = add_piece (added_bytes c) })
+    operation_step c ≡ Some (record { kind = k; session = session; step = add_piece (taken_bytes c) })
 IsChangeOf h b (change.CancelOperations session flags) c = c ≡ call.SessionCancel session flags
 IsChangeOf h b other c = Unit {0}
 

@@ -136,7 +136,7 @@ impl Parts {
             ),
             Change::AddPiece { kind, session } => {
                 self.operations
-                    .add_piece(kind, session, call.added_bytes(), ready, entries)
+                    .add_piece(kind, session, call.taken_bytes(), ready, entries)
             }
             Change::FinishOperation {
                 kind,

@@ -55,8 +55,8 @@ impl Token {
     {
         let work = work?;
         let (kind, session) = call.operation()?;
-        let operation = self.parts.operations.get(kind, session)?;
-        if operation.changed() < work.entries {
+        let current = self.parts.operations.get(kind, session)?;
+        if current.changed() < work.entries {
             Some(&work.running)
         } else {
             None

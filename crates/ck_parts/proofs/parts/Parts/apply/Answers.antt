@@ -6,7 +6,8 @@ use Rattle.ck_mac.specs.Computations.{digest_by}
 use Rattle.ck_journal.specs.Histories.{is_ok}
 use Rattle.ck_journal.specs.Objects.{object_named, object_at, named_attributes}
 use Rattle.ck_journal.specs.OperationCalls.{initialize, add_piece, operation_step}
-use Rattle.ck_journal.specs.Operations.{added_bytes, started_computation, init_key}
+use Rattle.ck_journal.specs.Works.{taken_bytes}
+use Rattle.ck_journal.specs.Operations.{started_computation, init_key}
 use Rattle.ck_journal.specs.declared.operations.OperationKind.TheVariants as kind
 use Rattle.ck_journal.proofs.LegalLemmas.{passed-done, is_searching-next}
 use Rattle.ck_journal.proofs.WorkLemmas.{ready-for}
@@ -310,15 +311,15 @@ returns-in-AddPiece c = record {
       let session = c.in-AddPiece.session in
       let made = of-effect h e (change.AddPiece k session) (sym c.in-AddPiece.is ∙ is) refl in
       let step = made.1 in
-      let bytes = c.added_bytes.ensures ∙ ap added_bytes called in
+      let bytes = c.taken_bytes.ensures ∙ ap taken_bytes called in
       record {
         sessions = step-sessions h e _ step _ agree.sessions;
         objects = step-objects h e _ step _ agree.objects;
         operations = c.add_piece.ensures.agree h e now
-            (rw bytes (ready-for h e.call k session (add_piece (added_bytes e.call)) step _ ready))
+            (rw bytes (ready-for h e.call k session (add_piece (taken_bytes e.call)) step _ ready))
             (subst (λ bytes. OnlyIn k session (Add bytes) e) (sym bytes)
-            (does-add h e.caller e.call e.reply.rv e.reply.body k session (add_piece (added_bytes e.call)) step
-            (added_bytes e.call) (cond_some (is_ok e.reply.rv) e.call _ made.0).0 refl))
+            (does-add h e.caller e.call e.reply.rv e.reply.body k session (add_piece (taken_bytes e.call)) step
+            (taken_bytes e.call) (cond_some (is_ok e.reply.rv) e.call _ made.0).0 refl))
             agree.operations;
       };
 }

@@ -24,11 +24,11 @@ returns-then-changed-work c =
     let h = c.self.inside.journal.history in
     let k = c.in_ok-kind.kind in
     let session = c.in_ok-kind.session in
-    let operation = c.in_ok-operation.operation.now in
+    let current = c.in_ok-current.current.now in
     let work = c.in_ok-work.work.now in
     let ahead = rw (← c.self.view_is) at (rw (c.in_ok-work.was) at c.requires) in
-    let agrees = found-agrees k h session operation
-    (c.in_ok-operation.ensures h c.self.invariant.parts.operations) in
+    let agrees = found-agrees k h session current
+    (c.in_ok-current.ensures h c.self.invariant.parts.operations) in
     let changed = c.changed.ensures ∙ agrees.changed in
     let before = subst (λ (n : ℕ). n < work.entries) changed c.if-changed-work.true in
     rw (← c.self.view_is)
