@@ -1,4 +1,4 @@
-use Rattle.std.proofs.Common.{◌≡◌, ◌∙◌, None, Some, refl, sym, arith}
+use Rattle.std.proofs.Common.{◌∙◌, Some, refl, sym, arith}
 use Rattle.ck_objects.specs.Records.{with_given}
 use Rattle.ck_journal.specs.Objects.{named_attributes}
 use Rattle.ck_store.specs.Rows.{with_attributes}
