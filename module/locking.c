@@ -20,18 +20,32 @@ struct application_lock {
 
 struct library library;
 
-/* Most calls are short, so a thread that waits looks again for a moment before it sleeps. */
-#define NEW_MUTEX PTHREAD_ADAPTIVE_MUTEX_INITIALIZER_NP
-
-static pthread_mutex_t own_mutex = NEW_MUTEX;
+static pthread_mutex_t own_mutex = PTHREAD_MUTEX_INITIALIZER;
 static struct application_lock application_lock;
 
 /* Never read. By it the memory of the parent stays reachable in the child of a fork, so that nobody
  * takes it for lost. */
 static struct library left_by_parent __attribute__((used));
 
-CK_RV enter(void) {
+static void pause_for(int count) {
+    for (int i = 0; i < count; i++)
+        __builtin_ia32_pause();
+}
+
+/* Most calls are short, so a thread that finds the mutex taken tries it again for some 30 us before
+ * it sleeps. Each try moves the mutex's memory between processors, so the pauses grow. */
+void take_own_mutex(void) {
+    enum { FIRST_PAUSE = 16, LAST_PAUSE = 256 };
+    for (int pause = FIRST_PAUSE; pause <= LAST_PAUSE; pause *= 2) {
+        if (pthread_mutex_trylock(&own_mutex) == 0)
+            return;
+        pause_for(pause);
+    }
     pthread_mutex_lock(&own_mutex);
+}
+
+CK_RV enter(void) {
+    take_own_mutex();
     if (!library.is_initialized) {
         pthread_mutex_unlock(&own_mutex);
         return CKR_CRYPTOKI_NOT_INITIALIZED;
@@ -49,10 +63,6 @@ CK_RV leave(CK_RV code) {
     else
         application_lock.unlock(application_lock.mutex);
     return code;
-}
-
-void take_own_mutex(void) {
-    pthread_mutex_lock(&own_mutex);
 }
 
 void release_own_mutex(void) {
@@ -101,7 +111,7 @@ static void begin_in_child(void) {
     left_by_parent = library;
     library = (struct library){0};
     application_lock = (struct application_lock){0};
-    own_mutex = (pthread_mutex_t)NEW_MUTEX;
+    pthread_mutex_init(&own_mutex, NULL);
 }
 
 bool watch_forks(void) {

@@ -1,7 +1,7 @@
 /*
  * Work on long messages: their bytes are copied and taken in while the lock is free, so that other
- * threads can call the token. Where a journal file is kept, calls go by lines, and all of them is
- * done under the lock.
+ * threads can call the token. Where a journal file is kept, calls go by lines, which are read and
+ * answered under the lock.
  */
 #include "module.h"
 
