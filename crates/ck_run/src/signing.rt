@@ -1,9 +1,9 @@
 //! The example of ck_token: a program that signs, with a test vector of RFC 4231.
 use anyhow::Context;
-use ck_journal::{Call, READ_WRITE};
-use ck_objects::{Attribute, Template};
-use ck_token::Token;
-use ck_types::{Bytes, Limits, Mechanism, Pin, Rv, SHA256_HMAC, UserType};
+use ck_token::{
+    Attribute, Bytes, Call, Limits, Mechanism, Pin, READ_WRITE, Rv, SHA256_HMAC, Template, Token,
+    UserType,
+};
 use std::alloc::Global;
 use std::test::Fail;
 

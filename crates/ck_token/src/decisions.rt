@@ -5,8 +5,8 @@ use ck_parts::Change;
 use ck_types::{NoMemory, Rv, RvError};
 use std::alloc::AllocError;
 
-/// The reply to a call, and what the call changes. The reply is here in its two parts: a `Reply` is
-/// made once, at the end, since its padding moves with it.
+/// The reply to a call, and what the call changes. The code and the body stand here apart: a
+/// `Reply` of both has padding, which would be moved with it, so it is made once, at the end.
 #[derive(Drop)]
 pub struct Decision {
     pub rv: Rv,
@@ -17,8 +17,8 @@ pub struct Decision {
 /// Why a call isn't carried out.
 #[derive(Drop)]
 pub enum Refused {
-    /// A check fails. What the refusal changes is nothing, but for a wrong PIN and for the
-    /// end of an operation.
+    /// A check fails. The refusal changes nothing, except that it may count a wrong PIN or end an
+    /// operation.
     Error { error: RvError, change: Change },
     Memory,
 }

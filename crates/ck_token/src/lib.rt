@@ -40,10 +40,15 @@ pub use tries::CallError;
 // What users of a token need of the crates below.
 pub use ck_journal::{
     Answer, AttributeQuery, Base, Body, Call, Entry, Journal, JournaledToken, KeptObject,
-    READ_WRITE, Reply, SERIAL_SESSION, TokenBoard,
+    READ_WRITE, RW_SESSION, Reply, SERIAL_SESSION, TokenBoard,
 };
-pub use ck_objects::{Attribute, AttributeValue, Class, Item, KeyState, Record, Template};
+pub use ck_objects::{
+    Attribute, AttributeValue, Class, DATA, Field, GENERIC_SECRET, Item, KeyState, Placement,
+    Record, SECRET_KEY, Template,
+};
 pub use ck_types::{
-    Bytes, GENERIC_SECRET_KEY_GEN, Hash, Limits, Mechanism, NoMemory, Pin, Rv, RvError, Sequence,
-    SessionState, TokenFlags, UserType, digest_of, mac_of, mechanism_types,
+    Bytes, GENERIC_SECRET_KEY_GEN, Hash, Limits, MOST_SESSIONS, Mechanism, NoMemory, Pin, Rv,
+    RvError, SHA224, SHA224_HMAC, SHA224_HMAC_GENERAL, SHA256, SHA256_HMAC, SHA256_HMAC_GENERAL,
+    SHA384, SHA384_HMAC, SHA384_HMAC_GENERAL, SHA512, SHA512_HMAC, SHA512_HMAC_GENERAL, Sequence,
+    SessionState, TokenFlags, UserType, digest_of, mac_of, mechanism_types, number_of,
 };

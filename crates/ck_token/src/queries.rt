@@ -7,6 +7,7 @@ use ck_objects::Record;
 use ck_types::{NoMemory, Rv, RvError, Sequence};
 use std::alloc::Global;
 
+/// How grave the code of a query is. A call has the gravest code of its queries.
 fn gravity(code: Rv) -> u64
     ensures { result ≡ gravity code }
 {
@@ -20,7 +21,7 @@ fn gravity(code: Rv) -> u64
     }
 }
 
-/// Of the codes of two queries the one that both together have.
+/// The code of two queries that by themselves have these codes.
 fn graver(one: Rv, other: Rv) -> Rv
     ensures { result ≡ graver one other }
 {
@@ -31,7 +32,7 @@ fn graver(one: Rv, other: Rv) -> Rv
     }
 }
 
-/// The answer to a query, and the code that it has alone.
+/// The answer to a query, and the code that it has by itself.
 fn query_reply(
     alloc: Global,
     attributes: &Record,

@@ -32,7 +32,7 @@ pub fn run(token: &mut Token, alloc: Global, calls: Vec<(u32, Call)>) -> Result<
     left.reverse();
     let mut answered = 0u64;
     while let Some((caller, call)) = left.pop() {
-        match step(token, alloc, caller, call) {
+        match make_call(token, alloc, caller, call) {
             Ok(()) => answered += 1,
             Err(NoMemory) => return Err(Stopped { answered }),
         }
@@ -41,7 +41,7 @@ pub fn run(token: &mut Token, alloc: Global, calls: Vec<(u32, Call)>) -> Result<
 }
 
 /// Makes a call whose reply is read only in the journal.
-fn step(token: &mut Token, alloc: Global, caller: u32, call: Call) -> Result<(), NoMemory>
+fn make_call(token: &mut Token, alloc: Global, caller: u32, call: Call) -> Result<(), NoMemory>
     ensures answered { OnOk result (IsAnswered token.old token.new caller call
         (answer token.old.limits token.old.history call)) }
     ensures unchanged { OnErr result (IsUnchanged token.old token.new) }

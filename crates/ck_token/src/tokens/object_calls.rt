@@ -29,8 +29,8 @@ pub(super) fn check_no_parameter(mechanism: &Mechanism) -> Result<(), RvError>
     error_if(has_parameter, RvError::MechanismParamInvalid)
 }
 
-/// The state of this number, else CKR_ARGUMENTS_BAD, where the key may go over to it, else
-/// CKR_ACTION_PROHIBITED.
+/// The state of this number, where the key may go over to it. Checks: CKR_ARGUMENTS_BAD (7) where
+/// no state has the number, CKR_ACTION_PROHIBITED (1b).
 fn transition(key: &Record, number: u64) -> Result<KeyState, RvError>
     ensures state { IfOk result (λ state. state_of_number number ≡ Some state) }
     ensures passes { IfOk result (λ state.
@@ -38,9 +38,7 @@ fn transition(key: &Record, number: u64) -> Result<KeyState, RvError>
     ensures fails { IfErr result (λ code.
         transition_error (state_in key.now) (state_of_number number) ≡ Some code) }
 {
-    let Some(after) = KeyState::of(number) else {
-        return Err(RvError::ArgumentsBad);
-    };
+    let after = KeyState::of(number).ok_or(RvError::ArgumentsBad)?;
     let is_allowed = match key.key_state() {
         None => false,
         Some(before) => before.may_become(after),

@@ -127,9 +127,7 @@ impl Token {
         ensures { IsDecision self.now.limits self.now.history (call.Login session user pin) result }
     {
         self.session(session)?;
-        let Some(user) = UserType::of(user) else {
-            return Err(Refused::from(RvError::UserTypeInvalid));
-        };
+        let user = UserType::of(user).ok_or(RvError::UserTypeInvalid)?;
         self.check_login(user, pin)?;
         Ok(Decision::of_change(Change::LogIn { user }))
     }

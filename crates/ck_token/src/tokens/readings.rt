@@ -70,10 +70,10 @@ impl Token {
         ensures none { IfErr result (λ code. code ≡ rv_error.SessionHandleInvalid) }
         ensures closed { IfErr result (λ code. is_open self.now.history session ≡ false) }
     {
-        match self.parts.sessions.get(session) {
-            Some(row) => Ok(row),
-            None => Err(RvError::SessionHandleInvalid),
-        }
+        self.parts
+            .sessions
+            .get(session)
+            .ok_or(RvError::SessionHandleInvalid)
     }
 
     /// The state of an open session.
@@ -137,10 +137,10 @@ impl Token {
         ensures none { IfErr result (λ code. code ≡ rv_error.OperationNotInitialized) }
         ensures idle { IfErr result (λ code. is_active kind self.now.history session ≡ false) }
     {
-        match self.parts.operations.get(kind, session) {
-            Some(operation) => Ok(operation),
-            None => Err(RvError::OperationNotInitialized),
-        }
+        self.parts
+            .operations
+            .get(kind, session)
+            .ok_or(RvError::OperationNotInitialized)
     }
 
     /// The number and the attributes of the object that the handle names, else
@@ -153,10 +153,10 @@ impl Token {
         ensures none { IfErr result (λ code. code ≡ rv_error.ObjectHandleInvalid) }
         ensures unnamed { IfErr result (λ code. attributes_named self.now.history handle ≡ None) }
     {
-        match self.parts.objects.get(self.view(), handle) {
-            Some(found) => Ok(found),
-            None => Err(RvError::ObjectHandleInvalid),
-        }
+        self.parts
+            .objects
+            .get(self.view(), handle)
+            .ok_or(RvError::ObjectHandleInvalid)
     }
 
     /// The number and the attributes of the key that the handle names, else CKR_KEY_HANDLE_INVALID.

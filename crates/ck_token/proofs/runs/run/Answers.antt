@@ -11,7 +11,7 @@ pub loop-caller-preserved : goal.loop-caller-preserved
 loop-caller-preserved c =
     Answers-more _ _ _ c.pop.new.self.items (c.in-Some.caller, c.in-Some.call) _ _ _ _
     c.in-Some.ensures.items
-    c.loop-caller.invariant c.in-Ok.ensures.answered c.step.ensures.legal c.in-Ok.ensures.room
+    c.loop-caller.invariant c.in-Ok.ensures.answered c.make_call.ensures.legal c.in-Ok.ensures.room
 
 pub returns-in-Err-clause-succeeds : goal.returns-in-Err-clause-succeeds
 returns-in-Err-clause-succeeds c = λ enough free.

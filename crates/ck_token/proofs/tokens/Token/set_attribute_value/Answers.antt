@@ -1,113 +1,114 @@
-use Rattle.std.proofs.Common.{refl, sym, ap, ◌∙◌}
+use Rattle.std.proofs.Common.{◌≡◌, None, refl, sym, ap, ◌∙◌}
 use Rattle.std.specs.Prelude.{unwrap_or}
-use Rattle.ck_objects.specs.Records.{protections_of, changed_error}
+use Rattle.ck_objects.specs.Records.{protections_of, changed_error, placement_of}
 use Rattle.ck_objects.specs.Templates.{class_of}
 use Rattle.ck_objects.specs.declared.attributes.Attribute.TheVariants as attribute
 use Rattle.ck_objects.specs.declared.object_flags.Placement.{Placement}
 use Rattle.ck_types.proofs.CheckLemmas.{check_of-ok, check_of-err}
 use Rattle.ck_journal.specs.Answers.{read_only_session_error, prohibited_error}
 use Rattle.ck_journal.specs.Objects.{object_named}
+use Rattle.ck_journal.specs.declared.calls.Call.{Call}
 use Rattle.ck_journal.specs.declared.calls.Call.TheVariants as call
 use Rattle.ck_parts.specs.declared.changes.Change.TheVariants as change
 use Rattle.ck_token.specs.Decisions.{reply_of}
 use Rattle.ck_token.specs.declared.decisions.Decision.{Decision}
 use Rattle.ck_token.proofs.DecisionLemmas.{refused-decision, memory-decision, object-checks, hit}
 use Rattle.ck_token.proofs.DecisionLemmas.{skip}
+use Rattle.ck_token.proofs.tokens.Token.set_attribute_value.Goals.{In_ok-number}
+use Rattle.ck_token.proofs.tokens.Token.set_attribute_value.Goals.{In_ok-check_writable}
+use Rattle.ck_token.proofs.tokens.Token.set_attribute_value.Goals.{In_ok-check_flag}
+use Rattle.ck_token.proofs.tokens.Token.set_attribute_value.Goals.{In_ok-check_change}
 use Rattle.ck_token.proofs.tokens.Token.set_attribute_value.Goals as goal
+
+-- ---- each check, where it passes
+
+may_write : (c : In_ok-check_writable)
+    → read_only_session_error c.args.self.now.history c.args.session
+    (placement_of c.in_ok-number.present.now) ≡ None
+may_write c =
+    ap (λ (p : Placement). read_only_session_error c.args.self.now.history c.args.session p)
+    (sym c.placement.ensures)
+    ∙ check_of-ok _ _ (sym (c.check_writable.ensures c.args.session c.in_ok-row.ensures.row)
+    ∙ c.in_ok-check_writable.was)
+
+may_change : (c : In_ok-check_flag)
+    → prohibited_error attribute.Modifiable c.in_ok-number.present.now ≡ None
+may_change c = check_of-ok _ _ (sym c.check_flag.ensures ∙ c.in_ok-check_flag.was)
+
+fits : (c : In_ok-check_change)
+    → changed_error (class_of c.in_ok-number.present.now) (protections_of c.in_ok-number.present.now)
+    c.args.template.now.items ≡ None
+fits c = check_of-ok _ _ (sym c.check_change.ensures ∙ c.in_ok-check_change.was)
+
+-- the call
+abbrev made : In_ok-number → Call
+made c = call.SetAttributeValue c.args.session c.args.object c.args.template.now
+
+-- ---- the call is refused by the first check that fails
 
 pub returns-in_err-check_writable : goal.returns-in_err-check_writable
 returns-in_err-check_writable c =
     let h = c.args.self.now.history in
+    let p = goal.at.returns-in_err-check_writable c in
     let code = c.in_err-check_writable.field-0.0 in
-    let present = c.in_ok-number.present.now in
-    let fails = check_of-err (read_only_session_error h c.args.session c.placement.result) code
-    (sym (c.check_writable.ensures c.args.session c.in_ok-row.ensures.row)
+    let fails =
+    ap (λ (q : Placement). read_only_session_error h c.args.session q) (sym c.placement.ensures)
+    ∙ check_of-err _ code (sym (c.check_writable.ensures c.args.session c.in_ok-row.ensures.row)
     ∙ c.in_err-check_writable.was) in
-    refused-decision c.args.self.now.limits h (call.SetAttributeValue c.args.session c.args.object
-    c.args.template.now) _ code
+    refused-decision c.args.self.now.limits h (made p.In_ok-number) _ code
     c.from_residual-in_err-check_writable.ensures.1
-    (object-checks h c.args.session c.args.object _ present _ c.in_ok-row.ensures.open
-    c.in_ok-number.ensures.attributes
-    (hit _ _ code (ap (λ (p : Placement). read_only_session_error h c.args.session p)
-    (sym c.placement.ensures) ∙ fails))) refl
+    (object-checks h c.args.session c.args.object _ c.in_ok-number.present.now _
+    c.in_ok-row.ensures.open c.in_ok-number.ensures.attributes
+    (hit _ _ code fails)) refl
 
 pub returns-in_err-check_flag : goal.returns-in_err-check_flag
 returns-in_err-check_flag c =
     let h = c.args.self.now.history in
+    let p = goal.at.returns-in_err-check_flag c in
     let code = c.in_err-check_flag.field-0.0 in
-    let present = c.in_ok-number.present.now in
-    let writable = check_of-ok (read_only_session_error h c.args.session c.placement.result) _
-    (sym (c.check_writable.ensures c.args.session c.in_ok-row.ensures.row)
-    ∙ c.in_ok-check_writable.was) in
-    let fails = check_of-err (prohibited_error attribute.Modifiable present) code
+    let fails = check_of-err (prohibited_error attribute.Modifiable c.in_ok-number.present.now) code
     (sym c.check_flag.ensures ∙ c.in_err-check_flag.was) in
-    refused-decision c.args.self.now.limits h (call.SetAttributeValue c.args.session c.args.object
-    c.args.template.now) _ code
+    refused-decision c.args.self.now.limits h (made p.In_ok-number) _ code
     c.from_residual-in_err-check_flag.ensures.1
-    (object-checks h c.args.session c.args.object _ present _ c.in_ok-row.ensures.open
-    c.in_ok-number.ensures.attributes
-    (skip _ _ (ap (λ (p : Placement). read_only_session_error h c.args.session p)
-    (sym c.placement.ensures) ∙ writable) ∙ hit _ _ code fails)) refl
+    (object-checks h c.args.session c.args.object _ c.in_ok-number.present.now _
+    c.in_ok-row.ensures.open c.in_ok-number.ensures.attributes
+    (skip _ _ (may_write p.In_ok-check_writable) ∙ hit _ _ code fails)) refl
 
 pub returns-in_err-check_change : goal.returns-in_err-check_change
 returns-in_err-check_change c =
     let h = c.args.self.now.history in
+    let p = goal.at.returns-in_err-check_change c in
     let code = c.in_err-check_change.field-0.0 in
-    let present = c.in_ok-number.present.now in
-    let writable = check_of-ok (read_only_session_error h c.args.session c.placement.result) _
-    (sym (c.check_writable.ensures c.args.session c.in_ok-row.ensures.row)
-    ∙ c.in_ok-check_writable.was) in
-    let allowed = check_of-ok (prohibited_error attribute.Modifiable present) _
-    (sym c.check_flag.ensures ∙ c.in_ok-check_flag.was) in
-    let fails = check_of-err (changed_error (class_of present) (protections_of present)
-    c.args.template.now.items) code
-    (sym c.check_change.ensures ∙ c.in_err-check_change.was) in
-    refused-decision c.args.self.now.limits h (call.SetAttributeValue c.args.session c.args.object
-    c.args.template.now) _ code
+    let fails = check_of-err _ code (sym c.check_change.ensures ∙ c.in_err-check_change.was) in
+    refused-decision c.args.self.now.limits h (made p.In_ok-number) _ code
     c.from_residual-in_err-check_change.ensures.1
-    (object-checks h c.args.session c.args.object _ present _ c.in_ok-row.ensures.open
-    c.in_ok-number.ensures.attributes
-    (skip _ _ (ap (λ (p : Placement). read_only_session_error h c.args.session p)
-    (sym c.placement.ensures) ∙ writable) ∙ skip _ _ allowed ∙ hit _ _ code fails)) refl
+    (object-checks h c.args.session c.args.object _ c.in_ok-number.present.now _
+    c.in_ok-row.ensures.open c.in_ok-number.ensures.attributes
+    (skip _ _ (may_write p.In_ok-check_writable) ∙ skip _ _ (may_change p.In_ok-check_flag)
+    ∙ hit _ _ code fails)) refl
+
+-- ---- all checks pass
 
 pub returns-in_err-values : goal.returns-in_err-values
 returns-in_err-values c =
     let h = c.args.self.now.history in
-    let present = c.in_ok-number.present.now in
-    let writable = check_of-ok (read_only_session_error h c.args.session c.placement.result) _
-    (sym (c.check_writable.ensures c.args.session c.in_ok-row.ensures.row)
-    ∙ c.in_ok-check_writable.was) in
-    let allowed = check_of-ok (prohibited_error attribute.Modifiable present) _
-    (sym c.check_flag.ensures ∙ c.in_ok-check_flag.was) in
-    let changed = check_of-ok (changed_error (class_of present) (protections_of present)
-    c.args.template.now.items) _
-    (sym c.check_change.ensures ∙ c.in_ok-check_change.was) in
-    memory-decision c.args.self.now.limits h
-    (call.SetAttributeValue c.args.session c.args.object c.args.template.now) _
+    let p = goal.at.returns-in_err-values c in
+    memory-decision c.args.self.now.limits h (made p.In_ok-number) _
     c.from_residual-in_err-values.ensures.1
-    (object-checks h c.args.session c.args.object _ present _ c.in_ok-row.ensures.open
-    c.in_ok-number.ensures.attributes
-    (skip _ _ (ap (λ (p : Placement). read_only_session_error h c.args.session p)
-    (sym c.placement.ensures) ∙ writable) ∙ skip _ _ allowed ∙ skip _ _ changed)) refl
+    (object-checks h c.args.session c.args.object _ c.in_ok-number.present.now _
+    c.in_ok-row.ensures.open c.in_ok-number.ensures.attributes
+    (skip _ _ (may_write p.In_ok-check_writable) ∙ skip _ _ (may_change p.In_ok-check_flag)
+    ∙ skip _ _ (fits p.In_ok-check_change))) refl
 
 pub returns : goal.returns
 returns c =
     let h = c.args.self.now.history in
-    let present = c.in_ok-number.present.now in
-    let writable = check_of-ok (read_only_session_error h c.args.session c.placement.result) _
-    (sym (c.check_writable.ensures c.args.session c.in_ok-row.ensures.row)
-    ∙ c.in_ok-check_writable.was) in
-    let allowed = check_of-ok (prohibited_error attribute.Modifiable present) _
-    (sym c.check_flag.ensures ∙ c.in_ok-check_flag.was) in
-    let changed = check_of-ok (changed_error (class_of present) (protections_of present)
-    c.args.template.now.items) _
-    (sym c.check_change.ensures ∙ c.in_ok-check_change.was) in
-    let checks = object-checks h c.args.session c.args.object _ present _ c.in_ok-row.ensures.open
-    c.in_ok-number.ensures.attributes
-    (skip _ _ (ap (λ (p : Placement). read_only_session_error h c.args.session p)
-    (sym c.placement.ensures) ∙ writable) ∙ skip _ _ allowed ∙ skip _ _ changed) in
+    let p = goal.at.returns c in
     let number = ap (λ found. unwrap_or found 0) (sym c.in_ok-number.ensures.number) in (
-      checks,
+      object-checks h c.args.session c.args.object _ c.in_ok-number.present.now _
+          c.in_ok-row.ensures.open c.in_ok-number.ensures.attributes
+          (skip _ _ (may_write p.In_ok-check_writable) ∙ skip _ _ (may_change p.In_ok-check_flag)
+          ∙ skip _ _ (fits p.In_ok-check_change)),
       ap reply_of c.of_change.ensures,
       ap (λ (d : Decision). d.change) c.of_change.ensures
           ∙ ap (λ n. change.SetAttributes n c.in_ok-values.values) number
