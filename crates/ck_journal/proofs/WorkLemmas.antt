@@ -1,6 +1,7 @@
 -- An operation that no later entry starts again or adds to, and work on its message
-use Rattle.std.proofs.Common.{◌≡◌, ℕ, ◌<◌, ◌≤◌, Bool, true, false, cond, List, [], ◌∷◌, ◌++◌, Option}
-use Rattle.std.proofs.Common.{Some, None, length, not, refl, sym, ap, ◌∙◌, subst, arith, append-nil}
+use Rattle.std.proofs.Common.{◌≡◌, ℕ, ◌<◌, ◌≤◌, Bool, true, false, cond, List, [], ◌∷◌, ◌++◌}
+use Rattle.std.proofs.Common.{Option, Some, None, length, not, refl, sym, ap, ◌∙◌, subst, arith}
+use Rattle.std.proofs.Common.{append-nil}
 use Rattle.std.specs.Prelude.{◌==◌, ◌||◌, IfSome}
 use Rattle.std.specs.List.{concat}
 use Rattle.std.proofs.Math.Dec.{eqb-suc-zero}
@@ -91,4 +92,5 @@ pub ready-for : (h : History) (c : Call) (k : OperationKind) (s : ℕ) (x : Step
     → operation_step c ≡ on_operation k s x → (ready : Option RunningTag)
     → IfSome ready (HoldsAfter h c) → IfSome ready (HoldsWith k h s (bytes_taken x))
 ready-for h c k s x step None holds = tt
-ready-for h c k s x step (Some running) holds = holds (record { kind = k; session = s; step = x }) step
+ready-for h c k s x step (Some running) holds =
+    holds (record { kind = k; session = s; step = x }) step

@@ -4,12 +4,12 @@ use crate::fields::Field;
 use crate::items::{Item, copied_items, flag_or, take_value};
 use crate::object_flags::Placement;
 use ck_types::NoMemory;
-use std::alloc::Global;
+use std::alloc::{AllocError, Global};
 
 /// A data object (PKCS #11 Base 3.0, Data objects). Its class is no field. What most calls read
 /// stands first: the label, and then the flags that are read before it. So a call among many
 /// objects asks for both at once, and for no memory beside them.
-#[derive(Clone, Drop)]
+#[derive(Drop)]
 pub(crate) struct Data {
     label: AttributeValue,
     token: bool,
@@ -20,6 +20,27 @@ pub(crate) struct Data {
     application: AttributeValue,
     pub(crate) value: AttributeValue,
     object_id: AttributeValue,
+}
+
+// Not derived: what a derived one ensures of this many fields takes the prover many minutes.
+impl Clone for Data {
+    ghost use Rattle.std.specs.Prelude.{◌≡◌};
+
+    ghost is_clone = { λ object copy. copy ≡ object };
+
+    fn clone(&self) -> Result<Data, AllocError> {
+        Ok(Data {
+            label: self.label.clone()?,
+            token: self.token,
+            private: self.private,
+            modifiable: self.modifiable,
+            copyable: self.copyable,
+            destroyable: self.destroyable,
+            application: self.application.clone()?,
+            value: self.value.clone()?,
+            object_id: self.object_id.clone()?,
+        })
+    }
 }
 
 impl Data {

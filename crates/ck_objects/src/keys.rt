@@ -6,7 +6,7 @@ use crate::items::{Item, copied_items, copied_value, flag_or, number_at, state_o
 use crate::key_states::KeyState;
 use crate::object_flags::Placement;
 use ck_types::{GENERIC_SECRET_KEY_GEN, NoMemory};
-use std::alloc::Global;
+use std::alloc::{AllocError, Global};
 
 /// How a key came to be: the attributes that no template gives. A copy has its source's.
 #[derive(Clone, Copy)]
@@ -22,7 +22,7 @@ pub(crate) struct Origin {
 /// A generic secret key (PKCS #11 Current Mechanisms 3.0, Generic secret key objects). Its class,
 /// its key type and the length of its value are no fields. What most calls read stands first, as in
 /// a data object.
-#[derive(Clone, Drop)]
+#[derive(Drop)]
 pub(crate) struct Key {
     label: AttributeValue,
     token: bool,
@@ -43,6 +43,37 @@ pub(crate) struct Key {
     verify: bool,
     derive: bool,
     origin: Origin,
+}
+
+// Not derived: what a derived one ensures of this many fields takes the prover many minutes.
+impl Clone for Key {
+    ghost use Rattle.std.specs.Prelude.{◌≡◌};
+
+    ghost is_clone = { λ key copy. copy ≡ key };
+
+    fn clone(&self) -> Result<Key, AllocError> {
+        Ok(Key {
+            label: self.label.clone()?,
+            token: self.token,
+            private: self.private,
+            modifiable: self.modifiable,
+            copyable: self.copyable,
+            destroyable: self.destroyable,
+            sensitive: self.sensitive,
+            extractable: self.extractable,
+            state: self.state,
+            value: self.value.clone()?,
+            id: self.id.clone()?,
+            encrypt: self.encrypt,
+            decrypt: self.decrypt,
+            wrap: self.wrap,
+            unwrap: self.unwrap,
+            sign: self.sign,
+            verify: self.verify,
+            derive: self.derive,
+            origin: self.origin,
+        })
+    }
 }
 
 impl Key {

@@ -1,7 +1,7 @@
 -- How active operations keep agreeing with the history
-use Rattle.std.proofs.Common.{◌≡◌, ℕ, suc, Bool, true, false, cond, not, List, [], ◌∷◌, ◌++◌, Option}
-use Rattle.std.proofs.Common.{Some, None, length, refl, sym, ap, ◌∙◌, subst, append-nil, append_assoc}
-use Rattle.std.proofs.Common.{arith}
+use Rattle.std.proofs.Common.{◌≡◌, ℕ, suc, Bool, true, false, cond, not, List, [], ◌∷◌, ◌++◌}
+use Rattle.std.proofs.Common.{Option, Some, None, length, refl, sym, ap, ◌∙◌, subst, append-nil}
+use Rattle.std.proofs.Common.{append_assoc, arith}
 use Rattle.std.specs.Prelude.{◌==◌, ◌&&◌, filter, find, option_map, option_and_then, IfSome}
 use Rattle.std.specs.List.{concat}
 use Rattle.std.specs.Option.{option_or}
@@ -18,8 +18,8 @@ use Rattle.ck_journal.specs.Works.{changed_in, HoldsWith}
 use Rattle.ck_journal.proofs.NumberTests.{eqb-swap}
 use Rattle.ck_mac.specs.Computations.{Computation, HoldsTag}
 use Rattle.ck_mac.specs.declared.running_tags.RunningTag.{RunningTag}
-use Rattle.ck_operations.specs.Agreement.{OperationsState, ActiveOperation, operation_at, OptionAgrees}
-use Rattle.ck_operations.specs.Agreement.{OperationAgrees, OperationsAgree}
+use Rattle.ck_operations.specs.Agreement.{OperationsState, ActiveOperation, operation_at}
+use Rattle.ck_operations.specs.Agreement.{OptionAgrees, OperationAgrees, OperationsAgree}
 use Rattle.ck_operations.specs.Moves.{Move, Stay, Start, Add, End, Does, OnlyIn, OnlyInSession}
 use Rattle.ck_operations.specs.Moves.{OnlyNamed, InAll, IsStartOf}
 use Rattle.ck_operations.specs.Rows.{is_operation, is_of_session, is_named, new_operation}
@@ -103,7 +103,8 @@ none-found : (found : Option Operation) → OptionAgrees found None → found �
 none-found None same = refl
 none-found (Some o) same = absurd same
 
-idle-none : (k : OperationKind) (h : History) (s : ℕ) → is_active k h s ≡ false → operation_at k h s ≡ None
+idle-none : (k : OperationKind) (h : History) (s : ℕ) → is_active k h s ≡ false
+    → operation_at k h s ≡ None
 idle-none k h s idle =
     ap (λ t. operation_by t (computation_in k h s) (key_in k h s) (pieces_in k h s)
     (changed_in k h s)) idle
@@ -150,7 +151,8 @@ module _ (h : History) (old : OperationsState) (agree : OperationsAgree h old) (
   -- by what the entry does to each operation
   moves : (new : OperationsState) (move : OperationKind → ℕ → Move)
       → ((k : OperationKind) (s : ℕ) → Does (move k s) e k s)
-      → ((k : OperationKind) (s : ℕ) → OptionAgrees (find (is_operation k s) new.rows) (after (move k s) k s))
+      → ((k : OperationKind) (s : ℕ) → OptionAgrees (find (is_operation k s) new.rows)
+          (after (move k s) k s))
       → OperationsAgree (e ◁ h) new
   moves new move does same = record {
     each =
@@ -171,7 +173,8 @@ module _ (h : History) (old : OperationsState) (agree : OperationsAgree h old) (
   removed ended test says does new rows =
       moves new (λ k s. cond (ended k s) End Stay) does (λ k s. by k s (ended k s) refl)
     where
-      tested : (k : OperationKind) (s : ℕ) (o : Operation) → is_operation k s o ≡ true → test o ≡ ended k s
+      tested : (k : OperationKind) (s : ℕ) (o : Operation) → is_operation k s o ≡ true
+          → test o ≡ ended k s
       tested k s o passes =
           let is = operation-is k s o passes in says o ∙ rw (is.0, is.1) refl
 
@@ -188,7 +191,8 @@ module _ (h : History) (old : OperationsState) (agree : OperationsAgree h old) (
           ∙ find-kept (is_operation k s) (λ o. not (test o))
           (λ o passes. ap not (tested k s o passes ∙ there)) old.rows)) (agree.each k s)
 
-  pub operations-ended : (kind : OperationKind) (session : ℕ) → OnlyIn kind session End e → (new : OperationsState)
+  pub operations-ended : (kind : OperationKind) (session : ℕ) → OnlyIn kind session End e
+      → (new : OperationsState)
       → new.rows ≡ filter (λ (row : Operation). not (is_operation kind session row)) old.rows
       → OperationsAgree (e ◁ h) new
   operations-ended kind session =
@@ -201,7 +205,8 @@ module _ (h : History) (old : OperationsState) (agree : OperationsAgree h old) (
   operations-closed session =
       removed (λ k s. session == s) (is_of_session session) (λ o. eqb-swap o.session session)
 
-  pub operations-cancelled : (session flags : ℕ) → OnlyNamed session flags End e → (new : OperationsState)
+  pub operations-cancelled : (session flags : ℕ) → OnlyNamed session flags End e
+      → (new : OperationsState)
       → new.rows ≡ filter (λ (row : Operation). not (is_named session flags row)) old.rows
       → OperationsAgree (e ◁ h) new
   operations-cancelled session flags =
@@ -232,7 +237,8 @@ module _ (h : History) (old : OperationsState) (agree : OperationsAgree h old) (
           (operation_at kind h session) now (ready-for piece kind h session ready) is.added
           (agree.each kind session))
       added k s false there =
-          subst (λ found. OptionAgrees found (operation_at k h s)) (sym (is.others k s there)) (agree.each k s)
+          subst (λ found. OptionAgrees found (operation_at k h s)) (sym (is.others k s there))
+              (agree.each k s)
 
   pub operations-started : (kind : OperationKind) (session : ℕ) (running : RunningTag)
       (key : Option ℕ) (entries : ℕ) (computation : Computation) → entries ≡ entry_count h
@@ -241,7 +247,8 @@ module _ (h : History) (old : OperationsState) (agree : OperationsAgree h old) (
       → new.rows ≡ old.rows ++ new_operation kind session running key entries ∷ []
       → OperationsAgree (e ◁ h) new
   operations-started kind session running key entries computation now holds of does idle new rows =
-      moves new (only kind session Start) does (λ k s. started k s (same_kind kind k && session == s) refl)
+      moves new (only kind session Start) does
+          (λ k s. started k s (same_kind kind k && session == s) refl)
     where
       o : Operation
       o = new_operation kind session running key entries
@@ -260,11 +267,13 @@ module _ (h : History) (old : OperationsState) (agree : OperationsAgree h old) (
           let both = and_parts (same_kind kind k) (session == s) here in
           let p = is_operation k s in
           let inactive : operation_at k h s ≡ None =
-          rw (← same_kind-eq kind k both.0, ← eqb-true session s both.1) (idle-none kind h session idle) in
+          rw (← same_kind-eq kind k both.0, ← eqb-true session s both.1)
+              (idle-none kind h session idle) in
           let none : find p old.rows ≡ None = none-found (find p old.rows)
           (subst (OptionAgrees (find p old.rows)) inactive (agree.each k s)) in
           let last : find p new.rows ≡ Some o =
-          ap (find p) rows ∙ find-append p old.rows (o ∷ []) ∙ ap (λ found. option_or found (find p (o ∷ []))) none
+          ap (find p) rows ∙ find-append p old.rows (o ∷ [])
+              ∙ ap (λ found. option_or found (find p (o ∷ []))) none
           ∙ ap (λ t. cond t (Some o) None) here in
           subst (λ found. OptionAgrees found (Some (started_by h e))) (sym last) agrees
       started k s false there =

@@ -1,6 +1,6 @@
 -- Active operations that are looked for, after rows were added, changed or removed
-use Rattle.std.proofs.Common.{◌≡◌, ℕ, Bool, true, false, cond, List, [], ◌∷◌, Option, Some, None, refl}
-use Rattle.std.proofs.Common.{sym, ap, ◌∙◌, get_or}
+use Rattle.std.proofs.Common.{◌≡◌, ℕ, Bool, true, false, cond, List, [], ◌∷◌, Option, Some, None}
+use Rattle.std.proofs.Common.{refl, sym, ap, ◌∙◌, get_or}
 use Rattle.std.specs.Prelude.{◌==◌, ◌&&◌, filter, find}
 use Rattle.std.specs.List.{position, position_or_len, slice_get}
 use Rattle.std.proofs.Math.ListN.{set}
@@ -54,7 +54,8 @@ module _ {X : Type 0} (test : X → Bool) (y : X) where
   replaced xs = change_first test (λ x. y) xs
 
   other-step : (other : X → Bool) → other y ≡ false → (x : X) (xs : List X)
-      → (test x ≡ true → other x ≡ false) → find other (replaced xs) ≡ find other xs → (t : Bool) → test x ≡ t
+      → (test x ≡ true → other x ≡ false) → find other (replaced xs) ≡ find other xs → (t : Bool)
+          → test x ≡ t
       → find other (cond t (y ∷ xs) (x ∷ replaced xs)) ≡ cond (other x) (Some x) (find other xs)
   other-step other fails x xs apart later true e =
       ap (λ t. cond t (Some y) (find other xs)) fails
@@ -62,7 +63,8 @@ module _ {X : Type 0} (test : X → Bool) (y : X) where
   other-step other fails x xs apart later false e = ap (cond (other x) (Some x)) later
 
   -- others are found as before
-  pub find-other : (other : X → Bool) → other y ≡ false → ((x : X) → test x ≡ true → other x ≡ false)
+  pub find-other : (other : X → Bool) → other y ≡ false
+      → ((x : X) → test x ≡ true → other x ≡ false)
       → (xs : List X) → find other (replaced xs) ≡ find other xs
   find-other other fails apart [] = refl
   find-other other fails apart (x ∷ xs) =
@@ -107,17 +109,20 @@ apart k l session s other o e =
 
 -- ---- an operation that takes in a piece
 
-find-nowhere : (test : Operation → Bool) (rows : List Operation) → position test rows ≡ None → find test rows ≡ None
+find-nowhere : (test : Operation → Bool) (rows : List Operation) → position test rows ≡ None
+    → find test rows ≡ None
 find-nowhere test rows none =
     find_at test rows
-    ∙ slice_get_past rows (position_or_len test rows) (ltb-false _ _ (cond_none _ (position_or_len test rows) none))
+    ∙ slice_get_past rows (position_or_len test rows)
+        (ltb-false _ _ (cond_none _ (position_or_len test rows) none))
 
 has-added : (piece : Piece) (old new : Operation) (a b : Option Operation) → a ≡ Some old
     → b ≡ Some new → IsUpdateOf piece old new → IsUpdateOfOption piece a b
 has-added piece old new a b x y is = rw (x, y) is
 
 module _ (k : OperationKind) (session : ℕ) (piece : Piece) (rows : List Operation) where
-  pub added-at : (place : ℕ) (old new : Operation) → Some place ≡ position (is_operation k session) rows
+  pub added-at : (place : ℕ) (old new : Operation)
+      → Some place ≡ position (is_operation k session) rows
       → old ≡ get_or rows place old → IsUpdateOf piece old new
       → IsUpdateOfRows k session piece rows (set rows place new)
   added-at place old new found item is =
@@ -127,14 +132,17 @@ module _ (k : OperationKind) (session : ℕ) (piece : Piece) (rows : List Operat
       let passes-new : is_operation k session new ≡ true = rw (is.session, is.kind) passes in
       record {
         added = has-added piece old new _ _
-            (find_at (is_operation k session) rows ∙ ap (slice_get rows) p.1 ∙ slice_get-get_or rows place old
+            (find_at (is_operation k session) rows ∙ ap (slice_get rows) p.1
+                ∙ slice_get-get_or rows place old
             at.0 ∙ ap Some (sym item))
             (find-set (is_operation k session) rows place new (sym p.1) at.0 passes-new)
             is;
         others = λ l s apart-from.
-            ap (find (is_operation l s)) (change_first-place (is_operation k session) (λ o. new) rows place
+            ap (find (is_operation l s))
+                (change_first-place (is_operation k session) (λ o. new) rows place
             old found item)
-            ∙ find-other (is_operation k session) new (is_operation l s) (apart k l session s apart-from new passes-new)
+            ∙ find-other (is_operation k session) new (is_operation l s)
+                (apart k l session s apart-from new passes-new)
             (apart k l session s apart-from) rows;
       }
 
@@ -144,6 +152,7 @@ module _ (k : OperationKind) (session : ℕ) (piece : Piece) (rows : List Operat
   pub added-nowhere : None ≡ position (is_operation k session) rows
       → IsUpdateOfRows k session piece rows rows
   added-nowhere none = record {
-    added = nothing-added (find (is_operation k session) rows) (find-nowhere (is_operation k session) rows (sym none));
+    added = nothing-added (find (is_operation k session) rows)
+        (find-nowhere (is_operation k session) rows (sym none));
     others = λ l s apart-from. refl;
   }

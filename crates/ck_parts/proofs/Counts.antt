@@ -20,9 +20,10 @@ use Rattle.ck_journal.specs.Answers.{IsLegal, answer, call_error, session_error}
 use Rattle.ck_journal.specs.Histories.{History, done}
 use Rattle.ck_journal.specs.Pins.{pin_owner, present_pin}
 use Rattle.ck_journal.specs.Sessions.{is_read_write, state_of}
-use Rattle.ck_journal.proofs.LegalLemmas.{passed-done, creation-free, user_logins-bound, openings-bound}
-use Rattle.ck_journal.proofs.LegalLemmas.{creations-bound, tries-bound}
-use Rattle.ck_sessions.specs.Agreement.{SessionsState, SessionsAgree, CredentialAgrees, credential_of}
+use Rattle.ck_journal.proofs.LegalLemmas.{passed-done, creation-free, user_logins-bound}
+use Rattle.ck_journal.proofs.LegalLemmas.{openings-bound, creations-bound, tries-bound}
+use Rattle.ck_sessions.specs.Agreement.{SessionsState, SessionsAgree, CredentialAgrees}
+use Rattle.ck_sessions.specs.Agreement.{credential_of}
 use Rattle.ck_parts.proofs.Inversions.{of-effect}
 use Rattle.ck_parts.specs.Agreement.{PartsAgree, IsCounted}
 use Rattle.ck_parts.specs.Changes.{effect}
@@ -54,14 +55,16 @@ set_pin-passed limits h session old new e =
     (or_else-none (session_error h session) _ e).1).1).0)
 
 -- the hash function, the key and the length that a signing or verifying starts with
-pub started-injected : (k : OperationKind) (session : ℕ) (made : Hash) (number len : ℕ) (other : Hash) (n m : ℕ)
+pub started-injected : (k : OperationKind) (session : ℕ) (made : Hash) (number len : ℕ)
+    (other : Hash) (n m : ℕ)
     → change.StartHmac k session made number len ≡ change.StartHmac k session other n m
     → (made ≡ other) × (number ≡ n) × (len ≡ m)
 started-injected k session made number len other n m e = (cc, cc, cc)
 
 module _ (limits : Ranges) (in_range : AreInRange limits.sessions limits.openings limits.creations
     limits.logins) (h : History) (p : Parts)
-    (legal : IsLegal limits h) (agree : PartsAgree h p) (c : Call) (r : Reply) (answered : r ≡ answer limits h c) where
+    (legal : IsLegal limits h) (agree : PartsAgree h p) (c : Call) (r : Reply)
+        (answered : r ≡ answer limits h c) where
   abbrev answered_entry : Entry
   answered_entry = record { caller = 0; call = c; reply = r }
 
@@ -90,7 +93,8 @@ module _ (limits : Ranges) (in_range : AreInRange limits.sessions limits.opening
       let of = d.1 in
       ap is_some (credential-agrees owner h p.sessions agree.sessions).pin
       ∙ subst (λ u. is_some (present_pin u h) ≡ true) of.3 (set_pin-passed limits h of.0 of.1 pin
-      (passed-done limits answered_entry h (answered, legal) (call.SetPin of.0 of.1 pin) (d.0 ∙ ap Some of.2)))
+      (passed-done limits answered_entry h (answered, legal) (call.SetPin of.0 of.1 pin)
+          (d.0 ∙ ap Some of.2)))
   counted (change.WrongTry u) is =
       let below = tries-bound limits h agree.objects.sound legal u in
       let same = (credential-agrees u h p.sessions agree.sessions).tries in
@@ -110,5 +114,6 @@ module _ (limits : Ranges) (in_range : AreInRange limits.sessions limits.opening
       let starts = of.3 in
       let passed = hmac-passed k h session of.0 of.1 (sym starts.error ∙ passes d.0) in
       let same = started-injected k session hash key len _ _ _ of.2 in
-      tag_length-bounds of.0 hash len (passed.1 ∙ ap Some (sym same.0)) (passed.2 ∙ ap Some (sym same.2))
+      tag_length-bounds of.0 hash len (passed.1 ∙ ap Some (sym same.0))
+          (passed.2 ∙ ap Some (sym same.2))
   counted other is = tt

@@ -23,8 +23,8 @@ use Rattle.ck_journal.specs.declared.calls.Entry.{Entry}
 use Rattle.ck_journal.specs.declared.operations.OperationKind.{OperationKind}
 use Rattle.ck_journal.specs.declared.replies.Body.{Body}
 use Rattle.ck_journal.specs.Histories.{History, done, is_ok}
-use Rattle.ck_journal.specs.Objects.{creates, creation_session, creation_attributes, attributes_named}
-use Rattle.ck_journal.specs.Objects.{object_named, named_attributes}
+use Rattle.ck_journal.specs.Objects.{creates, creation_session, creation_attributes}
+use Rattle.ck_journal.specs.Objects.{attributes_named, object_named, named_attributes}
 use Rattle.ck_journal.specs.Pins.{pin_owner, about}
 use Rattle.ck_journal.specs.Searches.{last_number, last_or, number_of_handle, handles_in}
 use Rattle.ck_journal.specs.Sessions.{state_of}
@@ -34,8 +34,8 @@ use Rattle.ck_journal.specs.OperationCalls.{OperationStep, operation_step}
 use Rattle.ck_journal.specs.Works.{taken_bytes}
 use Rattle.ck_journal.specs.Operations.{started_computation, hmac_with, init_key}
 use Rattle.ck_sessions.specs.SearchCalls.{SetsSearch}
-use Rattle.ck_parts.specs.Changes.{change_of, start_hmac, wrong_try_change, refused_by, refused_step}
-use Rattle.ck_parts.specs.Changes.{effect, effect_by}
+use Rattle.ck_parts.specs.Changes.{change_of, start_hmac, wrong_try_change, refused_by}
+use Rattle.ck_parts.specs.Changes.{refused_step, effect, effect_by}
 use Rattle.ck_parts.specs.declared.changes.Change.{Change}
 use Rattle.ck_parts.specs.declared.changes.Change.TheVariants as change
 
@@ -48,7 +48,8 @@ is_of_call (change.WrongTry u) = false
 is_of_call (change.FinishOperation k session ends) = false
 is_of_call other = true
 
-is_of_call-wrong_try : (code : RvError) (who : Option UserType) → is_of_call (wrong_try_change code who) ≡ false
+is_of_call-wrong_try : (code : RvError) (who : Option UserType)
+    → is_of_call (wrong_try_change code who) ≡ false
 is_of_call-wrong_try rv_error.PinIncorrect None = refl
 is_of_call-wrong_try rv_error.PinIncorrect (Some u) = refl
 is_of_call-wrong_try other who = refl
@@ -69,10 +70,12 @@ is_of_call-refused None code who = is_of_call-wrong_try code who
 done_step : (h : History) (c : Call) (v : Rv) (b : Body) → is_of_call (effect_by h c v b) ≡ true
     → (cond (is_ok v) (Some c) None ≡ Some c) × (effect_by h c v b ≡ change_of h c b)
 done_step h c rv.Ok b e = (refl, refl)
-done_step h c (rv.Error code) b e = let f = is_of_call-refused (operation_step c) code (about h (Some c)) in cc
+done_step h c (rv.Error code) b e =
+    let f = is_of_call-refused (operation_step c) code (about h (Some c)) in cc
 
 -- its call was answered OK
-done-of_call : (h : History) (e : Entry) (made : Change) → made ≡ effect h e.call e.reply → is_of_call made ≡ true
+done-of_call : (h : History) (e : Entry) (made : Change) → made ≡ effect h e.call e.reply
+    → is_of_call made ≡ true
     → (done e ≡ Some e.call) × (made ≡ change_of h e.call e.reply.body)
 done-of_call h e made is kind =
     let d = done_step h e.call e.reply.rv e.reply.body (ap is_of_call (sym is) ∙ kind) in
@@ -85,7 +88,8 @@ pub record IsHmacInit (limits : Ranges) (h : History) (c : Call) (k : OperationK
     (mechanism : Mechanism) (handle : ℕ) : Type 0 where
   pub step : operation_step c ≡ Some (record { kind = k; session = session; step = initialize })
   pub error : call_error limits h c ≡ hmac_init_error k h session mechanism handle
-  pub computation : started_computation h (Some c) ≡ hmac_with mechanism (key_value (named_attributes h handle))
+  pub computation : started_computation h (Some c) ≡ hmac_with mechanism
+      (key_value (named_attributes h handle))
   pub key : init_key (Some c) ≡ Some handle
 
 -- what is so of a call whose change this is
@@ -93,7 +97,8 @@ abbrev pub IsChangeOf : History → Body → Change → Call → Type 0
 IsChangeOf h b (change.InitToken pin) c = c ≡ call.InitToken pin
 IsChangeOf h b (change.InitPin pin) c = (session : ℕ) × (c ≡ call.InitPin session pin)
 IsChangeOf h b (change.SetPin owner pin) c =
-    (session : ℕ) × (old : Pin) × (c ≡ call.SetPin session old pin) × (pin_owner (state_of h session) ≡ owner)
+    (session : ℕ) × (old : Pin) × (c ≡ call.SetPin session old pin)
+        × (pin_owner (state_of h session) ≡ owner)
 IsChangeOf h b (change.OpenSession flags) c = c ≡ call.OpenSession flags
 IsChangeOf h b (change.CloseSession session) c = c ≡ call.CloseSession session
 IsChangeOf h b change.CloseAllSessions c = c ≡ call.CloseAllSessions
@@ -108,9 +113,11 @@ IsChangeOf h b (change.SetAttributes number values) c =
     (session object : ℕ) × (c ≡ call.SetAttributeValue session object values)
     × (number ≡ unwrap_or (object_named h object) 0)
 IsChangeOf h b (change.DestroyObject number) c =
-    (session object : ℕ) × (c ≡ call.DestroyObject session object) × (number ≡ unwrap_or (object_named h object) 0)
+    (session object : ℕ) × (c ≡ call.DestroyObject session object)
+        × (number ≡ unwrap_or (object_named h object) 0)
 IsChangeOf h b (change.SetKeyState number made) c =
-    (session key n : ℕ) × (c ≡ call.SetKeyState session key n) × (number ≡ unwrap_or (object_named h key) 0)
+    (session key n : ℕ) × (c ≡ call.SetKeyState session key n)
+        × (number ≡ unwrap_or (object_named h key) 0)
     × (made ≡ unwrap_or (state_of_number n) state.Active)
 IsChangeOf h b (change.SetSearch session found) c = SetsSearch h c session found
 IsChangeOf h b (change.AdvanceSearch session number) c =
@@ -121,10 +128,12 @@ IsChangeOf h b (change.StartDigest session made) c =
     × (made ≡ unwrap_or (digest_hash mechanism.kind) hash.Sha256)
 IsChangeOf h b (change.StartHmac k session made number len) c =
     (limits : Ranges) → (mechanism : Mechanism) × (key : ℕ)
-    × (change.StartHmac k session made number len ≡ start_hmac k session mechanism (object_named h key))
+    × (change.StartHmac k session made number len ≡ start_hmac k session mechanism
+        (object_named h key))
     × IsHmacInit limits h c k session mechanism key
 IsChangeOf h b (change.AddPiece k session) c =
-    operation_step c ≡ Some (record { kind = k; session = session; step = add_piece (taken_bytes c) })
+    operation_step c
+        ≡ Some (record { kind = k; session = session; step = add_piece (taken_bytes c) })
 IsChangeOf h b (change.CancelOperations session flags) c = c ≡ call.SessionCancel session flags
 IsChangeOf h b other c = Unit {0}
 
@@ -168,10 +177,14 @@ module _ (h : History) (b : Body) where
   change-of (call.DigestInit session mechanism) = (mechanism, refl, refl)
   change-of (call.DigestUpdate session bytes) = refl
   change-of (call.SignInit session mechanism key) =
-      λ limits. (mechanism, key, refl, record { step = refl; error = refl; computation = refl; key = refl })
+      λ limits.
+          (mechanism, key, refl, record
+          { step = refl; error = refl; computation = refl; key = refl })
   change-of (call.SignUpdate session bytes) = refl
   change-of (call.VerifyInit session mechanism key) =
-      λ limits. (mechanism, key, refl, record { step = refl; error = refl; computation = refl; key = refl })
+      λ limits.
+          (mechanism, key, refl, record
+          { step = refl; error = refl; computation = refl; key = refl })
   change-of (call.VerifyUpdate session bytes) = refl
   change-of (call.SessionCancel session flags) = refl
   change-of other = tt

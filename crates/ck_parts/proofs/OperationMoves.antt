@@ -1,6 +1,6 @@
 -- What the calls do to operations
-use Rattle.std.proofs.Common.{◌≡◌, ℕ, Bool, true, false, cond, not, List, [], ◌∷◌, Option, Some, None}
-use Rattle.std.proofs.Common.{refl, sym, ap, ◌∙◌, length}
+use Rattle.std.proofs.Common.{◌≡◌, ℕ, Bool, true, false, cond, not, List, [], ◌∷◌, Option, Some}
+use Rattle.std.proofs.Common.{None, refl, sym, ap, ◌∙◌, length}
 use Rattle.std.specs.Prelude.{◌==◌, ◌&&◌, ◌||◌, is_some}
 use Rattle.ck_types.specs.declared.errors.RvError.{RvError}
 use Rattle.ck_types.specs.declared.errors.RvError.TheVariants as rv_error
@@ -17,11 +17,12 @@ use Rattle.ck_journal.specs.declared.replies.Body.TheVariants as body
 use Rattle.ck_journal.specs.declared.replies.Reply.{Reply}
 use Rattle.ck_journal.specs.Histories.{History, ◌◁◌, done, is_ok}
 use Rattle.ck_journal.specs.Effects.{effects_of, effects}
-use Rattle.ck_journal.specs.OperationCalls.{on_operation, Step, initialize, take_whole, add_piece, finish}
-use Rattle.ck_journal.specs.OperationCalls.{OperationStep, operation_step, step_in, same_kind, piece_in}
+use Rattle.ck_journal.specs.OperationCalls.{on_operation, Step, initialize, take_whole, add_piece}
+use Rattle.ck_journal.specs.OperationCalls.{finish, OperationStep, operation_step, step_in}
+use Rattle.ck_journal.specs.OperationCalls.{same_kind, piece_in}
 use Rattle.ck_journal.specs.Operations.{starts, ends, finishes, cancels, piece_of, ends_by}
-use Rattle.ck_journal.specs.Operations.{is_initialization, leaves_active, is_data_len_range, names_kind}
-use Rattle.ck_journal.specs.Operations.{is_updated, pieces_in, message_in}
+use Rattle.ck_journal.specs.Operations.{is_initialization, leaves_active, is_data_len_range}
+use Rattle.ck_journal.specs.Operations.{names_kind, is_updated, pieces_in, message_in}
 use Rattle.std.specs.List.{concat}
 use Rattle.std.proofs.lemmas.Bool.{true≢false}
 use Rattle.std.proofs.lemmas.Option.{cond_some}
@@ -95,7 +96,8 @@ of-done f a c (rv.Error code) one none = none
 
 -- ---- a step does what it says to one operation, and nothing to any other
 
-module _ (h : History) (n : ℕ) (c : Call) (v : Rv) (b : Body) (kind : OperationKind) (session : ℕ) (x : Step)
+module _ (h : History) (n : ℕ) (c : Call) (v : Rv) (b : Body) (kind : OperationKind) (session : ℕ)
+    (x : Step)
     (is : operation_step c ≡ on_operation kind session x) where
   abbrev reply : Reply
   reply = record { rv = v; body = b }
@@ -110,11 +112,13 @@ module _ (h : History) (n : ℕ) (c : Call) (v : Rv) (b : Body) (kind : Operatio
     step-here : (t : Bool) → here k s ≡ t → step_in (operation_step c) k s ≡ cond t (Some x) None
     step-here t e = ap (λ o. step_in o k s) is ∙ ap (λ t. cond t (Some x) None) e
 
-    ends-here : (t : Bool) → here k s ≡ t → ends k (entry n c v b) s ≡ ends_by (cond t (Some x) None) reply
+    ends-here : (t : Bool) → here k s ≡ t → ends k (entry n c v b) s
+        ≡ ends_by (cond t (Some x) None) reply
     ends-here t e =
         ap (λ a. a || cancels (done_of c v) k s || finishes c k reply s)
         (of-done (λ d. ends_operations d s) false c v (quiet.unclosed s) refl)
-        ∙ ap (λ a. a || finishes c k reply s) (of-done (λ d. cancels d k s) false c v (quiet.uncancelled k s) refl)
+        ∙ ap (λ a. a || finishes c k reply s)
+            (of-done (λ d. cancels d k s) false c v (quiet.uncancelled k s) refl)
         ∙ ap (λ o. ends_by o reply) (step-here t e)
 
     starts-here : (t : Bool) → here k s ≡ t → is_ok v ≡ true
@@ -124,7 +128,8 @@ module _ (h : History) (n : ℕ) (c : Call) (v : Rv) (b : Body) (kind : Operatio
 
     adds-here : (t : Bool) → here k s ≡ t → is_ok v ≡ true
         → piece_of (done_of c v) k s ≡ piece_in (cond t (Some x) None)
-    adds-here t e ok = ap (λ a. piece_of (cond a (Some c) None) k s) ok ∙ ap piece_in (step-here t e)
+    adds-here t e ok = ap (λ a. piece_of (cond a (Some c) None) k s) ok
+        ∙ ap piece_in (step-here t e)
 
   -- a start
   pub does-start : is_ok v ≡ true → x ≡ initialize → OnlyIn kind session Start (entry n c v b)
@@ -173,7 +178,8 @@ pub no-step-stays : (n : ℕ) (c : Call) (v : Rv) (b : Body) → operation_step 
     → ((k : OperationKind) (s : ℕ) → cancels (done_of c v) k s ≡ false) → InAll Stay (entry n c v b)
 no-step-stays n c v b idle unclosed uncancelled k s = (
   starts_no_step c idle k s (is_ok v),
-  ap (λ a. a || cancels (done_of c v) k s || finishes c k (record { rv = v; body = b }) s) (unclosed s)
+  ap (λ a. a || cancels (done_of c v) k s || finishes c k (record { rv = v; body = b }) s)
+      (unclosed s)
       ∙ ap (λ a. a || finishes c k (record { rv = v; body = b }) s) (uncancelled k s)
       ∙ finishes_no_step c idle k s (record { rv = v; body = b }),
   adds_no_step c idle k s (is_ok v),
@@ -184,14 +190,16 @@ module _ (e : Entry) (c : Call) (d : done e ≡ Some c) where
   called = (cond_some (is_ok e.reply.rv) e.call c d).1
 
   -- one that leaves operations as they are
-  pub operations-kept : (h : History) (o : OperationsState) → (effects_of (Some c)).operations ≡ false
+  pub operations-kept : (h : History) (o : OperationsState) → (effects_of (Some c)).operations
+      ≡ false
       → operation_step c ≡ None → OperationsAgree h o → OperationsAgree (e ◁ h) o
   operations-kept h o idle quiet agree =
       let l : (effects e).operations ≡ false =
       ap (λ d. (effects_of d).operations || is_some (operation_step e.call)) d
       ∙ ap (λ t. t || is_some (operation_step e.call)) idle
       ∙ ap (λ c. is_some (operation_step c)) called ∙ ap is_some quiet in
-      operations-left h o agree e (λ k s. (starts_none e l k s, ends_none e l k s, adds_none e l k s))
+      operations-left h o agree e
+          (λ k s. (starts_none e l k s, ends_none e l k s, adds_none e l k s))
 
   creation-quiet : (c : Call) → creates (Some c) ≡ true
       → ((effects_of (Some c)).operations ≡ false) × (operation_step c ≡ None)
@@ -241,11 +249,13 @@ logged-out e session d k s = ends-done e (call.Logout session) d refl k s true r
 pub cancelled : (e : Entry) (session flags : ℕ) → done e ≡ Some (call.SessionCancel session flags)
     → OnlyNamed session flags End e
 cancelled e session flags d k s =
-    ends-done e (call.SessionCancel session flags) d refl k s (session == s && names_kind flags k) refl
+    ends-done e (call.SessionCancel session flags) d refl k s
+        (session == s && names_kind flags k) refl
 
 -- ---- which step a change is of
 
-wrong_try_change-finishes : (code : RvError) (who : Option UserType) (k : OperationKind) (session : ℕ)
+wrong_try_change-finishes : (code : RvError) (who : Option UserType) (k : OperationKind)
+    (session : ℕ)
     (last : Bool) → change.FinishOperation k session last ≡ wrong_try_change code who → ⊥
 wrong_try_change-finishes rv_error.PinIncorrect None k session last is = cc
 wrong_try_change-finishes rv_error.PinIncorrect (Some u) k session last is = cc
@@ -263,8 +273,10 @@ pub nobody-tried : (h : History) (wrong : Bool) (c : Call) → about h (Some c) 
 nobody-tried h true c e u = ap (is_user u) e
 nobody-tried h false c e u = refl
 
--- the call makes a step on the operation that the reply ends or leaves, starts none and adds nothing
-pub record IsFinish (h : History) (k : OperationKind) (session : ℕ) (last : Bool) (c : Call) (v : Rv) (b : Body)
+-- the call makes a step on the operation that the reply ends or leaves, starts none and adds
+-- nothing
+pub record IsFinish (h : History) (k : OperationKind) (session : ℕ) (last : Bool) (c : Call)
+    (v : Rv) (b : Body)
     : Type 0 where
   pub step : Step
   pub is : operation_step c ≡ on_operation k session step
@@ -278,7 +290,8 @@ finish-injected : (k l : OperationKind) (session x : ℕ) (last t : Bool)
 finish-injected k l session x last t is = (cc, cc, cc)
 
 module _ (h : History) (c : Call) (b : Body) (k : OperationKind) (session : ℕ) (last : Bool) where
-  step-same : (l : OperationKind) (y : ℕ) (x : Step) → operation_step c ≡ on_operation l y x → k ≡ l → session ≡ y
+  step-same : (l : OperationKind) (y : ℕ) (x : Step) → operation_step c ≡ on_operation l y x → k ≡ l
+      → session ≡ y
       → operation_step c ≡ on_operation k session x
   step-same l y x e same there =
       e ∙ ap (λ l. on_operation l y x) (sym same) ∙ ap (λ y. on_operation k y x) (sym there)
@@ -295,11 +308,13 @@ module _ (h : History) (c : Call) (b : Body) (k : OperationKind) (session : ℕ)
         step = x;
         is = step-same l y x e i.0 i.1;
         ending = sym i.2;
-        none = λ m s. ap (λ o. is_initialization (step_in o m s)) e ∙ nothing m s (same_kind l m && y == s);
+        none = λ m s. ap (λ o. is_initialization (step_in o m s)) e
+            ∙ nothing m s (same_kind l m && y == s);
         nowhere = λ m s. ap (λ o. piece_in (step_in o m s)) e ∙ no_bytes (same_kind l m && y == s);
       }
     where
-      nothing : (m : OperationKind) (s : ℕ) (t : Bool) → is_initialization (cond t (Some x) None) ≡ false
+      nothing : (m : OperationKind) (s : ℕ) (t : Bool) → is_initialization (cond t (Some x) None)
+          ≡ false
       nothing m s true = no_start
       nothing m s false = refl
 
@@ -308,7 +323,8 @@ module _ (h : History) (c : Call) (b : Body) (k : OperationKind) (session : ℕ)
       no_bytes false = refl
 
   -- a call that was refused
-  from-refused : (code : RvError) (l : OperationKind) (y : ℕ) (x : Step) → operation_step c ≡ on_operation l y x
+  from-refused : (code : RvError) (l : OperationKind) (y : ℕ) (x : Step)
+      → operation_step c ≡ on_operation l y x
       → change.FinishOperation k session last ≡ refused_step l y x code
       → IsFinish h k session last c (rv.Error code) b
   from-refused code l y initialize e is = cc
@@ -341,24 +357,29 @@ module _ (h : History) (c : Call) (b : Body) (k : OperationKind) (session : ℕ)
         nowhere = λ k s. refl;
       }
 
-  from-any : (code : RvError) (who : Option UserType) (o : Option OperationStep) → operation_step c ≡ o
+  from-any : (code : RvError) (who : Option UserType) (o : Option OperationStep)
+      → operation_step c ≡ o
       → change.FinishOperation k session last ≡ refused_by o code who
       → IsFinish h k session last c (rv.Error code) b
   from-any code who None e is = absurd (wrong_try_change-finishes code who k session last is)
   from-any code who (Some o) e is = from-refused code o.kind o.session o.step e is
 
-pub finished-is : (h : History) (c : Call) (v : Rv) (b : Body) (k : OperationKind) (session : ℕ) (last : Bool)
+pub finished-is : (h : History) (c : Call) (v : Rv) (b : Body) (k : OperationKind) (session : ℕ)
+    (last : Bool)
     → change.FinishOperation k session last ≡ effect_by h c v b → IsFinish h k session last c v b
 finished-is h (call.Digest x bytes room) rv.Ok b k session last is =
-    from-ok h (call.Digest x bytes room) b k session last kind.Digest x (take_whole bytes) refl refl refl is
+    from-ok h (call.Digest x bytes room) b k session last kind.Digest x
+        (take_whole bytes) refl refl refl is
 finished-is h (call.DigestFinal x room) rv.Ok b k session last is =
     from-ok h (call.DigestFinal x room) b k session last kind.Digest x finish refl refl refl is
 finished-is h (call.Sign x bytes room) rv.Ok b k session last is =
-    from-ok h (call.Sign x bytes room) b k session last kind.Sign x (take_whole bytes) refl refl refl is
+    from-ok h (call.Sign x bytes room) b k session last kind.Sign x
+        (take_whole bytes) refl refl refl is
 finished-is h (call.SignFinal x room) rv.Ok b k session last is =
     from-ok h (call.SignFinal x room) b k session last kind.Sign x finish refl refl refl is
 finished-is h (call.Verify x bytes signature) rv.Ok b k session last is =
-    from-ok h (call.Verify x bytes signature) b k session last kind.Verify x (take_whole bytes) refl refl refl is
+    from-ok h (call.Verify x bytes signature) b k session last kind.Verify x
+        (take_whole bytes) refl refl refl is
 finished-is h (call.VerifyFinal x signature) rv.Ok b k session last is =
     from-ok h (call.VerifyFinal x signature) b k session last kind.Verify x finish refl refl refl is
 finished-is h other rv.Ok b k session last is = cc
@@ -366,7 +387,8 @@ finished-is h c (rv.Error code) b k session last is =
     from-any h c b k session last code (about h (Some c)) (operation_step c) refl is
 
 -- what it ends is that one operation, and nothing where it doesn't end it
-pub finish-does : (h : History) (n : ℕ) (c : Call) (v : Rv) (b : Body) (k : OperationKind) (session : ℕ)
+pub finish-does : (h : History) (n : ℕ) (c : Call) (v : Rv) (b : Body) (k : OperationKind)
+    (session : ℕ)
     (last : Bool) → IsFinish h k session last c v b → (l : OperationKind) (s : ℕ)
     → Does (cond (last && (same_kind k l && session == s)) End Stay) (entry n c v b) l s
 finish-does h n c v b k session last f =
@@ -395,24 +417,28 @@ module _ (h : History) (n : ℕ) (c : Call) (b : Body) (code : RvError) where
   quiet-refused l y initialize e is = quiet-step l y initialize e refl
   quiet-refused l y (add_piece bytes) e is = quiet-step l y (add_piece bytes) e (other code is)
     where
-      other : (code : RvError) → change.Nothing ≡ end_if_too_long l y code → is_data_len_range (rv.Error code) ≡ false
+      other : (code : RvError) → change.Nothing ≡ end_if_too_long l y code
+          → is_data_len_range (rv.Error code) ≡ false
       other rv_error.DataLenRange is = cc
       other code is = refl
   quiet-refused l y (take_whole bytes) e is = cc
   quiet-refused l y finish e is = cc
 
   nothing-refused : (o : Option OperationStep) → operation_step c ≡ o
-      → change.Nothing ≡ refused_by o code (about h (Some c)) → InAll Stay (entry n c (rv.Error code) b)
+      → change.Nothing ≡ refused_by o code (about h (Some c))
+          → InAll Stay (entry n c (rv.Error code) b)
   nothing-refused None e is = no-step-stays n c (rv.Error code) b e (λ s. refl) (λ k s. refl)
   nothing-refused (Some o) e is = quiet-refused o.kind o.session o.step e is
 
   -- a wrong try makes no step
   tried-refused : (u : UserType) (o : Option OperationStep) → operation_step c ≡ o
-      → change.WrongTry u ≡ refused_by o code (about h (Some c)) → InAll Stay (entry n c (rv.Error code) b)
+      → change.WrongTry u ≡ refused_by o code (about h (Some c))
+          → InAll Stay (entry n c (rv.Error code) b)
   tried-refused u None e is = no-step-stays n c (rv.Error code) b e (λ s. refl) (λ k s. refl)
   tried-refused u (Some o) e is = absurd (step-no_try u o.kind o.session o.step code is)
 
-pub nothing-stays : (h : History) (n : ℕ) (c : Call) (v : Rv) (b : Body) → change.Nothing ≡ effect_by h c v b
+pub nothing-stays : (h : History) (n : ℕ) (c : Call) (v : Rv) (b : Body)
+    → change.Nothing ≡ effect_by h c v b
     → InAll Stay (entry n c v b)
 nothing-stays h n c (rv.Error code) b is = nothing-refused h n c b code (operation_step c) refl is
 nothing-stays h n c rv.Ok b is =

@@ -50,8 +50,8 @@ use Rattle.ck_store.specs.Agreement.{StoreState, StoreAgrees}
 use Rattle.ck_journal.specs.OperationCalls.{OperationStep, operation_step}
 use Rattle.ck_journal.specs.Operations.{is_active, hmac_with}
 use Rattle.ck_mac.specs.Computations.{hmac_by}
-use Rattle.ck_parts.proofs.OperationMoves.{nobody-tried, IsStepAlone, step-alone, reading-alone, step-no_try}
-use Rattle.ck_parts.proofs.OperationMoves.{of-done}
+use Rattle.ck_parts.proofs.OperationMoves.{nobody-tried, IsStepAlone, step-alone, reading-alone}
+use Rattle.ck_parts.proofs.OperationMoves.{step-no_try, of-done}
 use Rattle.ck_parts.specs.Changes.{change_of, wrong_try_change, refused_by, effect, effect_by}
 use Rattle.ck_parts.specs.declared.changes.Change.TheVariants as change
 
@@ -66,7 +66,8 @@ module _ (h : History) (e : Entry) (c : Call) (d : done e ≡ Some c) where
       (ap (λ o. (effects_of o).searches) d ∙ idle)
       (λ u. ap (is_about u h) (wrong_try-done e c d))
 
-  pub objects-kept : (o : StoreState) → (effects_of (Some c)).objects ≡ false → StoreAgrees h o → StoreAgrees (e ◁ h) o
+  pub objects-kept : (o : StoreState) → (effects_of (Some c)).objects ≡ false → StoreAgrees h o
+      → StoreAgrees (e ◁ h) o
   objects-kept o fixed agree = objects-left h o agree e (ap (λ o. (effects_of o).objects) d ∙ fixed)
 
   creation-kept : (c : Call) → creates (Some c) ≡ true
@@ -75,7 +76,8 @@ module _ (h : History) (e : Entry) (c : Call) (d : done e ≡ Some c) where
   creation-kept other t = (cc, cc)
 
   -- a creation leaves sessions
-  pub sessions-created : creates (Some c) ≡ true → (s : SessionsState) → SessionsAgree h s → SessionsAgree (e ◁ h) s
+  pub sessions-created : creates (Some c) ≡ true → (s : SessionsState) → SessionsAgree h s
+      → SessionsAgree (e ◁ h) s
   sessions-created t s agree = let k = creation-kept c t in sessions-kept s k.0 k.1 agree
 
 -- ---- nothing changes
@@ -83,7 +85,8 @@ module _ (h : History) (e : Entry) (c : Call) (d : done e ≡ Some c) where
 -- what was done where the change is nothing
 module _ (h : History) where
   -- a refusal that changes nothing is no wrong try of anybody's PIN
-  nothing_tried : (code : RvError) (c : Call) (u : UserType) → change.Nothing ≡ wrong_try_change code (about h (Some c))
+  nothing_tried : (code : RvError) (c : Call) (u : UserType)
+      → change.Nothing ≡ wrong_try_change code (about h (Some c))
       → is_about u h (cond (is_wrong_pin (rv.Error code)) (Some c) None) ≡ false
   nothing_tried rv_error.PinIncorrect c u is = tried (about h (Some c)) is
     where
@@ -108,15 +111,18 @@ module _ (h : History) where
   nothing_step c rv.Ok b is =
       let reads = (reading-alone h c b is).0 in
       (reads.sessions, reads.searches, reads.objects, λ u. refl)
-  nothing_step c (rv.Error code) b is = (refl, refl, refl, λ u. nothing_refused code c u (operation_step c) refl is)
+  nothing_step c (rv.Error code) b is =
+      (refl, refl, refl, λ u. nothing_refused code c u (operation_step c) refl is)
 
-pub sessions-unchanged : (h : History) (e : Entry) (s : SessionsState) → change.Nothing ≡ effect h e.call e.reply
+pub sessions-unchanged : (h : History) (e : Entry) (s : SessionsState)
+    → change.Nothing ≡ effect h e.call e.reply
     → SessionsAgree h s → SessionsAgree (e ◁ h) s
 sessions-unchanged h e s is agree =
     let n = nothing_step h e.call e.reply.rv e.reply.body is in
     sessions-left h s agree e n.0 n.1 n.3
 
-pub objects-unchanged : (h : History) (e : Entry) (o : StoreState) → change.Nothing ≡ effect h e.call e.reply
+pub objects-unchanged : (h : History) (e : Entry) (o : StoreState)
+    → change.Nothing ≡ effect h e.call e.reply
     → StoreAgrees h o → StoreAgrees (e ◁ h) o
 objects-unchanged h e o is agree =
     let n = nothing_step h e.call e.reply.rv e.reply.body is in
@@ -134,7 +140,8 @@ module _ (h : History) where
       → about h (cond (is_wrong_pin (rv.Error code)) (Some c) None) ≡ Some u
   tried_refusal rv_error.PinIncorrect c u is = tried (about h (Some c)) is
     where
-      tried : (who : Option UserType) → change.WrongTry u ≡ wrong_try_change rv_error.PinIncorrect who → who ≡ Some u
+      tried : (who : Option UserType)
+          → change.WrongTry u ≡ wrong_try_change rv_error.PinIncorrect who → who ≡ Some u
       tried None is = cc
       tried (Some other) is = cc
   tried_refusal other c u is = cc
@@ -146,7 +153,8 @@ module _ (h : History) where
   tried_refused code c u (Some o) is = absurd (step-no_try u o.kind o.session o.step code is)
 
   tried_step : (c : Call) (v : Rv) (b : Body) (u : UserType) → change.WrongTry u ≡ effect_by h c v b
-      → (cond (is_ok v) (Some c) None ≡ None) × (about h (cond (is_wrong_pin v) (Some c) None) ≡ Some u)
+      → (cond (is_ok v) (Some c) None ≡ None)
+          × (about h (cond (is_wrong_pin v) (Some c) None) ≡ Some u)
   tried_step c rv.Ok b u is = absurd (tried_done c b u is)
   tried_step c (rv.Error code) b u is = (refl, tried_refused code c u (operation_step c) is)
 
@@ -155,7 +163,8 @@ pub tried : (h : History) (e : Entry) (u : UserType) → change.WrongTry u ≡ e
     → (done e ≡ None) × (about h (wrong_try e) ≡ Some u)
 tried h e u is = tried_step h e.call e.reply.rv e.reply.body u is
 
-pub objects-tried : (h : History) (e : Entry) (o : StoreState) → done e ≡ None → StoreAgrees h o → StoreAgrees (e ◁ h) o
+pub objects-tried : (h : History) (e : Entry) (o : StoreState) → done e ≡ None → StoreAgrees h o
+    → StoreAgrees (e ◁ h) o
 objects-tried h e o none agree = objects-left h o agree e (ap (λ d. (effects_of d).objects) none)
 
 -- ---- what the checks of a call say
@@ -180,7 +189,8 @@ object_case : (o : Option ℕ) (object : ℕ → Option (List Item)) (checks : L
 object_case None object checks e = cc
 object_case (Some n) object checks e = (refl, named (object n) e)
   where
-    named : (a : Option (List Item)) → option_map_or checks a (Some rv_error.ObjectHandleInvalid) ≡ None
+    named : (a : Option (List Item)) → option_map_or checks a (Some rv_error.ObjectHandleInvalid)
+        ≡ None
         → checks (unwrap_or a []) ≡ None
     named None e = cc
     named (Some attributes) e = e
@@ -188,16 +198,19 @@ object_case (Some n) object checks e = (refl, named (object n) e)
 -- a call on an object that passes its checks names one, which passes them
 pub object-passed : (h : History) (session object : ℕ) (checks : List Item → Option RvError)
     → first_of (session_error h session ∷ object_error h object checks ∷ []) ≡ None
-    → (object_named h object ≡ Some (unwrap_or (object_named h object) 0)) × (checks (named_attributes h object) ≡ None)
+    → (object_named h object ≡ Some (unwrap_or (object_named h object) 0))
+        × (checks (named_attributes h object) ≡ None)
 object-passed h session object checks e =
     object_case (object_named h object) (object_at h) checks
-    (or_else-none (object_error h object checks) None (later-passes (session_error h session) _ e)).0
+    (or_else-none (object_error h object checks) None
+        (later-passes (session_error h session) _ e)).0
 
 -- a change passes the checks of its template
 pub change-passed : (limits : Ranges) (h : History) (session object : ℕ) (template : Template)
     → call_error limits h (call.SetAttributeValue session object template) ≡ None
     → (object_named h object ≡ Some (unwrap_or (object_named h object) 0))
-    × (changed_error (class_of (named_attributes h object)) (protections_of (named_attributes h object))
+    × (changed_error (class_of (named_attributes h object))
+        (protections_of (named_attributes h object))
     template.items ≡ None)
 change-passed limits h session object template e =
     let p = object-passed h session object _ e in
@@ -241,7 +254,8 @@ key-passed : (h : History) (key : ℕ) (checks : List Item → Option RvError)
     → (object_named h key ≡ Some (unwrap_or (object_named h key) 0))
     × (checks (named_attributes h key) ≡ None)
 key-passed h key checks e =
-    key_case (object_named h key) (object_at h) checks (or_else-none (key_error h key checks) None e).0
+    key_case (object_named h key) (object_at h) checks
+        (or_else-none (key_error h key checks) None e).0
 
 state-known : (before after : Option KeyState) → or_else (transition_error before after) None ≡ None
     → after ≡ Some (unwrap_or after state.Active)
@@ -288,9 +302,12 @@ pub hmac-passed : (k : OperationKind) (h : History) (session : ℕ) (mechanism :
 hmac-passed k h session mechanism key e =
     let idle = later-passes (session_error h session) _ e in
     let known = later-passes (error_if (is_active k h session) rv_error.OperationActive) _ idle in
-    let sized = later-passes (error_if (is_none (hmac_hash mechanism.kind)) rv_error.MechanismInvalid) _ known in
+    let sized =
+        later-passes
+        (error_if (is_none (hmac_hash mechanism.kind)) rv_error.MechanismInvalid) _ known in
     let keyed =
-    later-passes (error_if (is_none (tag_length mechanism)) rv_error.MechanismParamInvalid) _ sized in (
+    later-passes
+        (error_if (is_none (tag_length mechanism)) rv_error.MechanismParamInvalid) _ sized in (
       error_if-none (is_active k h session) rv_error.OperationActive
           (or_else-none (error_if (is_active k h session) rv_error.OperationActive) _ idle).0,
       is_known (hmac_hash mechanism.kind) hash.Sha256 rv_error.MechanismInvalid _ known,

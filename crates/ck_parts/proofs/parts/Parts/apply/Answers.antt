@@ -16,14 +16,15 @@ use Rattle.ck_operations.proofs.Moves.{operations-left}
 use Rattle.ck_parts.specs.Agreement.{IsCounted}
 use Rattle.ck_parts.specs.declared.changes.Change.TheVariants as change
 use Rattle.ck_parts.proofs.Counts.{started-injected}
-use Rattle.ck_parts.proofs.OperationMoves.{operations-kept, operations-created, closed-one, closed-all}
-use Rattle.ck_parts.proofs.OperationMoves.{logged-out, cancelled, does-start, does-add, finished-is}
-use Rattle.ck_parts.proofs.OperationMoves.{finish-does, nothing-stays, tried-stays}
+use Rattle.ck_parts.proofs.OperationMoves.{operations-kept, operations-created, closed-one}
+use Rattle.ck_parts.proofs.OperationMoves.{closed-all, logged-out, cancelled, does-start, does-add}
+use Rattle.ck_parts.proofs.OperationMoves.{finished-is, finish-does, nothing-stays, tried-stays}
 use Rattle.ck_parts.proofs.Inversions.{of-effect}
-use Rattle.ck_parts.proofs.PartMoves.{sessions-kept, objects-kept, sessions-created, sessions-unchanged}
-use Rattle.ck_parts.proofs.PartMoves.{objects-unchanged, tried, objects-tried, login-passed, change-passed}
-use Rattle.ck_parts.proofs.PartMoves.{destruction-passed, state-passed, digest-passed, hmac-passed}
-use Rattle.ck_parts.proofs.PartMoves.{step-sessions, step-objects, hmac-is}
+use Rattle.ck_parts.proofs.PartMoves.{sessions-kept, objects-kept, sessions-created}
+use Rattle.ck_parts.proofs.PartMoves.{sessions-unchanged, objects-unchanged, tried, objects-tried}
+use Rattle.ck_parts.proofs.PartMoves.{login-passed, change-passed, destruction-passed, state-passed}
+use Rattle.ck_parts.proofs.PartMoves.{digest-passed, hmac-passed, step-sessions, step-objects}
+use Rattle.ck_parts.proofs.PartMoves.{hmac-is}
 use Rattle.ck_parts.proofs.parts.Parts.apply.Goals as goal
 
 pub returns-in-Nothing : goal.returns-in-Nothing
@@ -34,7 +35,8 @@ returns-in-Nothing c = record {
         sessions = sessions-unchanged h e _ is agree.sessions;
         objects = objects-unchanged h e _ is agree.objects;
         operations =
-            operations-left h _ agree.operations e (nothing-stays h e.caller e.call e.reply.rv e.reply.body is);
+            operations-left h _ agree.operations e
+                (nothing-stays h e.caller e.call e.reply.rv e.reply.body is);
       };
 }
 
@@ -46,14 +48,16 @@ returns-in-WrongTry c = record {
         sessions = c.count_wrong_try.ensures.agree h e t.0 t.1 agree.sessions;
         objects = objects-tried h e _ t.0 agree.objects;
         operations = operations-left h _ agree.operations e
-            (tried-stays h e.caller e.call e.reply.rv e.reply.body c.in-WrongTry.user (sym c.in-WrongTry.is ∙ is));
+            (tried-stays h e.caller e.call e.reply.rv e.reply.body c.in-WrongTry.user
+                (sym c.in-WrongTry.is ∙ is));
       };
 }
 
 pub returns-in-InitToken : goal.returns-in-InitToken
 returns-in-InitToken c = record {
   agree = λ limits h e legal is called now ready agree.
-      let made = of-effect h e (change.InitToken c.in-InitToken.pin) (sym c.in-InitToken.is ∙ is) refl in
+      let made = of-effect h e (change.InitToken c.in-InitToken.pin)
+          (sym c.in-InitToken.is ∙ is) refl in
       let d = made.0 ∙ ap Some made.1 in
       record {
         sessions = c.init_token.ensures.agree h e d agree.sessions;
@@ -78,7 +82,8 @@ returns-in-InitPin c = record {
 pub returns-in-SetPin : goal.returns-in-SetPin
 returns-in-SetPin c = record {
   agree = λ limits h e legal is called now ready agree.
-      let made = of-effect h e (change.SetPin c.in-SetPin.owner c.in-SetPin.pin) (sym c.in-SetPin.is ∙ is) refl in
+      let made = of-effect h e (change.SetPin c.in-SetPin.owner c.in-SetPin.pin)
+          (sym c.in-SetPin.is ∙ is) refl in
       let of = made.1 in
       let d = made.0 ∙ ap Some of.2 in
       record {
@@ -91,10 +96,12 @@ returns-in-SetPin c = record {
 pub returns-in-OpenSession : goal.returns-in-OpenSession
 returns-in-OpenSession c = record {
   agree = λ limits h e legal is called now ready agree.
-      let made = of-effect h e (change.OpenSession c.in-OpenSession.flags) (sym c.in-OpenSession.is ∙ is) refl in
+      let made = of-effect h e (change.OpenSession c.in-OpenSession.flags)
+          (sym c.in-OpenSession.is ∙ is) refl in
       let d = made.0 ∙ ap Some made.1 in
       record {
-        sessions = c.open_session.ensures.agree h e d (is_searching-next limits h legal.1) agree.sessions;
+        sessions =
+            c.open_session.ensures.agree h e d (is_searching-next limits h legal.1) agree.sessions;
         objects = objects-kept h e _ d _ refl agree.objects;
         operations = operations-kept e _ d h _ refl refl agree.operations;
       };
@@ -103,13 +110,15 @@ returns-in-OpenSession c = record {
 pub returns-in-CloseSession : goal.returns-in-CloseSession
 returns-in-CloseSession c = record {
   agree = λ limits h e legal is called now ready agree.
-      let made = of-effect h e (change.CloseSession c.in-CloseSession.session) (sym c.in-CloseSession.is ∙ is) refl in
+      let made = of-effect h e (change.CloseSession c.in-CloseSession.session)
+          (sym c.in-CloseSession.is ∙ is) refl in
       let d = made.0 ∙ ap Some made.1 in
       record {
         sessions = c.close.ensures.agree h e d agree.sessions;
         objects = c.end_session.ensures.agree h e d agree.objects;
         operations =
-            c.end_session-in-CloseSession.ensures.agree h e (closed-one e c.in-CloseSession.session d) agree.operations;
+            c.end_session-in-CloseSession.ensures.agree h e
+                (closed-one e c.in-CloseSession.session d) agree.operations;
       };
 }
 
@@ -133,7 +142,9 @@ returns-in-LogIn c = record {
       let d = made.0 ∙ ap Some of.3 in
       let p = login-passed limits h of.0 of.1 of.2 (passed-done limits e h legal _ d) in
       record {
-        sessions = c.log_in.ensures.agree h e of.0 of.1 of.2 d p.0 (p.1 ∙ ap Some (sym of.4)) agree.sessions;
+        sessions =
+            c.log_in.ensures.agree h e of.0 of.1 of.2 d p.0
+            (p.1 ∙ ap Some (sym of.4)) agree.sessions;
         objects = objects-kept h e _ d _ refl agree.objects;
         operations = operations-kept e _ d h _ refl refl agree.operations;
       };
@@ -155,7 +166,8 @@ returns-in-LogOut c = record {
 pub returns-in-CreateObject : goal.returns-in-CreateObject
 returns-in-CreateObject c = record {
   agree = λ limits h e legal is called now ready agree.
-      let made = of-effect h e (change.CreateObject c.in-CreateObject.session c.in-CreateObject.attributes)
+      let made =
+          of-effect h e (change.CreateObject c.in-CreateObject.session c.in-CreateObject.attributes)
       (sym c.in-CreateObject.is ∙ is) refl in
       let of = made.1 in
       record {
@@ -192,7 +204,8 @@ returns-in-SetKeyState c = record {
   agree = λ limits h e legal is called now ready agree.
       let number = c.in-SetKeyState.number in
       let state = c.in-SetKeyState.state in
-      let made = of-effect h e (change.SetKeyState number state) (sym c.in-SetKeyState.is ∙ is) refl in
+      let made =
+          of-effect h e (change.SetKeyState number state) (sym c.in-SetKeyState.is ∙ is) refl in
       let of = made.1 in
       let d = made.0 ∙ ap Some of.3 in
       let p = state-passed limits h of.0 of.1 of.2 (passed-done limits e h legal _ d) in
@@ -237,7 +250,8 @@ returns-in-SetSearch c = record {
 pub returns-in-AdvanceSearch : goal.returns-in-AdvanceSearch
 returns-in-AdvanceSearch c = record {
   agree = λ limits h e legal is called now ready agree.
-      let made = of-effect h e (change.AdvanceSearch c.in-AdvanceSearch.session c.in-AdvanceSearch.number)
+      let made =
+          of-effect h e (change.AdvanceSearch c.in-AdvanceSearch.session c.in-AdvanceSearch.number)
       (sym c.in-AdvanceSearch.is ∙ is) refl in
       let of = made.1 in
       let d = made.0 ∙ ap Some of.1 in
@@ -253,7 +267,8 @@ returns-in-StartDigest c = record {
   agree = λ limits h e legal is called now ready agree.
       let session = c.in-StartDigest.session in
       let hash = c.in-StartDigest.hash in
-      let made = of-effect h e (change.StartDigest session hash) (sym c.in-StartDigest.is ∙ is) refl in
+      let made =
+          of-effect h e (change.StartDigest session hash) (sym c.in-StartDigest.is ∙ is) refl in
       let of = made.1 in
       let d = made.0 ∙ ap Some of.1 in
       let idle = digest-passed limits h session of.0 (passed-done limits e h legal _ d) in
@@ -266,7 +281,8 @@ returns-in-StartDigest c = record {
               key = ap (λ d. option_and_then (object_named h) (init_key d)) d;
             })
             (does-start h e.caller e.call e.reply.rv e.reply.body kind.Digest session initialize
-            (ap operation_step of.1) (cond_some (is_ok e.reply.rv) e.call _ d).0 refl) idle agree.operations;
+            (ap operation_step of.1) (cond_some (is_ok e.reply.rv) e.call _ d).0 refl) idle
+                agree.operations;
       };
 }
 
@@ -278,11 +294,13 @@ returns-in-StartHmac c = record {
       let hash = c.in-StartHmac.hash in
       let number = c.in-StartHmac.key in
       let len = c.in-StartHmac.len in
-      let made = of-effect h e (change.StartHmac k session hash number len) (sym c.in-StartHmac.is ∙ is) refl in
+      let made = of-effect h e (change.StartHmac k session hash number len)
+          (sym c.in-StartHmac.is ∙ is) refl in
       let of = made.1 limits in
       let starts = of.3 in
       let passed =
-      hmac-passed k h session of.0 of.1 (sym starts.error ∙ passed-done limits e h legal e.call made.0) in
+      hmac-passed k h session of.0 of.1
+          (sym starts.error ∙ passed-done limits e h legal e.call made.0) in
       let same = started-injected k session hash number len _ _ _ of.2 in
       let named : object_named h of.1 ≡ Some number = passed.3 ∙ ap Some (sym same.1) in
       let key = key_value (unwrap_or (object_at h number) []) in
@@ -318,7 +336,8 @@ returns-in-AddPiece c = record {
         operations = c.add_piece.ensures.agree h e now
             (rw bytes (ready-for h e.call k session (add_piece (taken_bytes e.call)) step _ ready))
             (subst (λ bytes. OnlyIn k session (Add bytes) e) (sym bytes)
-            (does-add h e.caller e.call e.reply.rv e.reply.body k session (add_piece (taken_bytes e.call)) step
+            (does-add h e.caller e.call e.reply.rv e.reply.body k session
+                (add_piece (taken_bytes e.call)) step
             (taken_bytes e.call) (cond_some (is_ok e.reply.rv) e.call _ made.0).0 refl))
             agree.operations;
       };
@@ -329,7 +348,8 @@ returns-then-ends c = record {
   agree = λ limits h e legal is called now ready agree.
       let k = c.in-FinishOperation.kind in
       let session = c.in-FinishOperation.session in
-      let f = finished-is h e.call e.reply.rv e.reply.body k session _ (sym c.in-FinishOperation.is ∙ is) in
+      let f = finished-is h e.call e.reply.rv e.reply.body k session _
+          (sym c.in-FinishOperation.is ∙ is) in
       let does = finish-does h e.caller e.call e.reply.rv e.reply.body k session _ f in
       record {
         sessions = step-sessions h e _ f.is _ agree.sessions;
@@ -343,7 +363,8 @@ returns-else-ends c = record {
   agree = λ limits h e legal is called now ready agree.
       let k = c.in-FinishOperation.kind in
       let session = c.in-FinishOperation.session in
-      let f = finished-is h e.call e.reply.rv e.reply.body k session _ (sym c.in-FinishOperation.is ∙ is) in
+      let f = finished-is h e.call e.reply.rv e.reply.body k session _
+          (sym c.in-FinishOperation.is ∙ is) in
       let does = finish-does h e.caller e.call e.reply.rv e.reply.body k session _ f in
       record {
         sessions = step-sessions h e _ f.is _ agree.sessions;
@@ -357,7 +378,8 @@ returns-in-CancelOperations c = record {
   agree = λ limits h e legal is called now ready agree.
       let session = c.in-CancelOperations.session in
       let flags = c.in-CancelOperations.flags in
-      let made = of-effect h e (change.CancelOperations session flags) (sym c.in-CancelOperations.is ∙ is) refl in
+      let made = of-effect h e (change.CancelOperations session flags)
+          (sym c.in-CancelOperations.is ∙ is) refl in
       let d = made.0 ∙ ap Some made.1 in
       record {
         sessions = sessions-kept h e _ d _ refl refl agree.sessions;
