@@ -77,22 +77,22 @@ module _ {M : Type 1} {𝓤 : Ura M} (𝓛 : Logic 𝓤) (at_mem : Memory → SP
         move ! (1 ∷ []) $ fsplit ! $
         move ! (0 ∷ 2 ∷ []) $ fjoin ! $ move ! (1 ∷ 0 ∷ []) $ fjoin ! $
         fpack ! (List Val)
-            (λ vs. fsep (cell_at full_share R.mir vs rb ro) (R.own_val (with_value h w) vs))
-            us $
+        (λ vs. fsep (cell_at full_share R.mir vs rb ro) (R.own_val (with_value h w) vs))
+        us $
         done !
 
     exits : (γ' : GName)
         → ent 𝓤 (sep 𝓤
-            (sem 𝓛 ((MutRef (named 0) κ V).own_val
-                (record { ref_ptr = (b, o); ghost_name = γ'; now = h.value }) (vptr b o ∷ [])))
-            (sep 𝓤 (A.lft κ q) (sem 𝓛 (follows R V γ γ' (with_value h)))))
+        (sem 𝓛 ((MutRef (named 0) κ V).own_val
+        (record { ref_ptr = (b, o); ghost_name = γ'; now = h.value }) (vptr b o ∷ [])))
+        (sep 𝓤 (A.lft κ q) (sem 𝓛 (follows R V γ γ' (with_value h)))))
         ((walk_of 𝓛 f.ended stayed (f.clauses 𝓛 at_mem run)).post bound (vptr b o))
     exits γ' =
         let lent : MutBor Module = record { ref_ptr = (b, o); ghost_name = γ'; now = h.value } in
         qed 𝓛 (‵ ((MutRef (named 0) κ V).own_val lent (vptr b o ∷ [])) ∷ ‵ (flft κ q)
-            ∷ ‵ (follows R V γ γ' (with_value h)) ∷ []) ∵
+        ∷ ‵ (follows R V γ γ' (with_value h)) ∷ []) ∵
         suffices ! _ (ends_at 𝓛 f.ended stayed (f.clauses 𝓛 at_mem run) bound (vptr b o) lent
-            (tt, tt) (tt, tt)) $
+        (tt, tt) (tt, tt)) $
         nothing ! $ nothing ! $ fjoin ! $ join ! $ nothing ! $ move ! (2 ∷ 0 ∷ []) $
         join ! $ join ! $ frame ! $ says ! refl $ done !
 
@@ -107,20 +107,20 @@ as_mut_spec 𝓤 𝓛 𝓜 𝓡 wired =
     let γ = a.0.ghost_name in let h = a.0.now in let vs = mut_vals a.0 in
     let y : W.Ghost = ((κs, qs, bounds, a, (vs, tt)), tt) in
     qed 𝓛 (((‵ (flft κ q) ⊛ ‵ ftrue) ⊛ ‵ ((MutRef (named 0) κ R).own_val a.0 vs) ⊛ ‵ ftrue)
-        ∷ ‵ ftrue ∷ []) ∵
+    ∷ ‵ ftrue ∷ []) ∵
     split ! $ split ! $ move ! (2 ∷ []) $ split ! $ keep ! (0 ∷ 2 ∷ []) $
     enter ! _ _ _ _ _ $ alloc_all ! (λ l. pass_all ! refl ((tt, tt), tt) $
     fsplit3 ! $ move ! (1 ∷ 2 ∷ 3 ∷ []) $ opens ! tt R rb ro (λ us.
     move ! (1 ∷ []) $ peeks ! R _ (shows 𝓛 R) h us (λ is. fsplit ! $ move ! (1 ∷ []) $
     in_a_block ! h.at (λ p. lies_at V full_share p h.value) (id⊢ 𝓤 _) (λ b o e.
     let word = lowers.val_is h us is
-            ∙ ap (λ (p : Ptr). lowers.lowered (record h { at = p }) ∷ []) e in
+    ∙ ap (λ (p : Ptr). lowers.lowered (record h { at = p }) ∷ []) e in
     let Cell = λ (ws : List Val). ‵ (cell_at full_share R.mir ws rb ro) in
     rewrite ! 2 Cell word refl $
     -- [the value; what the fields own; the handle's cell; the open borrow, in three entries]
     first ! $ blocks ! $
     sets ! (of_opd ! (load ! (through ! refl (fld ! refl (stop !)))
-        (look_in ! 2 (sub ! 0 refl (whole !))))) refl (tt, tt) $
+    (look_in ! 2 (sub ! 0 refl (whole !))))) refl (tt, tt) $
     sets ! (of_opd ! (get ! refl)) refl (tt, tt) $
     sets_last ! (addr ! (through ! refl (stop !))) refl (tt, tt) $
     exec ! 𝓣.C 𝓣.Λ (env code.Mir.locals l) (after 1 (code.function).body) (at_ret _ (W.post y)) $
@@ -130,8 +130,8 @@ as_mut_spec 𝓤 𝓛 𝓜 𝓡 wired =
     let rest = sem 𝓛 (Rest 𝓛 𝓜.mem 𝓡.returns κ q rb ro γ h b o us) in
     let backs = back 𝓛 𝓜.mem 𝓡.returns κ q rb ro γ h b o us e in
     use1 𝓛 (later (some (λ (γ' : GName).
-        raw (Part 𝓛 R V (with_value h) (named 0) κ q rb ro b o γ rest backs h.value γ'))))
+    raw (Part 𝓛 R V (with_value h) (named 0) κ q rb ro b o γ rest backs h.value γ'))))
     (lends_Part 𝓛 R V (with_value h) (named 0) κ q rb ro b o γ rest backs
-        (R.coded.code h) (R.coded.code h) h.value) $ await ! tt $ pick ! (λ γ'.
+    (R.coded.code h) (R.coded.code h) h.value) $ await ! tt $ pick ! (λ γ'.
     returns ! (look_at ! 0 refl) $ free_all ! refl $
     keep ! (0 ∷ []) $ by ! (exits 𝓛 𝓜.mem 𝓡.returns κ q rb ro γ h b o us γ')))))))

@@ -26,4 +26,4 @@ p = search sendable
 pub send : IsSend the_row
 send = owning_send the_type (p, tt) (λ h. lies V the_send h.at h.value)
     (λ k. quiet (to the_type) (exits_of k (fields the_type))
-        ((struct_send (shape the_type) (p, tt)).leaving k))
+    ((struct_send (shape the_type) (p, tt)).leaving k))
