@@ -1,7 +1,6 @@
 -- What the devices of a program that ended well have counted
 use Rattle.std.proofs.Common.{◌≡◌, ℕ, Bool, true, false, List, [], Option, None, Ok, sym, subst}
 use Rattle.std.proofs.Common.{arith}
-use Rattle.std.specs.Prelude.{min}
 use Rattle.ck_plays.specs.Devices.{Reading, Writing, IsCount, IsReadOf, IsWrittenTo, AreCounts}
 use Rattle.ck_plays.specs.Plays.{one_if}
 use Rattle.ck_plays.specs.declared.counts.ReadCounts.{ReadCounts}

@@ -113,8 +113,8 @@ pub fn run<G: JournaledToken + Send, R: Source, W: Sink, RT: Eprint + Runtime>(
     }
 }
 
-/// Does as `run` does with a reader and a writer of std, from neither of which anything was read or
-/// written. It need not be known what they give and hold.
+/// Does what `run` does, with a reader and a writer of std that haven't been used. It need not be
+/// known which bytes they give and hold: the contract is about what was counted.
 pub fn run_on_std<G: JournaledToken + Send, R: io::Read, W: io::Write, RT: Eprint + Runtime>(
     rt: RT,
     alloc: Global,
