@@ -152,7 +152,7 @@ module _ (h : History) (old : OperationsState) (agree : OperationsAgree h old) (
   moves : (new : OperationsState) (move : OperationKind → ℕ → Move)
       → ((k : OperationKind) (s : ℕ) → Does (move k s) e k s)
       → ((k : OperationKind) (s : ℕ) → OptionAgrees (find (is_operation k s) new.rows)
-          (after (move k s) k s))
+      (after (move k s) k s))
       → OperationsAgree (e ◁ h) new
   moves new move does same = record {
     each =
@@ -238,7 +238,7 @@ module _ (h : History) (old : OperationsState) (agree : OperationsAgree h old) (
           (agree.each kind session))
       added k s false there =
           subst (λ found. OptionAgrees found (operation_at k h s)) (sym (is.others k s there))
-              (agree.each k s)
+          (agree.each k s)
 
   pub operations-started : (kind : OperationKind) (session : ℕ) (running : RunningTag)
       (key : Option ℕ) (entries : ℕ) (computation : Computation) → entries ≡ entry_count h
@@ -248,7 +248,7 @@ module _ (h : History) (old : OperationsState) (agree : OperationsAgree h old) (
       → OperationsAgree (e ◁ h) new
   operations-started kind session running key entries computation now holds of does idle new rows =
       moves new (only kind session Start) does
-          (λ k s. started k s (same_kind kind k && session == s) refl)
+      (λ k s. started k s (same_kind kind k && session == s) refl)
     where
       o : Operation
       o = new_operation kind session running key entries
@@ -268,12 +268,12 @@ module _ (h : History) (old : OperationsState) (agree : OperationsAgree h old) (
           let p = is_operation k s in
           let inactive : operation_at k h s ≡ None =
           rw (← same_kind-eq kind k both.0, ← eqb-true session s both.1)
-              (idle-none kind h session idle) in
+          (idle-none kind h session idle) in
           let none : find p old.rows ≡ None = none-found (find p old.rows)
           (subst (OptionAgrees (find p old.rows)) inactive (agree.each k s)) in
           let last : find p new.rows ≡ Some o =
           ap (find p) rows ∙ find-append p old.rows (o ∷ [])
-              ∙ ap (λ found. option_or found (find p (o ∷ []))) none
+          ∙ ap (λ found. option_or found (find p (o ∷ []))) none
           ∙ ap (λ t. cond t (Some o) None) here in
           subst (λ found. OptionAgrees found (Some (started_by h e))) (sym last) agrees
       started k s false there =

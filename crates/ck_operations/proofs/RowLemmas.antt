@@ -55,7 +55,7 @@ module _ {X : Type 0} (test : X → Bool) (y : X) where
 
   other-step : (other : X → Bool) → other y ≡ false → (x : X) (xs : List X)
       → (test x ≡ true → other x ≡ false) → find other (replaced xs) ≡ find other xs → (t : Bool)
-          → test x ≡ t
+      → test x ≡ t
       → find other (cond t (y ∷ xs) (x ∷ replaced xs)) ≡ cond (other x) (Some x) (find other xs)
   other-step other fails x xs apart later true e =
       ap (λ t. cond t (Some y) (find other xs)) fails
@@ -114,7 +114,7 @@ find-nowhere : (test : Operation → Bool) (rows : List Operation) → position 
 find-nowhere test rows none =
     find_at test rows
     ∙ slice_get_past rows (position_or_len test rows)
-        (ltb-false _ _ (cond_none _ (position_or_len test rows) none))
+    (ltb-false _ _ (cond_none _ (position_or_len test rows) none))
 
 has-added : (piece : Piece) (old new : Operation) (a b : Option Operation) → a ≡ Some old
     → b ≡ Some new → IsUpdateOf piece old new → IsUpdateOfOption piece a b
@@ -133,16 +133,16 @@ module _ (k : OperationKind) (session : ℕ) (piece : Piece) (rows : List Operat
       record {
         added = has-added piece old new _ _
             (find_at (is_operation k session) rows ∙ ap (slice_get rows) p.1
-                ∙ slice_get-get_or rows place old
+            ∙ slice_get-get_or rows place old
             at.0 ∙ ap Some (sym item))
             (find-set (is_operation k session) rows place new (sym p.1) at.0 passes-new)
             is;
         others = λ l s apart-from.
             ap (find (is_operation l s))
-                (change_first-place (is_operation k session) (λ o. new) rows place
+            (change_first-place (is_operation k session) (λ o. new) rows place
             old found item)
             ∙ find-other (is_operation k session) new (is_operation l s)
-                (apart k l session s apart-from new passes-new)
+            (apart k l session s apart-from new passes-new)
             (apart k l session s apart-from) rows;
       }
 

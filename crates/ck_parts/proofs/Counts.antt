@@ -64,7 +64,7 @@ started-injected k session made number len other n m e = (cc, cc, cc)
 module _ (limits : Ranges) (in_range : AreInRange limits.sessions limits.openings limits.creations
     limits.logins) (h : History) (p : Parts)
     (legal : IsLegal limits h) (agree : PartsAgree h p) (c : Call) (r : Reply)
-        (answered : r ≡ answer limits h c) where
+    (answered : r ≡ answer limits h c) where
   abbrev answered_entry : Entry
   answered_entry = record { caller = 0; call = c; reply = r }
 
@@ -94,7 +94,7 @@ module _ (limits : Ranges) (in_range : AreInRange limits.sessions limits.opening
       ap is_some (credential-agrees owner h p.sessions agree.sessions).pin
       ∙ subst (λ u. is_some (present_pin u h) ≡ true) of.3 (set_pin-passed limits h of.0 of.1 pin
       (passed-done limits answered_entry h (answered, legal) (call.SetPin of.0 of.1 pin)
-          (d.0 ∙ ap Some of.2)))
+      (d.0 ∙ ap Some of.2)))
   counted (change.WrongTry u) is =
       let below = tries-bound limits h agree.objects.sound legal u in
       let same = (credential-agrees u h p.sessions agree.sessions).tries in
@@ -115,5 +115,5 @@ module _ (limits : Ranges) (in_range : AreInRange limits.sessions limits.opening
       let passed = hmac-passed k h session of.0 of.1 (sym starts.error ∙ passes d.0) in
       let same = started-injected k session hash key len _ _ _ of.2 in
       tag_length-bounds of.0 hash len (passed.1 ∙ ap Some (sym same.0))
-          (passed.2 ∙ ap Some (sym same.2))
+      (passed.2 ∙ ap Some (sym same.2))
   counted other is = tt

@@ -98,7 +98,7 @@ IsChangeOf h b (change.InitToken pin) c = c ≡ call.InitToken pin
 IsChangeOf h b (change.InitPin pin) c = (session : ℕ) × (c ≡ call.InitPin session pin)
 IsChangeOf h b (change.SetPin owner pin) c =
     (session : ℕ) × (old : Pin) × (c ≡ call.SetPin session old pin)
-        × (pin_owner (state_of h session) ≡ owner)
+    × (pin_owner (state_of h session) ≡ owner)
 IsChangeOf h b (change.OpenSession flags) c = c ≡ call.OpenSession flags
 IsChangeOf h b (change.CloseSession session) c = c ≡ call.CloseSession session
 IsChangeOf h b change.CloseAllSessions c = c ≡ call.CloseAllSessions
@@ -114,10 +114,10 @@ IsChangeOf h b (change.SetAttributes number values) c =
     × (number ≡ unwrap_or (object_named h object) 0)
 IsChangeOf h b (change.DestroyObject number) c =
     (session object : ℕ) × (c ≡ call.DestroyObject session object)
-        × (number ≡ unwrap_or (object_named h object) 0)
+    × (number ≡ unwrap_or (object_named h object) 0)
 IsChangeOf h b (change.SetKeyState number made) c =
     (session key n : ℕ) × (c ≡ call.SetKeyState session key n)
-        × (number ≡ unwrap_or (object_named h key) 0)
+    × (number ≡ unwrap_or (object_named h key) 0)
     × (made ≡ unwrap_or (state_of_number n) state.Active)
 IsChangeOf h b (change.SetSearch session found) c = SetsSearch h c session found
 IsChangeOf h b (change.AdvanceSearch session number) c =
@@ -129,11 +129,11 @@ IsChangeOf h b (change.StartDigest session made) c =
 IsChangeOf h b (change.StartHmac k session made number len) c =
     (limits : Ranges) → (mechanism : Mechanism) × (key : ℕ)
     × (change.StartHmac k session made number len ≡ start_hmac k session mechanism
-        (object_named h key))
+    (object_named h key))
     × IsHmacInit limits h c k session mechanism key
 IsChangeOf h b (change.AddPiece k session) c =
     operation_step c
-        ≡ Some (record { kind = k; session = session; step = add_piece (taken_bytes c) })
+    ≡ Some (record { kind = k; session = session; step = add_piece (taken_bytes c) })
 IsChangeOf h b (change.CancelOperations session flags) c = c ≡ call.SessionCancel session flags
 IsChangeOf h b other c = Unit {0}
 
@@ -177,14 +177,22 @@ module _ (h : History) (b : Body) where
   change-of (call.DigestInit session mechanism) = (mechanism, refl, refl)
   change-of (call.DigestUpdate session bytes) = refl
   change-of (call.SignInit session mechanism key) =
-      λ limits.
-          (mechanism, key, refl, record
-          { step = refl; error = refl; computation = refl; key = refl })
+      λ limits. (
+        mechanism,
+        key,
+        refl,
+        record
+            { step = refl; error = refl; computation = refl; key = refl },
+      )
   change-of (call.SignUpdate session bytes) = refl
   change-of (call.VerifyInit session mechanism key) =
-      λ limits.
-          (mechanism, key, refl, record
-          { step = refl; error = refl; computation = refl; key = refl })
+      λ limits. (
+        mechanism,
+        key,
+        refl,
+        record
+            { step = refl; error = refl; computation = refl; key = refl },
+      )
   change-of (call.VerifyUpdate session bytes) = refl
   change-of (call.SessionCancel session flags) = refl
   change-of other = tt

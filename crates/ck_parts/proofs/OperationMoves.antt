@@ -118,7 +118,7 @@ module _ (h : History) (n : ℕ) (c : Call) (v : Rv) (b : Body) (kind : Operatio
         ap (λ a. a || cancels (done_of c v) k s || finishes c k reply s)
         (of-done (λ d. ends_operations d s) false c v (quiet.unclosed s) refl)
         ∙ ap (λ a. a || finishes c k reply s)
-            (of-done (λ d. cancels d k s) false c v (quiet.uncancelled k s) refl)
+        (of-done (λ d. cancels d k s) false c v (quiet.uncancelled k s) refl)
         ∙ ap (λ o. ends_by o reply) (step-here t e)
 
     starts-here : (t : Bool) → here k s ≡ t → is_ok v ≡ true
@@ -199,7 +199,7 @@ module _ (e : Entry) (c : Call) (d : done e ≡ Some c) where
       ∙ ap (λ t. t || is_some (operation_step e.call)) idle
       ∙ ap (λ c. is_some (operation_step c)) called ∙ ap is_some quiet in
       operations-left h o agree e
-          (λ k s. (starts_none e l k s, ends_none e l k s, adds_none e l k s))
+      (λ k s. (starts_none e l k s, ends_none e l k s, adds_none e l k s))
 
   creation-quiet : (c : Call) → creates (Some c) ≡ true
       → ((effects_of (Some c)).operations ≡ false) × (operation_step c ≡ None)
@@ -250,7 +250,7 @@ pub cancelled : (e : Entry) (session flags : ℕ) → done e ≡ Some (call.Sess
     → OnlyNamed session flags End e
 cancelled e session flags d k s =
     ends-done e (call.SessionCancel session flags) d refl k s
-        (session == s && names_kind flags k) refl
+    (session == s && names_kind flags k) refl
 
 -- ---- which step a change is of
 
@@ -369,17 +369,17 @@ pub finished-is : (h : History) (c : Call) (v : Rv) (b : Body) (k : OperationKin
     → change.FinishOperation k session last ≡ effect_by h c v b → IsFinish h k session last c v b
 finished-is h (call.Digest x bytes room) rv.Ok b k session last is =
     from-ok h (call.Digest x bytes room) b k session last kind.Digest x
-        (take_whole bytes) refl refl refl is
+    (take_whole bytes) refl refl refl is
 finished-is h (call.DigestFinal x room) rv.Ok b k session last is =
     from-ok h (call.DigestFinal x room) b k session last kind.Digest x finish refl refl refl is
 finished-is h (call.Sign x bytes room) rv.Ok b k session last is =
     from-ok h (call.Sign x bytes room) b k session last kind.Sign x
-        (take_whole bytes) refl refl refl is
+    (take_whole bytes) refl refl refl is
 finished-is h (call.SignFinal x room) rv.Ok b k session last is =
     from-ok h (call.SignFinal x room) b k session last kind.Sign x finish refl refl refl is
 finished-is h (call.Verify x bytes signature) rv.Ok b k session last is =
     from-ok h (call.Verify x bytes signature) b k session last kind.Verify x
-        (take_whole bytes) refl refl refl is
+    (take_whole bytes) refl refl refl is
 finished-is h (call.VerifyFinal x signature) rv.Ok b k session last is =
     from-ok h (call.VerifyFinal x signature) b k session last kind.Verify x finish refl refl refl is
 finished-is h other rv.Ok b k session last is = cc
@@ -426,14 +426,14 @@ module _ (h : History) (n : ℕ) (c : Call) (b : Body) (code : RvError) where
 
   nothing-refused : (o : Option OperationStep) → operation_step c ≡ o
       → change.Nothing ≡ refused_by o code (about h (Some c))
-          → InAll Stay (entry n c (rv.Error code) b)
+      → InAll Stay (entry n c (rv.Error code) b)
   nothing-refused None e is = no-step-stays n c (rv.Error code) b e (λ s. refl) (λ k s. refl)
   nothing-refused (Some o) e is = quiet-refused o.kind o.session o.step e is
 
   -- a wrong try makes no step
   tried-refused : (u : UserType) (o : Option OperationStep) → operation_step c ≡ o
       → change.WrongTry u ≡ refused_by o code (about h (Some c))
-          → InAll Stay (entry n c (rv.Error code) b)
+      → InAll Stay (entry n c (rv.Error code) b)
   tried-refused u None e is = no-step-stays n c (rv.Error code) b e (λ s. refl) (λ k s. refl)
   tried-refused u (Some o) e is = absurd (step-no_try u o.kind o.session o.step code is)
 

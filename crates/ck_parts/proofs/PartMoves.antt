@@ -154,7 +154,7 @@ module _ (h : History) where
 
   tried_step : (c : Call) (v : Rv) (b : Body) (u : UserType) → change.WrongTry u ≡ effect_by h c v b
       → (cond (is_ok v) (Some c) None ≡ None)
-          × (about h (cond (is_wrong_pin v) (Some c) None) ≡ Some u)
+      × (about h (cond (is_wrong_pin v) (Some c) None) ≡ Some u)
   tried_step c rv.Ok b u is = absurd (tried_done c b u is)
   tried_step c (rv.Error code) b u is = (refl, tried_refused code c u (operation_step c) is)
 
@@ -199,18 +199,18 @@ object_case (Some n) object checks e = (refl, named (object n) e)
 pub object-passed : (h : History) (session object : ℕ) (checks : List Item → Option RvError)
     → first_of (session_error h session ∷ object_error h object checks ∷ []) ≡ None
     → (object_named h object ≡ Some (unwrap_or (object_named h object) 0))
-        × (checks (named_attributes h object) ≡ None)
+    × (checks (named_attributes h object) ≡ None)
 object-passed h session object checks e =
     object_case (object_named h object) (object_at h) checks
     (or_else-none (object_error h object checks) None
-        (later-passes (session_error h session) _ e)).0
+    (later-passes (session_error h session) _ e)).0
 
 -- a change passes the checks of its template
 pub change-passed : (limits : Ranges) (h : History) (session object : ℕ) (template : Template)
     → call_error limits h (call.SetAttributeValue session object template) ≡ None
     → (object_named h object ≡ Some (unwrap_or (object_named h object) 0))
     × (changed_error (class_of (named_attributes h object))
-        (protections_of (named_attributes h object))
+    (protections_of (named_attributes h object))
     template.items ≡ None)
 change-passed limits h session object template e =
     let p = object-passed h session object _ e in
@@ -255,7 +255,7 @@ key-passed : (h : History) (key : ℕ) (checks : List Item → Option RvError)
     × (checks (named_attributes h key) ≡ None)
 key-passed h key checks e =
     key_case (object_named h key) (object_at h) checks
-        (or_else-none (key_error h key checks) None e).0
+    (or_else-none (key_error h key checks) None e).0
 
 state-known : (before after : Option KeyState) → or_else (transition_error before after) None ≡ None
     → after ≡ Some (unwrap_or after state.Active)
@@ -303,11 +303,11 @@ hmac-passed k h session mechanism key e =
     let idle = later-passes (session_error h session) _ e in
     let known = later-passes (error_if (is_active k h session) rv_error.OperationActive) _ idle in
     let sized =
-        later-passes
-        (error_if (is_none (hmac_hash mechanism.kind)) rv_error.MechanismInvalid) _ known in
+    later-passes
+    (error_if (is_none (hmac_hash mechanism.kind)) rv_error.MechanismInvalid) _ known in
     let keyed =
     later-passes
-        (error_if (is_none (tag_length mechanism)) rv_error.MechanismParamInvalid) _ sized in (
+    (error_if (is_none (tag_length mechanism)) rv_error.MechanismParamInvalid) _ sized in (
       error_if-none (is_active k h session) rv_error.OperationActive
           (or_else-none (error_if (is_active k h session) rv_error.OperationActive) _ idle).0,
       is_known (hmac_hash mechanism.kind) hash.Sha256 rv_error.MechanismInvalid _ known,

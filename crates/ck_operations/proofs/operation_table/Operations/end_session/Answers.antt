@@ -5,6 +5,6 @@ pub returns : goal.returns
 returns c = record {
   agree =
       λ h e does agree.
-          operations-closed h _ (rw (← c.self.view_is) at agree) e c.args.session does _
+      operations-closed h _ (rw (← c.self.view_is) at agree) e c.args.session does _
       c.remove_session.ensures;
 }

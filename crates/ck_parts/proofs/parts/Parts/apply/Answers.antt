@@ -36,7 +36,7 @@ returns-in-Nothing c = record {
         objects = objects-unchanged h e _ is agree.objects;
         operations =
             operations-left h _ agree.operations e
-                (nothing-stays h e.caller e.call e.reply.rv e.reply.body is);
+            (nothing-stays h e.caller e.call e.reply.rv e.reply.body is);
       };
 }
 
@@ -49,7 +49,7 @@ returns-in-WrongTry c = record {
         objects = objects-tried h e _ t.0 agree.objects;
         operations = operations-left h _ agree.operations e
             (tried-stays h e.caller e.call e.reply.rv e.reply.body c.in-WrongTry.user
-                (sym c.in-WrongTry.is ∙ is));
+            (sym c.in-WrongTry.is ∙ is));
       };
 }
 
@@ -57,7 +57,7 @@ pub returns-in-InitToken : goal.returns-in-InitToken
 returns-in-InitToken c = record {
   agree = λ limits h e legal is called now ready agree.
       let made = of-effect h e (change.InitToken c.in-InitToken.pin)
-          (sym c.in-InitToken.is ∙ is) refl in
+      (sym c.in-InitToken.is ∙ is) refl in
       let d = made.0 ∙ ap Some made.1 in
       record {
         sessions = c.init_token.ensures.agree h e d agree.sessions;
@@ -83,7 +83,7 @@ pub returns-in-SetPin : goal.returns-in-SetPin
 returns-in-SetPin c = record {
   agree = λ limits h e legal is called now ready agree.
       let made = of-effect h e (change.SetPin c.in-SetPin.owner c.in-SetPin.pin)
-          (sym c.in-SetPin.is ∙ is) refl in
+      (sym c.in-SetPin.is ∙ is) refl in
       let of = made.1 in
       let d = made.0 ∙ ap Some of.2 in
       record {
@@ -97,7 +97,7 @@ pub returns-in-OpenSession : goal.returns-in-OpenSession
 returns-in-OpenSession c = record {
   agree = λ limits h e legal is called now ready agree.
       let made = of-effect h e (change.OpenSession c.in-OpenSession.flags)
-          (sym c.in-OpenSession.is ∙ is) refl in
+      (sym c.in-OpenSession.is ∙ is) refl in
       let d = made.0 ∙ ap Some made.1 in
       record {
         sessions =
@@ -111,14 +111,14 @@ pub returns-in-CloseSession : goal.returns-in-CloseSession
 returns-in-CloseSession c = record {
   agree = λ limits h e legal is called now ready agree.
       let made = of-effect h e (change.CloseSession c.in-CloseSession.session)
-          (sym c.in-CloseSession.is ∙ is) refl in
+      (sym c.in-CloseSession.is ∙ is) refl in
       let d = made.0 ∙ ap Some made.1 in
       record {
         sessions = c.close.ensures.agree h e d agree.sessions;
         objects = c.end_session.ensures.agree h e d agree.objects;
         operations =
             c.end_session-in-CloseSession.ensures.agree h e
-                (closed-one e c.in-CloseSession.session d) agree.operations;
+            (closed-one e c.in-CloseSession.session d) agree.operations;
       };
 }
 
@@ -167,7 +167,7 @@ pub returns-in-CreateObject : goal.returns-in-CreateObject
 returns-in-CreateObject c = record {
   agree = λ limits h e legal is called now ready agree.
       let made =
-          of-effect h e (change.CreateObject c.in-CreateObject.session c.in-CreateObject.attributes)
+      of-effect h e (change.CreateObject c.in-CreateObject.session c.in-CreateObject.attributes)
       (sym c.in-CreateObject.is ∙ is) refl in
       let of = made.1 in
       record {
@@ -205,7 +205,7 @@ returns-in-SetKeyState c = record {
       let number = c.in-SetKeyState.number in
       let state = c.in-SetKeyState.state in
       let made =
-          of-effect h e (change.SetKeyState number state) (sym c.in-SetKeyState.is ∙ is) refl in
+      of-effect h e (change.SetKeyState number state) (sym c.in-SetKeyState.is ∙ is) refl in
       let of = made.1 in
       let d = made.0 ∙ ap Some of.3 in
       let p = state-passed limits h of.0 of.1 of.2 (passed-done limits e h legal _ d) in
@@ -251,7 +251,7 @@ pub returns-in-AdvanceSearch : goal.returns-in-AdvanceSearch
 returns-in-AdvanceSearch c = record {
   agree = λ limits h e legal is called now ready agree.
       let made =
-          of-effect h e (change.AdvanceSearch c.in-AdvanceSearch.session c.in-AdvanceSearch.number)
+      of-effect h e (change.AdvanceSearch c.in-AdvanceSearch.session c.in-AdvanceSearch.number)
       (sym c.in-AdvanceSearch.is ∙ is) refl in
       let of = made.1 in
       let d = made.0 ∙ ap Some of.1 in
@@ -268,7 +268,7 @@ returns-in-StartDigest c = record {
       let session = c.in-StartDigest.session in
       let hash = c.in-StartDigest.hash in
       let made =
-          of-effect h e (change.StartDigest session hash) (sym c.in-StartDigest.is ∙ is) refl in
+      of-effect h e (change.StartDigest session hash) (sym c.in-StartDigest.is ∙ is) refl in
       let of = made.1 in
       let d = made.0 ∙ ap Some of.1 in
       let idle = digest-passed limits h session of.0 (passed-done limits e h legal _ d) in
@@ -282,7 +282,7 @@ returns-in-StartDigest c = record {
             })
             (does-start h e.caller e.call e.reply.rv e.reply.body kind.Digest session initialize
             (ap operation_step of.1) (cond_some (is_ok e.reply.rv) e.call _ d).0 refl) idle
-                agree.operations;
+            agree.operations;
       };
 }
 
@@ -295,12 +295,12 @@ returns-in-StartHmac c = record {
       let number = c.in-StartHmac.key in
       let len = c.in-StartHmac.len in
       let made = of-effect h e (change.StartHmac k session hash number len)
-          (sym c.in-StartHmac.is ∙ is) refl in
+      (sym c.in-StartHmac.is ∙ is) refl in
       let of = made.1 limits in
       let starts = of.3 in
       let passed =
       hmac-passed k h session of.0 of.1
-          (sym starts.error ∙ passed-done limits e h legal e.call made.0) in
+      (sym starts.error ∙ passed-done limits e h legal e.call made.0) in
       let same = started-injected k session hash number len _ _ _ of.2 in
       let named : object_named h of.1 ≡ Some number = passed.3 ∙ ap Some (sym same.1) in
       let key = key_value (unwrap_or (object_at h number) []) in
@@ -337,7 +337,7 @@ returns-in-AddPiece c = record {
             (rw bytes (ready-for h e.call k session (add_piece (taken_bytes e.call)) step _ ready))
             (subst (λ bytes. OnlyIn k session (Add bytes) e) (sym bytes)
             (does-add h e.caller e.call e.reply.rv e.reply.body k session
-                (add_piece (taken_bytes e.call)) step
+            (add_piece (taken_bytes e.call)) step
             (taken_bytes e.call) (cond_some (is_ok e.reply.rv) e.call _ made.0).0 refl))
             agree.operations;
       };
@@ -349,7 +349,7 @@ returns-then-ends c = record {
       let k = c.in-FinishOperation.kind in
       let session = c.in-FinishOperation.session in
       let f = finished-is h e.call e.reply.rv e.reply.body k session _
-          (sym c.in-FinishOperation.is ∙ is) in
+      (sym c.in-FinishOperation.is ∙ is) in
       let does = finish-does h e.caller e.call e.reply.rv e.reply.body k session _ f in
       record {
         sessions = step-sessions h e _ f.is _ agree.sessions;
@@ -364,7 +364,7 @@ returns-else-ends c = record {
       let k = c.in-FinishOperation.kind in
       let session = c.in-FinishOperation.session in
       let f = finished-is h e.call e.reply.rv e.reply.body k session _
-          (sym c.in-FinishOperation.is ∙ is) in
+      (sym c.in-FinishOperation.is ∙ is) in
       let does = finish-does h e.caller e.call e.reply.rv e.reply.body k session _ f in
       record {
         sessions = step-sessions h e _ f.is _ agree.sessions;
@@ -379,7 +379,7 @@ returns-in-CancelOperations c = record {
       let session = c.in-CancelOperations.session in
       let flags = c.in-CancelOperations.flags in
       let made = of-effect h e (change.CancelOperations session flags)
-          (sym c.in-CancelOperations.is ∙ is) refl in
+      (sym c.in-CancelOperations.is ∙ is) refl in
       let d = made.0 ∙ ap Some made.1 in
       record {
         sessions = sessions-kept h e _ d _ refl refl agree.sessions;
