@@ -1,9 +1,13 @@
 use Rattle.std.proofs.Common.{◌≡◌, None, refl, sym, ap, ◌∙◌}
+use Rattle.std.specs.List.{AllZip}
 use Rattle.std.specs.Prelude.{unwrap_or}
+use Rattle.std.proofs.lemmas.List.Elements.{same_from_all_zip}
 use Rattle.ck_objects.specs.Records.{protections_of, changed_error, placement_of}
 use Rattle.ck_objects.specs.Templates.{class_of}
 use Rattle.ck_objects.specs.declared.attributes.Attribute.TheVariants as attribute
+use Rattle.ck_objects.specs.declared.items.Item.{Item}
 use Rattle.ck_objects.specs.declared.object_flags.Placement.{Placement}
+use Rattle.ck_objects.specs.declared.templates.Template.{Template}
 use Rattle.ck_types.proofs.CheckLemmas.{check_of-ok, check_of-err}
 use Rattle.ck_journal.specs.Answers.{read_only_session_error, prohibited_error}
 use Rattle.ck_journal.specs.Objects.{object_named}
@@ -19,6 +23,15 @@ use Rattle.ck_token.proofs.tokens.Token.set_attribute_value.Goals.{In_ok-check_w
 use Rattle.ck_token.proofs.tokens.Token.set_attribute_value.Goals.{In_ok-check_flag}
 use Rattle.ck_token.proofs.tokens.Token.set_attribute_value.Goals.{In_ok-check_change}
 use Rattle.ck_token.proofs.tokens.Token.set_attribute_value.Goals as goal
+
+-- ---- the copy of the template
+
+same_item : (x y : Item) → (y.kind ≡ x.kind) × (y.value ≡ x.value) → y ≡ x
+same_item x y same = λ i. record { kind = same.0 i; value = same.1 i }
+
+copied : (a b : Template)
+    → AllZip (λ (x y : Item). (y.kind ≡ x.kind) × (y.value ≡ x.value)) a.items b.items → b ≡ a
+copied a b each = λ i. record { items = same_from_all_zip _ _ _ each same_item i }
 
 -- ---- each check, where it passes
 
@@ -113,5 +126,5 @@ returns c =
       ap (λ (d : Decision). d.change) c.of_change.ensures
           ∙ ap (λ n. change.SetAttributes n c.in_ok-values.values) number
           ∙ ap (change.SetAttributes (unwrap_or (object_named h c.args.object) 0))
-          c.in_ok-values.ensures.cases,
+          (copied c.args.template.now c.in_ok-values.values c.in_ok-values.ensures.cases),
     )
