@@ -2,10 +2,9 @@
 """Tries wrong bodies, each of which the prover must refuse.
 
 bench/wrong_bodies has a folder of edits for each of some crates. They are as those in
-crates/*/must-fail, which the gate tries, but stand apart from them, since a crate with edits is
-proved once more for them, and each costs a check. With names of crates these folders alone are
-tried. `rt must-fail` tries the edits, in a copy of the repository, and the status is its own; or it
-is 2 where a crate has no such folder.
+crates/*/must-fail, which `rt ci` tries, and it doesn't try these. With names of crates only their
+folders are tried. `rt must-fail` tries the edits, in a copy of the repository, and the status is
+its own; or it is 2 where a crate has no such folder.
 """
 import os
 import shutil
