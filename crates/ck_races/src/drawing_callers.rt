@@ -1,7 +1,6 @@
 //! A caller that draws its calls.
 use crate::journals::CallerReplies;
-use crate::mix::{Handles, LONG, ROWS, SELDOM, SETS, call_of};
-use anyhow::ensure;
+use crate::mix::{Handles, ROWS, SELDOM, SETS, call_of};
 use ck_journal::{Body, Reply};
 use ck_shared::{Ask, Caller, CallerWork, Gate, TokenId};
 use ck_types::Rv;
@@ -14,11 +13,8 @@ use std::sync::atomic::Ordering;
 /// How many calls each caller makes.
 const CALLS: usize = 5_000;
 
-/// One row in this many is one of those that are drawn seldom, and some have long messages.
+/// One row in this many is one of those that are drawn seldom.
 const SELDOM_IN: u64 = 256;
-
-/// As many rows have long messages.
-const LONG_IN: u64 = 4;
 
 /// A caller at a gate, with the handles that it knows, its draws and all replies that it got.
 #[derive(Drop)]
@@ -35,10 +31,10 @@ struct DrawingCaller<'a, 'c, K: TokenId, G, R> {
 /// The row that a number stands for.
 fn row_of(number: u64) -> &'static str {
     let draw = (number / SELDOM_IN) as usize;
-    let row = match number % SELDOM_IN {
-        0 => SELDOM.get(draw % SELDOM.len()),
-        1..=LONG_IN => LONG.get(draw % LONG.len()),
-        _ => ROWS.get(draw % ROWS.len()),
+    let row = if number % SELDOM_IN == 0 {
+        SELDOM.get(draw % SELDOM.len())
+    } else {
+        ROWS.get(draw % ROWS.len())
     };
     row.copied().unwrap_or("GetTokenInfo")
 }
@@ -74,7 +70,7 @@ impl<'a, 'c, K: TokenId, G: Gate<K>, R: Wait> DrawingCaller<'a, 'c, K, G, R> {
     }
 
     /// Makes a drawn row. Then the caller asks for the state of a session without the lock: which
-    /// one it sees depends on the others, and it is always answered.
+    /// one it sees depends on the others.
     fn make_drawn_row(&mut self) -> anyhow::Result<()> {
         let row = row_of(self.draws.next_u64());
         let number = self.draws.next_u64();
@@ -82,8 +78,7 @@ impl<'a, 'c, K: TokenId, G: Gate<K>, R: Wait> DrawingCaller<'a, 'c, K, G, R> {
         if let Some(handles) = sets.get(number as usize % SETS) {
             self.make_row(handles, row)?;
             let session = handles.session.load(Ordering::SeqCst);
-            let status = self.gate.status(self.caller, Ask::Session(session));
-            ensure!(status.is_some(), "a question is not answered");
+            let _status = self.gate.status(self.caller, Ask::Session(session));
         }
         Ok(())
     }

@@ -2,7 +2,7 @@
 //! its number. Then the token is taken back, and its journal is audited and compared with what each
 //! caller got.
 use crate::drawing_callers::DrawnCalls;
-use crate::journals::{CallerReplies, check_replies, in_order_of_callers};
+use crate::journals::{CallerReplies, check_replies};
 use crate::mix::Handles;
 use crate::tokens::prepare_by;
 use anyhow::{bail, ensure};
@@ -33,7 +33,7 @@ fn check_codes(entries: &[Entry]) -> anyhow::Result<()> {
 }
 
 /// An audit finds the journal legal. Says how many entries it has.
-pub(crate) fn check_audit(alloc: Global, token: &Token) -> anyhow::Result<u64> {
+fn check_audit(alloc: Global, token: &Token) -> anyhow::Result<u64> {
     match audit_token(alloc, token)? {
         Verdict::Legal => Ok(token.journal().len()),
         Verdict::Wrong(number) => bail!("entry {number} is wrong in an audit"),
@@ -48,7 +48,7 @@ fn check_drawn(
     all: Vec<anyhow::Result<CallerReplies>>,
 ) -> anyhow::Result<u64> {
     let entries = token.journal().entries();
-    check_replies(entries, in_order_of_callers(alloc, all)?)?;
+    check_replies(entries, all)?;
     check_codes(entries)?;
     check_audit(alloc, token)
 }

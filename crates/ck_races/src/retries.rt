@@ -1,62 +1,15 @@
-//! The calls of a race, one after the other on a shared token, by two callers in turn. What finds
-//! no memory is made again, by the other one.
+//! The calls of a race, one after the other on a shared token. What finds no memory is made again.
 use crate::races::{Race, RaceLine, compare};
-use crate::retried_runs::retry_run;
-use crate::retried_scripts::retry_script;
-use crate::shared_work::{SharedWork, share_with};
-use crate::tokens::prepared_token;
-use anyhow::{bail, ensure};
-use ck_audit::are_same_replies;
-use ck_journal::Reply;
-use ck_shared::{Ask, Caller, Gate, Runtime, SharedToken, Status, TokenId};
+use crate::tokens::prepare;
+use anyhow::ensure;
+use ck_shared::{Caller, CallerWork, Gate, Runtime, TokenId, share};
 use ck_token::Token;
-use ck_types::NoMemory;
+use ck_types::{Limits, NoMemory};
 use std::alloc::Global;
-
-/// What a caller knows, and what it is answered without the lock.
-#[derive(Drop)]
-struct Knowledge {
-    seen: u64,
-    count: u64,
-    token: Reply,
-    session: Reply,
-}
-
-/// What a caller is answered without the lock.
-fn answer_to<K: TokenId>(caller: &mut Caller<K>, ask: Ask) -> anyhow::Result<Reply> {
-    match caller.status(ask) {
-        Some(Status::Reply(reply)) => Ok(reply),
-        _ => bail!("a question is not answered"),
-    }
-}
-
-/// What a caller knows when it has asked.
-fn knowledge_of<K: TokenId>(caller: &mut Caller<K>) -> anyhow::Result<Knowledge> {
-    let token = answer_to(caller, Ask::Token)?;
-    let session = answer_to(caller, Ask::Session(1))?;
-    Ok(Knowledge {
-        seen: caller.seen(),
-        count: caller.count(),
-        token,
-        session,
-    })
-}
-
-/// A caller knows what it knew, and is answered as it was.
-fn check_unchanged<K: TokenId>(caller: &mut Caller<K>, before: &Knowledge) -> anyhow::Result<()> {
-    let after = knowledge_of(caller)?;
-    ensure!(
-        after.seen == before.seen
-            && after.count == before.count
-            && are_same_replies(&after.token, &before.token)
-            && are_same_replies(&after.session, &before.session),
-        "changed by a call without memory"
-    );
-    Ok(())
-}
+use std::sync::Wait;
 
 /// Makes a call, and says whether there was memory for it.
-fn make_once<K: TokenId, G: Gate<K>, R: Runtime>(
+fn make_once<K: TokenId, G: Gate<K>, R: Wait>(
     rt: &R,
     alloc: Global,
     gate: &G,
@@ -72,102 +25,87 @@ fn make_once<K: TokenId, G: Gate<K>, R: Runtime>(
 }
 
 /// Makes a call, and says whether it was made again: where it finds no memory, the caller knows
-/// what it knew, and the other one makes the call. This is then the next entry.
-fn make<K: TokenId, G: Gate<K>, R: Runtime>(
+/// what it knew.
+fn make<K: TokenId, G: Gate<K>, R: Wait>(
     rt: &R,
     alloc: Global,
     gate: &G,
-    (caller, other): (&mut Caller<K>, &mut Caller<K>),
-    entries: u64,
+    caller: &mut Caller<K>,
     line: &RaceLine,
 ) -> anyhow::Result<bool> {
-    let before = knowledge_of(caller)?;
+    let (seen, count) = (caller.seen(), caller.count());
     if make_once(rt, alloc, gate, caller, line)? {
         return Ok(false);
     }
-    check_unchanged(caller, &before)?;
-    if !make_once(rt, alloc, gate, other, line)? {
-        return Err(NoMemory.into());
-    }
     ensure!(
-        other.seen() == entries.saturating_add(1),
-        "line {} is not one entry more",
+        caller.seen() == seen && caller.count() == count,
+        "changed without memory by line {}",
         line.number
     );
-    Ok(true)
+    if make_once(rt, alloc, gate, caller, line)? {
+        return Ok(true);
+    }
+    Err(NoMemory.into())
 }
 
-/// Makes calls one after the other, behind this many entries, by each of two callers in turn. Says
-/// how many were made again.
-fn make_all<K: TokenId, G: Gate<K>, R: Runtime>(
+/// Makes calls one after the other, and says how many were made again.
+fn make_all<K: TokenId, G: Gate<K>, R: Wait>(
     rt: &R,
     alloc: Global,
     gate: &G,
-    (one, other): (&mut Caller<K>, &mut Caller<K>),
-    first: usize,
+    caller: &mut Caller<K>,
     lines: &[RaceLine],
 ) -> anyhow::Result<u64> {
     let mut retries = 0u64;
-    let mut entries = first as u64;
     for line in lines {
-        let is_again = if entries % 2 == 0 {
-            make(rt, alloc, gate, (&mut *one, &mut *other), entries, line)?
-        } else {
-            make(rt, alloc, gate, (&mut *other, &mut *one), entries, line)?
-        };
-        retries = retries.saturating_add(u64::from(is_again));
-        entries = entries.saturating_add(1);
+        if make(rt, alloc, gate, caller, line)? {
+            retries = retries.saturating_add(1);
+        }
     }
     Ok(retries)
 }
 
-/// Two callers that make all calls of a race.
+/// A caller that makes all calls of a race.
 #[derive(Drop)]
 struct AllCalls<'a>(&'a Race<'a>);
 
-impl<'a, R: Runtime> SharedWork<R> for AllCalls<'a> {
-    /// How many calls were made again.
-    type Output = u64;
+impl<'a, R: Wait> CallerWork<R> for AllCalls<'a> {
+    ghost use Rattle.std.specs.Prelude.{⊤};
 
-    fn act<K: TokenId + Send + Sync>(
+    /// How many calls were made again.
+    type Output = anyhow::Result<u64>;
+
+    ghost holds = { λ work before after retries. ⊤ };
+
+    fn act<K: TokenId, G: Gate<K>>(
         &self,
         rt: &R,
         alloc: Global,
-        token: &SharedToken<K, Token, R>,
-        callers: &mut Vec<Caller<K>>,
+        gate: &G,
+        caller: &mut Caller<K>,
     ) -> anyhow::Result<u64> {
-        let [one, other] = callers.as_mut_slice() else {
-            bail!("there are not two callers");
-        };
-        let Race {
-            lines,
-            afterwards,
-            ..
-        } = self.0;
-        let first = make_all(rt, alloc, token, (&mut *one, &mut *other), 0, lines)?;
-        let count = lines.len();
-        let after = make_all(rt, alloc, token, (one, other), count, afterwards)?;
+        let first = make_all(rt, alloc, gate, caller, &self.0.lines)?;
+        let after = make_all(rt, alloc, gate, caller, &self.0.afterwards)?;
         Ok(first.saturating_add(after))
     }
 }
 
-/// Two callers make the calls of a race. Says how many were made again.
-fn retry_calls<R: Runtime>(rt: R, alloc: Global, race: &Race) -> anyhow::Result<u64> {
-    let token = prepared_token(alloc, race)?;
-    let (token, retries) = share_with(rt, alloc, token, 2, &AllCalls(race))?;
+/// How many calls all callers made again. The journal has this many entries: one for each call,
+/// made again or not.
+fn count_retries(race: &Race, entries: u64, all: Vec<anyhow::Result<u64>>) -> anyhow::Result<u64> {
+    let mut sum = 0u64;
+    for retries in all {
+        sum = sum.saturating_add(retries?);
+    }
     let calls = race.lines.len().saturating_add(race.afterwards.len());
-    ensure!(
-        token.journal().len() == calls as u64,
-        "not an entry for each call"
-    );
-    Ok(retries)
+    ensure!(entries == calls as u64, "not an entry for each call");
+    Ok(sum)
 }
 
-/// Makes the calls of a race by two callers, by `run` and by `run_scripts`. Says how many were made
-/// again.
+/// One caller makes the calls of a race on a new token. Says how many were made again.
 pub(crate) fn retry_race<R: Runtime>(rt: R, alloc: Global, race: &Race) -> anyhow::Result<u64> {
-    let called = retry_calls(rt, alloc, race)?;
-    let run = retry_run(alloc, race)?;
-    let scripted = retry_script(rt, alloc, race)?;
-    Ok(called.saturating_add(run).saturating_add(scripted))
+    let mut token = Token::new(alloc, Limits::largest());
+    prepare(alloc, &mut token, &race.earlier)?;
+    let all = share(rt, alloc, &mut token, 1, &AllCalls(race))?;
+    count_retries(race, token.journal().len(), all)
 }

@@ -1,10 +1,9 @@
 //! Tokens before they are shared, and calls that are made without sharing one.
-ghost use Rattle.std.specs.Prelude.{◌≡◌, IfOk, OnOk};
+ghost use Rattle.std.specs.Prelude.{◌≡◌, OnOk};
 ghost use Rattle.ck_journal.specs.Histories.{start, start_of};
 
-use crate::races::{Race, RaceLine, compare, line_in};
+use crate::races::{RaceLine, compare, line_in};
 use ck_token::Token;
-use ck_types::Limits;
 use std::alloc::Global;
 
 fn make_call(alloc: Global, token: &mut Token, line: &RaceLine) -> anyhow::Result<()> {
@@ -24,44 +23,24 @@ pub(crate) fn make_calls(
     Ok(())
 }
 
-/// A token of a race, on which the calls before its cut were made.
-pub(crate) fn prepared_token(alloc: Global, race: &Race) -> anyhow::Result<Token>
-    ensures { IfOk result (λ token. token.history ≡ start (start_of token.history)) }
+/// Makes calls, and cuts the journal.
+pub(crate) fn prepare(alloc: Global, token: &mut Token, lines: &[RaceLine]) -> anyhow::Result<()>
+    ensures { OnOk result (token.new.history ≡ start (start_of token.new.history)) }
 {
-    let mut token = Token::new(alloc, race.limits);
-    make_calls(alloc, &mut token, &race.earlier)?;
+    make_calls(alloc, token, lines)?;
     token.cut(alloc)?;
-    Ok(token)
+    Ok(())
 }
 
-/// Makes the calls of texts one after the other.
-pub(crate) fn make_calls_of(
-    alloc: Global,
-    token: &mut Token,
-    lines: &[&str],
-) -> anyhow::Result<()> {
+/// Makes the calls of lines, and cuts the journal.
+pub(crate) fn prepare_by(alloc: Global, token: &mut Token, lines: &[&str]) -> anyhow::Result<()>
+    ensures { OnOk result (token.new.history ≡ start (start_of token.new.history)) }
+{
     let mut number = 0u64;
     for text in lines {
         number = number.saturating_add(1);
         make_call(alloc, token, &line_in(alloc, number, text)?)?;
     }
-    Ok(())
-}
-
-/// Makes the calls of texts, and cuts the journal.
-pub(crate) fn prepare_by(alloc: Global, token: &mut Token, lines: &[&str]) -> anyhow::Result<()>
-    ensures { OnOk result (token.new.history ≡ start (start_of token.new.history)) }
-{
-    make_calls_of(alloc, token, lines)?;
     token.cut(alloc)?;
     Ok(())
-}
-
-/// A token that is initialized, and whose journal is cut.
-pub(crate) fn initialized_token(alloc: Global) -> anyhow::Result<Token>
-    ensures { IfOk result (λ token. token.history ≡ start (start_of token.history)) }
-{
-    let mut token = Token::new(alloc, Limits::largest());
-    prepare_by(alloc, &mut token, &["1 InitToken 31323334 -> 0"])?;
-    Ok(token)
 }
