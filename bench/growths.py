@@ -1,8 +1,8 @@
 #!/usr/bin/env python3
-"""Refuses each growth of memory in turn, of the programs that play cases, scripts and the races of
-a shared token.
+"""Refuses each growth of memory, one after the other, of the programs that play cases, scripts and
+the races of a shared token.
 
-Each case of the files in crates/ck_cases/data but of many_objects.cases, which has too many
+Each case of the files in crates/ck_cases/data except many_objects.cases, which has too many
 growths, or of the files that are named, is played once for each growth of memory, which is refused.
 What finds no memory, a call, a cut or an audit, the program of cases makes again after a look at
 the journal: so the case passes, or the program itself is out of memory. The calls of a case are
@@ -12,7 +12,7 @@ program says that it is out of memory. Where anything else comes, it is printed,
 
 The calls of each race in crates/ck_races/data are made one after the other, by a caller of a shared
 token. Where one finds no memory, the caller knows what it did before, and the call is made again.
-In the end the journal has an entry for each call. With the argument `shared` these alone are
+In the end the journal has an entry for each call. With the argument `shared` only these are
 played.
 
 The programs are crates/ck_cases/out/ck_cases, crates/ck_run/out/ck_run and
@@ -130,7 +130,7 @@ def is_script_right(ended, plain):
 
 def check_case(library, command, name, lines, passed):
     """How many growths the case makes, after how many something was made again, and what was wrong.
-    Without a refused growth so many pass: the lines of a case, or one race."""
+    Without a refused growth `passed` of them pass: the lines of a case, or one race."""
     with tempfile.NamedTemporaryFile("w", suffix=".cases", encoding="utf-8", newline="\n") as file:
         file.write("\n".join(lines) + "\n")
         file.flush()

@@ -105,7 +105,7 @@ def crowd_sections(objects):
 
 
 def crowd(objects):
-    """Calls of one session among so many objects of another, in sections that are measured."""
+    """Calls of one session among the objects of another, in sections that are measured."""
     yield from first_calls()
     yield "1 OpenSession 6"
     for number in range(objects):

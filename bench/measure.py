@@ -9,7 +9,7 @@ crates/ck_run. Times are processor time, the best of several runs, and memory is
 time); those of an empty script are taken off both. Off the time of searches is taken that of a
 script that only makes their objects. The last figures are those of crates/ck_bench/out/ck_bench,
 the best of several runs, each of a process of its own; what callers do in threads is by the clock,
-and wants four processors without other work. With the argument `figures` the last figures alone are
+and wants four processors without other work. With the argument `figures` only the last figures are
 printed.
 
 A line, or an object in a search, may take at most 3 times as much time among the most as among the
@@ -48,14 +48,14 @@ CALLS_AMONG = [
     ("login and logout (both together)", 1_000, 1.5),
 ]
 
-# The most nanoseconds that a search by a label may take for each of so many objects.
+# The most nanoseconds that a search by a label may take for each object, by how many there are.
 SEARCH_AMONG = {1_000: 12, 50_000: 30}
 
-# How many more nanoseconds a call may take by the lock than of a token alone.
+# How many more nanoseconds a call may take by the lock than without one.
 CALLS_BY_LOCK = {"session info": 150, "open and close, each": 400}
 
-# How often a caller of a shared token asks without the lock. It changes the token a hundredth as
-# often, each time by three calls.
+# How many times a caller of a shared token asks without the lock. It changes the token a hundredth
+# of that number of times, each time by three calls.
 ASKS = 4_000_000
 CALLS_OF_CHANGE = 3
 
@@ -178,7 +178,7 @@ def check_crowd(program, text):
 
 
 def times_among(program, objects):
-    """The nanoseconds of one round of each section among so many objects."""
+    """The nanoseconds of one round of each section among these objects."""
     text = script("crowd", objects)
     check_crowd(program, text)
     best = measured(text, "alone")
