@@ -3,6 +3,7 @@ pub mod Bases
 pub mod Bodies
 pub mod Boards
 pub mod Callers
+pub mod Calls
 pub mod Cuts
 pub mod Effects
 pub mod Events

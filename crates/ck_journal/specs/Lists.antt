@@ -1,5 +1,10 @@
--- A change of one item of a list
-use Rattle.std.specs.Prelude.{Bool, List, [], ◌∷◌, if◌then◌else◌}
+-- Lists
+use Rattle.std.specs.Prelude.{Bool, true, false, List, [], ◌∷◌, if◌then◌else◌}
+
+-- the list has no items
+abbrev pub is_empty : {X : Type 0} → List X → Bool
+is_empty [] = true
+is_empty (x ∷ xs) = false
 
 -- the list with the first item that passes changed
 abbrev pub change_first : {X : Type 0} → (X → Bool) → (X → X) → List X → List X

@@ -178,11 +178,15 @@ macro_rules! copy_of {
     };
 }
 
+/// A copy of a call that brings no list takes no memory.
 // Not derived: that clones the numbers too, which makes its proof many times as long.
 impl Clone for Call {
-    ghost use Rattle.std.specs.Prelude.{◌≡◌};
+    ghost use Rattle.std.specs.Prelude.{◌≡◌, false};
+    ghost use Rattle.ck_journal.specs.Calls.{brings_list};
 
     ghost is_clone = { λ call copy. copy ≡ call };
+
+    ghost is_infallible = { λ call. brings_list call ≡ false };
 
     fn clone(&self) -> Result<Call, AllocError> {
         let copy = copy_of! {

@@ -1,6 +1,6 @@
 -- Decisions by the checks of a call, one after the other
 use Rattle.std.proofs.Common.{◌≡◌, ℕ, Bool, true, false, cond, not, List, Option, Some, None}
-use Rattle.std.proofs.Common.{Result}
+use Rattle.std.proofs.Common.{[], ◌∷◌, map, take, Result}
 use Rattle.std.proofs.Common.{Ok, Err, length, refl, sym, ap, ◌∙◌, subst}
 use Rattle.std.specs.Prelude.{◌==◌, ◌&&◌, is_none, is_some, nat_lt}
 use Rattle.std.specs.List.{list_any}
@@ -33,16 +33,20 @@ use Rattle.ck_journal.specs.Answers.{call_error, session_error, object_error, op
 use Rattle.ck_journal.specs.Answers.{present_key_error, key_state_error, may_serve, message_error}
 use Rattle.ck_journal.specs.Answers.{final_error, piece_error, verify_error, verify_final_error}
 use Rattle.ck_journal.specs.Answers.{tag_in}
-use Rattle.ck_journal.specs.Queries.{asks_hidden, is_missing, lacks_room}
-use Rattle.ck_journal.specs.Replies.{has_list}
+use Rattle.ck_journal.specs.Queries.{asks_hidden, is_missing, lacks_room, query_answer}
+use Rattle.ck_journal.specs.Lists.{is_empty}
+use Rattle.ck_journal.specs.Replies.{has_items}
+use Rattle.ck_journal.specs.Searches.{search_rest}
 use Rattle.ck_journal.specs.Histories.{History}
-use Rattle.ck_journal.specs.Objects.{attributes_named, named_attributes, object_at}
+use Rattle.ck_journal.specs.Objects.{attributes_named, named_attributes, object_at, handle_of}
 use Rattle.ck_journal.specs.Pins.{about}
 use Rattle.ck_journal.specs.Sessions.{is_open}
 use Rattle.ck_parts.specs.Agreement.{adds}
 use Rattle.ck_parts.specs.Changes.{change_of, wrong_try_change, finish_change, refused_change}
 use Rattle.ck_parts.specs.Changes.{refused_by, refused_step, effect, effect_by}
-use Rattle.ck_token.specs.Decisions.{IsDecided, IsDecision, takes_memory, may_run_out, reply_of}
+use Rattle.ck_token.proofs.SearchLemmas.{same-empty}
+use Rattle.ck_token.specs.Decisions.{IsDecided, IsDecision, takes_memory, gives_nothing}
+use Rattle.ck_token.specs.Decisions.{may_take_memory, may_run_out, reply_of}
 use Rattle.ck_parts.specs.declared.changes.Change.{Change}
 use Rattle.ck_parts.specs.declared.changes.Change.TheVariants as change
 use Rattle.ck_token.specs.declared.decisions.Decision.{Decision}
@@ -100,11 +104,11 @@ memory-decided error reply made refusing memory (Err reason) is passes takes =
 
 pub memory-decision : (limits : Ranges) (h : History) (c : Call) (result : Result Decision Refused)
     → IsErrAnd result (λ made. made ≡ refused.Memory) → call_error limits h c ≡ None
-    → takes_memory c ≡ true
+    → may_take_memory h c ≡ true
     → IsDecision limits h c result
 memory-decision limits h c =
     memory-decided (call_error limits h c) (allowed_reply limits h c) (λ b. change_of h c b)
-    (λ code. refused_change c code (about h (Some c))) (takes_memory c)
+    (λ code. refused_change c code (about h (Some c))) (may_take_memory h c)
 
 -- a reply that gives bytes or their length
 by_room : (h : History) (c : Call) (k : OperationKind) (session : ℕ)
@@ -156,21 +160,34 @@ allowed-effect limits h other = refl
 
 -- ---- what takes no memory
 
--- a call that takes no memory beside its entry's gives no list
-pub no_list : (limits : Ranges) (h : History) (c : Call) (r : Reply) → r ≡ answer limits h c
-    → may_run_out limits h c ≡ false → has_list r.body ≡ false
-no_list limits h c r answered free =
-    ap (λ (r : Reply). has_list r.body) answered ∙ by_error (call_error limits h c) free
+-- a call that takes no memory by its kind
+pub free-call : (limits : Ranges) (h : History) (c : Call) → takes_memory c ≡ false
+    → may_run_out limits h c ≡ false
+free-call limits h c free =
+    ap (λ t. is_none (call_error limits h c) && (t && not (gives_nothing h c))) free
+    ∙ and_false (is_none (call_error limits h c))
   where
-    by_error : (error : Option RvError) → (is_none error && takes_memory c) ≡ false
-        → has_list (unless error (allowed_reply limits h c)).body ≡ false
+    and_false : (t : Bool) → (t && false) ≡ false
+    and_false true = refl
+    and_false false = refl
+
+-- a call that takes no memory beside its entry's gives no list with items
+pub no_list : (limits : Ranges) (h : History) (c : Call) (r : Reply) → r ≡ answer limits h c
+    → may_run_out limits h c ≡ false → has_items r.body ≡ false
+no_list limits h c r answered free =
+    ap (λ (r : Reply). has_items r.body) answered ∙ by_error (call_error limits h c) free
+  where
+    by_error : (error : Option RvError) → (is_none error && may_take_memory h c) ≡ false
+        → has_items (unless error (allowed_reply limits h c)).body ≡ false
     by_error (Some code) free = refl
     by_error None free = by_call c free
       where
-        by_call : (c : Call) → takes_memory c ≡ false
-            → has_list (allowed_reply limits h c).body ≡ false
-        by_call (call.GetAttributeValue session object queries) free = cc
-        by_call (call.FindObjects session max) free = cc
+        by_call : (c : Call) → may_take_memory h c ≡ false
+            → has_items (allowed_reply limits h c).body ≡ false
+        by_call (call.GetAttributeValue session object queries) free =
+            ap not (same-empty (query_answer (named_attributes h object)) queries) ∙ free
+        by_call (call.FindObjects session max) free =
+            ap not (same-empty (handle_of h) (take max (search_rest h session))) ∙ free
         by_call (call.Digest session bytes None) free = refl
         by_call (call.Digest session bytes (Some room)) free = cc
         by_call (call.DigestFinal session None) free = refl
@@ -209,13 +226,14 @@ adds_nothing limits h c r made answered is free =
     by_refusal (Some o) code who = by_step o.kind o.session o.step code
     by_refusal None code who = by_pin code who
 
-    by_error : (error : Option RvError) → (is_none error && takes_memory c) ≡ false
+    by_error : (error : Option RvError) → (is_none error && may_take_memory h c) ≡ false
         → adds (effect h c (unless error (allowed_reply limits h c))) ≡ false
     by_error (Some code) free = by_refusal (operation_step c) code (about h (Some c))
     by_error None free = ap adds (sym (allowed-effect limits h c))
         ∙ by_call c (allowed_reply limits h c).body free
       where
-        by_call : (c : Call) (b : Body) → takes_memory c ≡ false → adds (change_of h c b) ≡ false
+        by_call : (c : Call) (b : Body) → may_take_memory h c ≡ false
+            → adds (change_of h c b) ≡ false
         by_call (call.OpenSession flags) b free = cc
         by_call (call.CreateObject session template) b free = cc
         by_call (call.GenerateKey session mechanism template random) b free = cc

@@ -3,13 +3,29 @@ use Rattle.std.proofs.Common.{◌≡◌, ℕ, zero, suc, ◌+◌, ◌-◌, ◌<�
 use Rattle.std.proofs.Common.{◌++◌, length, drop, get_or, Some, None, refl, sym, ap, ◌∙◌, add-one}
 use Rattle.std.proofs.Common.{arith, append_assoc}
 use Rattle.std.proofs.Math.Seq.{drop-cons}
-use Rattle.std.specs.Prelude.{filter, map, take}
+use Rattle.std.specs.Prelude.{filter, map, take, OnErr, Result, Ok, Err}
 use Rattle.std.specs.List.{slice_get}
 use Rattle.std.proofs.lemmas.Option.{same_Some}
+use Rattle.ck_journal.specs.Lists.{is_empty}
 use Rattle.ck_journal.specs.Searches.{last_or, number_of_handle}
 use Rattle.ck_journal.specs.Histories.{History}
 use Rattle.ck_journal.specs.Objects.{handle_of, is_visible}
 use Rattle.ck_store.specs.Agreement.{handle_at}
+
+-- what holds also holds of an error
+pub on-err : {T E P : Type 0} (r : Result T E) → P → OnErr r P
+on-err (Ok value) holds = tt
+on-err (Err error) holds = holds
+
+-- a list has no items where what is made of them has none
+pub same-empty : {X Y : Type 0} (f : X → Y) (xs : List X) → is_empty (map f xs) ≡ is_empty xs
+same-empty f [] = refl
+same-empty f (x ∷ xs) = refl
+
+has-item : (before : List ℕ) (x : ℕ) (after : List ℕ)
+    → is_empty ((before ++ x ∷ []) ++ after) ≡ false
+has-item [] x after = refl
+has-item (y ∷ before) x after = refl
 
 -- the handles of the visible objects of these numbers, at most as many as there is room for
 abbrev pub next : History → ℕ → List ℕ → List ℕ
@@ -63,6 +79,13 @@ module _ (h : History) where
         ∙ sym (append_assoc handles (handle ∷ []) (next h (room - 1) (drop (i + 1) numbers)))
         ∙ ap (λ r. (handles ++ handle ∷ []) ++ next h r (drop (i + 1) numbers)) (sym less)
         ∙ ap (λ hs. hs ++ next h room' (drop (i + 1) numbers)) (sym more)
+
+    -- so one is given
+    pub some-given : (handle : ℕ) → (room ≡ 0 → ⊥)
+        → Some handle ≡ handle_at h (get_or numbers i 0) → is_empty total ≡ false
+    some-given handle some found =
+        ap is_empty (given-next (handles ++ handle ∷ []) (room - 1) handle some found refl refl)
+        ∙ has-item handles handle (next h (room - 1) (drop (i + 1) numbers))
 
     -- it isn't
     pub passed-next : (handles' : List ℕ) (room' : ℕ) → None ≡ handle_at h (get_or numbers i 0)

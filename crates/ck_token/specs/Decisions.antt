@@ -1,6 +1,6 @@
 -- What is decided of a call
 use Rattle.std.specs.Prelude.{◌≡◌, Bool, true, false, ◌&&◌, Option, Some, None, Result, Ok, Err}
-use Rattle.std.specs.Prelude.{is_none, is_some}
+use Rattle.std.specs.Prelude.{is_none, is_some, not, take}
 use Rattle.ck_types.specs.TokenLimits.{Ranges}
 use Rattle.ck_types.specs.declared.errors.RvError.{RvError}
 use Rattle.ck_types.specs.declared.users.UserType.{UserType}
@@ -10,7 +10,9 @@ use Rattle.ck_journal.specs.declared.replies.Body.{Body}
 use Rattle.ck_journal.specs.declared.replies.Reply.{Reply}
 use Rattle.ck_journal.specs.Answers.{call_error, allowed_reply}
 use Rattle.ck_journal.specs.Histories.{History}
+use Rattle.ck_journal.specs.Lists.{is_empty}
 use Rattle.ck_journal.specs.Pins.{about}
+use Rattle.ck_journal.specs.Searches.{matching_objects, search_rest}
 use Rattle.ck_parts.specs.Changes.{change_of, wrong_try_change, refused_change}
 use Rattle.ck_parts.specs.declared.changes.Change.{Change}
 use Rattle.ck_token.specs.declared.decisions.Decision.{Decision}
@@ -38,9 +40,21 @@ takes_memory (call.SignFinal session room) = is_some room
 takes_memory (call.VerifyInit session mechanism key) = true
 takes_memory other = false
 
+-- a request for no attribute, a search that finds no object, and one that returns none
+abbrev pub gives_nothing : History → Call → Bool
+gives_nothing h (call.GetAttributeValue session object queries) = is_empty queries
+gives_nothing h (call.FindObjectsInit session template) =
+    is_empty (matching_objects h template.items)
+gives_nothing h (call.FindObjects session max) = is_empty (take max (search_rest h session))
+gives_nothing h other = false
+
+-- a call that may take memory, and not one of those that give nothing
+abbrev pub may_take_memory : History → Call → Bool
+may_take_memory h c = takes_memory c && not (gives_nothing h c)
+
 -- such a call, and it passes its checks
 abbrev pub may_run_out : Ranges → History → Call → Bool
-may_run_out limits h c = is_none (call_error limits h c) && takes_memory c
+may_run_out limits h c = is_none (call_error limits h c) && may_take_memory h c
 
 -- a check of a call that is about this user: it finds no error, or this one, and then what the
 -- refusal changes
@@ -72,4 +86,4 @@ IsDecided error reply made refusing memory (Err refused.Memory) =
 abbrev pub IsDecision : Ranges → History → Call → Result Decision Refused → Type 0
 IsDecision limits h c result =
     IsDecided (call_error limits h c) (allowed_reply limits h c) (λ b. change_of h c b)
-    (λ code. refused_change c code (about h (Some c))) (takes_memory c) result
+    (λ code. refused_change c code (about h (Some c))) (may_take_memory h c) result

@@ -1,4 +1,5 @@
-ghost use Rattle.std.specs.Prelude.{◌≡◌, [], ◌∷◌, IfOk};
+ghost use Rattle.std.specs.Prelude.{◌≡◌, [], ◌∷◌, false, IfOk, OnErr};
+ghost use Rattle.ck_journal.specs.Lists.{is_empty};
 ghost use Rattle.ck_journal.specs.Queries.{query_answer, queries_code, queries_reply};
 ghost use Rattle.ck_token.specs.QueryCodes.{gravity, graver};
 
@@ -60,12 +61,14 @@ fn query_reply(
 }
 
 /// The reply to queries of an object with these attributes: one answer for each, and one code.
+/// Without queries this takes no memory.
 pub(crate) fn queries_reply(
     alloc: Global,
     attributes: &Record,
     queries: &[AttributeQuery],
 ) -> Result<Reply, NoMemory>
-    ensures { IfOk result (λ reply. reply ≡ queries_reply attributes.now queries.now) }
+    ensures reply { IfOk result (λ reply. reply ≡ queries_reply attributes.now queries.now) }
+    ensures memory { OnErr result (is_empty queries.now ≡ false) }
 {
     let mut answers = Vec::with_capacity(alloc, queries.len())?;
     let mut rv = Rv::Ok;

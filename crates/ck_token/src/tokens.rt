@@ -1,7 +1,7 @@
 ghost use Rattle.std.specs.Prelude.{◌≡◌, ◌<◌, ◌≤◌, false, IfOk, IfSome, IsOk, OnOk};
 ghost use Rattle.std.specs.Option.{option_copied};
 ghost use Rattle.ck_journal.specs.Histories.{History};
-ghost use Rattle.ck_journal.specs.Replies.{has_list};
+ghost use Rattle.ck_journal.specs.Replies.{has_items};
 ghost use Rattle.ck_parts.specs.Agreement.{PartsAgree, adds, HasRoom};
 
 use crate::cuts::Uncut;
@@ -86,7 +86,7 @@ fn prepare(
     ensures history { journal.new.history ≡ journal.old.history }
     ensures place { OnOk result (1 ≤ journal.new.spare) }
     ensures spare { journal.old.spare ≤ journal.new.spare }
-    ensures succeeds { 0 < journal.old.spare → has_list body.now ≡ false
+    ensures succeeds { 0 < journal.old.spare → has_items body.now ≡ false
         → adds change.now ≡ false → IsOk result }
 {
     let entered = body.clone()?;
@@ -205,8 +205,8 @@ impl Token {
     /// Answers a call and enters it in the journal. Where there is no memory for it, nothing has
     /// changed and the call isn't in the journal. Where the journal has room, only a call that
     /// passes its checks can run out of memory, and only one that opens a session, creates or
-    /// changes an object, searches, reads attributes or the list of mechanisms, starts an
-    /// operation, or gives a digest or a signature.
+    /// changes an object, finds or returns some, reads attributes or the list of mechanisms, starts
+    /// an operation, or gives a digest or a signature.
     pub fn call(&mut self, alloc: Global, caller: u32, call: Call) -> Result<Reply, NoMemory>
         ensures answered { IfOk result (λ reply. IsAnswered self.old self.new caller call reply) }
         ensures unchanged { OnErr result (IsUnchanged self.old self.new) }

@@ -8,7 +8,8 @@ use std::alloc::Global;
 
 /// Searching for objects.
 impl Token {
-    ghost use Rattle.std.specs.Prelude.{◌≡◌, IfOk, filter, map, take};
+    ghost use Rattle.std.specs.Prelude.{◌≡◌, false, IfOk, OnErr, filter, map, take};
+    ghost use Rattle.ck_journal.specs.Lists.{is_empty};
     ghost use Rattle.ck_journal.specs.Objects.{handle_of, is_visible};
     ghost use Rattle.ck_journal.specs.declared.calls.Call.TheVariants as call;
     ghost use Rattle.ck_token.specs.Decisions.{IsDecision};
@@ -56,16 +57,19 @@ impl Token {
         })
     }
 
-    /// The handles of the objects of these numbers that are visible, at most `max` of them.
+    /// The handles of the objects of these numbers that are visible, at most `max` of them. Where
+    /// there is none, this takes no memory.
     fn visible_handles(
         &self,
         alloc: Global,
         numbers: &[u64],
         max: u64,
     ) -> Result<Vec<u64>, NoMemory>
-        ensures { IfOk result (λ handles.
+        ensures handles { IfOk result (λ handles.
             handles.items ≡ map (handle_of self.now.history)
             (take max (filter (is_visible self.now.history) numbers.now))) }
+        ensures memory { OnErr result
+            (is_empty (take max (filter (is_visible self.now.history) numbers.now)) ≡ false) }
     {
         let view = self.view();
         let mut handles = Vec::new(alloc);

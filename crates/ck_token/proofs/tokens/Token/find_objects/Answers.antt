@@ -21,7 +21,7 @@ returns c =
     let rest = cond_some (is_searching h s) (remaining_objects h s) c.in-Some.numbers.now
     (sym (c.in-Some.ensures h s c.in_ok-row.ensures.row)) in
     let items = c.in_ok-handles.handles.items in
-    let given = c.in_ok-handles.ensures
+    let given = c.in_ok-handles.ensures.handles
     ∙ ap (λ (numbers : List ℕ). map (handle_of h) (take c.args.max (filter (is_visible h) numbers)))
     (sym rest.1) in
     let number : c.match-last.number ≡ last_or (last_number h s) (map number_of_handle items) =
