@@ -257,8 +257,8 @@ impl Call {
         }
     }
 
-    /// The bytes of a message that the call brings, as a whole or as one piece; none for a call that
-    /// brings none.
+    /// The bytes of a message that the call brings, as a whole or as one piece; none for a call
+    /// that brings none.
     pub fn taken_bytes(&self) -> &[u8]
         ensures { result.now ≡ taken_bytes self.now }
     {

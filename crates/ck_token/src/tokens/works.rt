@@ -30,8 +30,8 @@ impl Token {
     ghost use Rattle.ck_journal.specs.Works.{IsBegun, IsAhead, HoldsAfter};
 
     /// Begins the work on a long message that the call brings, so that its bytes can be taken in
-    /// before the call is made. It takes no memory. `None` where this saves nothing: the message has
-    /// fewer than 4,096 bytes, or the call is refused, or it asks for a length.
+    /// before the call is made. It takes no memory. `None` where this saves nothing: the message
+    /// has fewer than 4,096 bytes, or the call is refused, or it asks for a length.
     pub fn work(&self, call: &Call) -> Option<Work>
         ensures { IfSome result (IsBegun self.now.history call.now) }
     {

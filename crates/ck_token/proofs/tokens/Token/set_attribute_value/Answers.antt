@@ -49,8 +49,8 @@ may_change : (c : In_ok-check_flag)
 may_change c = check_of-ok _ _ (sym c.check_flag.ensures ∙ c.in_ok-check_flag.was)
 
 fits : (c : In_ok-check_change)
-    → changed_error (class_of c.in_ok-number.present.now) (protections_of c.in_ok-number.present.now)
-    c.args.template.now.items ≡ None
+    → changed_error (class_of c.in_ok-number.present.now)
+    (protections_of c.in_ok-number.present.now) c.args.template.now.items ≡ None
 fits c = check_of-ok _ _ (sym c.check_change.ensures ∙ c.in_ok-check_change.was)
 
 -- the call

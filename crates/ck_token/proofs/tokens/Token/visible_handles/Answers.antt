@@ -2,7 +2,8 @@ use Rattle.std.proofs.lemmas.Grind.{common_steps}
 use Rattle.std.proofs.Common.{arith}
 use Rattle.std.proofs.Common.{◌∙◌, ap, sym}
 use Rattle.ck_journal.specs.Objects.{handle_of}
-use Rattle.ck_token.proofs.SearchLemmas.{next, given-next, passed-next, same-empty, some-given, on-err}
+use Rattle.ck_token.proofs.SearchLemmas.{next, given-next, passed-next}
+use Rattle.ck_token.proofs.SearchLemmas.{same-empty, some-given, on-err}
 use Rattle.ck_token.proofs.tokens.Token.visible_handles.Goals.{in-Some+in_ok-push, in_default}
 use Rattle.ck_token.proofs.tokens.Token.visible_handles.Goals as goal
 
