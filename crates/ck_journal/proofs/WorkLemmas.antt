@@ -3,7 +3,6 @@ use Rattle.std.proofs.Common.{◌≡◌, ℕ, ◌<◌, ◌≤◌, Bool, true, fa
 use Rattle.std.proofs.Common.{Option, Some, None, length, not, refl, sym, ap, ◌∙◌, subst, arith}
 use Rattle.std.proofs.Common.{append-nil}
 use Rattle.std.specs.Prelude.{◌==◌, ◌||◌, IfSome}
-use Rattle.std.specs.List.{concat}
 use Rattle.std.proofs.Math.Dec.{eqb-suc-zero}
 use Rattle.ck_mac.specs.Computations.{Computation, HoldsTag}
 use Rattle.ck_mac.specs.declared.running_tags.RunningTag.{RunningTag}
@@ -13,8 +12,8 @@ use Rattle.ck_journal.specs.declared.operations.OperationKind.{OperationKind}
 use Rattle.ck_journal.specs.declared.works.Work.{Work}
 use Rattle.ck_journal.specs.Fronts.{IsFront}
 use Rattle.ck_journal.specs.Histories.{History, ◌◁◌, done, followed_by, entry_count}
-use Rattle.ck_journal.specs.OperationCalls.{Step, OperationStep, on_operation, operation_step}
-use Rattle.ck_journal.specs.Operations.{starts, piece_of, pieces_in, computation_in, message_in}
+use Rattle.ck_journal.specs.OperationCalls.{Step, on_operation, operation_step}
+use Rattle.ck_journal.specs.Operations.{starts, piece_of, pieces_in, computation_in}
 use Rattle.ck_journal.specs.Operations.{started_computation}
 use Rattle.ck_journal.specs.Works.{operation_of, changed_in, HoldsAfter, HoldsWith, IsDone}
 use Rattle.ck_journal.specs.Works.{bytes_taken, HoldsTagOf}

@@ -3,7 +3,7 @@ use Rattle.std.specs.Prelude.{◌≡◌, ℕ, Bool, List, Option, Some, None, fi
 use Rattle.ck_journal.specs.declared.operations.OperationKind.{OperationKind}
 use Rattle.ck_journal.specs.Histories.{History}
 use Rattle.ck_journal.specs.Operations.{is_active, computation_in, key_in, message_in, is_updated}
-use Rattle.ck_journal.specs.Works.{changed_in, HoldsTagOf}
+use Rattle.ck_journal.specs.Works.{changed_in}
 use Rattle.ck_mac.specs.Computations.{Computation}
 use Rattle.ck_operations.specs.Rows.{is_operation, HoldsMessageOf, operation_key, has_update}
 use Rattle.ck_operations.specs.Rows.{last_change}

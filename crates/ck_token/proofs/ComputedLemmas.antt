@@ -15,7 +15,8 @@ use Rattle.ck_journal.specs.Histories.{History}
 use Rattle.ck_journal.specs.Operations.{computation_in, message_in}
 use Rattle.ck_journal.specs.Works.{HoldsTagOf, HoldsWith}
 use Rattle.ck_journal.proofs.WorkLemmas.{computed}
-use Rattle.ck_operations.specs.Rows.{HoldsMessage, HoldsMessageOf}
+use Rattle.ck_operations.specs.Agreement.{OperationAgrees, active_operation}
+use Rattle.ck_operations.specs.Rows.{HoldsMessage}
 use Rattle.ck_operations.specs.declared.active_operations.Operation.{Operation}
 
 -- the operation is of this computation, which is that of the history's operation of the kind
@@ -28,9 +29,9 @@ pub record IsComputed (k : OperationKind) (h : History) (s : ℕ) (o : Operation
       → IfSome ready (λ running. HoldsTag computation running (message_in k h s ++ bytes))
 
 pub is-computed : (k : OperationKind) (h : History) (s : ℕ) (o : Operation)
-    → HoldsMessageOf (computation_in k h s) o (message_in k h s) → IsComputed k h s o
-is-computed k h s o holds =
-    let is = computed (computation_in k h s) _ (message_in k h s) holds in
+    → OperationAgrees o (active_operation k h s) → IsComputed k h s o
+is-computed k h s o agrees =
+    let is = computed (computation_in k h s) _ (message_in k h s) agrees.message in
     let tag : (message : List ℕ) → tag_of is.0 message ≡ tag_in k h s message =
     λ message. ap (λ found. option_map_or (λ c. tag_of c message) found []) (sym is.1) in
     record {

@@ -12,7 +12,7 @@ returns c =
     let session = c.args.session in
     let bytes = c.args.bytes.now in
     let message = message_in kind.Verify h session in
-    let is = is-computed kind.Verify h session _ c.in_ok-operation.ensures.agrees.message in
+    let is = is-computed kind.Verify h session _ c.in_ok-operation.ensures.agrees in
     tag-checked (message_error kind.Verify h session bytes) _ (tag_in kind.Verify h session bytes)
     c.args.signature.now _ c.check.ensures
     (c.tag_with.ensures is.computation message (is.ready _ bytes c.requires) is.holds

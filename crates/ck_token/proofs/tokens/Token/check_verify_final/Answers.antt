@@ -14,7 +14,7 @@ returns c =
     let h = c.args.self.now.history in
     let session = c.args.session in
     let message = message_in kind.Verify h session in
-    let is = is-computed kind.Verify h session _ c.in_ok-operation.ensures.agrees.message in
+    let is = is-computed kind.Verify h session _ c.in_ok-operation.ensures.agrees in
     tag-checked (final_error kind.Verify h session) _ (tag_in kind.Verify h session message)
     c.args.signature.now _ c.check.ensures
     (c.tag.ensures is.computation message is.holds ∙ is.tag message)
