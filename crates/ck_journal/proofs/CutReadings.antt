@@ -306,7 +306,8 @@ module _ (h g : History) (a : Alike h g) where
 
     tag-alike : (k : OperationKind) (s : ℕ) → is_active k h s ≡ true → (message : List ℕ)
         → tag_in k g s message ≡ tag_in k h s message
-    tag-alike k s t message = ap (λ c. tag_of c message) (b.computation k s t)
+    tag-alike k s t message =
+        ap (λ found. option_map_or (λ c. tag_of c message) found []) (b.computation k s t)
 
     message_in-alike : (k : OperationKind) (s : ℕ) → is_active k h s ≡ true
         → message_in k g s ≡ message_in k h s

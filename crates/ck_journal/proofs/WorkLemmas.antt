@@ -3,7 +3,6 @@ use Rattle.std.proofs.Common.{◌≡◌, ℕ, ◌<◌, ◌≤◌, Bool, true, fa
 use Rattle.std.proofs.Common.{Option, Some, None, length, not, refl, sym, ap, ◌∙◌, subst, arith}
 use Rattle.std.proofs.Common.{append-nil}
 use Rattle.std.specs.Prelude.{◌==◌, ◌||◌, IfSome}
-use Rattle.std.specs.List.{concat}
 use Rattle.std.proofs.Math.Dec.{eqb-suc-zero}
 use Rattle.ck_mac.specs.Computations.{Computation, HoldsTag}
 use Rattle.ck_mac.specs.declared.running_tags.RunningTag.{RunningTag}
@@ -13,11 +12,11 @@ use Rattle.ck_journal.specs.declared.operations.OperationKind.{OperationKind}
 use Rattle.ck_journal.specs.declared.works.Work.{Work}
 use Rattle.ck_journal.specs.Fronts.{IsFront}
 use Rattle.ck_journal.specs.Histories.{History, ◌◁◌, done, followed_by, entry_count}
-use Rattle.ck_journal.specs.OperationCalls.{Step, OperationStep, on_operation, operation_step}
-use Rattle.ck_journal.specs.Operations.{starts, piece_of, pieces_in, computation_in, message_in}
+use Rattle.ck_journal.specs.OperationCalls.{Step, on_operation, operation_step}
+use Rattle.ck_journal.specs.Operations.{starts, piece_of, pieces_in, computation_in}
 use Rattle.ck_journal.specs.Operations.{started_computation}
 use Rattle.ck_journal.specs.Works.{operation_of, changed_in, HoldsAfter, HoldsWith, IsDone}
-use Rattle.ck_journal.specs.Works.{bytes_taken}
+use Rattle.ck_journal.specs.Works.{bytes_taken, HoldsTagOf}
 
 count-later : (f : History) (later : List Entry) → entry_count f ≤ entry_count (followed_by f later)
 count-later f [] = omega arith
@@ -86,6 +85,13 @@ module _ (k : OperationKind) (s : ℕ) (c : Call) (w : Work) (f : History) where
   done-since h front on before is =
       subst (λ h. HoldsAfter h c w.running) (sym front.1)
       (done-later front.0 on (subst (λ h. changed_in k h s < w.entries) front.1 before) is)
+
+-- a running tag that is of what is computed shows that something is
+pub computed : (found : Option Computation) (running : RunningTag) (message : List ℕ)
+    → HoldsTagOf found running message
+    → (c : Computation) × (found ≡ Some c) × HoldsTag c running message
+computed None running message holds = absurd holds
+computed (Some c) running message holds = (c, refl, holds)
 
 -- a running tag that is ready for a call is so for the operation that the call's step is on
 pub ready-for : (h : History) (c : Call) (k : OperationKind) (s : ℕ) (x : Step)

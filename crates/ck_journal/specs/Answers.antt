@@ -354,9 +354,11 @@ final_error k h session = first_of (
     ∷ present_key_error k h (key_in k h session)
     ∷ [])
 
--- the tag of a message by the session's operation of the kind
+-- the tag of a message by the session's operation of the kind; the checks leave no call that reads
+-- it without one
 abbrev pub tag_in : OperationKind → History → ℕ → List ℕ → List ℕ
-tag_in k h session message = tag_of (computation_in k h session) message
+tag_in k h session message =
+    option_map_or (λ computation. tag_of computation message) (computation_in k h session) []
 
 abbrev pub verify_error : History → ℕ → List ℕ → List ℕ → Option RvError
 verify_error h session bytes signature = first_of (

@@ -2,12 +2,12 @@
 -- functions, Signing and MACing functions, Functions for verifying signatures and MACs)
 use Rattle.std.specs.Prelude.{ℕ, ◌^◌, Bool, true, false, List, [], ◌++◌, Option, Some, None}
 use Rattle.std.specs.Prelude.{◌==◌, ◌&&◌, ◌||◌, not, nat_lt, length, bit_and}
-use Rattle.std.specs.Prelude.{option_and_then, unwrap_or, if◌then◌else◌}
+use Rattle.std.specs.Prelude.{option_map, option_and_then, if◌then◌else◌}
 use Rattle.std.specs.List.{concat}
 use Rattle.ck_types.specs.Mechanisms.{digest_hash, hmac_hash, tag_length}
 use Rattle.ck_objects.specs.Records.{key_value}
 use Rattle.ck_types.specs.declared.errors.RvError.TheVariants as rv_error
-use Rattle.ck_types.specs.declared.hashes.Hash.TheVariants as hash
+use Rattle.ck_types.specs.declared.hashes.Hash.{Hash}
 use Rattle.ck_types.specs.declared.mechanisms.Mechanism.{Mechanism}
 use Rattle.ck_types.specs.declared.return_codes.Rv.{Rv}
 use Rattle.ck_types.specs.declared.return_codes.Rv.TheVariants as rv
@@ -89,27 +89,29 @@ is_active k (e ◁ h) s =
 
 -- ---- what it computes
 
--- the HMAC, or its first bytes, that a mechanism computes under a key; the checks of a start leave
--- no mechanism without a hash function and a length
-abbrev pub hmac_with : Mechanism → List ℕ → Computation
-hmac_with mechanism key =
-    hmac_by (unwrap_or (hmac_hash mechanism.kind) hash.Sha256) key
-    (unwrap_or (tag_length mechanism) 0)
+-- the HMAC by a hash function, or its first bytes, this many of them
+abbrev pub hmac_of : Option Hash → Option ℕ → List ℕ → Option Computation
+hmac_of (Some hash) (Some n) key = Some (hmac_by hash key n)
+hmac_of hash n key = None
+
+-- what a mechanism computes under a key, where it is an HMAC's and its parameter is as it must be
+abbrev pub hmac_with : Mechanism → List ℕ → Option Computation
+hmac_with mechanism key = hmac_of (hmac_hash mechanism.kind) (tag_length mechanism) key
 
 -- what a call starts to compute, by the history just before it
-abbrev pub started_computation : History → Option Call → Computation
+abbrev pub started_computation : History → Option Call → Option Computation
 started_computation h (Some (call.DigestInit session mechanism)) =
-    digest_by (unwrap_or (digest_hash mechanism.kind) hash.Sha256)
+    option_map digest_by (digest_hash mechanism.kind)
 started_computation h (Some (call.SignInit session mechanism key)) =
     hmac_with mechanism (key_value (named_attributes h key))
 started_computation h (Some (call.VerifyInit session mechanism key)) =
     hmac_with mechanism (key_value (named_attributes h key))
-started_computation h other = digest_by hash.Sha256
+started_computation h other = None
 
 -- what the session's last operation of the kind computes; no call changes the value of a key, so it
--- is by the key as it was when the operation started. Where there was none, this isn't read.
-abbrev pub computation_in : OperationKind → History → ℕ → Computation
-computation_in k (start b) s = digest_by hash.Sha256
+-- is by the key as it was when the operation started
+abbrev pub computation_in : OperationKind → History → ℕ → Option Computation
+computation_in k (start b) s = None
 computation_in k (e ◁ h) s =
     if starts (done e) k s then started_computation h (done e) else computation_in k h s
 

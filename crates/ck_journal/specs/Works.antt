@@ -1,8 +1,8 @@
 -- Work on a call's message that is done before the call is made
-use Rattle.std.specs.Prelude.{◌≡◌, ℕ, Bool, List, [], ◌++◌, Option, Some, ◌==◌, ◌||◌, not, length}
-use Rattle.std.specs.Prelude.{option_map, if◌then◌else◌}
+use Rattle.std.specs.Prelude.{◌≡◌, ℕ, Bool, List, [], ◌++◌, Option, Some, None, ◌==◌, ◌||◌, not}
+use Rattle.std.specs.Prelude.{length, option_map, if◌then◌else◌}
 use Rattle.std.specs.Option.{option_map_or}
-use Rattle.ck_mac.specs.Computations.{HoldsTag}
+use Rattle.ck_mac.specs.Computations.{Computation, HoldsTag}
 use Rattle.ck_mac.specs.declared.running_tags.RunningTag.{RunningTag}
 use Rattle.ck_journal.specs.declared.calls.Call.{Call}
 use Rattle.ck_journal.specs.declared.calls.Entry.{Entry}
@@ -41,16 +41,22 @@ changed_in k (e ◁ h) s = if changes_message k e s then entry_count h else chan
 
 -- ---- what work is of
 
+-- something is computed, and the running tag is of this computation and has taken in the message
+abbrev pub HoldsTagOf : Option Computation → RunningTag → List ℕ → Type 0
+HoldsTagOf (Some computation) running message = HoldsTag computation running message
+HoldsTagOf None running message = ⊥
+
 -- the running tag computes what the session's operation of the kind does, and has taken in its
 -- message and then these bytes
 abbrev pub HoldsWith : OperationKind → History → ℕ → List ℕ → RunningTag → Type 0
-HoldsWith k h s bytes running = HoldsTag (computation_in k h s) running (message_in k h s ++ bytes)
+HoldsWith k h s bytes running =
+    HoldsTagOf (computation_in k h s) running (message_in k h s ++ bytes)
 
 -- the running tag computes what the call's operation does, and has taken in the operation's message
 abbrev pub HoldsBefore : History → Call → RunningTag → Type 0
 HoldsBefore h c running =
     (o : OperationStep) → operation_step c ≡ Some o
-    → HoldsTag (computation_in o.kind h o.session) running (message_in o.kind h o.session)
+    → HoldsTagOf (computation_in o.kind h o.session) running (message_in o.kind h o.session)
 
 -- and then the bytes of the call
 abbrev pub HoldsAfter : History → Call → RunningTag → Type 0

@@ -14,7 +14,7 @@ use Rattle.ck_journal.specs.Objects.{object_named}
 use Rattle.ck_journal.specs.OperationCalls.{same_kind}
 use Rattle.ck_journal.specs.Operations.{is_active, computation_in, key_in, pieces_in}
 use Rattle.ck_journal.specs.Operations.{started_computation, init_key, names_kind}
-use Rattle.ck_journal.specs.Works.{changed_in, HoldsWith}
+use Rattle.ck_journal.specs.Works.{changed_in, HoldsWith, HoldsTagOf}
 use Rattle.ck_journal.proofs.NumberTests.{eqb-swap}
 use Rattle.ck_mac.specs.Computations.{Computation, HoldsTag}
 use Rattle.ck_mac.specs.declared.running_tags.RunningTag.{RunningTag}
@@ -23,7 +23,8 @@ use Rattle.ck_operations.specs.Agreement.{OptionAgrees, OperationAgrees, Operati
 use Rattle.ck_operations.specs.Moves.{Move, Stay, Start, Add, End, Does, OnlyIn, OnlyInSession}
 use Rattle.ck_operations.specs.Moves.{OnlyNamed, InAll, IsStartOf}
 use Rattle.ck_operations.specs.Rows.{is_operation, is_of_session, is_named, new_operation}
-use Rattle.ck_operations.specs.Rows.{Piece, IsReady, IsUpdateOfRows, IsUpdateOfOption}
+use Rattle.ck_operations.specs.Rows.{Piece, IsUpdateOf, IsUpdateOfRows, IsUpdateOfOption}
+use Rattle.ck_operations.specs.Rows.{HoldsMessageOf}
 use Rattle.ck_operations.specs.declared.active_operations.Operation.{Operation}
 use Rattle.ck_operations.proofs.RowLemmas.{find-kept, find-removed, operation-is, same_kind-eq}
 use Rattle.ck_operations.proofs.RowLemmas.{same_kind-swap}
@@ -62,7 +63,8 @@ started_by h e = record {
 }
 
 -- the operation by the facts of it
-abbrev operation_by : Bool → Computation → Option ℕ → List (List ℕ) → ℕ → Option ActiveOperation
+abbrev operation_by : Bool → Option Computation → Option ℕ → List (List ℕ) → ℕ
+    → Option ActiveOperation
 operation_by active computation key pieces changed =
     cond active
     (Some (record {
@@ -74,8 +76,8 @@ operation_by active computation key pieces changed =
     }))
     None
 
-by-added : (started : ActiveOperation) (bytes : List ℕ) (active : Bool) (computation : Computation)
-    (key : Option ℕ) (pieces : List (List ℕ)) (changed : ℕ)
+by-added : (started : ActiveOperation) (bytes : List ℕ) (active : Bool)
+    (computation : Option Computation) (key : Option ℕ) (pieces : List (List ℕ)) (changed : ℕ)
     → operation_by active computation key (pieces ++ bytes ∷ []) started.changed
     ≡ moved started (Add bytes) (operation_by active computation key pieces changed)
 by-added started bytes false computation key pieces changed = refl
@@ -112,14 +114,25 @@ idle-none k h s idle =
 -- the tag that is ready is right for the operation, where one is active
 abbrev IsReadyFor : Piece → Option ActiveOperation → Type 0
 IsReadyFor piece None = Unit {0}
-IsReadyFor piece (Some a) = IsReady a.computation a.message piece
+IsReadyFor piece (Some a) =
+    IfSome piece.ready (λ running. HoldsTagOf a.computation running (a.message ++ piece.bytes))
+
+-- an operation that has taken in a message has this one and the piece after an update
+message-added : (piece : Piece) (old new : Operation) (computation : Option Computation)
+    (message : List ℕ) → IsUpdateOf piece old new
+    → IfSome piece.ready (λ running. HoldsTagOf computation running (message ++ piece.bytes))
+    → HoldsMessageOf computation old message
+    → HoldsMessageOf computation new (message ++ piece.bytes)
+message-added piece old new None message added ready holds = absurd holds
+message-added piece old new (Some computation) message added ready holds =
+    added.message computation message ready holds
 
 added-same : (started : ActiveOperation) (piece : Piece) (old new : Option Operation)
     (before : Option ActiveOperation)
     → piece.entries ≡ started.changed → IsReadyFor piece before → IsUpdateOfOption piece old new
     → OptionAgrees old before → OptionAgrees new (moved started (Add piece.bytes) before)
 added-same started piece (Some a) (Some b) (Some before) now ready added same = record {
-  message = added.message before.computation before.message ready same.message;
+  message = message-added piece a b before.computation before.message added ready same.message;
   key = added.key ∙ same.key;
   updated = added.updated;
   changed = added.changed ∙ now;
@@ -255,7 +268,7 @@ module _ (h : History) (old : OperationsState) (agree : OperationsAgree h old) (
 
       agrees : OperationAgrees o (started_by h e)
       agrees = record {
-        message = subst (λ c. HoldsTag c running []) (sym of.computation) holds;
+        message = subst (λ c. HoldsTagOf c running []) (sym of.computation) holds;
         key = sym of.key;
         updated = refl;
         changed = now;

@@ -5,7 +5,7 @@ use Rattle.ck_journal.specs.Histories.{History}
 use Rattle.ck_journal.specs.Operations.{is_active, computation_in, key_in, message_in, is_updated}
 use Rattle.ck_journal.specs.Works.{changed_in}
 use Rattle.ck_mac.specs.Computations.{Computation}
-use Rattle.ck_operations.specs.Rows.{is_operation, HoldsMessage, operation_key, has_update}
+use Rattle.ck_operations.specs.Rows.{is_operation, HoldsMessageOf, operation_key, has_update}
 use Rattle.ck_operations.specs.Rows.{last_change}
 use Rattle.ck_operations.specs.declared.active_operations.Operation.{Operation}
 
@@ -18,7 +18,7 @@ pub record OperationsState : Type 0 where
 -- so far, whether there was an update, and how many entries there were before the one that last
 -- started it or added to its message
 pub record ActiveOperation : Type 0 where
-  pub computation : Computation
+  pub computation : Option Computation
   pub key : Option ℕ
   pub message : List ℕ
   pub updated : Bool
@@ -39,7 +39,7 @@ abbrev pub operation_at : OperationKind → History → ℕ → Option ActiveOpe
 operation_at k h s = if is_active k h s then Some (active_operation k h s) else None
 
 pub record OperationAgrees (o : Operation) (a : ActiveOperation) : Type 0 where
-  pub message : HoldsMessage a.computation o a.message
+  pub message : HoldsMessageOf a.computation o a.message
   pub key : operation_key o ≡ a.key
   pub updated : has_update o ≡ a.updated
   pub changed : last_change o ≡ a.changed

@@ -1,5 +1,5 @@
 -- What an entry does to operations
-use Rattle.std.specs.Prelude.{◌≡◌, ℕ, true, false, List, [], ◌∷◌, Option, ◌==◌, ◌&&◌}
+use Rattle.std.specs.Prelude.{◌≡◌, ℕ, true, false, List, [], ◌∷◌, Option, Some, ◌==◌, ◌&&◌}
 use Rattle.std.specs.Prelude.{option_and_then, if◌then◌else◌}
 use Rattle.ck_journal.specs.declared.calls.Entry.{Entry}
 use Rattle.ck_journal.specs.declared.operations.OperationKind.{OperationKind}
@@ -49,5 +49,5 @@ InAll move e = (k : OperationKind) (s : ℕ) → Does move e k s
 
 -- what the entry starts computes this, under the key of this number, by the history just before it
 pub record IsStartOf (h : History) (e : Entry) (c : Computation) (n : Option ℕ) : Type 0 where
-  pub computation : started_computation h (done e) ≡ c
+  pub computation : started_computation h (done e) ≡ Some c
   pub key : option_and_then (object_named h) (init_key (done e)) ≡ n

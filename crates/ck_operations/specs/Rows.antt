@@ -3,6 +3,7 @@ use Rattle.std.specs.Prelude.{◌≡◌, ℕ, Bool, true, false, List, ◌++◌,
 use Rattle.std.specs.Prelude.{◌&&◌, find, IfSome}
 use Rattle.ck_journal.specs.OperationCalls.{same_kind}
 use Rattle.ck_journal.specs.Operations.{names_kind}
+use Rattle.ck_journal.specs.Works.{HoldsTagOf}
 use Rattle.ck_journal.specs.declared.operations.OperationKind.{OperationKind}
 use Rattle.ck_mac.specs.Computations.{Computation, HoldsTag}
 use Rattle.ck_mac.specs.declared.running_tags.RunningTag.{RunningTag}
@@ -22,6 +23,10 @@ is_named session flags o = is_of_session session o && names_kind flags o.kind
 -- the operation is of this computation and has taken in the message
 abbrev pub HoldsMessage : Computation → Operation → List ℕ → Type 0
 HoldsMessage computation o message = HoldsTag computation o.running message
+
+-- something is computed, the operation is of this computation and has taken in the message
+abbrev pub HoldsMessageOf : Option Computation → Operation → List ℕ → Type 0
+HoldsMessageOf computation o message = HoldsTagOf computation o.running message
 
 -- the number of the key that it computes with
 abbrev pub operation_key : Operation → Option ℕ

@@ -5,7 +5,7 @@ use Rattle.std.specs.Prelude.{option_and_then, unwrap_or, is_none, if◌then◌e
 use Rattle.std.specs.Option.{option_map_or}
 use Rattle.ck_types.specs.Checks.{error_if, or_else, first_of}
 use Rattle.ck_objects.specs.KeyStates.{state_of_number}
-use Rattle.ck_types.specs.Mechanisms.{hmac_hash, tag_length}
+use Rattle.ck_types.specs.Mechanisms.{digest_hash, hmac_hash, tag_length}
 use Rattle.ck_objects.specs.Records.{is_key, state_in, protections_of, placement_of}
 use Rattle.ck_objects.specs.Records.{changed_error}
 use Rattle.ck_objects.specs.Templates.{class_of}
@@ -285,11 +285,17 @@ is_known (Some a) other code later e = refl
 -- a digest that starts had none before it, and its mechanism is a digest's
 pub digest-passed : (limits : Ranges) (h : History) (session : ℕ) (mechanism : Mechanism)
     → call_error limits h (call.DigestInit session mechanism) ≡ None
-    → is_active kind.Digest h session ≡ false
+    → (is_active kind.Digest h session ≡ false)
+    × (digest_hash mechanism.kind ≡ Some (unwrap_or (digest_hash mechanism.kind) hash.Sha256))
 digest-passed limits h session mechanism e =
-    error_if-none (is_active kind.Digest h session) rv_error.OperationActive
-    (or_else-none (error_if (is_active kind.Digest h session) rv_error.OperationActive) _
-    (later-passes (session_error h session) _ e)).0
+    let idle = later-passes (session_error h session) _ e in
+    let known =
+    later-passes (error_if (is_active kind.Digest h session) rv_error.OperationActive) _ idle in (
+      error_if-none (is_active kind.Digest h session) rv_error.OperationActive
+          (or_else-none (error_if (is_active kind.Digest h session) rv_error.OperationActive) _
+          idle).0,
+      is_known (digest_hash mechanism.kind) hash.Sha256 rv_error.MechanismInvalid _ known,
+    )
 
 -- a signing or verifying that starts had none before it, its mechanism is an HMAC's, and its key is
 -- there
@@ -336,6 +342,6 @@ module _ (h : History) (e : Entry) (o : OperationStep) (is : operation_step e.ca
 
 -- an HMAC by its parts
 pub hmac-is : (made : Hash) (key : List ℕ) (len : ℕ) (mechanism : Mechanism) (value : List ℕ)
-    → made ≡ unwrap_or (hmac_hash mechanism.kind) hash.Sha256 → key ≡ value
-    → len ≡ unwrap_or (tag_length mechanism) 0 → hmac_by made key len ≡ hmac_with mechanism value
+    → hmac_hash mechanism.kind ≡ Some made → key ≡ value → tag_length mechanism ≡ Some len
+    → hmac_with mechanism value ≡ Some (hmac_by made key len)
 hmac-is made key len mechanism value by same size = rw (by, same, size) refl

@@ -1,3 +1,4 @@
+pub mod ComputedLemmas
 pub mod CutLemmas
 pub mod DecisionLemmas
 pub mod Entering

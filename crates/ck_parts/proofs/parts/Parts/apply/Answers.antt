@@ -1,5 +1,5 @@
 use Rattle.std.proofs.Common.{◌≡◌, [], sym, ap, ◌∙◌, refl, Some, subst}
-use Rattle.std.specs.Prelude.{option_and_then, unwrap_or}
+use Rattle.std.specs.Prelude.{option_map, option_and_then, unwrap_or}
 use Rattle.std.proofs.lemmas.Option.{cond_some}
 use Rattle.ck_objects.specs.Records.{key_value}
 use Rattle.ck_mac.specs.Computations.{digest_by}
@@ -271,17 +271,19 @@ returns-in-StartDigest c = record {
       of-effect h e (change.StartDigest session hash) (sym c.in-StartDigest.is ∙ is) refl in
       let of = made.1 in
       let d = made.0 ∙ ap Some of.1 in
-      let idle = digest-passed limits h session of.0 (passed-done limits e h legal _ d) in
+      let passed = digest-passed limits h session of.0 (passed-done limits e h legal _ d) in
       record {
         sessions = sessions-kept h e _ d _ refl refl agree.sessions;
         objects = objects-kept h e _ d _ refl agree.objects;
         operations = c.start_digest.ensures h e now
             (record {
-              computation = ap (started_computation h) d ∙ ap digest_by (sym of.2);
+              computation =
+                  ap (started_computation h) d
+                  ∙ ap (option_map digest_by) (passed.1 ∙ ap Some (sym of.2));
               key = ap (λ d. option_and_then (object_named h) (init_key d)) d;
             })
             (does-start h e.caller e.call e.reply.rv e.reply.body kind.Digest session initialize
-            (ap operation_step of.1) (cond_some (is_ok e.reply.rv) e.call _ d).0 refl) idle
+            (ap operation_step of.1) (cond_some (is_ok e.reply.rv) e.call _ d).0 refl) passed.0
             agree.operations;
       };
 }
@@ -313,7 +315,8 @@ returns-in-StartHmac c = record {
             (record {
               computation =
                   ap (started_computation h) made.0 ∙ starts.computation
-                  ∙ sym (hmac-is hash key len of.0 _ same.0 value same.2);
+                  ∙ hmac-is hash key len of.0 _ (passed.1 ∙ ap Some (sym same.0)) value
+                  (passed.2 ∙ ap Some (sym same.2));
               key = ap (λ d. option_and_then (object_named h) (init_key d)) made.0
                   ∙ ap (option_and_then (object_named h)) starts.key ∙ named;
             })

@@ -1,26 +1,22 @@
 use Rattle.std.proofs.Common.{sym, ◌∙◌}
 use Rattle.std.specs.Prelude.{is_some}
 use Rattle.ck_types.specs.declared.return_codes.Rv.TheVariants as rv
-use Rattle.ck_mac.specs.Computations.{tag_of}
-use Rattle.ck_mac.proofs.LengthLemmas.{length-tag_of}
-use Rattle.ck_journal.specs.Answers.{final_error, bytes_reply}
-use Rattle.ck_journal.specs.Operations.{computation_in, message_in}
+use Rattle.ck_journal.specs.Answers.{final_error, bytes_reply, tag_in}
+use Rattle.ck_journal.specs.Operations.{message_in}
 use Rattle.ck_journal.specs.declared.replies.Body.TheVariants as body
 use Rattle.ck_parts.specs.Changes.{finish_change}
 use Rattle.ck_token.proofs.DecisionLemmas.{gives-bytes, memory-decided, room-given}
+use Rattle.ck_token.proofs.ComputedLemmas.{is-computed}
 use Rattle.ck_token.proofs.tokens.Token.finish_multiple_part.Goals as goal
 
 pub returns-in-Some : goal.returns-in-Some
 returns-in-Some c =
     let h = c.args.self.now.history in
     let k = c.args.kind in
-    let computation = computation_in k h c.args.session in
     let message = message_in k h c.args.session in
-    let holds = c.in-Ok.ensures.agrees.message in
-    let tag = tag_of computation message in
-    let len =
-    length-tag_of computation _ message holds message
-    ∙ sym (c.len.ensures computation message holds) in
+    let is = is-computed k h c.args.session _ c.in-Ok.ensures.agrees in
+    let tag = tag_in k h c.args.session message in
+    let len = is.size message ∙ sym (c.len.ensures is.computation message is.holds) in
     let given = c.in-Some.ensures tag len in
     (c.in-Ok.ensures.passes, sym given.0, given.1)
 
@@ -28,30 +24,24 @@ pub returns : goal.returns
 returns c =
     let h = c.args.self.now.history in
     let k = c.args.kind in
-    let computation = computation_in k h c.args.session in
     let message = message_in k h c.args.session in
-    let holds = c.in-Ok.ensures.agrees.message in
-    let tag = tag_of computation message in
-    let len =
-    length-tag_of computation _ message holds message
-    ∙ sym (c.len.ensures computation message holds) in
+    let is = is-computed k h c.args.session _ c.in-Ok.ensures.agrees in
+    let tag = tag_in k h c.args.session message in
+    let len = is.size message ∙ sym (c.len.ensures is.computation message is.holds) in
     let given =
     gives-bytes k c.args.session _ _ _ _ c.in_ok-bytes_decision.ensures
     (c.in_default.ensures tag len)
-    (c.tag.ensures computation message holds) in
+    (c.tag.ensures is.computation message is.holds ∙ is.tag message) in
     (c.in-Ok.ensures.passes, given.0, given.1)
 
 pub returns-in_err-bytes_decision : goal.returns-in_err-bytes_decision
 returns-in_err-bytes_decision c =
     let h = c.args.self.now.history in
     let k = c.args.kind in
-    let computation = computation_in k h c.args.session in
     let message = message_in k h c.args.session in
-    let holds = c.in-Ok.ensures.agrees.message in
-    let tag = tag_of computation message in
-    let len =
-    length-tag_of computation _ message holds message
-    ∙ sym (c.len.ensures computation message holds) in
+    let is = is-computed k h c.args.session _ c.in-Ok.ensures.agrees in
+    let tag = tag_in k h c.args.session message in
+    let len = is.size message ∙ sym (c.len.ensures is.computation message is.holds) in
     memory-decided (final_error k h c.args.session) (bytes_reply c.args.room tag)
     (λ b. finish_change k c.args.session rv.Ok b)
     (λ code. finish_change k c.args.session (rv.Error code) body.Empty) (is_some c.args.room) _
