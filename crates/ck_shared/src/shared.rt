@@ -29,9 +29,9 @@ const LOOKS: u32 = 24;
 const QUICK_LOOKS: u32 = 5;
 
 /// How often a thread lets others run between two of the later looks.
-const YIELDS: u32 = 40;
+const YIELDS: u32 = 160;
 
-/// Lets other threads run for some microseconds.
+/// Lets other threads run for some 50 microseconds.
 fn let_others_run() {
     for _ in 0..YIELDS {
         thread::yield_now();
