@@ -10,7 +10,8 @@ use Rattle.ck_types.specs.TokenLimits.{Ranges}
 use Rattle.ck_journal.specs.Answers.{IsLegal}
 use Rattle.ck_journal.specs.Histories.{History, ◌◁◌}
 use Rattle.ck_journal.specs.declared.calls.Call.{Call}
-use Rattle.ck_token.specs.Decisions.{takes_memory}
+use Rattle.ck_token.proofs.DecisionLemmas.{free-call}
+use Rattle.ck_token.specs.Decisions.{takes_memory, may_run_out}
 use Rattle.ck_journal.specs.TokenStates.{TokenState, entry_of, after, HasAnswered, IsAnswered}
 
 -- so many calls of the list are answered, and the others are left, the last first
@@ -67,7 +68,7 @@ module _ (old : TokenState) (calls : List (ℕ × Call)) where
       (token : TokenState)
       → left ≡ rest ++ c ∷ [] → Answers old calls count left token → length calls ≤ old.spare
       → All (λ (c : ℕ × Call). takes_memory c.1 ≡ false) calls
-      → (0 < token.spare) × (takes_memory c.1 ≡ false)
+      → (0 < token.spare) × (may_run_out token.limits token.history c.1 ≡ false)
   Answers-free count rest c left token l a enough free =
       let parts : calls ≡ a.answered ++ (c ∷ reverse rest) =
       a.parts ∙ ap (λ r. a.answered ++ r) (ap reverse l ∙ reverse-append rest (c ∷ [])) in
@@ -76,8 +77,9 @@ module _ (old : TokenState) (calls : List (ℕ × Call)) where
       let counted = a.counted in
       let room = a.room in (
         omega arith,
-        subst (λ (d : ℕ × Call). takes_memory d.1 ≡ false)
+        free-call token.limits token.history c.1
+            (subst (λ (d : ℕ × Call). takes_memory d.1 ≡ false)
             (ap (λ cs. get_or cs (length a.answered) c) parts
             ∙ get_or-append_seam a.answered c (reverse rest) c)
-            (free (length a.answered) c (omega arith)),
+            (free (length a.answered) c (omega arith))),
       )

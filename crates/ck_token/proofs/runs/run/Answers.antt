@@ -1,6 +1,5 @@
 use Rattle.std.proofs.Common.{arith}
 use Rattle.std.proofs.lemmas.Grind.{common_steps}
-use Rattle.ck_token.proofs.DecisionLemmas.{free-call}
 use Rattle.ck_token.proofs.RunLemmas.{Answers-none, Answers-more, Answers-free}
 use Rattle.ck_token.proofs.runs.run.Goals as goal
 
@@ -17,7 +16,7 @@ pub returns-in-Err-clause-succeeds : goal.returns-in-Err-clause-succeeds
 returns-in-Err-clause-succeeds c = λ enough free.
     let f = Answers-free _ _ _ c.pop.new.self.items (c.in-Some.caller, c.in-Some.call) _ _
     c.in-Some.ensures.items c.loop-caller.invariant enough free in
-    c.in-Err.ensures.succeeds f.0 (free-call _ _ (c.in-Some.call) f.1)
+    c.in-Err.ensures.succeeds f.0 f.1
 
 pub returns-in-Err-clause-run : goal.returns-in-Err-clause-run
 returns-in-Err-clause-run c = grind (arith, common_steps)
