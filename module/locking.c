@@ -8,6 +8,7 @@
 #include "module.h"
 
 #include <pthread.h>
+#include <sched.h>
 #include <unistd.h>
 
 /* Zeros where the own mutex is the lock. */
@@ -32,14 +33,26 @@ static void pause_for(int count) {
         __builtin_ia32_pause();
 }
 
-/* Most calls are short, so a thread that finds the mutex taken tries it again for some 30 us before
- * it sleeps. Each try moves the mutex's memory between processors, so the pauses grow. */
+/* Lets other threads run for some 10 us. */
+static void let_others_run(void) {
+    enum { YIELDS = 40 };
+    for (int i = 0; i < YIELDS; i++)
+        sched_yield();
+}
+
+/* Most calls are short, so a thread that finds the mutex taken looks again a few times at once. What
+ * lies under the mutex moves to another processor each time that another thread takes it, which
+ * takes longer than a call. So the later looks are further apart, and whoever has the mutex makes
+ * several calls in a row. After the last look the thread sleeps. */
 void take_own_mutex(void) {
-    enum { FIRST_PAUSE = 16, LAST_PAUSE = 256 };
-    for (int pause = FIRST_PAUSE; pause <= LAST_PAUSE; pause *= 2) {
+    enum { LOOKS = 24, QUICK_LOOKS = 5 };
+    for (int look = 0; look < LOOKS; look++) {
         if (pthread_mutex_trylock(&own_mutex) == 0)
             return;
-        pause_for(pause);
+        if (look < QUICK_LOOKS)
+            pause_for(1 << look);
+        else
+            let_others_run();
     }
     pthread_mutex_lock(&own_mutex);
 }
