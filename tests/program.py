@@ -3,10 +3,11 @@
 what it writes to standard output and standard error, and its status.
 
 The program is crates/ck_run/out/ck_run, which `rt ci` leaves and `rt run` in its folder builds, or
-the one that is named. For each test a line is printed that begins with passed or FAILED, and the
-status is 1 where one failed. This needs Linux, which has the device /dev/full.
+the one that is named. For each test a line is printed that begins with passed, FAILED or skipped,
+and the status is 1 where one failed. This needs Linux, which has the device /dev/full.
 """
 import os
+import resource
 import subprocess
 import sys
 
@@ -15,6 +16,9 @@ PROGRAM = os.path.join(HERE, "..", "crates", "ck_run", "out", "ck_run")
 
 LONGEST_LINE = 4_194_304
 SECONDS = 120
+
+# A thread's stack has the size of the limit on stacks. No address space has room for one of these.
+STACK_WITHOUT_ROOM = 1 << 48
 
 FIRST_CALLS = b"""\
 1 InitToken 31323334
@@ -171,6 +175,23 @@ def callers(tests):
     tests.end("callers in threads")
 
 
+def threads(tests):
+    most = resource.getrlimit(resource.RLIMIT_STACK)[1]
+    if most != resource.RLIM_INFINITY and most < STACK_WITHOUT_ROOM:
+        print("skipped program: threads that can't be made, since stacks are limited for good",
+              flush=True)
+        return
+    limits = (STACK_WITHOUT_ROOM, most)
+    refused = {"preexec_fn": lambda: resource.setrlimit(resource.RLIMIT_STACK, limits)}
+    for words in (["--callers", "1"], ["--callers", "8"]):
+        for script in (FIRST_CALLS, b""):
+            tests.check(words, script, b"", b"ck_run: thread not started\n", 3, **refused)
+    tests.check(["--callers", "8"], b"1 Nope\n", b"",
+                b"ck_run: line 1: bad script: no call has this name\n", 1, **refused)
+    tests.check([], FIRST_CALLS, FIRST_REPLIES, b"", 0, **refused)
+    tests.end("threads that can't be made")
+
+
 def arguments(tests):
     for words in (["--help"], ["-h"], ["--callers", "2", "--help"]):
         tests.check(words, b"Nope\n", HELP, b"", 0)
@@ -215,6 +236,7 @@ def main(program):
     bad_lines(tests)
     longest_lines(tests)
     callers(tests)
+    threads(tests)
     arguments(tests)
     readers(tests)
     writers(tests)

@@ -46,7 +46,11 @@ abbrev pub IsUnplayed : {K : Type 0} → List (ℕ × Call) → Script K Call Re
 IsUnplayed calls s =
     (vec_items s.steps ≡ calls_by s.caller.number calls) × IsNewCaller s.caller
 
+-- the script had a thread
+abbrev pub HadThread : {K : Type 0} → Script K Call Reply → Type 0
+HadThread s = s.started ≡ true
+
 -- the script was played: where it had a thread and that ended well, its caller has made all of its
 -- calls
 abbrev pub IsPlayedAll : {K : Type 0} → List (ℕ × Call) → Script K Call Reply → Type 0
-IsPlayedAll calls s = s.started ≡ true → s.outcome ≡ Ok tt → HasMadeAll calls s.caller
+IsPlayedAll calls s = HadThread s → s.outcome ≡ Ok tt → HasMadeAll calls s.caller

@@ -6,7 +6,9 @@ use Rattle.ck_plays.specs.Players.{WriteFailed}
 use Rattle.ck_plays.specs.Plays.{IsPlayed, most_reads}
 use Rattle.ck_plays.specs.declared.faults.PlayFault.{PlayFault}
 use Rattle.ck_plays.specs.declared.faults.PlayFault.TheVariants as fault
+use Rattle.ck_program.specs.Faults.{EndsWithoutThreads}
 use Rattle.ck_program.specs.ThreadPlays.{IsPlayedInThreads}
+use Rattle.ck_program.specs.declared.faults.ProgramFault.{ProgramFault}
 use Rattle.ck_program.specs.declared.options.Options.{Options}
 use Rattle.ck_program.specs.declared.options.Options.TheVariants as option
 
@@ -32,10 +34,10 @@ IsPlay (option.Help text) = ⊥
 
 -- what was read and written by these options, and how that ended
 abbrev pub IsDone : Options → Reading → Writing → (Reading → Type 0) → (Writing → Type 0)
-    → Result (Unit {0}) PlayFault → Type 0
+    → Result (Unit {0}) ProgramFault → Type 0
 IsDone option.InTurn read written is_read is_written result =
-    IsPlayed largest_limits most_reads read written is_read is_written result
+    EndsWithoutThreads (IsPlayed largest_limits most_reads read written is_read is_written) result
 IsDone (option.InThreads callers) read written is_read is_written result =
     IsPlayedInThreads largest_limits callers.count most_reads read written is_read is_written result
 IsDone (option.Help text) read written is_read is_written result =
-    is_read read × IsWritten (string_bytes text) written is_written result
+    is_read read × EndsWithoutThreads (IsWritten (string_bytes text) written is_written) result

@@ -11,9 +11,10 @@ use Rattle.ck_plays.specs.CallerScripts.{HasGoodScript, HasBadScript}
 use Rattle.ck_plays.specs.Devices.{Reading, Writing, wrote}
 use Rattle.ck_plays.specs.Players.{WriteFailed}
 use Rattle.ck_plays.specs.Readings.{IsUnread}
-use Rattle.ck_plays.specs.declared.faults.PlayFault.{PlayFault}
-use Rattle.ck_plays.specs.declared.faults.PlayFault.TheVariants as fault
+use Rattle.ck_plays.specs.declared.faults.PlayFault.TheVariants as play
 use Rattle.ck_program.specs.CallerCalls.{HasEntriesOf}
+use Rattle.ck_program.specs.declared.faults.ProgramFault.{ProgramFault}
+use Rattle.ck_program.specs.declared.faults.ProgramFault.TheVariants as fault
 
 -- the text of a journal of so many entries, and of an audit that finds it legal
 abbrev pub summary_text : ℕ → List ℕ
@@ -37,21 +38,29 @@ pub record WasPlayed (limits : Ranges) (callers most : ℕ) (read : Reading)
   pub good : HasGoodScript callers most read is_read calls
   pub summary : IsSummary limits callers calls text
 
--- what was read and written where a script is played in threads, by how that ends
+-- what was read and written where a script is played in threads, by how that ends: a thread is
+-- lacking only where the whole script was read and is good
 abbrev pub IsPlayedInThreads : Ranges → ℕ → ℕ → Reading → Writing → (Reading → Type 0)
-    → (Writing → Type 0) → Result (Unit {0}) PlayFault → Type 0
+    → (Writing → Type 0) → Result (Unit {0}) ProgramFault → Type 0
 IsPlayedInThreads limits callers most read written is_read is_written (Ok u) =
     (text : List ℕ) × WasPlayed limits callers most read is_read text
     × is_written (wrote written text)
 IsPlayedInThreads limits callers most read written is_read is_written
-    (Err (fault.Line number reason)) =
+    (Err (fault.Play (play.Line number reason))) =
     HasBadScript callers most read is_read number × is_written written
-IsPlayedInThreads limits callers most read written is_read is_written (Err fault.Read) =
-    IsUnread most read is_read fault.Read × is_written written
-IsPlayedInThreads limits callers most read written is_read is_written (Err fault.Turns) =
-    IsUnread most read is_read fault.Turns × is_written written
-IsPlayedInThreads limits callers most read written is_read is_written (Err fault.Memory) =
+IsPlayedInThreads limits callers most read written is_read is_written
+    (Err (fault.Play play.Read)) =
+    IsUnread most read is_read play.Read × is_written written
+IsPlayedInThreads limits callers most read written is_read is_written
+    (Err (fault.Play play.Turns)) =
+    IsUnread most read is_read play.Turns × is_written written
+IsPlayedInThreads limits callers most read written is_read is_written
+    (Err (fault.Play play.Memory)) =
     is_written written
-IsPlayedInThreads limits callers most read written is_read is_written (Err fault.Write) =
+IsPlayedInThreads limits callers most read written is_read is_written
+    (Err (fault.Play play.Write)) =
     (text : List ℕ) × WasPlayed limits callers most read is_read text
     × WriteFailed is_written written text
+IsPlayedInThreads limits callers most read written is_read is_written (Err fault.Thread) =
+    ((calls : List (ℕ × Call)) × HasGoodScript callers most read is_read calls)
+    × is_written written

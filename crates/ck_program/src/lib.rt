@@ -5,11 +5,13 @@
 #![tactic(auto)]
 
 mod arguments;
+mod faults;
 mod options;
 mod programs;
 mod thread_plays;
 
 pub use arguments::options_of;
 pub use ck_shared::Runtime;
+pub use faults::ProgramFault;
 pub use options::{ArgumentFault, BadArguments, Callers, Options};
 pub use programs::{play_threads, run, run_on_std};

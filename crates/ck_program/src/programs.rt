@@ -1,12 +1,13 @@
 //! The program over any options, reader and writer.
 ghost use Rattle.std.specs.Prelude.{◌≡◌, ◌⊎◌, ◌↔◌, Ok, Err};
 ghost use Rattle.ck_plays.specs.Devices.{Reading, Writing};
-ghost use Rattle.ck_plays.specs.Faults.{status_of};
-ghost use Rattle.ck_plays.specs.declared.faults.PlayFault.{PlayFault};
+ghost use Rattle.ck_program.specs.Faults.{status_of};
 ghost use Rattle.ck_program.specs.Programs.{IsDone, IsPlay};
 ghost use Rattle.ck_program.specs.ThreadPlays.{IsPlayedInThreads};
+ghost use Rattle.ck_program.specs.declared.faults.ProgramFault.{ProgramFault};
 ghost use Rattle.ck_program.specs.declared.options.BadArguments.{BadArguments};
 
+use crate::faults::ProgramFault;
 use crate::options::{ArgumentFault, Callers, Options};
 use crate::thread_plays::play_calls;
 use ck_journal::JournaledToken;
@@ -32,7 +33,7 @@ pub fn play_threads<G: JournaledToken + Send, R: Source, W: Sink, RT: Runtime>(
     reader: &mut R,
     writer: &mut W,
     most: u64,
-) -> Result<(), PlayFault>
+) -> Result<(), ProgramFault>
     ensures { (read : Reading) (written : Writing)
         → R.is_read reader.old read → W.is_written writer.old written
         → IsPlayedInThreads limits callers.count most read written
@@ -40,7 +41,8 @@ pub fn play_threads<G: JournaledToken + Send, R: Source, W: Sink, RT: Runtime>(
 {
     let calls = read_calls(alloc, reader, callers.count, most)?;
     let summary = play_calls::<G, RT>(rt, alloc, limits, callers, &calls)?;
-    write_all(writer, summary.as_bytes())
+    write_all(writer, summary.as_bytes())?;
+    Ok(())
 }
 
 /// Does what the options say with the largest limits.
@@ -50,19 +52,20 @@ fn play_options<G: JournaledToken + Send, R: Source, W: Sink, RT: Runtime>(
     options: Options,
     reader: &mut R,
     writer: &mut W,
-) -> Result<(), PlayFault>
+) -> Result<(), ProgramFault>
     ensures { (read : Reading) (written : Writing)
         → R.is_read reader.old read → W.is_written writer.old written
         → IsDone options read written (R.is_read reader.new) (W.is_written writer.new) result }
 {
     let limits = Limits::largest();
     match options {
-        Options::InTurn => play::<G, R, W>(alloc, limits, reader, writer),
+        Options::InTurn => play::<G, R, W>(alloc, limits, reader, writer)?,
         Options::InThreads(callers) => {
-            play_threads::<G, R, W, RT>(rt, alloc, limits, callers, reader, writer, MOST_READS)
+            play_threads::<G, R, W, RT>(rt, alloc, limits, callers, reader, writer, MOST_READS)?
         }
-        Options::Help(text) => write_all(writer, text.as_bytes()),
+        Options::Help(text) => write_all(writer, text.as_bytes())?,
     }
+    Ok(())
 }
 
 /// Does what the options say with the largest limits, and says with which status the program ends:
@@ -88,7 +91,7 @@ pub fn run<G: JournaledToken + Send, R: Source, W: Sink, RT: Eprint + Runtime>(
         → IsDone chosen read written
         (R.is_read reader.new) (W.is_written writer.new) (Ok tt) }
     ensures stopped { (chosen : Options) → options ≡ Ok chosen → (result ≡ 1) ⊎ (result ≡ 3)
-        → (fault : PlayFault) × (status_of fault ≡ result)
+        → (fault : ProgramFault) × (status_of fault ≡ result)
         × ((read : Reading) (written : Writing)
         → R.is_read reader.old read → W.is_written writer.old written
         → IsDone chosen read written

@@ -1,6 +1,6 @@
 //! Callers that play their calls in threads.
-ghost use Rattle.std.specs.Prelude.{◌≡◌, ◌++◌, ◌≤◌, ℕ, List, [], ◌∷◌, All, IfOk, OnOk};
-ghost use Rattle.std.specs.Prelude.{string_bytes};
+ghost use Rattle.std.specs.Prelude.{◌≡◌, ◌≢◌, ◌++◌, ◌≤◌, ◌↔◌, ℕ, List, [], ◌∷◌, All, IfOk};
+ghost use Rattle.std.specs.Prelude.{OnOk, Err, false, string_bytes};
 ghost use Rattle.ck_journal.specs.Answers.{IsLegal};
 ghost use Rattle.ck_journal.specs.Bases.{empty_base};
 ghost use Rattle.ck_journal.specs.Callers.{AreCallers};
@@ -8,10 +8,12 @@ ghost use Rattle.ck_journal.specs.Fronts.{IsFront};
 ghost use Rattle.ck_journal.specs.Histories.{start, entry_count};
 ghost use Rattle.ck_journal.specs.declared.calls.Call.{Call};
 ghost use Rattle.ck_callers.specs.Accounts.{name_of};
-ghost use Rattle.ck_program.specs.CallerCalls.{calls_by, IsNewCaller, HasMadeAll, HasEntriesOf};
-ghost use Rattle.ck_program.specs.CallerCalls.{IsUnplayed, IsPlayedAll, numbers, script_numbers};
+ghost use Rattle.ck_program.specs.CallerCalls.{calls_by, HadThread, IsNewCaller, HasMadeAll};
+ghost use Rattle.ck_program.specs.CallerCalls.{HasEntriesOf, IsUnplayed, IsPlayedAll, numbers};
+ghost use Rattle.ck_program.specs.CallerCalls.{script_numbers};
 ghost use Rattle.ck_program.specs.ThreadPlays.{IsSummary, summary_text};
 
+use crate::faults::ThreadFault;
 use crate::options::Callers;
 use ck_audit::{Verdict, audit_token};
 use ck_journal::{Call, JournaledToken};
@@ -79,15 +81,15 @@ fn scripts_of<K: TokenId>(
     Ok(scripts)
 }
 
-/// The caller of a script that was played to its end. A script that had no thread ends as one
-/// without memory.
-fn caller_of<K: TokenId>(script: Script<K>) -> Result<Caller<K>, NoMemory>
+/// The caller of a script that was played to its end.
+fn caller_of<K: TokenId>(script: Script<K>) -> Result<Caller<K>, ThreadFault>
     ensures made { (calls : List (ℕ × Call)) → IsPlayedAll calls script
         → IfOk result (HasMadeAll calls) }
     ensures number { IfOk result (λ caller. caller.number ≡ script.caller.number) }
+    ensures started { (result ≡ Err ThreadFault.NotStarted) ↔ (script.started ≡ false) }
 {
     if !script.started() {
-        return Err(NoMemory);
+        return Err(ThreadFault::NotStarted);
     }
     script.outcome()?;
     Ok(script.into_parts().0)
@@ -97,11 +99,12 @@ fn caller_of<K: TokenId>(script: Script<K>) -> Result<Caller<K>, NoMemory>
 fn callers_of<K: TokenId>(
     alloc: Global,
     scripts: Vec<Script<K>>,
-) -> Result<Vec<Caller<K>>, NoMemory>
+) -> Result<Vec<Caller<K>>, ThreadFault>
     ensures made { (calls : List (ℕ × Call)) → All (IsPlayedAll calls) scripts.items
         → IfOk result (λ callers. All (HasMadeAll calls) callers.items) }
     ensures numbers { IfOk result (λ callers.
         numbers callers.items ≡ script_numbers scripts.items) }
+    ensures started { All HadThread scripts.items → result ≢ Err ThreadFault.NotStarted }
 {
     let mut callers = Vec::with_capacity(alloc, scripts.len())?;
     for script in scripts {
@@ -118,7 +121,7 @@ fn play_scripts<K: TokenId + Send + Sync, G: JournaledToken + Send, R: Runtime>(
     token: &SharedToken<K, G, R>,
     callers: Vec<Caller<K>>,
     calls: &[(u32, Call)],
-) -> Result<Vec<Caller<K>>, NoMemory>
+) -> Result<Vec<Caller<K>>, ThreadFault>
     requires { All IsNewCaller callers.items }
     ensures made { IfOk result (λ callers. All (HasMadeAll calls.now) callers.items) }
     ensures numbers { IfOk result (λ back. numbers back.items ≡ numbers callers.items) }
@@ -135,7 +138,7 @@ fn play_shared<K: TokenId + Send + Sync, G: JournaledToken + Send, R: Runtime>(
     callers: u32,
     identity: NewIdentity,
     calls: &[(u32, Call)],
-) -> Result<G, NoMemory>
+) -> Result<G, ThreadFault>
     requires base { K.base ≡ empty_base }
     requires limits { limits ≡ K.limits }
     requires callers { (1 ≤ callers) × (callers ≤ 8) × (callers ≡ K.callers) }
@@ -179,11 +182,11 @@ pub(crate) fn play_calls<G: JournaledToken + Send, R: Runtime>(
     limits: Limits,
     callers: Callers,
     calls: &[(u32, Call)],
-) -> Result<String, NoMemory>
+) -> Result<String, ThreadFault>
     ensures { IfOk result (λ text.
         IsSummary limits callers.count calls.now (string_bytes text)) }
 {
     let identity = NewIdentity::new();
     let token = play_shared::<Brand, G, R>(rt, alloc, limits, callers.count, identity, calls)?;
-    summary_of(alloc, &token)
+    Ok(summary_of(alloc, &token)?)
 }

@@ -1,6 +1,6 @@
 //! The texts of return codes, of faults, of bad arguments and of a stopped run.
 use ck_plays::PlayFault;
-use ck_program::{ArgumentFault, BadArguments, options_of};
+use ck_program::{ArgumentFault, BadArguments, ProgramFault, options_of};
 use ck_script::BadLine;
 use ck_token::Stopped;
 use ck_types::Rv;
@@ -54,19 +54,20 @@ const CODES: [(u64, &str); 40] = [
     (0x150, "CKR_BUFFER_TOO_SMALL"),
 ];
 
-const FAULTS: [(&PlayFault, &str); 6] = [
+const FAULTS: [(&ProgramFault, &str); 7] = [
     (
-        &PlayFault::Line(u64::MAX, BadLine::NoCall),
+        &ProgramFault::Play(PlayFault::Line(u64::MAX, BadLine::NoCall)),
         "line 18446744073709551615: bad script: a line is a caller, a call and its arguments",
     ),
     (
-        &PlayFault::Line(3, BadLine::CallerAbove(2)),
+        &ProgramFault::Play(PlayFault::Line(3, BadLine::CallerAbove(2))),
         "line 3: bad script: the caller is a number from 1 to 2",
     ),
-    (&PlayFault::Read, "read fault"),
-    (&PlayFault::Write, "write fault"),
-    (&PlayFault::Memory, "out of memory"),
-    (&PlayFault::Turns, "reader does not end"),
+    (&ProgramFault::Play(PlayFault::Read), "read fault"),
+    (&ProgramFault::Play(PlayFault::Write), "write fault"),
+    (&ProgramFault::Play(PlayFault::Memory), "out of memory"),
+    (&ProgramFault::Play(PlayFault::Turns), "reader does not end"),
+    (&ProgramFault::Thread, "thread not started"),
 ];
 
 fn check_text(
@@ -98,7 +99,11 @@ fn other_numbers_are_no_codes(rt: HostRuntime) {
     assert!(rt; Rv::of(0x1).is_none() && Rv::of(0x5).is_none() && Rv::of(0x151).is_none());
 }
 
-fn check_faults(rt: &impl Abort, alloc: Global, rows: &[(&PlayFault, &str)]) -> Result<(), Fail> {
+fn check_faults(
+    rt: &impl Abort,
+    alloc: Global,
+    rows: &[(&ProgramFault, &str)],
+) -> Result<(), Fail> {
     for (fault, want) in rows {
         check_text(rt, alloc, *fault, want)?;
     }

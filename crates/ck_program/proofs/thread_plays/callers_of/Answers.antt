@@ -2,7 +2,7 @@ use Rattle.std.proofs.Common.{sym, subst, arith}
 use Rattle.std.specs.Prelude.{All, vec_items}
 use Rattle.std.specs.Vec.Iter.{into_iter_items}
 use Rattle.std.proofs.lemmas.List.Elements.{All-push, All-tail}
-use Rattle.ck_program.specs.CallerCalls.{script_numbers, HasMadeAll, IsPlayedAll}
+use Rattle.ck_program.specs.CallerCalls.{script_numbers, HadThread, HasMadeAll, IsPlayedAll}
 use Rattle.ck_program.proofs.NumberLemmas.{one_moved}
 use Rattle.ck_program.proofs.thread_plays.callers_of.Goals as goal
 
@@ -25,6 +25,9 @@ loop-script-preserved g c = (
       c.in-Some.script (script_numbers (vec_items c.args.scripts)) c.loop-script.invariant.3
       c.in-Some.ensures.steps.0 c.in_ok-push.ensures.items
       c.in_ok-caller.ensures.number,
+  λ all.
+      All-tail HadThread c.in-Some.script (into_iter_items c.next.new.self)
+      (subst (All HadThread) c.in-Some.ensures.steps.0 (c.loop-script.invariant.4 all)),
 )
 
 pub returns-clause-made : goal.returns-clause-made
