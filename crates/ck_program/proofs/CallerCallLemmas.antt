@@ -1,7 +1,7 @@
 -- All callers have made their calls
-use Rattle.std.proofs.Common.{◌≡◌, ℕ, zero, suc, ◌+◌, ◌==◌, ◌≤◌, ◌<◌, ◌≢◌, ◌||◌, Bool, true, false, List}
-use Rattle.std.proofs.Common.{[], ◌∷◌, ◌++◌, Ok, length, map, take, get_or, if◌then◌else◌, refl, sym, ap}
-use Rattle.std.proofs.Common.{◌∙◌, subst, arith}
+use Rattle.std.proofs.Common.{◌≡◌, ℕ, zero, suc, ◌+◌, ◌==◌, ◌≤◌, ◌<◌, ◌≢◌, ◌||◌, Bool, true}
+use Rattle.std.proofs.Common.{false, List, [], ◌∷◌, ◌++◌, Ok, length, map, take, get_or}
+use Rattle.std.proofs.Common.{if◌then◌else◌, refl, sym, ap, ◌∙◌, subst, arith}
 use Rattle.std.specs.Prelude.{All, Result, Err, MatchBool, MatchResult, vec_items}
 use Rattle.std.specs.List.{AllZip, list_any}
 use Rattle.std.proofs.Math.Seq.{take-suc}
@@ -20,7 +20,8 @@ use Rattle.ck_callers.specs.Callers.{CallerState, IsSettled, are_all, new_caller
 use Rattle.ck_callers.specs.Runs.{IsPlayed}
 use Rattle.ck_callers.specs.Scripts.{answered}
 use Rattle.ck_callers.specs.declared.scripts.Script.{Script}
-use Rattle.ck_program.specs.CallerCalls.{calls_by, IsNewCaller, HasMadeAll, HasEntriesOf, IsUnplayed, IsPlayedAll}
+use Rattle.ck_program.specs.CallerCalls.{calls_by, IsNewCaller, HasMadeAll, HasEntriesOf}
+use Rattle.ck_program.specs.CallerCalls.{IsUnplayed, IsPlayedAll}
 
 -- ---- the calls of a caller
 
@@ -50,11 +51,12 @@ calls_by-next number i calls d within =
 -- ---- one caller
 
 -- before the first call
-pub none_made : (accounts : List AccountState) → All IsNewCaller (map (new_caller empty_base) accounts)
+pub none_made : (accounts : List AccountState)
+    → All IsNewCaller (map (new_caller empty_base) accounts)
 none_made [] = All-nil IsNewCaller
 none_made (a ∷ accounts) =
-    All-cons IsNewCaller (new_caller empty_base a) (map (new_caller empty_base) accounts) (refl, refl)
-    (none_made accounts)
+    All-cons IsNewCaller (new_caller empty_base a) (map (new_caller empty_base) accounts)
+    (refl, refl) (none_made accounts)
 
 all_answered : (result : Result (Unit {0}) NoMemory) (n m : ℕ) → result ≡ Ok tt
     → MatchResult result (λ done. n ≡ m) (λ none. n < m) → n ≡ m
@@ -70,14 +72,15 @@ pub played_all : {K : Type 0} (calls : List (ℕ × Call)) (old new : Script K C
     → IsUnplayed calls old → IsPlayed old new → IsPlayedAll calls new
 played_all calls old new unplayed played started done =
     let p = (in_thread _ _ new.started started played).0 in
-    let all = all_answered new.outcome (length (vec_items new.replies)) (length (vec_items old.steps)) done p.made in (
+    let all = all_answered new.outcome (length (vec_items new.replies))
+    (length (vec_items old.steps)) done p.made in (
       subst (λ n. HasEntriesOf calls n new.caller.last) (sym p.number) (record {
         replies = vec_items new.replies;
         own = p.own
             ∙ ap (λ own. answered old.caller.number own (vec_items new.replies)
             (entries_by old.caller.number old.caller.last)) unplayed.0
-            ∙ ap (answered old.caller.number (calls_by old.caller.number calls) (vec_items new.replies))
-            unplayed.1.0;
+            ∙ ap (answered old.caller.number (calls_by old.caller.number calls)
+            (vec_items new.replies)) unplayed.1.0;
         all = all ∙ ap length unplayed.0;
       }),
       subst (λ h. IsFront h new.caller.seen) unplayed.1.1 p.front,
@@ -97,8 +100,8 @@ all_played_all calls (s ∷ old) (t ∷ new) each unplayed =
 -- ---- all callers are given back
 
 module _ (calls : List (ℕ × Call)) (h : History) where
-  of_caller : (number : ℕ) (c : CallerState) → c.number ≡ number → IsSettled h c → HasMadeAll calls c
-      → HasEntriesOf calls number h
+  of_caller : (number : ℕ) (c : CallerState) → c.number ≡ number → IsSettled h c
+      → HasMadeAll calls c → HasEntriesOf calls number h
   of_caller number c same settled made = subst (λ n. HasEntriesOf calls n h) same (record {
     replies = made.0.replies;
     own = settled.own ∙ made.0.own;
@@ -123,8 +126,8 @@ module _ (calls : List (ℕ × Call)) (h : History) where
       (All-tail (HasMadeAll calls) c callers made))
 
   last_or : (number most : ℕ) (is_last : Bool) → (number == suc most) ≡ is_last → number ≤ suc most
-      → (number ≡ suc most → HasEntriesOf calls number h) → (number ≤ most → HasEntriesOf calls number h)
-      → HasEntriesOf calls number h
+      → (number ≡ suc most → HasEntriesOf calls number h)
+      → (number ≤ most → HasEntriesOf calls number h) → HasEntriesOf calls number h
   last_or number most true same high last earlier = last (eqb-true number (suc most) same)
   last_or number most false same high last earlier =
       let differ : number ≢ suc most = λ e.
@@ -137,9 +140,11 @@ module _ (calls : List (ℕ × Call)) (h : History) where
       → (number : ℕ) → 1 ≤ number → number ≤ most → HasEntriesOf calls number h
   of_each zero callers all settled made number low high = absurd (omega arith)
   of_each (suc most) callers all settled made number low high =
-      let parts = and_parts (list_any (λ c. c.number == suc most) callers) (are_all most callers) all in
+      let parts = and_parts (list_any (λ c. c.number == suc most) callers) (are_all most callers)
+      all in
       last_or number most (number == suc most) refl high
-      (λ e. subst (λ n. HasEntriesOf calls n h) (sym e) (of_one (suc most) callers parts.0 settled made))
+      (λ e. subst (λ n. HasEntriesOf calls n h) (sym e)
+      (of_one (suc most) callers parts.0 settled made))
       (λ below. of_each most callers parts.1 settled made number low below)
 
   -- and the token was new
@@ -148,4 +153,5 @@ module _ (calls : List (ℕ × Call)) (h : History) where
   was_new zero callers some all settled made = absurd (omega arith)
   was_new (suc most) [] some all settled made = cc all
   was_new (suc most) (c ∷ callers) some all settled made =
-      front_trans (start empty_base) c.seen h (made 0 c (omega arith)).1 (settled 0 c (omega arith)).front
+      front_trans (start empty_base) c.seen h (made 0 c (omega arith)).1
+      (settled 0 c (omega arith)).front

@@ -1,6 +1,7 @@
 -- All callers are given back where their numbers are those that they were made with
 use Rattle.std.proofs.Common.{◌≡◌, ℕ, zero, suc, ◌==◌, ◌≤◌, ◌≢◌, ◌&&◌, ◌||◌, Bool, true, false}
-use Rattle.std.proofs.Common.{List, [], ◌∷◌, ◌++◌, map, append_assoc, refl, sym, ap, ap₂, ◌∙◌, arith}
+use Rattle.std.proofs.Common.{List, [], ◌∷◌, ◌++◌, map, append_assoc, refl, sym, ap, ap₂, ◌∙◌}
+use Rattle.std.proofs.Common.{arith}
 use Rattle.std.specs.List.{AllZip, list_any}
 use Rattle.std.specs.Prelude.{MatchBool, vec_items}
 use Rattle.std.proofs.lemmas.Bool.{eq-eqb}

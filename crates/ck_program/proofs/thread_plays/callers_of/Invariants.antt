@@ -5,8 +5,8 @@ use Rattle.ck_program.specs.CallerCalls.{HadThread, HasMadeAll, IsPlayedAll, num
 use Rattle.ck_program.specs.CallerCalls.{script_numbers}
 use Rattle.ck_program.proofs.thread_plays.callers_of.Given as goal
 
--- the callers so far have made all of their calls; those of the scripts that are left have the other
--- numbers; and where all scripts had threads, so had these
+-- the callers so far have made all of their calls; those of the scripts that are left have the
+-- other numbers; and where all scripts had threads, so had these
 abbrev pub invariant-loop-script : goal.invariant-loop-script
 invariant-loop-script g l =
     (goal.iterator-loop-script g).can_next l.script-iterator
