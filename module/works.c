@@ -62,7 +62,17 @@ static bool give_work(struct call *call) {
     return give(&work->call, call);
 }
 
-/* Begins the work under the lock, and answers whether there is work to be done. */
+/* Finds out whether calls are made by work: where a journal's file is kept, they go by lines. */
+static CK_RV find_whether_by_work(bool *is_by_work) {
+    CK_RV code = enter();
+    if (code != CKR_OK)
+        return code;
+    *is_by_work = !library.journal.is_kept;
+    return leave(CKR_OK);
+}
+
+/* Begins the work under the lock, and answers whether there is work to be done. Since the message
+ * was copied, another thread may have initialized the library anew, with a journal's file. */
 static bool begin_work(struct work *work) {
     if (library.journal.is_kept)
         return false;
@@ -72,10 +82,14 @@ static bool begin_work(struct work *work) {
 }
 
 CK_RV enter_with_work(struct call *call) {
-    if (!is_long(call))
+    bool is_by_work = false;
+    CK_RV code = is_long(call) ? find_whether_by_work(&is_by_work) : CKR_OK;
+    if (code != CKR_OK)
+        return code;
+    if (!is_by_work)
         return enter();
     bool is_given = give_work(call);
-    CK_RV code = enter();
+    code = enter();
     if (code != CKR_OK)
         return code;
     if (!is_given)
