@@ -163,8 +163,9 @@ fn extend<K: TokenId, G: JournaledToken, W: Wait>(
     unreachable!()
 }
 
-/// Waits until the history is no shorter than another front of it.
-fn await_front<K: TokenId, W: Wait>(rt: &W, other: &Front<K>, front: &Front<K>)
+/// Shows that the history is no shorter than another front of it. What runs finds it so at the
+/// first look.
+fn show_front<K: TokenId, W: Wait>(rt: &W, other: &Front<K>, front: &Front<K>)
     ensures { IsFront other.now front.now }
 {
     // It turns once: the history under the lock has all entries, which no contract says of the
@@ -211,14 +212,15 @@ impl<K: TokenId, G: JournaledToken, R: Wait + Drop> Locked<K, G, R> {
         }
     }
 
-    /// Takes a caller back. It may wait, until the history is as long as that of the caller.
+    /// Takes a caller back: its entries are those of its calls, and what it knows is a front of the
+    /// history.
     pub(crate) fn settle<W: Wait>(&mut self, rt: &W, caller: Caller<K>)
         ensures same { self.new ≡ self.old }
         ensures settled { IsSettled self.old.history caller }
     {
         let mut caller = caller;
         caller.compare(&mut self.books);
-        await_front(rt, caller.known().front(), self.known.front());
+        show_front(rt, caller.known().front(), self.known.front());
     }
 
     /// The token without its lock. It waits for those who still read the board.
@@ -240,20 +242,21 @@ impl<K: TokenId, G: JournaledToken, R: Wait + Drop> Locked<K, G, R> {
         &self.token
     }
 
-    /// Begins the work on the bytes that a call brings, and gives the history as it then is. `None`
-    /// where this saves nothing.
-    pub fn begin(&self, call: &Call) -> Option<(Work, Front<K>)>
+    /// Begins the work on the message of a call, and gives it with the history at which it was
+    /// begun. `None` where this saves nothing.
+    pub(crate) fn begin(&self, call: &Call) -> Option<(Work, Front<K>)>
         ensures { IfSome result (λ begun. IsBegun begun.1 call.now begun.0) }
     {
         let work = self.token.work(call)?;
         Some((work, self.known.front().duplicate()))
     }
 
-    /// Waits until the history has all entries of a front of it.
-    pub fn catch_up<W: Wait>(&self, rt: &W, front: &Front<K>)
+    /// Shows that the history has all entries of a front of it. What runs finds it so at the first
+    /// look.
+    pub(crate) fn show_front<W: Wait>(&self, rt: &W, front: &Front<K>)
         ensures { IsFront front.now self.now.history }
     {
-        await_front(rt, front, self.known.front());
+        show_front(rt, front, self.known.front());
     }
 
     /// One call of a caller. Where there is no memory for it, nothing has changed. Where the call
@@ -276,8 +279,8 @@ impl<K: TokenId, G: JournaledToken, R: Wait + Drop> Locked<K, G, R> {
         self.step_after(rt, alloc, caller, call, None)
     }
 
-    /// As `step`, by work on the bytes of the call that is done, where there is any.
-    pub fn step_after<W: Wait>(
+    /// As `step`, by work on the message of the call that is done, where there is any.
+    pub(crate) fn step_after<W: Wait>(
         &mut self,
         rt: &W,
         alloc: Global,
