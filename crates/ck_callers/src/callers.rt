@@ -151,8 +151,8 @@ impl<K: TokenId> Caller<K> {
         self.seen = known.duplicate();
     }
 
-    /// Shows, by the books of a history that goes on from all that it knows, that this has no other
-    /// entries of it than those of its replies. It changes nothing.
+    /// Shows that a history which goes on from what the caller knows has no entries of it except
+    /// those of its calls. The books are those of that history. Nothing changes.
     pub fn compare(&mut self, books: &mut CallBooks<K>)
         ensures settled { (h : History) → books.old ≡ call_counts h
             → IsFront self.old.seen h → IsSettled h self.old }
@@ -163,8 +163,8 @@ impl<K: TokenId> Caller<K> {
     }
 }
 
-/// What a board answers, and the history after which that is the answer. This history is no shorter
-/// than what the caller knows and has all entries of the caller.
+/// What this copy of the board answers, and the history of which that is the answer. It is no
+/// shorter than what the caller knows and has all entries of the caller.
 fn look<K: TokenId>(
     board: &BoardCopy<K>,
     account: &Account<K>,
@@ -187,7 +187,7 @@ fn look<K: TokenId>(
     Some((status_on(board.board(), ask), newest.duplicate()))
 }
 
-/// What a look at the board that is published finds. `None` also where it can't be read.
+/// The same, of the copy that is published. `None` also where it can't be read.
 fn look_through<K: TokenId>(
     reader: &mut ReadHandle<BoardCopy<K>>,
     account: &Account<K>,
@@ -202,9 +202,7 @@ fn look_through<K: TokenId>(
         reply_of found.0 ≡ answer K.limits found.1.history (call_of ask)) }
 {
     let board = reader.enter()?;
-    let found = look(&*board, account, seen, ask);
-    drop(board);
-    found
+    look(&*board, account, seen, ask)
 }
 
 impl<K: TokenId> Caller<K> {

@@ -6,7 +6,8 @@ use ck_types::NoMemory;
 use std::alloc::Global;
 use std::sync::Wait;
 
-/// What answers callers, their calls and what they ask: a shared token, or what stands before one.
+/// What answers the calls and the questions of callers: a shared token, or something that hands
+/// them on to one.
 pub trait Gate<K: TokenId> {
     ghost use Rattle.std.specs.Prelude.{◌≡◌, IfOk, OnErr, IfSome, IfNone, OnSome};
     ghost use Rattle.ck_journal.specs.Answers.{IsLegal, answer};

@@ -2,8 +2,8 @@ use crate::histories::{HistoryId, NewHistory};
 use crate::ledgers::NewLedgers;
 use std::marker::Brand;
 
-/// Which token it is: its one history, how many callers it has, and the ledger of each caller's
-/// calls. A type stands for them.
+/// Which shared token it is: its one history, how many callers it has, and the ledger of each
+/// caller's calls. All that has one such type is of one token.
 pub trait TokenId: HistoryId {
     ghost use Rattle.std.specs.Prelude.{ℕ};
 
@@ -18,7 +18,8 @@ impl TokenId for Brand {
     ghost callers = { 1 };
 }
 
-/// What a type may come to stand for: a history without entries, and ledgers without calls.
+/// A history without entries and ledgers without calls, whose names a type takes over when a token
+/// is opened.
 pub struct NewIdentity {
     pub history: NewHistory,
     pub ledgers: NewLedgers,

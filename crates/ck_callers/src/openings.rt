@@ -122,7 +122,6 @@ impl<K: TokenId, R: Wait + Drop> Opened<K, R> {
         let NewIdentity { history, ledgers } = identity;
         let (head, front) = history.named::<K>();
         let known = KnownHistory::new(&front);
-        drop(front);
         let (books, accounts) = ledgers.named::<K>(alloc, callers)?;
         let (writer, callers) = writer_and_callers(rt, alloc, board, callers, accounts, &known)?;
         Ok(Opened {
