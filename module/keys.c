@@ -6,10 +6,8 @@
 
 #include <string.h>
 
-/* The longest key. What a template asks for beyond it the token refuses. */
-enum { LONGEST_KEY = 4096 };
-
-/* How many random bytes a key takes by its template. */
+/* How many random bytes a key takes by its template. A longer one than `LONGEST_KEY` the token
+ * refuses. */
 static size_t key_length(const CK_ATTRIBUTE *attributes, CK_ULONG count) {
     for (CK_ULONG i = 0; i < count; i++) {
         const CK_ATTRIBUTE *attribute = &attributes[i];
@@ -50,7 +48,7 @@ CK_RV C_GenerateKey(CK_SESSION_HANDLE session, CK_MECHANISM_PTR mechanism,
     return code == CKR_OK ? leave(generate_key(call, key)) : code;
 }
 
-/* Whether a function may go on that is about bytes and a session alone. */
+/* Whether a function may go on that is only about bytes and a session. */
 static CK_RV check_session(CK_SESSION_HANDLE session, const CK_BYTE *bytes, CK_ULONG length) {
     const struct call call = {.name = GET_SESSION_INFO, .session = session};
     if (bytes == NULL && length > 0)

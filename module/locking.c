@@ -2,8 +2,8 @@
  * The lock that calls take, and what a fork does to the library.
  *
  * The lock is the module's own mutex, or one that is made by the application's functions (PKCS #11
- * Base 3.0, General-purpose functions, C_Initialize). In the latter case the own mutex is held for
- * a moment alone, since the application's threads may be none that it knows.
+ * Base 3.0, General-purpose functions, C_Initialize). In the latter case the own mutex is held only
+ * for a moment, since the application's threads may be none that it knows.
  */
 #include "module.h"
 
@@ -40,10 +40,10 @@ static void let_others_run(void) {
         sched_yield();
 }
 
-/* Most calls are short, so a thread that finds the mutex taken looks again a few times at once. What
- * lies under the mutex moves to another processor each time that another thread takes it, which
- * takes longer than a call. So the later looks are further apart, and whoever has the mutex makes
- * several calls in a row. After the last look the thread sleeps. */
+/* Most calls are short, so a thread that finds the mutex taken looks again a few times at once.
+ * What lies under the mutex moves to another processor each time that another thread takes it,
+ * which takes longer than a call. So the later looks are further apart, and whoever has the mutex
+ * makes several calls in a row. After the last look the thread sleeps. */
 void take_own_mutex(void) {
     enum { LOOKS = 24, QUICK_LOOKS = 5 };
     for (int look = 0; look < LOOKS; look++) {

@@ -38,7 +38,7 @@ struct buffer {
     size_t room;
 };
 
-/* Makes room for so many more bytes. Afterwards `bytes` isn't NULL, also where none are asked for. */
+/* Makes room for this many more bytes. Afterwards `bytes` isn't NULL, also where `more` is 0. */
 bool buffer_reserve(struct buffer *buffer, size_t more);
 bool buffer_add(struct buffer *buffer, const void *bytes, size_t length);
 bool buffer_add_text(struct buffer *buffer, const char *text);
@@ -62,7 +62,8 @@ struct journal {
     struct buffer text; /* what is left to be written */
 };
 
-/* Everything between C_Initialize and C_Finalize. It is read and written under the lock alone. */
+/* Everything between C_Initialize and C_Finalize. It is read and written only under the lock, and
+ * in the child of a fork before it has threads. */
 struct library {
     bool is_initialized;
     struct token token;
@@ -145,6 +146,7 @@ enum call_name {
 
 enum {
     LONGEST_PIN = 64,
+    LONGEST_KEY = 4096, /* in bytes */
     LONGEST_SIGNATURE = 64,
     LONGEST_PARAMETER = 8,
     LONGEST_MESSAGE = 1 << 20,
@@ -156,7 +158,7 @@ struct bytes {
     size_t length;
 };
 
-/* The room for a digest or a signature. Without room its length alone is asked for. */
+/* The room for a digest or a signature. Without room only its length is asked for. */
 struct room {
     bool has_room;
     CK_ULONG length;
@@ -225,8 +227,9 @@ bool write_line(const struct call *call, uint32_t caller, struct buffer *line);
 
 /* ---- Work on long messages: works.c */
 
-/* Takes the lock for a call: CKR_OK, or else the code to be returned at once. The bytes of a long
- * message are taken in before, while the lock is free; then the call has work. */
+/* Takes the lock for a call: CKR_OK, or else the code to be returned at once. A long message is
+ * copied before (the call then has work) and, where the token begins work on it, taken in while the
+ * lock is free. */
 CK_RV enter_with_work(struct call *call);
 
 /* Makes the call by its work. Answers false where that doesn't count any more. */
@@ -254,14 +257,14 @@ CK_RV answer_update(struct call call, CK_FLAGS kind);
 /* Opens and locks the file. */
 bool open_journal(const char *word, const char *path);
 
-/* Begins the text of a new journal, where the file is empty or has a part of its header alone. */
+/* Begins the text of a new journal, where the file is empty or has only a part of its header. */
 bool is_new_journal(void);
 bool begin_journal(void);
 
 /* Makes room for a line with its end and a label, so that these can be added without a fault. */
 bool reserve_entry(size_t length);
 
-/* Adds a line and the reply to it, or the line alone where there is no memory for the reply. */
+/* Adds a line and the reply to it, or only the line where there is no memory for the reply. */
 void add_entry(const uint8_t *line, size_t length);
 
 /* Keeps the label, and adds it to the journal. */

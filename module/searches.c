@@ -16,7 +16,8 @@ CK_RV C_FindObjectsInit(CK_SESSION_HANDLE session, CK_ATTRIBUTE_PTR attributes, 
     return answer(&call);
 }
 
-/* What was found before a piece that isn't answered is still given: no later call would find it. */
+/* Handles that were found before a call that isn't answered are still given: no later call would
+ * find them. */
 static CK_RV find_objects(CK_SESSION_HANDLE session, CK_OBJECT_HANDLE *objects, CK_ULONG most,
                           CK_ULONG *count) {
     CK_OBJECT_HANDLE none;

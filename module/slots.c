@@ -5,9 +5,10 @@
 
 #include <string.h>
 
+/* Key sizes in bytes, as the token takes them (docs/rules.md, Secret keys). */
 static const CK_MECHANISM_INFO digest = {.flags = CKF_DIGEST};
-static const CK_MECHANISM_INFO hmac = {1, 4096, CKF_SIGN | CKF_VERIFY};
-static const CK_MECHANISM_INFO generation = {1, 4096, CKF_GENERATE};
+static const CK_MECHANISM_INFO hmac = {1, LONGEST_KEY, CKF_SIGN | CKF_VERIFY};
+static const CK_MECHANISM_INFO generation = {1, LONGEST_KEY, CKF_GENERATE};
 
 static const struct mechanism {
     CK_MECHANISM_TYPE type;

@@ -7,7 +7,8 @@
 
 #include <stdlib.h>
 
-/* From how many bytes on a message is long. The token begins no work on shorter ones. */
+/* From how many bytes on a message is long: the LONG_MESSAGE of crates/ck_journal. The token begins
+ * no work on shorter ones. */
 enum { SHORTEST_LONG_MESSAGE = 4096 };
 
 struct work {
@@ -17,7 +18,7 @@ struct work {
     max_align_t room[];
 };
 
-/* Whether the bytes of the call's message are worth to be taken in before. Where only the length of
+/* Whether the message is long enough to be taken in before the call. Where only the length of
  * a digest or a signature is asked for, they aren't needed. */
 static bool is_long(const struct call *call) {
     bool has_output = call->name == DIGEST || call->name == SIGN;
