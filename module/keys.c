@@ -6,8 +6,8 @@
 
 #include <string.h>
 
-/* How many random bytes a key takes by its template. A longer one than `LONGEST_KEY` the token
- * refuses. */
+/* How many random bytes a key takes by its template. The token refuses keys that are longer than
+ * LONGEST_KEY. */
 static size_t key_length(const CK_ATTRIBUTE *attributes, CK_ULONG count) {
     for (CK_ULONG i = 0; i < count; i++) {
         const CK_ATTRIBUTE *attribute = &attributes[i];

@@ -144,9 +144,11 @@ enum call_name {
     VERIFY_FINAL,
 };
 
+/* Lengths in bytes, as the token and its scripts take them (docs/rules.md, docs/script.md). */
 enum {
+    SHORTEST_PIN = 4,
     LONGEST_PIN = 64,
-    LONGEST_KEY = 4096, /* in bytes */
+    LONGEST_KEY = 4096,
     LONGEST_SIGNATURE = 64,
     LONGEST_PARAMETER = 8,
     LONGEST_MESSAGE = 1 << 20,

@@ -5,7 +5,7 @@
 
 #include <string.h>
 
-/* Key sizes in bytes, as the token takes them (docs/rules.md, Secret keys). */
+/* The sizes of keys in bytes. */
 static const CK_MECHANISM_INFO digest = {.flags = CKF_DIGEST};
 static const CK_MECHANISM_INFO hmac = {1, LONGEST_KEY, CKF_SIGN | CKF_VERIFY};
 static const CK_MECHANISM_INFO generation = {1, LONGEST_KEY, CKF_GENERATE};
@@ -77,7 +77,7 @@ static void describe_token(CK_TOKEN_INFO *info) {
     copy_padded(info->model, sizeof info->model, "Software token");
     copy_padded(info->serialNumber, sizeof info->serialNumber, "1");
     info->ulMaxPinLen = LONGEST_PIN;
-    info->ulMinPinLen = 4;
+    info->ulMinPinLen = SHORTEST_PIN;
     info->ulTotalPublicMemory = CK_UNAVAILABLE_INFORMATION;
     info->ulFreePublicMemory = CK_UNAVAILABLE_INFORMATION;
     info->ulTotalPrivateMemory = CK_UNAVAILABLE_INFORMATION;
