@@ -33,7 +33,7 @@ pub extern "C" fn ospreyrack_digest_init(
     handle.as_mut().call(alloc, caller, call).number()
 }
 
-/// C_Digest. Without `has_room` the length alone is asked for.
+/// C_Digest. Without `has_room` only the length is asked for.
 #[unsafe(no_mangle)]
 pub extern "C" fn ospreyrack_digest(
     alloc: Global,
@@ -77,7 +77,7 @@ pub extern "C" fn ospreyrack_digest_update(
     handle.as_mut().call(alloc, caller, call).number()
 }
 
-/// C_DigestFinal. Without `has_room` the length alone is asked for.
+/// C_DigestFinal. Without `has_room` only the length is asked for.
 #[unsafe(no_mangle)]
 pub extern "C" fn ospreyrack_digest_final(
     alloc: Global,
@@ -123,7 +123,7 @@ pub extern "C" fn ospreyrack_sign_init(
     handle.as_mut().call(alloc, caller, call).number()
 }
 
-/// C_Sign. Without `has_room` the length alone is asked for.
+/// C_Sign. Without `has_room` only the length is asked for.
 #[unsafe(no_mangle)]
 pub extern "C" fn ospreyrack_sign(
     alloc: Global,
@@ -167,7 +167,7 @@ pub extern "C" fn ospreyrack_sign_update(
     handle.as_mut().call(alloc, caller, call).number()
 }
 
-/// C_SignFinal. Without `has_room` the length alone is asked for.
+/// C_SignFinal. Without `has_room` only the length is asked for.
 #[unsafe(no_mangle)]
 pub extern "C" fn ospreyrack_sign_final(
     alloc: Global,

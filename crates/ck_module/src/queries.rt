@@ -6,7 +6,7 @@ use ck_types::{NoMemory, Sequence};
 use std::alloc::Global;
 
 /// What C asks of an attribute: its type, and the room for its value. Without `has_room` it asks
-/// for the value's length alone.
+/// only for the value's length.
 #[repr(C)]
 #[derive(Clone, Copy)]
 pub struct Query {
@@ -15,7 +15,7 @@ pub struct Query {
     pub has_room: bool,
 }
 
-/// The room that C gives for bytes, or `None` where it asks for their length alone.
+/// The room that C gives for bytes, or `None` where it asks only for their length.
 pub(crate) fn room_of(has_room: bool, room: u64) -> Option<u64>
     ensures { result ≡ room_of has_room room }
 {

@@ -21,14 +21,15 @@ use std::sync::Wait;
 use std::thread::Threads;
 use std::{mem, thread};
 
-/// What each caller of a shared token does, whatever type stands for the token's history.
+/// The work of each caller of a shared token. It knows nothing of the type that stands for the
+/// token's history.
 pub trait CallerWork<R> {
     ghost use Rattle.ck_callers.specs.Callers.{CallerState};
 
-    /// What comes of it.
+    /// What the work gives.
     type Output: Send + Drop;
 
-    // what holds of what comes of it: of the work, the caller before and after it, and the output
+    // what is proved of the work, the caller before and after it, and its output
     ghost holds: { Self → CallerState → CallerState → Self.Output → Type 0 };
 
     /// What this caller does at the gate, which is the shared token.
@@ -42,7 +43,7 @@ pub trait CallerWork<R> {
         ensures { holds self.now caller.old caller.new result };
 }
 
-/// All callers do their work, each in a thread of its own. They come back with what came of it, in
+/// All callers do their work, each in a thread of its own. They come back with their outputs, in
 /// their order.
 fn act_together<
     K: TokenId + Send + Sync,
@@ -74,7 +75,7 @@ fn act_together<
     Ok(done?)
 }
 
-/// Takes all callers back, and keeps what came of their work.
+/// Takes all callers back, and keeps their outputs.
 fn settle_all<K: TokenId, G: JournaledToken, X: Drop, R: Wait + Drop>(
     rt: &R,
     locked: &mut Locked<K, G, R>,
@@ -93,7 +94,7 @@ fn settle_all<K: TokenId, G: JournaledToken, X: Drop, R: Wait + Drop>(
     }
 }
 
-/// All callers do their work on a shared token, and it is taken back with what came of it.
+/// All callers do their work on a shared token, and it is taken back with their outputs.
 fn work_on<
     K: TokenId + Send + Sync,
     G: JournaledToken + Send,
@@ -176,8 +177,8 @@ fn share_as<
 }
 
 /// Shares a token whose journal has no entries among the callers 1 to `callers`, at most eight,
-/// until each has done its work in a thread of its own. Gives what comes of each, in the order of
-/// their numbers. Without memory some callers may have done nothing.
+/// until each has done its work in a thread of its own. Gives their outputs in the order of the
+/// callers. Where memory runs out, some callers may have done nothing.
 pub fn share<G: JournaledToken + Send, S: CallerWork<R> + Sync, R: Runtime>(
     rt: R,
     alloc: Global,
