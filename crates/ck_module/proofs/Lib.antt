@@ -1,0 +1,2 @@
+mod HandleTypes
+mod Lending

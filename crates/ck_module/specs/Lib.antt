@@ -1,9 +1,7 @@
 pub mod Calls
 pub mod Copies
-pub mod Lending
 pub mod Lives
 pub mod LongCalls
-pub mod LongLending
 pub mod Queries
 pub mod Replies
 pub mod Steps

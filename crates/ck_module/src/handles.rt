@@ -1,8 +1,11 @@
 ghost use Rattle.std.specs.Prelude.{◌≡◌};
 ghost use Rattle.std.specs.Borrow.{sem};
+ghost use Rattle.ck_module.specs.declared.long_calls.LongCall.{LongCall};
 ghost use Rattle.ck_module.specs.declared.modules.Module.{Module};
+ghost use Rattle.ck_module.specs.contracts.long_calls.LongCall.{the_row as long_call_row};
 ghost use Rattle.ck_module.specs.contracts.modules.Module.{the_row as module_row};
 
+use crate::long_calls::LongCall;
 use crate::modules::Module;
 use std::marker::Model;
 
@@ -22,11 +25,13 @@ impl Model for Handle {
 }
 
 impl Handle {
-    ghost use Rattle.ck_module.specs.Lending.{LendsValue};
+    ghost use Rattle.std.specs.Borrow.{Lends};
+    ghost use Rattle.ck_module.specs.contracts.handles.Handle.{the_row};
 
     /// Lends the token. When the loan ends, what was written is the token that lies there.
     pub(crate) fn as_mut(&mut self) -> &mut Module
-        ensures* writes_back { sem 𝓛 (LendsValue self.entry result) }
+        ensures* writes_back { sem 𝓛 (Lends the_row module_row self.entry result
+            (λ w. record self.old { value = w })) }
         ensures value { result.now ≡ self.old.value }
     {
         unsafe { &mut *(self.at as *mut Module) }
@@ -35,3 +40,36 @@ impl Handle {
 
 // C may pass a handle from one thread to another, since the token may go.
 unsafe impl Send for Handle {}
+
+/// What C holds of a call with a long message: where it lies. Contracts see the call that lies
+/// there.
+#[repr(C)]
+pub struct LongHandle {
+    at: *mut u8,
+    pub ghost value: { LongCall } by { long_call_row.coded },
+}
+
+impl Model for LongHandle {
+    ghost use Rattle.std.specs.Borrow.{full_share};
+    ghost use Rattle.std.specs.Ptr.{lies_at};
+    ghost use Rattle.ck_module.specs.contracts.long_calls.LongCall.{the_row};
+
+    ghost also_owns = { λ h. lies_at the_row full_share h.at h.value };
+}
+
+impl LongHandle {
+    ghost use Rattle.std.specs.Borrow.{Lends};
+    ghost use Rattle.ck_module.specs.contracts.handles.LongHandle.{the_row};
+
+    /// Lends the call. When the loan ends, what was written is the call that lies there.
+    pub(crate) fn as_mut(&mut self) -> &mut LongCall
+        ensures* writes_back { sem 𝓛 (Lends the_row long_call_row self.entry result
+            (λ w. record self.old { value = w })) }
+        ensures value { result.now ≡ self.old.value }
+    {
+        unsafe { &mut *(self.at as *mut LongCall) }
+    }
+}
+
+// C may pass a handle from one thread to another, since the call may go.
+unsafe impl Send for LongHandle {}

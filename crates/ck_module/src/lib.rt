@@ -9,7 +9,6 @@ mod line_calls;
 mod lives;
 mod long_calls;
 mod long_exports;
-mod long_handles;
 mod modules;
 mod object_calls;
 mod operation_calls;

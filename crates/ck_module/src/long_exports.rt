@@ -10,9 +10,8 @@ ghost use Rattle.ck_module.specs.contracts.long_calls.LongCall.{the_row};
 ghost use Rattle.ck_module.specs.declared.long_calls.LongCall.{LongCall};
 ghost use Rattle.ck_module.specs.declared.long_calls.LongCall.TheVariants as variant;
 
-use crate::handles::Handle;
+use crate::handles::{Handle, LongHandle};
 use crate::long_calls::LongCall;
-use crate::long_handles::LongHandle;
 use crate::queries::room_of;
 use crate::steps::Step;
 use ck_journal::Call;
