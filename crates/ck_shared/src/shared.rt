@@ -15,7 +15,7 @@ pub struct SharedToken<K: TokenId, G: JournaledToken, R: Wait + Drop> {
     callers: CallerCount<K>,
 }
 
-/// The two ends of a token that is shared: what is shared, and what each caller has.
+/// What sharing a token gives: the shared token, and its callers in the order of their numbers.
 #[derive(Drop)]
 pub struct Ends<K: TokenId, G: JournaledToken, R: Wait + Drop> {
     pub token: SharedToken<K, G, R>,
@@ -38,12 +38,13 @@ fn let_others_run() {
     }
 }
 
-/// With fewer bytes a call takes the lock once: to take it twice would take longer than the bytes.
-const MANY_BYTES: usize = 4096;
+/// From how many bytes on a message is long. The token begins no work on shorter ones.
+const LONG_MESSAGE: usize = 4096;
 
-/// Whether a call brings many bytes of a message.
-fn brings_many_bytes(call: &Call) -> bool {
-    call.taken_bytes().len() >= MANY_BYTES
+/// Whether a call brings a long message. With a shorter one it takes the lock once: to take it
+/// twice would take longer than the bytes.
+fn brings_long_message(call: &Call) -> bool {
+    call.taken_bytes().len() >= LONG_MESSAGE
 }
 
 impl<K: TokenId, G: JournaledToken, R: Wait + Drop> SharedToken<K, G, R> {
@@ -142,14 +143,14 @@ impl<K: TokenId, G: JournaledToken, R: Wait + Drop> SharedToken<K, G, R> {
             HasCalled K.limits caller.old call reply caller.new) }
         ensures caller { OnErr result (caller.new ≡ caller.old) }
     {
-        if brings_many_bytes(&call) {
+        if brings_long_message(&call) {
             return self.call_with_work(rt, alloc, caller, call);
         }
         self.lock(rt).step(rt, alloc, caller, call)
     }
 
-    /// One call of a caller, which brings many bytes. The lock is taken twice, shortly: to begin
-    /// the work on them, and to make the call once it is done.
+    /// One call of a caller, which brings a long message. The lock is taken twice, shortly: to
+    /// begin the work on it, and to make the call once that is done.
     #[inline(never)]
     fn call_with_work<W: Wait>(
         &self,
@@ -168,7 +169,7 @@ impl<K: TokenId, G: JournaledToken, R: Wait + Drop> SharedToken<K, G, R> {
         };
         work.finish(&call);
         let mut locked = self.lock(rt);
-        locked.catch_up(rt, &front);
+        locked.show_front(rt, &front);
         locked.step_after(rt, alloc, caller, call, Some(&work))
     }
 
