@@ -34,21 +34,21 @@ fn make_calls<K: TokenId + Send + Sync, R: Runtime>(
     Ok((caller, replies.len()))
 }
 
-/// A caller makes the calls of lines by scripts. Says how often one ended without memory.
+/// A caller makes the calls of a race by scripts. Says how often one ended without memory.
 pub(crate) fn make_by_scripts<K: TokenId + Send + Sync, R: Runtime>(
     rt: &R,
     alloc: Global,
     token: &SharedToken<K, Token, R>,
     callers: &mut Vec<Caller<K>>,
-    lines: &[RaceLine],
+    race: &Race,
 ) -> anyhow::Result<u64> {
     let caller = callers.pop().context("a caller is missing")?;
-    let (caller, answered) = make_calls(rt, alloc, token, caller, lines)?;
+    let (caller, answered) = make_calls(rt, alloc, token, caller, &race.lines)?;
     ensure!(
         caller.count() == answered as u64 && caller.seen() == answered as u64,
         "a script that ended early has other entries than calls"
     );
-    let left = lines.get(answered..).unwrap_or(&[]);
+    let left = race.lines.get(answered..).unwrap_or(&[]);
     if left.is_empty() {
         callers.push(caller)?;
         return Ok(0);
@@ -64,7 +64,7 @@ pub(crate) fn make_by_scripts<K: TokenId + Send + Sync, R: Runtime>(
 /// Makes the calls of a race by scripts of one caller, and says how often one ended early.
 pub(crate) fn retry_script<R: Runtime>(rt: R, alloc: Global, race: &Race) -> anyhow::Result<u64> {
     let token = prepared_token(alloc, race)?;
-    let work = SharedWork::CallsByScripts(&race.lines);
+    let work = SharedWork::CallsByScripts(race);
     let (token, outcome) = share_with(rt, alloc, token, 1, &work)?;
     check_entries(alloc, &race.lines, token.journal().entries())?;
     Ok(outcome.retries)

@@ -112,7 +112,7 @@ fn run_scripted<R: Runtime>(
 ) -> anyhow::Result<()> {
     let order = CallOrder::new(callers);
     let work = SharedWork::HeldScripts {
-        lines: &race.lines,
+        race: &*race,
         order: &order,
     };
     let token = prepared_token(alloc, race)?;

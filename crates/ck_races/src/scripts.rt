@@ -2,7 +2,7 @@
 use crate::begun_calls::BegunGate;
 use crate::journals::CallerReplies;
 use crate::orders::CallOrder;
-use crate::races::RaceLine;
+use crate::races::{Race, RaceLine};
 use anyhow::ensure;
 use ck_journal::Call;
 use ck_shared::{Caller, Runtime, Script, SharedToken, TokenId, run_scripts};
@@ -81,17 +81,18 @@ pub(crate) fn finish<K: TokenId>(
     Ok(())
 }
 
-/// The callers make their calls by scripts, each begun before it is held. Gives the replies to each.
+/// The callers make their calls of a race by scripts, each begun before it is held. Gives the
+/// replies to each.
 pub(crate) fn run_held<K: TokenId + Send + Sync, R: Runtime>(
     rt: &R,
     alloc: Global,
     token: &SharedToken<K, Token, R>,
     callers: &mut Vec<Caller<K>>,
-    lines: &[RaceLine],
+    race: &Race,
     order: &CallOrder,
 ) -> anyhow::Result<Vec<CallerReplies>> {
     let owned = mem::replace(callers, Vec::new(alloc));
-    let scripts = scripts_of(alloc, owned, lines)?;
+    let scripts = scripts_of(alloc, owned, &race.lines)?;
     let scripts = run_scripts(rt, alloc, &BegunGate::new(token, order), scripts);
     let mut all = Vec::new(alloc);
     finish(scripts, callers, &mut all)?;

@@ -8,7 +8,7 @@ use crate::eight_scripts::run_eight;
 use crate::held_steps::open_sessions;
 use crate::journals::CallerReplies;
 use crate::orders::CallOrder;
-use crate::races::{Race, RaceLine};
+use crate::races::Race;
 use crate::retried_scripts::make_by_scripts;
 use crate::retries::make_race;
 use crate::scripts::run_held;
@@ -31,11 +31,11 @@ pub(crate) enum SharedWork<'a> {
     },
     /// Two callers make all calls of a race, one after the other.
     AllCalls(&'a Race<'a>),
-    /// One caller makes these calls by scripts.
-    CallsByScripts(&'a [RaceLine<'a>]),
-    /// Eight callers make their calls among these by scripts, in an order.
+    /// One caller makes the calls of a race by scripts.
+    CallsByScripts(&'a Race<'a>),
+    /// Eight callers make their calls of a race by scripts, in an order.
     HeldScripts {
-        lines: &'a [RaceLine<'a>],
+        race: &'a Race<'a>,
         order: &'a CallOrder<'a>,
     },
     /// Eight callers make the calls of their scripts.
@@ -103,11 +103,11 @@ fn act<K: TokenId + Send + Sync, R: Runtime>(
             open_sessions(rt, alloc, token, callers, *first, order)?;
         }
         SharedWork::AllCalls(race) => retries = make_race(rt, alloc, token, callers, race)?,
-        SharedWork::CallsByScripts(lines) => {
-            retries = make_by_scripts(rt, alloc, token, callers, lines)?;
+        SharedWork::CallsByScripts(race) => {
+            retries = make_by_scripts(rt, alloc, token, callers, race)?;
         }
-        SharedWork::HeldScripts { lines, order } => {
-            replies = run_held(rt, alloc, token, callers, lines, order)?;
+        SharedWork::HeldScripts { race, order } => {
+            replies = run_held(rt, alloc, token, callers, race, order)?;
         }
         SharedWork::EightScripts => replies = run_eight(rt, alloc, token, callers)?,
     }
