@@ -70,7 +70,7 @@ impl<'a, K: TokenId, R: Wait + Drop> Gate<K> for BegunGate<'a, K, R> {
         call: Call,
     ) -> Result<Reply, NoMemory> {
         let begun = self.begin(rt, &call);
-        self.order.hold(caller.number());
+        self.order.hold(rt, caller.number());
         let reply = self.make(rt, alloc, caller, call, begun);
         self.order.count();
         reply

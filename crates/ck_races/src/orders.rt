@@ -7,23 +7,16 @@ use rand_xoshiro::Xoshiro256PlusPlus;
 use std::alloc::Global;
 use std::sync::Wait;
 use std::sync::atomic::{AtomicU64, Ordering};
-use std::thread;
+use std::time::Duration;
 
-/// How often a held call looks whether it is the next one.
-const MOST_LOOKS: u32 = 1_000_000;
+/// How often a held call looks whether it is the next one. It looks when another call has come to
+/// the gate or was made, and after so many milliseconds at the latest.
+const MOST_LOOKS: u32 = 2_000;
 
-/// How often it lets other threads run between two looks.
-const YIELDS: u32 = 20;
+const LONGEST_SLEEP: u64 = 10;
 
 /// A place behind all places of an order.
 const LATE: u64 = u64::MAX / 2;
-
-/// Lets other threads run.
-fn let_others_run() {
-    for _ in 0..YIELDS {
-        thread::yield_now();
-    }
-}
 
 /// An order of calls, by the numbers of their callers.
 #[derive(Drop)]
@@ -33,6 +26,8 @@ pub(crate) struct CallOrder<'a> {
     come: AtomicU64,
     /// How many were made.
     made: AtomicU64,
+    /// How often a call has come or was made.
+    moves: AtomicU64,
 }
 
 impl<'a> CallOrder<'a> {
@@ -42,6 +37,7 @@ impl<'a> CallOrder<'a> {
             callers,
             come: AtomicU64::new(0),
             made: AtomicU64::new(0),
+            moves: AtomicU64::new(0),
         }
     }
 
@@ -55,9 +51,16 @@ impl<'a> CallOrder<'a> {
         self.made.load(Ordering::SeqCst) >= LATE
     }
 
+    /// Tells all who wait that a call has come or was made.
+    fn tell(&self) {
+        self.moves.fetch_add(1, Ordering::SeqCst);
+        self.moves.wake_all();
+    }
+
     /// A call was made.
     pub(crate) fn count(&self) {
         self.made.fetch_add(1, Ordering::SeqCst);
+        self.tell();
     }
 
     /// Whether the next call is one of this caller, and those of all other callers of later calls
@@ -77,15 +80,20 @@ impl<'a> CallOrder<'a> {
 
     /// Waits until the next call is one of this caller. Where it doesn't come to that, no call is
     /// held any more.
-    pub(crate) fn hold(&self, caller: u32) {
+    pub(crate) fn hold<W: Wait>(&self, rt: &W, caller: u32) {
+        let longest = Duration::from_millis(LONGEST_SLEEP);
         self.come.fetch_add(1, Ordering::SeqCst);
+        self.tell();
         for _ in 0..MOST_LOOKS {
+            let moves = self.moves.load(Ordering::SeqCst);
             if self.is_next(caller) {
                 return;
             }
-            let_others_run();
+            let moves = (moves % 0x1_0000_0000) as u32;
+            self.moves.park_timeout(rt, moves, longest);
         }
         self.made.store(LATE, Ordering::SeqCst);
+        self.tell();
     }
 }
 
@@ -112,7 +120,7 @@ impl<'a, K: TokenId, G: Gate<K>> Gate<K> for HeldGate<'a, G> {
         caller: &mut Caller<K>,
         call: Call,
     ) -> Result<Reply, NoMemory> {
-        self.order.hold(caller.number());
+        self.order.hold(rt, caller.number());
         let reply = self.gate.call(rt, alloc, caller, call);
         self.order.count();
         reply
