@@ -1,7 +1,7 @@
 //! Of three callers of a token one logs in. Meanwhile another, which has learnt of the calls
-//! before, asks for the state of a session, without the lock, until it sees the login. Then it makes
-//! a call of its own, and sees a second login by asking only. The last makes no call: it asks before
-//! the first call and after the first login.
+//! before, asks for the state of a session, without the lock, until it sees the login. Then it
+//! makes a call of its own, and sees a second login by asking only. The last makes no call: it asks
+//! before the first call and after the first login.
 ghost use Rattle.std.specs.Prelude.{◌≡◌};
 ghost use Rattle.ck_journal.specs.Histories.{start, start_of};
 
