@@ -79,12 +79,13 @@ fn are_same_bodies(one: &Body, other: &Body) -> bool {
     }
 }
 
-/// A caller knows what it knew, and is answered as it was.
+/// A caller knows what it knew, and is answered as it was. When it asks it may learn of calls that
+/// others made before.
 fn check_unchanged<K: TokenId>(caller: &mut Caller<K>, before: &Knowledge) -> anyhow::Result<()> {
+    let knows_the_same = caller.seen() == before.seen && caller.count() == before.count;
     let after = knowledge_of(caller)?;
     ensure!(
-        after.seen == before.seen
-            && after.count == before.count
+        knows_the_same
             && are_same_answers(&after.token, &before.token)
             && are_same_answers(&after.session, &before.session),
         "changed by a call without memory"
