@@ -1,6 +1,6 @@
-/* Refuses one growth of memory of the program that it is loaded into before the C library: the one
- * whose number, from 1, stands in REFUSED_GROWTH. At the end it writes to the file descriptor 3 how
- * many growths there were. */
+/* Refuses growths of memory of the program that it is loaded into before the C library: the one
+ * whose number, from 1, stands in REFUSED_GROWTH, and all from the one on whose number stands in
+ * REFUSED_FROM. At the end it writes to the file descriptor 3 how many growths there were. */
 #include <errno.h>
 #include <stdio.h>
 #include <stdlib.h>
@@ -11,11 +11,17 @@ void *__libc_malloc(size_t size);
 void *__libc_realloc(void *block, size_t size);
 
 static long refused;
+static long refused_from;
 static long growths;
 
+static long number_in(const char *name) {
+    const char *text = getenv(name);
+    return text ? atol(text) : 0;
+}
+
 __attribute__((constructor)) static void start(void) {
-    const char *text = getenv("REFUSED_GROWTH");
-    refused = text ? atol(text) : 0;
+    refused = number_in("REFUSED_GROWTH");
+    refused_from = number_in("REFUSED_FROM");
     growths = 0;
 }
 
@@ -32,7 +38,7 @@ void _exit(int status) {
 
 static int is_refused(void) {
     growths++;
-    if (growths != refused)
+    if (growths != refused && (refused_from == 0 || growths < refused_from))
         return 0;
     errno = ENOMEM;
     return 1;

@@ -10,10 +10,18 @@ also played as a script: all replies are written, or whole lines at their front,
 program says that it is out of memory. Where anything else comes, it is printed, and the status is
 1. Bad lines are left out: they make no call, and without memory one may have another reason.
 
-The calls of each race in crates/ck_races/data are made one after the other, by a caller of a shared
-token. Where one finds no memory, the caller knows what it did before, and the call is made again.
-In the end the journal has an entry for each call. With the argument `shared` only these are
-played.
+The calls of each race in crates/ck_races/data are made one after the other, in three ways. By two
+callers of a shared token in turn: where one finds no memory, it knows what it did before and is
+answered without the lock as before, and the other caller makes the call, which is one entry more.
+By `run` on a token: where it stops, the journal has as many entries as calls were answered, and it
+goes on. By a script of one caller, by `run_scripts`: the same. In the end the journal has an entry
+for each call. Where there is no memory to share a token, it is shared then. With the argument
+`shared` only these are played.
+
+Calls for which places in the journal are reserved are made while every growth is refused.
+
+With the argument `short` every fourth growth of a case and of a script is refused, and every second
+one of a race, so that it takes less time.
 
 The programs are crates/ck_cases/out/ck_cases, crates/ck_run/out/ck_run and
 crates/ck_races/out/ck_races, built by `rt run` in their folders. This needs Linux with the GNU C
@@ -56,13 +64,15 @@ def build(folder):
     return library
 
 
-def play(library, words, text, growth):
-    """One run of a command whose growth of this number is refused; 0 is none."""
+def play(library, words, text, growth, first=0):
+    """One run of a command. The growth of this number is refused, and all from the first on; 0 is
+    none."""
     files = [tempfile.TemporaryFile() for _ in range(4)]
     files[0].write(text)
     files[0].seek(0)
     actions = [(os.POSIX_SPAWN_DUP2, file.fileno(), number) for number, file in enumerate(files)]
-    environment = {"LD_PRELOAD": library, "REFUSED_GROWTH": str(growth)}
+    environment = {
+        "LD_PRELOAD": library, "REFUSED_GROWTH": str(growth), "REFUSED_FROM": str(first)}
     child = os.posix_spawn(words[0], words, environment, file_actions=actions)
     _, status = os.waitpid(child, 0)
     texts = []
@@ -128,9 +138,10 @@ def is_script_right(ended, plain):
     return is_front and ended.status == 3 and ended.errors == b"ck_run: out of memory\n"
 
 
-def check_case(library, command, name, lines, passed):
-    """How many growths the case makes, after how many something was made again, and what was wrong.
-    Without a refused growth `passed` of them pass: the lines of a case, or one race."""
+def check_case(library, command, name, lines, passed, step):
+    """How many growths the case is refused, after how many something was made again, and what was
+    wrong. Without a refused growth so many pass: the lines of a case, or one race. Of the growths
+    one in `step` is refused."""
     with tempfile.NamedTemporaryFile("w", suffix=".cases", encoding="utf-8", newline="\n") as file:
         file.write("\n".join(lines) + "\n")
         file.flush()
@@ -140,15 +151,16 @@ def check_case(library, command, name, lines, passed):
             return 0, 0, [f"{name}: {plain.output}"]
         retries = 0
         faults = []
-        for growth in range(1, plain.growths + 1):
+        numbers = range(1, plain.growths + 1, step)
+        for growth in numbers:
             ended = play(library, words, b"", growth)
             retries += ended.output.endswith(b" made again\n")
             if not is_case_right(ended, file.name, plain):
                 faults.append(f"{name}, growth {growth}: {ended}")
-    return plain.growths, retries, faults
+    return len(numbers), retries, faults
 
 
-def check_script(library, name, lines):
+def check_script(library, name, lines, step):
     """The same of the calls of the case as a script, of which nothing is made again."""
     calls = calls_in(lines)
     text = "".join(call + "\n" for call, _ in calls).encode()
@@ -156,14 +168,27 @@ def check_script(library, name, lines):
     if plain.status != 0 or plain.output != "".join(reply + "\n" for _, reply in calls).encode():
         return 0, 0, [f"{name} as a script: {plain.output}"]
     faults = []
-    for growth in range(1, plain.growths + 1):
+    numbers = range(1, plain.growths + 1, step)
+    for growth in numbers:
         ended = play(library, [SCRIPTS], text, growth)
         if not is_script_right(ended, plain):
             faults.append(f"{name} as a script, growth {growth}: {ended}")
-    return plain.growths, 0, faults
+    return len(numbers), 0, faults
 
 
-def main(paths, races):
+def check_reserved(library):
+    """Calls with reserved places take no memory, and are answered where every growth is refused."""
+    reserving = play(library, [RACES, "reserve"], b"", 0)
+    calling = play(library, [RACES, "reserved"], b"", 0)
+    refused = play(library, [RACES, "reserved"], b"", 0, reserving.growths + 1)
+    is_right = (reserving.status, calling.status, refused.status) == (0, 0, 0)
+    if is_right and calling.growths == reserving.growths:
+        return 0, 0, []
+    return 0, 0, [f"reserved calls: {reserving}, {calling}, {refused}"]
+
+
+def main(paths, races, is_short=False):
+    case_step, race_step = (4, 2) if is_short else (1, 1)
     pool = concurrent.futures.ThreadPoolExecutor(os.cpu_count())
     with tempfile.TemporaryDirectory() as folder, pool:
         library = build(folder)
@@ -171,13 +196,16 @@ def main(paths, races):
         for path in paths:
             for number, lines in cases_in(path):
                 name = f"{os.path.basename(path)}, line {number}"
-                case = (library, [CASES], name, lines, len(lines) - 1)
+                case = (library, [CASES], name, lines, len(lines) - 1, case_step)
                 checks.append(pool.submit(check_case, *case))
                 if lines[0] == LARGEST:
-                    checks.append(pool.submit(check_script, library, name, lines))
+                    checks.append(pool.submit(check_script, library, name, lines, case_step))
         for number, lines in races:
             name = f"{os.path.basename(RACES_DATA)}, line {number}"
-            checks.append(pool.submit(check_case, library, [RACES, "alone"], name, lines, 1))
+            race = (library, [RACES, "alone"], name, lines, 1, race_step)
+            checks.append(pool.submit(check_case, *race))
+        if races:
+            checks.append(pool.submit(check_reserved, library))
         results = [check.result() for check in checks]
     faults = [fault for _, _, of_case in results for fault in of_case]
     print("\n".join(faults))
@@ -187,8 +215,11 @@ def main(paths, races):
 
 
 if __name__ == "__main__":
+    every_case = sorted(set(glob.glob(DATA)) - {LONG})
     if sys.argv[1:] == ["shared"]:
         sys.exit(main([], races_in(RACES_DATA)))
+    if sys.argv[1:] == ["short"]:
+        sys.exit(main(every_case, races_in(RACES_DATA), is_short=True))
     if sys.argv[1:]:
         sys.exit(main(sys.argv[1:], []))
-    sys.exit(main(sorted(set(glob.glob(DATA)) - {LONG}), races_in(RACES_DATA)))
+    sys.exit(main(every_case, races_in(RACES_DATA)))

@@ -1,6 +1,7 @@
 //! A caller that draws its calls.
 use crate::journals::CallerReplies;
-use crate::mix::{Handles, ROWS, SELDOM, SETS, call_of};
+use crate::mix::{Handles, LONG, ROWS, SELDOM, SETS, call_of};
+use anyhow::ensure;
 use ck_journal::{Body, Reply};
 use ck_shared::{Ask, Caller, CallerWork, Gate, TokenId};
 use ck_types::Rv;
@@ -13,8 +14,11 @@ use std::sync::atomic::Ordering;
 /// How many calls each caller makes.
 const CALLS: usize = 5_000;
 
-/// One row in this many is one of those that are drawn seldom.
+/// One row in this many is one of those that are drawn seldom, and some have long messages.
 const SELDOM_IN: u64 = 256;
+
+/// As many rows have long messages.
+const LONG_IN: u64 = 4;
 
 /// A caller at a gate, with the handles that it knows, its draws and all replies that it got.
 #[derive(Drop)]
@@ -31,10 +35,10 @@ struct DrawingCaller<'a, 'c, K: TokenId, G, R> {
 /// The row that a number stands for.
 fn row_of(number: u64) -> &'static str {
     let draw = (number / SELDOM_IN) as usize;
-    let row = if number % SELDOM_IN == 0 {
-        SELDOM.get(draw % SELDOM.len())
-    } else {
-        ROWS.get(draw % ROWS.len())
+    let row = match number % SELDOM_IN {
+        0 => SELDOM.get(draw % SELDOM.len()),
+        1..=LONG_IN => LONG.get(draw % LONG.len()),
+        _ => ROWS.get(draw % ROWS.len()),
     };
     row.copied().unwrap_or("GetTokenInfo")
 }
@@ -70,7 +74,7 @@ impl<'a, 'c, K: TokenId, G: Gate<K>, R: Wait> DrawingCaller<'a, 'c, K, G, R> {
     }
 
     /// Makes a drawn row. Then the caller asks for the state of a session without the lock: which
-    /// one it sees depends on the others.
+    /// one it sees depends on the others, and it is always answered.
     fn make_drawn_row(&mut self) -> anyhow::Result<()> {
         let row = row_of(self.draws.next_u64());
         let number = self.draws.next_u64();
@@ -78,7 +82,8 @@ impl<'a, 'c, K: TokenId, G: Gate<K>, R: Wait> DrawingCaller<'a, 'c, K, G, R> {
         if let Some(handles) = sets.get(number as usize % SETS) {
             self.make_row(handles, row)?;
             let session = handles.session.load(Ordering::SeqCst);
-            let _status = self.gate.status(self.caller, Ask::Session(session));
+            let status = self.gate.status(self.caller, Ask::Session(session));
+            ensure!(status.is_some(), "a question is not answered");
         }
         Ok(())
     }

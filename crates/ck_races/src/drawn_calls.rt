@@ -2,15 +2,14 @@
 //! its number. Then the token is taken back, and its journal is audited and compared with what each
 //! caller got.
 use crate::drawing_callers::DrawnCalls;
-use crate::journals::{CallerReplies, check_replies};
+use crate::journals::{CallerReplies, check_audit, check_replies, in_order_of_callers};
 use crate::mix::Handles;
-use crate::tokens::prepare_by;
-use anyhow::{bail, ensure};
-use ck_audit::{Verdict, audit_token};
+use crate::tokens::cut_token;
+use anyhow::ensure;
 use ck_journal::Entry;
 use ck_shared::{Runtime, share};
 use ck_token::Token;
-use ck_types::{Limits, Rv};
+use ck_types::Rv;
 use std::alloc::Global;
 
 /// What is called before the token is shared: it has PINs then, and nobody is logged in.
@@ -32,14 +31,6 @@ fn check_codes(entries: &[Entry]) -> anyhow::Result<()> {
     Ok(())
 }
 
-/// An audit finds the journal legal. Says how many entries it has.
-fn check_audit(alloc: Global, token: &Token) -> anyhow::Result<u64> {
-    match audit_token(alloc, token)? {
-        Verdict::Legal => Ok(token.journal().len()),
-        Verdict::Wrong(number) => bail!("entry {number} is wrong in an audit"),
-    }
-}
-
 /// Each caller got the replies of its entries, and the journal is as it must be. Says how many
 /// entries it has.
 fn check_drawn(
@@ -48,7 +39,7 @@ fn check_drawn(
     all: Vec<anyhow::Result<CallerReplies>>,
 ) -> anyhow::Result<u64> {
     let entries = token.journal().entries();
-    check_replies(entries, all)?;
+    check_replies(entries, in_order_of_callers(alloc, all)?)?;
     check_codes(entries)?;
     check_audit(alloc, token)
 }
@@ -56,8 +47,7 @@ fn check_drawn(
 /// Makes the drawn calls of eight callers on a new token, and checks its journal. Says how many
 /// they are.
 pub(crate) fn make_drawn_calls<R: Runtime>(rt: R, alloc: Global) -> anyhow::Result<u64> {
-    let mut token = Token::new(alloc, Limits::largest());
-    prepare_by(alloc, &mut token, &FIRST_CALLS)?;
+    let mut token = cut_token(alloc, &FIRST_CALLS)?;
     let work = DrawnCalls([
         Handles::new(),
         Handles::new(),

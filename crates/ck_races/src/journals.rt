@@ -1,8 +1,8 @@
 //! What a token's journal is compared with when its callers are done.
 use crate::races::{Race, RaceLine, compare};
 use crate::tokens::make_calls;
-use anyhow::ensure;
-use ck_audit::are_replies_of;
+use anyhow::{bail, ensure};
+use ck_audit::{Verdict, are_replies_of, audit_token};
 use ck_journal::{Entry, Reply};
 use ck_script::reply_line;
 use ck_token::Token;
@@ -12,19 +12,40 @@ use std::alloc::Global;
 /// A caller's number, and the replies that it got, in the order of its calls.
 pub(crate) type CallerReplies = (u32, Vec<Reply>);
 
-/// Each caller made its calls, and got the replies of its entries, in their order.
-pub(crate) fn check_replies(
-    entries: &[Entry],
-    all: Vec<anyhow::Result<CallerReplies>>,
-) -> anyhow::Result<()> {
-    for caller in all {
-        let (number, replies) = caller?;
+/// What `share` gave of each caller: all made their calls, and stand in the order of their numbers.
+pub(crate) fn in_order_of_callers(
+    alloc: Global,
+    outputs: Vec<anyhow::Result<CallerReplies>>,
+) -> anyhow::Result<Vec<CallerReplies>> {
+    let mut all = Vec::new(alloc);
+    for (index, output) in outputs.into_iter().enumerate() {
+        let (number, replies) = output?;
+        ensure!(
+            number as usize == index.saturating_add(1),
+            "what comes of the callers is not in the order of their numbers"
+        );
+        all.push((number, replies))?;
+    }
+    Ok(all)
+}
+
+/// Each caller got the replies of its entries, in their order.
+pub(crate) fn check_replies(entries: &[Entry], all: Vec<CallerReplies>) -> anyhow::Result<()> {
+    for (number, replies) in all {
         ensure!(
             are_replies_of(number, entries, &replies),
             "the replies to caller {number} are not those of its entries"
         );
     }
     Ok(())
+}
+
+/// An audit finds the journal legal. Says how many entries it has.
+pub(crate) fn check_audit(alloc: Global, token: &Token) -> anyhow::Result<u64> {
+    match audit_token(alloc, token)? {
+        Verdict::Legal => Ok(token.journal().len()),
+        Verdict::Wrong(number) => bail!("entry {number} is wrong in an audit"),
+    }
 }
 
 /// Each call has an entry, and the first were made in this order of their callers.
@@ -49,6 +70,19 @@ fn check_in_order(alloc: Global, lines: &[RaceLine], entries: &[Entry]) -> anyho
         }
     }
     Ok(is_in_order)
+}
+
+/// Each line has its entry, with its reply.
+pub(crate) fn check_entries(
+    alloc: Global,
+    lines: &[RaceLine],
+    entries: &[Entry],
+) -> anyhow::Result<()> {
+    ensure!(entries.len() == lines.len(), "not an entry for each call");
+    for (entry, line) in entries.iter().zip(lines) {
+        compare(alloc, line, &entry.reply)?;
+    }
+    Ok(())
 }
 
 /// The texts of the entries' replies.

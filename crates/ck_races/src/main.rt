@@ -1,34 +1,62 @@
 //! What callers of a shared token do to one another. Files of races are played: lists of calls that
 //! callers make, with the replies that they get. Each race is played by threads of its callers,
 //! with all calls in a set order and with only the first ones. Then callers ask for the state of a
-//! session while another logs in, and eight callers make drawn calls at once. What is written is
-//! the same in every order of the calls. Behind the word `alone` only the calls of each race are
-//! made, one after the other on a shared token, again where there was no memory, and the line of a
-//! file says how many were.
+//! session while another logs in, two callers are held at their calls, and eight callers make the
+//! calls of their scripts and drawn calls at once. What is written is the same in every order of
+//! the calls.
+//!
+//! Behind the word `alone` only the calls of each race are made, one after the other, on a shared
+//! token, by `run` and by `run_scripts`, again where there was no memory. The line of a file then
+//! says how often that was. The word `reserved` only makes calls for which places in the journal
+//! are reserved, and `reserve` only reserves them.
 #![tactic(auto)]
 
 mod asks;
+mod begun_calls;
 mod drawing_callers;
 mod drawn_calls;
+mod eight_scripts;
 mod files;
+mod held_steps;
 mod journals;
 mod mix;
 mod orders;
 mod races;
+mod reserved;
+mod retried_runs;
+mod retried_scripts;
 mod retries;
 mod runs;
+mod scripts;
+mod shared_work;
 mod tokens;
+mod words;
 
-use asks::{RUNS, run_asks};
 use ck_shared::Runtime;
 use drawn_calls::make_drawn_calls;
+use eight_scripts::run_eight_scripts;
 use files::play_file;
+use held_steps::run_held_steps;
+use reserved::{make_reserved_calls, reserved_token};
 use std::env;
 use std::env::Env;
 use std::fs::Files;
 
-/// Plays the files that the arguments name and, where the word `alone` isn't among them, asks and
-/// drawn calls. Adds a line for each that passes.
+/// What callers do at once, besides races. Adds a line for each that passes.
+fn play_together<R: AllocGlobal + Runtime>(rt: R, text: &mut String) -> anyhow::Result<()> {
+    asks::run_asks(rt, rt.alloc())?;
+    write!(text, "asks: {} passed\n", asks::RUNS)?;
+    run_held_steps(rt, rt.alloc())?;
+    write!(text, "held steps: {} passed\n", held_steps::RUNS)?;
+    let calls = run_eight_scripts(rt, rt.alloc())?;
+    write!(text, "scripts of eight callers: {calls}, audit ok\n")?;
+    let calls = make_drawn_calls(rt, rt.alloc())?;
+    write!(text, "drawn calls: {calls}, audit ok\n")?;
+    Ok(())
+}
+
+/// Plays the files that the arguments name and, where no word says otherwise, what callers do
+/// besides. Adds a line for each that passes.
 fn play_all<R: Env + Files + AllocGlobal + Runtime>(
     rt: R,
     text: &mut String,
@@ -37,16 +65,18 @@ fn play_all<R: Env + Files + AllocGlobal + Runtime>(
     for word in env::args(&rt)?.skip(1) {
         match word.as_str() {
             "alone" => is_alone = true,
+            "reserve" => {
+                reserved_token(rt.alloc())?;
+                return Ok(());
+            }
+            "reserved" => return make_reserved_calls(rt.alloc(), &mut reserved_token(rt.alloc())?),
             name => play_file(rt, text, name, is_alone)?,
         }
     }
-    if !is_alone {
-        run_asks(rt, rt.alloc())?;
-        write!(text, "asks: {RUNS} passed\n")?;
-        let calls = make_drawn_calls(rt, rt.alloc())?;
-        write!(text, "drawn calls: {calls}, audit ok\n")?;
+    if is_alone {
+        return Ok(());
     }
-    Ok(())
+    play_together(rt, text)
 }
 
 fn main(rt: HostRuntime) -> anyhow::Result<()> {

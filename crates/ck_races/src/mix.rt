@@ -1,4 +1,5 @@
 //! The mix of calls: what the callers draw from, and how a call is made of a drawn line.
+use crate::words::push_word;
 use anyhow::bail;
 use ck_journal::Call;
 use ck_script::{Line, LineError};
@@ -72,6 +73,19 @@ pub(crate) const SELDOM: [&str; 3] = [
     "Login $session 1 39393939",
 ];
 
+/// Rows with messages of 4 KiB to 64 KiB, whole and in pieces. They are drawn less often.
+pub(crate) const LONG: [&str; 8] = [
+    "DigestInit $session 250; DigestUpdate $session 61*4097; DigestFinal $session 32",
+    "DigestInit $session 270; DigestUpdate $session 62*20000; DigestUpdate $session 63*30000; \
+        DigestFinal $session 64",
+    "DigestInit $session 260; Digest $session 64*65536 48",
+    "DigestUpdate $session 65*9000",
+    "SignInit $session 251 $key; SignUpdate $session 6d*33000; SignFinal $session 32",
+    "SignInit $session 252:0800000000000000 $key; Sign $session 6e*12000 8",
+    "SignUpdate $session 6f*4096; SignUpdate $session 70*5000",
+    "VerifyInit $session 251 $key; VerifyUpdate $session 71*17000; VerifyFinal $session 6d",
+];
+
 /// Handles that all callers know, 0 where there was none yet.
 #[derive(Drop)]
 pub(crate) struct Handles {
@@ -101,10 +115,11 @@ impl Handles {
 }
 
 /// Adds a space and a word, or the number of the handle that the word stands for.
-fn push_word(line: &mut String, handles: &Handles, word: &str) -> Result<(), AllocError> {
+fn push_named(line: &mut String, handles: &Handles, word: &str) -> Result<(), AllocError> {
+    line.push(' ')?;
     match handles.named(word) {
-        Some(handle) => write!(line, " {}", handle.load(Ordering::SeqCst)),
-        None => write!(line, " {word}"),
+        Some(handle) => write!(line, "{}", handle.load(Ordering::SeqCst)),
+        None => push_word(line, word),
     }
 }
 
@@ -112,7 +127,7 @@ fn push_word(line: &mut String, handles: &Handles, word: &str) -> Result<(), All
 fn line_of(alloc: Global, handles: &Handles, text: &str) -> Result<String, AllocError> {
     let mut line = format!(in alloc; "1")?;
     for word in text.split(' ') {
-        push_word(&mut line, handles, word)?;
+        push_named(&mut line, handles, word)?;
     }
     Ok(line)
 }

@@ -1,20 +1,33 @@
-//! Orders of callers, and how they are kept.
+//! Orders of callers, and a gate that keeps one.
+use ck_journal::{Call, Reply};
+use ck_shared::{Ask, Caller, Gate, Status, TokenId};
+use ck_types::NoMemory;
 use rand_core::Rng;
 use rand_xoshiro::Xoshiro256PlusPlus;
+use std::alloc::Global;
+use std::sync::Wait;
 use std::sync::atomic::{AtomicU64, Ordering};
-use std::thread;
+use std::time::Duration;
 
-/// How often a call yields to other threads before it must be its caller's move.
-const MOST_YIELDS: u32 = 20_000_000;
+/// How often a held call looks whether it is the next one. It looks when another call has come to
+/// the gate or was made, and after so many milliseconds at the latest.
+const MOST_LOOKS: u32 = 2_000;
+
+const LONGEST_SLEEP: u64 = 10;
 
 /// A place behind all places of an order.
 const LATE: u64 = u64::MAX / 2;
 
-/// An order of calls, by the numbers of their callers, and how many of them were made.
+/// An order of calls, by the numbers of their callers.
 #[derive(Drop)]
 pub(crate) struct CallOrder<'a> {
     callers: &'a [u32],
+    /// How many calls have come to the gate.
+    come: AtomicU64,
+    /// How many were made.
     made: AtomicU64,
+    /// How often a call has come or was made.
+    moves: AtomicU64,
 }
 
 impl<'a> CallOrder<'a> {
@@ -22,7 +35,9 @@ impl<'a> CallOrder<'a> {
     pub(crate) fn new(callers: &'a [u32]) -> CallOrder<'a> {
         CallOrder {
             callers,
+            come: AtomicU64::new(0),
             made: AtomicU64::new(0),
+            moves: AtomicU64::new(0),
         }
     }
 
@@ -36,22 +51,83 @@ impl<'a> CallOrder<'a> {
         self.made.load(Ordering::SeqCst) >= LATE
     }
 
+    /// Tells all who wait that a call has come or was made.
+    fn tell(&self) {
+        self.moves.fetch_add(1, Ordering::SeqCst);
+        self.moves.wake_all();
+    }
+
     /// A call was made.
     pub(crate) fn count(&self) {
         self.made.fetch_add(1, Ordering::SeqCst);
+        self.tell();
     }
 
-    /// Yields until the next call is one of this caller. Where it doesn't come to that, no call is
+    /// Whether the next call is one of this caller, and those of all other callers of later calls
+    /// have come.
+    fn is_next(&self, caller: u32) -> bool {
+        let made = self.made.load(Ordering::SeqCst);
+        let left = self.callers.get(made as usize..).unwrap_or(&[]);
+        let Some(next) = left.first() else {
+            return true;
+        };
+        if *next != caller {
+            return false;
+        }
+        let waiting = (1..=8).filter(|number| left.contains(number)).count();
+        self.come.load(Ordering::SeqCst) >= made.saturating_add(waiting as u64)
+    }
+
+    /// Waits until the next call is one of this caller. Where it doesn't come to that, no call is
     /// held any more.
-    pub(crate) fn hold(&self, caller: u32) {
-        for _ in 0..MOST_YIELDS {
-            let made = self.made.load(Ordering::SeqCst);
-            if self.callers.get(made as usize).copied().unwrap_or(caller) == caller {
+    pub(crate) fn hold<W: Wait>(&self, rt: &W, caller: u32) {
+        let longest = Duration::from_millis(LONGEST_SLEEP);
+        self.come.fetch_add(1, Ordering::SeqCst);
+        self.tell();
+        for _ in 0..MOST_LOOKS {
+            let moves = self.moves.load(Ordering::SeqCst);
+            if self.is_next(caller) {
                 return;
             }
-            thread::yield_now();
+            let moves = (moves % 0x1_0000_0000) as u32;
+            self.moves.park_timeout(rt, moves, longest);
         }
         self.made.store(LATE, Ordering::SeqCst);
+        self.tell();
+    }
+}
+
+/// A gate that holds each call until it is the next one of an order, and until those that other
+/// callers make next have come too. What is asked isn't held.
+#[derive(Drop)]
+pub(crate) struct HeldGate<'a, G> {
+    gate: &'a G,
+    order: &'a CallOrder<'a>,
+}
+
+impl<'a, G> HeldGate<'a, G> {
+    /// A gate before another, which answers the calls.
+    pub(crate) fn new(gate: &'a G, order: &'a CallOrder<'a>) -> HeldGate<'a, G> {
+        HeldGate { gate, order }
+    }
+}
+
+impl<'a, K: TokenId, G: Gate<K>> Gate<K> for HeldGate<'a, G> {
+    fn call<W: Wait>(
+        &self,
+        rt: &W,
+        alloc: Global,
+        caller: &mut Caller<K>,
+        call: Call,
+    ) -> Result<Reply, NoMemory> {
+        self.order.hold(rt, caller.number());
+        let reply = self.gate.call(rt, alloc, caller, call);
+        self.order.count();
+        reply
+    }
+
+    fn status(&self, caller: &mut Caller<K>, ask: Ask) -> Option<Status> {
+        self.gate.status(caller, ask)
     }
 }
 

@@ -1,6 +1,7 @@
 //! The races of a file. Each begins with a line `race`. The other lines are calls: a line of a
 //! script, an arrow and the reply, as `1 OpenSession 6 -> 0 1`.
 //!
+//! - `sessions 2`: at most two sessions are open at once; where this isn't said, 64.
 //! - The calls before a line `cut` are made before the token is shared, and then its journal is
 //!   cut.
 //! - The first calls behind it are made one after the other.
@@ -9,11 +10,14 @@
 //!   every order of the calls, to whichever callers.
 //! - The calls behind `afterwards` are made where these replies have come.
 //!
+//! A word of bytes may have an asterisk and a count: `61*5000` is 5,000 bytes `61`.
+//!
 //! Empty lines and lines that begin with `#` are skipped.
+use crate::words::script_line;
 use anyhow::{Context, bail, ensure};
 use ck_journal::{Call, Reply};
 use ck_script::{Line, LineError, reply_line};
-use ck_types::NoMemory;
+use ck_types::{Limits, NoMemory};
 use std::alloc::Global;
 use std::mem;
 
@@ -30,6 +34,7 @@ pub(crate) struct RaceLine<'a> {
 pub(crate) struct Race<'a> {
     /// The number of its first line.
     pub(crate) number: u64,
+    pub(crate) limits: Limits,
     /// The calls before the cut.
     pub(crate) earlier: Vec<RaceLine<'a>>,
     /// The first calls, and behind them those that are made together.
@@ -46,6 +51,7 @@ impl<'a> Race<'a> {
     fn new(alloc: Global, number: u64) -> Race<'a> {
         Race {
             number,
+            limits: Limits::largest(),
             earlier: Vec::new(alloc),
             lines: Vec::new(alloc),
             first: 0,
@@ -78,10 +84,26 @@ impl<'a> Race<'a> {
             "together" => self.gather(false),
             "together in any order" => self.gather(true),
             "afterwards" => self.is_afterwards = true,
-            _ => self.add_call(line_in(alloc, number, text)?)?,
+            _ => match text.strip_prefix("sessions ") {
+                Some(sessions) => self.limits = limits_of(number, sessions)?,
+                None => self.add_call(line_in(alloc, number, text)?)?,
+            },
         }
         Ok(())
     }
+}
+
+/// The largest limits with this many sessions.
+fn limits_of(number: u64, sessions: &str) -> anyhow::Result<Limits> {
+    let largest = Limits::largest();
+    let sessions = sessions.parse().unwrap_or(0u64);
+    Limits::of(
+        sessions,
+        largest.openings(),
+        largest.creations(),
+        largest.logins(),
+    )
+    .context(format_args!("line {number}: sessions are 1 to 64"))
 }
 
 /// The reply is that of the line.
@@ -102,7 +124,8 @@ pub(crate) fn line_in<'a>(
     text: &'a str,
 ) -> anyhow::Result<RaceLine<'a>> {
     let (text, reply) = text.split_once(" -> ").unwrap_or((text, ""));
-    match Line::parse(alloc, text.as_bytes()) {
+    let line = script_line(alloc, text)?;
+    match Line::parse(alloc, line.as_bytes()) {
         Ok(Line::Called { caller, call }) => Ok(RaceLine {
             number,
             caller,

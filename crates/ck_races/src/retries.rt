@@ -1,15 +1,100 @@
-//! The calls of a race, one after the other on a shared token. What finds no memory is made again.
+//! The calls of a race, one after the other on a shared token, by two callers in turn. What finds
+//! no memory is made again, by the other one.
 use crate::races::{Race, RaceLine, compare};
-use crate::tokens::prepare;
-use anyhow::ensure;
-use ck_shared::{Caller, CallerWork, Gate, Runtime, TokenId, share};
+use crate::retried_runs::retry_run;
+use crate::retried_scripts::retry_script;
+use crate::shared_work::{SharedWork, share_with};
+use crate::tokens::prepared_token;
+use anyhow::{bail, ensure};
+use ck_journal::{Body, Reply};
+use ck_shared::{Ask, Caller, Gate, Runtime, SharedToken, Status, TokenId};
 use ck_token::Token;
-use ck_types::{Limits, NoMemory};
+use ck_types::NoMemory;
 use std::alloc::Global;
-use std::sync::Wait;
+
+/// What a caller knows, and what it is answered without the lock.
+#[derive(Drop)]
+struct Knowledge {
+    seen: u64,
+    count: u64,
+    token: Reply,
+    session: Reply,
+}
+
+/// What a caller is answered without the lock.
+fn answer_to<K: TokenId>(caller: &mut Caller<K>, ask: Ask) -> anyhow::Result<Reply> {
+    match caller.status(ask) {
+        Some(Status::Reply(reply)) => Ok(reply),
+        _ => bail!("a question is not answered"),
+    }
+}
+
+/// What a caller knows when it has asked.
+fn knowledge_of<K: TokenId>(caller: &mut Caller<K>) -> anyhow::Result<Knowledge> {
+    let token = answer_to(caller, Ask::Token)?;
+    let session = answer_to(caller, Ask::Session(1))?;
+    Ok(Knowledge {
+        seen: caller.seen(),
+        count: caller.count(),
+        token,
+        session,
+    })
+}
+
+/// Whether two answers about the token, or two about a session, are the same. It takes no memory.
+fn are_same_answers(one: &Reply, other: &Reply) -> bool {
+    one.rv == other.rv && are_same_bodies(&one.body, &other.body)
+}
+
+fn are_same_bodies(one: &Body, other: &Body) -> bool {
+    match (one, other) {
+        (Body::Empty, Body::Empty) => true,
+        (
+            Body::Session { state, flags },
+            Body::Session {
+                state: other_state,
+                flags: other_flags,
+            },
+        ) => state == other_state && flags == other_flags,
+        (
+            Body::Token {
+                flags,
+                limit,
+                sessions,
+                rw_sessions,
+            },
+            Body::Token {
+                flags: other_flags,
+                limit: other_limit,
+                sessions: other_sessions,
+                rw_sessions: other_rw_sessions,
+            },
+        ) => {
+            flags == other_flags
+                && limit == other_limit
+                && sessions == other_sessions
+                && rw_sessions == other_rw_sessions
+        }
+        _ => false,
+    }
+}
+
+/// A caller knows what it knew, and is answered as it was. When it asks it may learn of calls that
+/// others made before.
+fn check_unchanged<K: TokenId>(caller: &mut Caller<K>, before: &Knowledge) -> anyhow::Result<()> {
+    let knows_the_same = caller.seen() == before.seen && caller.count() == before.count;
+    let after = knowledge_of(caller)?;
+    ensure!(
+        knows_the_same
+            && are_same_answers(&after.token, &before.token)
+            && are_same_answers(&after.session, &before.session),
+        "changed by a call without memory"
+    );
+    Ok(())
+}
 
 /// Makes a call, and says whether there was memory for it.
-fn make_once<K: TokenId, G: Gate<K>, R: Wait>(
+fn make_once<K: TokenId, G: Gate<K>, R: Runtime>(
     rt: &R,
     alloc: Global,
     gate: &G,
@@ -25,87 +110,94 @@ fn make_once<K: TokenId, G: Gate<K>, R: Wait>(
 }
 
 /// Makes a call, and says whether it was made again: where it finds no memory, the caller knows
-/// what it knew.
-fn make<K: TokenId, G: Gate<K>, R: Wait>(
+/// what it knew, and the other one makes the call. This is then the next entry.
+fn make<K: TokenId, G: Gate<K>, R: Runtime>(
     rt: &R,
     alloc: Global,
     gate: &G,
-    caller: &mut Caller<K>,
+    (caller, other): (&mut Caller<K>, &mut Caller<K>),
+    entries: u64,
     line: &RaceLine,
 ) -> anyhow::Result<bool> {
-    let (seen, count) = (caller.seen(), caller.count());
+    let before = knowledge_of(caller)?;
     if make_once(rt, alloc, gate, caller, line)? {
         return Ok(false);
     }
+    check_unchanged(caller, &before)?;
+    if !make_once(rt, alloc, gate, other, line)? {
+        return Err(NoMemory.into());
+    }
     ensure!(
-        caller.seen() == seen && caller.count() == count,
-        "changed without memory by line {}",
+        other.seen() == entries.saturating_add(1),
+        "line {} is not one entry more",
         line.number
     );
-    if make_once(rt, alloc, gate, caller, line)? {
-        return Ok(true);
-    }
-    Err(NoMemory.into())
+    Ok(true)
 }
 
-/// Makes calls one after the other, and says how many were made again.
-fn make_all<K: TokenId, G: Gate<K>, R: Wait>(
+/// Makes calls one after the other, behind this many entries, by each of two callers in turn. Says
+/// how many were made again.
+fn make_all<K: TokenId, G: Gate<K>, R: Runtime>(
     rt: &R,
     alloc: Global,
     gate: &G,
-    caller: &mut Caller<K>,
+    (one, other): (&mut Caller<K>, &mut Caller<K>),
+    first: usize,
     lines: &[RaceLine],
 ) -> anyhow::Result<u64> {
     let mut retries = 0u64;
+    let mut entries = first as u64;
     for line in lines {
-        if make(rt, alloc, gate, caller, line)? {
-            retries = retries.saturating_add(1);
-        }
+        let is_again = if entries % 2 == 0 {
+            make(rt, alloc, gate, (&mut *one, &mut *other), entries, line)?
+        } else {
+            make(rt, alloc, gate, (&mut *other, &mut *one), entries, line)?
+        };
+        retries = retries.saturating_add(u64::from(is_again));
+        entries = entries.saturating_add(1);
     }
     Ok(retries)
 }
 
-/// A caller that makes all calls of a race.
-#[derive(Drop)]
-struct AllCalls<'a>(&'a Race<'a>);
-
-impl<'a, R: Wait> CallerWork<R> for AllCalls<'a> {
-    ghost use Rattle.std.specs.Prelude.{⊤};
-
-    /// How many calls were made again.
-    type Output = anyhow::Result<u64>;
-
-    ghost holds = { λ work before after retries. ⊤ };
-
-    fn act<K: TokenId, G: Gate<K>>(
-        &self,
-        rt: &R,
-        alloc: Global,
-        gate: &G,
-        caller: &mut Caller<K>,
-    ) -> anyhow::Result<u64> {
-        let first = make_all(rt, alloc, gate, caller, &self.0.lines)?;
-        let after = make_all(rt, alloc, gate, caller, &self.0.afterwards)?;
-        Ok(first.saturating_add(after))
-    }
+/// Two callers make all calls of a race. Says how many were made again.
+pub(crate) fn make_race<K: TokenId + Send + Sync, R: Runtime>(
+    rt: &R,
+    alloc: Global,
+    token: &SharedToken<K, Token, R>,
+    callers: &mut Vec<Caller<K>>,
+    race: &Race,
+) -> anyhow::Result<u64> {
+    let [one, other] = callers.as_mut_slice() else {
+        bail!("there are not two callers");
+    };
+    let Race {
+        lines,
+        afterwards,
+        ..
+    } = race;
+    let first = make_all(rt, alloc, token, (&mut *one, &mut *other), 0, lines)?;
+    let count = lines.len();
+    let after = make_all(rt, alloc, token, (one, other), count, afterwards)?;
+    Ok(first.saturating_add(after))
 }
 
-/// How many calls all callers made again. The journal has this many entries: one for each call,
-/// made again or not.
-fn count_retries(race: &Race, entries: u64, all: Vec<anyhow::Result<u64>>) -> anyhow::Result<u64> {
-    let mut sum = 0u64;
-    for retries in all {
-        sum = sum.saturating_add(retries?);
-    }
+/// Two callers make the calls of a race. Says how many were made again.
+fn retry_calls<R: Runtime>(rt: R, alloc: Global, race: &Race) -> anyhow::Result<u64> {
+    let token = prepared_token(alloc, race)?;
+    let (token, outcome) = share_with(rt, alloc, token, 2, &SharedWork::AllCalls(race))?;
     let calls = race.lines.len().saturating_add(race.afterwards.len());
-    ensure!(entries == calls as u64, "not an entry for each call");
-    Ok(sum)
+    ensure!(
+        token.journal().len() == calls as u64,
+        "not an entry for each call"
+    );
+    Ok(outcome.retries)
 }
 
-/// One caller makes the calls of a race on a new token. Says how many were made again.
+/// Makes the calls of a race by two callers, by `run` and by `run_scripts`. Says how many were made
+/// again.
 pub(crate) fn retry_race<R: Runtime>(rt: R, alloc: Global, race: &Race) -> anyhow::Result<u64> {
-    let mut token = Token::new(alloc, Limits::largest());
-    prepare(alloc, &mut token, &race.earlier)?;
-    let all = share(rt, alloc, &mut token, 1, &AllCalls(race))?;
-    count_retries(race, token.journal().len(), all)
+    let called = retry_calls(rt, alloc, race)?;
+    let run = retry_run(alloc, race)?;
+    let scripted = retry_script(rt, alloc, race)?;
+    Ok(called.saturating_add(run).saturating_add(scripted))
 }

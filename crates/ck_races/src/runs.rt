@@ -1,13 +1,16 @@
 //! Runs of a race by callers in threads, with all calls in order and with only the first ones.
-use crate::journals::{CallerReplies, check_replies, check_token};
-use crate::orders::{CallOrder, reorder};
+use crate::journals::{
+    CallerReplies, check_audit, check_replies, check_token, in_order_of_callers,
+};
+use crate::orders::{CallOrder, HeldGate, reorder};
 use crate::races::{Race, RaceLine};
-use crate::tokens::prepare;
+use crate::shared_work::{SharedWork, share_with};
+use crate::tokens::{make_calls, prepared_token};
 use anyhow::ensure;
 use ck_journal::Reply;
 use ck_shared::{Caller, CallerWork, Gate, Runtime, TokenId, share};
 use ck_token::Token;
-use ck_types::{Limits, NoMemory};
+use ck_types::NoMemory;
 use rand_core::SeedableRng;
 use rand_xoshiro::Xoshiro256PlusPlus;
 use std::alloc::Global;
@@ -24,22 +27,6 @@ struct OrderedCalls<'a> {
 }
 
 impl<'a> OrderedCalls<'a> {
-    /// Makes a call when it is the next one of the order.
-    fn make<K: TokenId, G: Gate<K>, R: Wait>(
-        &self,
-        rt: &R,
-        alloc: Global,
-        gate: &G,
-        caller: &mut Caller<K>,
-        line: &RaceLine,
-    ) -> Result<Reply, NoMemory> {
-        let call = line.call.clone()?;
-        self.order.hold(line.caller);
-        let reply = gate.call(rt, alloc, caller, call);
-        self.order.count();
-        reply
-    }
-
     /// Makes the calls of a caller, and adds their replies.
     fn make_own<K: TokenId, G: Gate<K>, R: Wait>(
         &self,
@@ -51,7 +38,7 @@ impl<'a> OrderedCalls<'a> {
     ) -> Result<(), NoMemory> {
         for line in self.lines {
             if line.caller == caller.number() {
-                replies.push(self.make(rt, alloc, gate, caller, line)?)?;
+                replies.push(gate.call(rt, alloc, caller, line.call.clone()?)?)?;
             }
         }
         Ok(())
@@ -66,7 +53,7 @@ impl<'a, R: Wait> CallerWork<R> for OrderedCalls<'a> {
 
     ghost holds = { λ work before after replies. ⊤ };
 
-    /// Makes the calls of the caller.
+    /// Makes the calls of the caller, each when it is the next one of the order.
     fn act<K: TokenId, G: Gate<K>>(
         &self,
         rt: &R,
@@ -75,26 +62,69 @@ impl<'a, R: Wait> CallerWork<R> for OrderedCalls<'a> {
         caller: &mut Caller<K>,
     ) -> anyhow::Result<CallerReplies> {
         let mut replies = Vec::new(alloc);
-        self.make_own(rt, alloc, gate, caller, &mut replies)?;
+        let held = HeldGate::new(gate, self.order);
+        self.make_own(rt, alloc, &held, caller, &mut replies)?;
         Ok((caller.number(), replies))
     }
 }
 
-/// Eight callers make the calls of a race on a new token, the first ones in this order of their
-/// callers. What comes of it is checked, and what is made afterwards: no call was made too early,
-/// each caller got the replies of its entries, and these are as the race says.
-fn run_once<R: Runtime>(rt: R, alloc: Global, race: &Race, callers: &[u32]) -> anyhow::Result<()> {
-    let mut token = Token::new(alloc, Limits::largest());
-    prepare(alloc, &mut token, &race.earlier)?;
+/// Checks what came of a race, and what is made afterwards: no call was made too early, each caller
+/// got the replies of its entries, these are as the race says, and the journal is legal.
+fn check_run(
+    alloc: Global,
+    token: &mut Token,
+    race: &Race,
+    order: &CallOrder,
+    all: Vec<CallerReplies>,
+) -> anyhow::Result<()> {
+    ensure!(!order.is_late(), "a call wasn't the next one in time");
+    check_replies(token.journal().entries(), all)?;
+    check_token(alloc, token, race, order.callers())?;
+    check_audit(alloc, token)?;
+    Ok(())
+}
+
+/// Eight callers make the calls of a race on a new token by `share`, the first ones in this order
+/// of their callers.
+fn run_shared<R: Runtime>(
+    rt: R,
+    alloc: Global,
+    race: &Race,
+    callers: &[u32],
+) -> anyhow::Result<()> {
+    let mut token = prepared_token(alloc, race)?;
     let order = CallOrder::new(callers);
     let calls = OrderedCalls {
         lines: &race.lines,
         order: &order,
     };
     let all = share(rt, alloc, &mut token, 8, &calls)?;
-    ensure!(!order.is_late(), "a call wasn't the next one in time");
-    check_replies(token.journal().entries(), all)?;
-    check_token(alloc, &mut token, race, callers)
+    let all = in_order_of_callers(alloc, all)?;
+    check_run(alloc, &mut token, race, &order, all)
+}
+
+/// The same by `run_scripts`, where the bytes of each call are taken in before it is held.
+fn run_scripted<R: Runtime>(
+    rt: R,
+    alloc: Global,
+    race: &Race,
+    callers: &[u32],
+) -> anyhow::Result<()> {
+    let order = CallOrder::new(callers);
+    let work = SharedWork::HeldScripts {
+        race: &*race,
+        order: &order,
+    };
+    let token = prepared_token(alloc, race)?;
+    let (mut token, outcome) = share_with(rt, alloc, token, 8, &work)?;
+    check_run(alloc, &mut token, race, &order, outcome.replies)
+}
+
+/// The calls of a race on a token that isn't shared, as they stand.
+fn make_in_order(alloc: Global, race: &Race) -> anyhow::Result<()> {
+    let mut token = prepared_token(alloc, race)?;
+    make_calls(alloc, &mut token, &race.lines)?;
+    make_calls(alloc, &mut token, &race.afterwards)
 }
 
 /// Runs a race again and again: with all calls in an order of their callers, first this one and
@@ -107,8 +137,9 @@ fn run_in_orders<R: Runtime>(
 ) -> anyhow::Result<()> {
     let mut draws = Xoshiro256PlusPlus::seed_from_u64(race.number);
     for _ in 0..RUNS {
-        run_once(rt, alloc, race, callers)?;
-        run_once(rt, alloc, race, callers.get(..race.first).unwrap_or(&[]))?;
+        run_shared(rt, alloc, race, callers)?;
+        run_scripted(rt, alloc, race, callers)?;
+        run_shared(rt, alloc, race, callers.get(..race.first).unwrap_or(&[]))?;
         if let Some(together) = callers.get_mut(race.first..) {
             reorder(&mut draws, together);
         }
@@ -116,8 +147,10 @@ fn run_in_orders<R: Runtime>(
     Ok(())
 }
 
-/// Runs a race in orders of the callers of its calls, beginning with that in which they stand.
+/// Runs a race on a token that isn't shared, and in orders of the callers of its calls, beginning
+/// with that in which they stand.
 pub(crate) fn run_race<R: Runtime>(rt: R, alloc: Global, race: &Race) -> anyhow::Result<()> {
+    make_in_order(alloc, race)?;
     let callers = race.lines.iter().map(|line| line.caller);
     let mut callers: Vec<u32> = callers.collect(alloc)?;
     run_in_orders(rt, alloc, race, &mut callers)

@@ -1,0 +1,96 @@
+//! Eight callers make twenty calls each by `run_scripts`, of which every other call may come
+//! between. Then the token is taken back, and each caller got the replies of its entries.
+use crate::journals::{CallerReplies, check_audit, check_replies};
+use crate::mix::{Handles, call_of};
+use crate::scripts::{add_script, finish};
+use crate::shared_work::{SharedWork, share_with};
+use anyhow::{Context, ensure};
+use ck_journal::Call;
+use ck_shared::{Caller, Runtime, Script, SharedToken, TokenId, run_scripts};
+use ck_token::Token;
+use ck_types::{Limits, Pin};
+use std::alloc::Global;
+use std::mem;
+use std::sync::atomic::Ordering;
+
+/// How many callers there are.
+const CALLERS: u32 = 8;
+
+/// One entry for each call of a script, and one for the first call.
+const ENTRIES: usize = 8 * 20 + 1;
+
+/// The calls of each caller. Session `$session` is that of the caller's number, whoever opens it.
+const SCRIPT: [&str; 20] = [
+    "OpenSession 6",
+    "GetTokenInfo",
+    "GetSessionInfo $session",
+    "CreateObject $session 0=0000000000000000,3=61",
+    "CreateObject $session 0=0400000000000000,100=1000000000000000,11=4a656665,2=00",
+    "FindObjectsInit $session -",
+    "FindObjects $session 3",
+    "FindObjects $session 99",
+    "FindObjectsFinal $session",
+    "GetAttributeValue $session 1 3:8",
+    "SetAttributeValue $session 1 3=62",
+    "DigestInit $session 250",
+    "DigestUpdate $session 61",
+    "DigestUpdate $session 62*5000",
+    "DigestFinal $session 32",
+    "SignInit $session 251 2",
+    "SignUpdate $session 6d",
+    "SignFinal $session 32",
+    "DestroyObject $session 1",
+    "CloseSession $session",
+];
+
+/// The calls of a caller.
+fn calls_of(alloc: Global, caller: u32) -> anyhow::Result<Vec<Call>> {
+    let handles = Handles::new();
+    handles.session.store(u64::from(caller), Ordering::SeqCst);
+    let mut calls = Vec::new(alloc);
+    for text in &SCRIPT {
+        calls.push(call_of(alloc, &handles, text)?)?;
+    }
+    Ok(calls)
+}
+
+fn scripts_of<K: TokenId>(
+    alloc: Global,
+    callers: Vec<Caller<K>>,
+) -> anyhow::Result<Vec<Script<K>>> {
+    let mut scripts = Vec::new(alloc);
+    for caller in callers {
+        let calls = calls_of(alloc, caller.number())?;
+        add_script(alloc, caller, calls, &mut scripts)?;
+    }
+    Ok(scripts)
+}
+
+/// All callers make the calls of their scripts at once, behind the first call of the first one.
+/// Gives the replies to each.
+pub(crate) fn run_eight<K: TokenId + Send + Sync, R: Runtime>(
+    rt: &R,
+    alloc: Global,
+    token: &SharedToken<K, Token, R>,
+    callers: &mut Vec<Caller<K>>,
+) -> anyhow::Result<Vec<CallerReplies>> {
+    let first = callers.first_mut().context("a caller is missing")?;
+    let pin = Pin::of(b"1234");
+    token.call(rt, alloc, first, Call::InitToken { pin })?;
+    let owned = mem::replace(callers, Vec::new(alloc));
+    let scripts = run_scripts(rt, alloc, token, scripts_of(alloc, owned)?);
+    let mut all = Vec::new(alloc);
+    finish(scripts, callers, &mut all)?;
+    Ok(all)
+}
+
+/// Makes the calls of all scripts on a new token, and compares the replies with its journal, whose
+/// first entry is of the first call. Says how many calls there are.
+pub(crate) fn run_eight_scripts<R: Runtime>(rt: R, alloc: Global) -> anyhow::Result<u64> {
+    let token = Token::new(alloc, Limits::largest());
+    let (token, outcome) = share_with(rt, alloc, token, CALLERS, &SharedWork::EightScripts)?;
+    let entries = token.journal().entries();
+    check_replies(entries.get(1..).unwrap_or(&[]), outcome.replies)?;
+    ensure!(entries.len() == ENTRIES, "not an entry for each call");
+    check_audit(alloc, &token)
+}

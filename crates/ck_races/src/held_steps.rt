@@ -1,0 +1,158 @@
+//! Each of two callers opens a session and then asks how many are open, by `run_steps`. The call of
+//! one is held until that of the other is answered: where the lists were taken one after the other,
+//! it would come too late. The one that was first sees the other's session by asking only.
+use crate::asks::{await_status, check_ask, check_status, expect};
+use crate::journals::check_audit;
+use crate::orders::{CallOrder, HeldGate};
+use crate::scripts::{add_script, check_taken};
+use crate::shared_work::{SharedWork, share_with};
+use crate::tokens::initialized_token;
+use anyhow::ensure;
+use ck_journal::{Body, Call, READ_WRITE, Reply};
+use ck_shared::{
+    Answered, Ask, Caller, Gate, Runtime, Script, SharedToken, Step, TokenId, run_steps,
+};
+use ck_token::Token;
+use ck_types::{NoMemory, Rv};
+use std::alloc::Global;
+use std::mem;
+
+/// How often a caller asks behind its call.
+const ASKS: u32 = 100;
+
+/// How often it is run with each of both callers as the first one.
+pub(crate) const RUNS: u32 = 100;
+
+type OpeningScript<K> = Script<K, Step, Answered>;
+
+/// What is answered of the token after this many entries: each opens a session.
+fn info_after(entries: u64) -> &'static str {
+    match entries {
+        1 => "0 404 64 1 1",
+        _ => "0 404 64 2 2",
+    }
+}
+
+/// A call, and questions behind it.
+fn steps(alloc: Global) -> Result<Vec<Step>, NoMemory> {
+    let mut steps = Vec::new(alloc);
+    steps.push(Step::Call(Call::OpenSession { flags: READ_WRITE }))?;
+    for _ in 0..ASKS {
+        steps.push(Step::Ask(Ask::Token))?;
+    }
+    Ok(steps)
+}
+
+fn scripts_of<K: TokenId>(
+    alloc: Global,
+    callers: Vec<Caller<K>>,
+) -> Result<Vec<OpeningScript<K>>, NoMemory> {
+    let mut scripts = Vec::new(alloc);
+    for caller in callers {
+        add_script(alloc, caller, steps(alloc)?, &mut scripts)?;
+    }
+    Ok(scripts)
+}
+
+/// The reply of the entry of this number gives the handle of that number.
+fn check_reply(reply: &Reply, entry: u64) -> anyhow::Result<()> {
+    expect(matches!((&reply.rv, &reply.body), (Rv::Ok, Body::Handle(handle)) if *handle == entry))
+}
+
+/// What was answered to a step agrees with its number.
+fn check_answer(alloc: Global, answer: &Answered) -> anyhow::Result<()> {
+    match answer {
+        Answered::Reply(reply, seen) => check_reply(reply, *seen),
+        Answered::Status(status, seen) => check_status(alloc, status, info_after(*seen)),
+    }
+}
+
+/// All steps of a script were taken, the first of them as the entry of this number.
+fn check_script<K: TokenId>(
+    alloc: Global,
+    script: &OpeningScript<K>,
+    entry: u64,
+) -> anyhow::Result<()> {
+    check_taken(script)?;
+    let answers = script.replies();
+    expect(matches!(answers.first(), Some(Answered::Reply(_, seen)) if *seen == entry))?;
+    for answer in answers {
+        check_answer(alloc, answer)?;
+    }
+    Ok(())
+}
+
+/// The callers of scripts come back. The first of them made its call as the entry of this number,
+/// and the second as the other of two.
+fn check_scripts<K: TokenId>(
+    alloc: Global,
+    scripts: Vec<OpeningScript<K>>,
+    callers: &mut Vec<Caller<K>>,
+    first: u64,
+) -> anyhow::Result<()> {
+    let mut entry = first;
+    for script in scripts {
+        check_script(alloc, &script, entry)?;
+        callers.push(script.caller)?;
+        entry = if entry == 1 { 2 } else { 1 };
+    }
+    Ok(())
+}
+
+/// A caller that has made a call sees both sessions by asking only. Then it makes a call that
+/// leaves sessions, logins and PINs as they are, and is answered without the lock as before.
+fn check_after<K: TokenId, G: Gate<K>, R: Runtime>(
+    rt: &R,
+    alloc: Global,
+    gate: &G,
+    caller: &mut Caller<K>,
+) -> anyhow::Result<()> {
+    let before = caller.seen();
+    if before == 1 {
+        await_status(alloc, caller, Ask::Token, info_after(1), info_after(2))?;
+    }
+    gate.call(rt, alloc, caller, Call::GetTokenInfo)?;
+    check_ask(alloc, caller, Ask::Token, info_after(2))?;
+    expect(caller.count() == 2)
+}
+
+/// Two callers open a session each, in this order of which the first caller is known, and ask.
+pub(crate) fn open_sessions<K: TokenId + Send + Sync, R: Runtime>(
+    rt: &R,
+    alloc: Global,
+    token: &SharedToken<K, Token, R>,
+    callers: &mut Vec<Caller<K>>,
+    first: u32,
+    order: &CallOrder,
+) -> anyhow::Result<()> {
+    let scripts = scripts_of(alloc, mem::replace(callers, Vec::new(alloc)))?;
+    let scripts = run_steps(rt, alloc, &HeldGate::new(token, order), scripts);
+    check_scripts(alloc, scripts, callers, u64::from(first))?;
+    for caller in callers {
+        check_after(rt, alloc, token, caller)?;
+    }
+    Ok(())
+}
+
+/// Runs it once, with this caller as the first one.
+fn run_once<R: Runtime>(rt: R, alloc: Global, first: u32) -> anyhow::Result<()> {
+    let callers = if first == 1 { [1, 2] } else { [2, 1] };
+    let order = CallOrder::new(&callers);
+    let work = SharedWork::Openings {
+        first,
+        order: &order,
+    };
+    let (token, _outcome) = share_with(rt, alloc, initialized_token(alloc)?, 2, &work)?;
+    ensure!(!order.is_late(), "a step wasn't the next one in time");
+    check_audit(alloc, &token)?;
+    Ok(())
+}
+
+/// Runs it again and again, both ways.
+pub(crate) fn run_held_steps<R: Runtime>(rt: R, alloc: Global) -> anyhow::Result<()> {
+    for _ in 0..RUNS {
+        run_once(rt, alloc, 1)?;
+        run_once(rt, alloc, 2)?;
+    }
+    Ok(())
+}

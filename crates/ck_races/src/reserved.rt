@@ -1,0 +1,51 @@
+//! Calls for which places in the journal are reserved, and which take no other memory.
+use crate::tokens::make_calls_of;
+use anyhow::ensure;
+use ck_journal::Call;
+use ck_token::Token;
+use ck_types::{Limits, Rv};
+use std::alloc::Global;
+
+/// The user is logged in, and has a key.
+const FIRST_CALLS: [&str; 7] = [
+    "1 InitToken 31323334 -> 0",
+    "1 OpenSession 6 -> 0 1",
+    "1 Login 1 0 31323334 -> 0",
+    "1 InitPIN 1 75736572 -> 0",
+    "1 Logout 1 -> 0",
+    "1 Login 1 1 75736572 -> 0",
+    "1 CreateObject 1 0=0400000000000000,100=1000000000000000,11=4a656665 -> 0 4294967297",
+];
+
+/// A token with three places in its journal.
+pub(crate) fn reserved_token(alloc: Global) -> anyhow::Result<Token> {
+    let mut token = Token::new(alloc, Limits::largest());
+    make_calls_of(alloc, &mut token, &FIRST_CALLS)?;
+    token.reserve(3)?;
+    Ok(token)
+}
+
+/// The key is destroyed, its object is, and all sessions are closed.
+pub(crate) fn make_reserved_calls(alloc: Global, token: &mut Token) -> anyhow::Result<()> {
+    let (session, key) = (1, 0x1_0000_0001);
+    let calls = [
+        Call::SetKeyState {
+            session,
+            key,
+            state: 4,
+        },
+        Call::DestroyObject {
+            session,
+            object: key,
+        },
+        Call::CloseAllSessions,
+    ];
+    for call in calls {
+        let reply = token.call(alloc, 1, call)?;
+        ensure!(
+            reply.rv == Rv::Ok,
+            "a call with a reserved place is refused"
+        );
+    }
+    Ok(())
+}

@@ -1,0 +1,42 @@
+//! The calls of a race by `run` on a token. Where it stops without memory, it goes on with those
+//! that are left.
+use crate::journals::check_entries;
+use crate::races::{Race, RaceLine};
+use crate::tokens::prepared_token;
+use anyhow::ensure;
+use ck_journal::Call;
+use ck_token::{Stopped, Token, run};
+use ck_types::NoMemory;
+use std::alloc::Global;
+
+/// The calls of lines, each with its caller.
+fn calls_of(alloc: Global, lines: &[RaceLine]) -> Result<Vec<(u32, Call)>, NoMemory> {
+    let mut calls = Vec::new(alloc);
+    for line in lines {
+        calls.push((line.caller, line.call.clone()?))?;
+    }
+    Ok(calls)
+}
+
+/// Runs the calls of lines, and says how often it stopped: the journal then has an entry for each
+/// call that was answered.
+fn run_calls(alloc: Global, token: &mut Token, lines: &[RaceLine]) -> anyhow::Result<u64> {
+    let Err(Stopped { answered }) = run(token, alloc, calls_of(alloc, lines)?) else {
+        return Ok(0);
+    };
+    ensure!(
+        token.journal().len() == answered,
+        "a run that stopped has other entries than calls"
+    );
+    let left = lines.get(answered as usize..).unwrap_or(&[]);
+    run(token, alloc, calls_of(alloc, left)?)?;
+    Ok(1)
+}
+
+/// Runs the calls of a race, and says how often it stopped.
+pub(crate) fn retry_run(alloc: Global, race: &Race) -> anyhow::Result<u64> {
+    let mut token = prepared_token(alloc, race)?;
+    let stops = run_calls(alloc, &mut token, &race.lines)?;
+    check_entries(alloc, &race.lines, token.journal().entries())?;
+    Ok(stops)
+}

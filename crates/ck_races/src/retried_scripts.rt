@@ -1,0 +1,71 @@
+//! The calls of a race by `run_scripts`, as one script. Where a call finds no memory, those that
+//! are left are a script of their own.
+use crate::journals::check_entries;
+use crate::races::{Race, RaceLine};
+use crate::scripts::{add_script, calls_of};
+use crate::shared_work::{SharedWork, share_with};
+use crate::tokens::prepared_token;
+use anyhow::{Context, ensure};
+use ck_shared::{Caller, Runtime, SharedToken, TokenId, run_scripts};
+use ck_token::Token;
+use ck_types::NoMemory;
+use std::alloc::Global;
+
+/// A caller makes calls by a script. It comes back with how many were answered: where not all
+/// were, the next one found no memory, or there was none for a thread.
+fn make_calls<K: TokenId + Send + Sync, R: Runtime>(
+    rt: &R,
+    alloc: Global,
+    token: &SharedToken<K, Token, R>,
+    caller: Caller<K>,
+    lines: &[RaceLine],
+) -> anyhow::Result<(Caller<K>, usize)> {
+    let mut scripts = Vec::new(alloc);
+    add_script(alloc, caller, calls_of(alloc, lines)?, &mut scripts)?;
+    let script = run_scripts(rt, alloc, token, scripts)
+        .pop()
+        .context("a script is missing")?;
+    let is_done = script.started() && script.outcome().is_ok();
+    let (caller, replies) = script.into_parts();
+    ensure!(
+        is_done == (replies.len() == lines.len()),
+        "a script ended early"
+    );
+    Ok((caller, replies.len()))
+}
+
+/// A caller makes the calls of a race by scripts. Says how often one ended without memory.
+pub(crate) fn make_by_scripts<K: TokenId + Send + Sync, R: Runtime>(
+    rt: &R,
+    alloc: Global,
+    token: &SharedToken<K, Token, R>,
+    callers: &mut Vec<Caller<K>>,
+    race: &Race,
+) -> anyhow::Result<u64> {
+    let caller = callers.pop().context("a caller is missing")?;
+    let (caller, answered) = make_calls(rt, alloc, token, caller, &race.lines)?;
+    ensure!(
+        caller.count() == answered as u64 && caller.seen() == answered as u64,
+        "a script that ended early has other entries than calls"
+    );
+    let left = race.lines.get(answered..).unwrap_or(&[]);
+    if left.is_empty() {
+        callers.push(caller)?;
+        return Ok(0);
+    }
+    let (caller, answered) = make_calls(rt, alloc, token, caller, left)?;
+    callers.push(caller)?;
+    if answered < left.len() {
+        return Err(NoMemory.into());
+    }
+    Ok(1)
+}
+
+/// Makes the calls of a race by scripts of one caller, and says how often one ended early.
+pub(crate) fn retry_script<R: Runtime>(rt: R, alloc: Global, race: &Race) -> anyhow::Result<u64> {
+    let token = prepared_token(alloc, race)?;
+    let work = SharedWork::CallsByScripts(race);
+    let (token, outcome) = share_with(rt, alloc, token, 1, &work)?;
+    check_entries(alloc, &race.lines, token.journal().entries())?;
+    Ok(outcome.retries)
+}

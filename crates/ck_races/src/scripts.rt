@@ -1,0 +1,100 @@
+//! Callers make their calls by `run_scripts`, at a gate that holds each until it is the next one.
+use crate::begun_calls::BegunGate;
+use crate::journals::CallerReplies;
+use crate::orders::CallOrder;
+use crate::races::{Race, RaceLine};
+use anyhow::ensure;
+use ck_journal::Call;
+use ck_shared::{Caller, Runtime, Script, SharedToken, TokenId, run_scripts};
+use ck_token::Token;
+use ck_types::NoMemory;
+use std::alloc::Global;
+use std::mem;
+
+/// Adds a script of these steps.
+pub(crate) fn add_script<K: TokenId, S: Drop, A: Drop>(
+    alloc: Global,
+    caller: Caller<K>,
+    steps: Vec<S>,
+    scripts: &mut Vec<Script<K, S, A>>,
+) -> Result<(), NoMemory> {
+    let script = Script::new(alloc, caller, steps).ok().ok_or(NoMemory)?;
+    scripts.push(script)?;
+    Ok(())
+}
+
+/// The calls of lines.
+pub(crate) fn calls_of(alloc: Global, lines: &[RaceLine]) -> Result<Vec<Call>, NoMemory> {
+    let mut calls = Vec::new(alloc);
+    for line in lines {
+        calls.push(line.call.clone()?)?;
+    }
+    Ok(calls)
+}
+
+/// The calls of a caller among these lines.
+fn calls_by(alloc: Global, caller: u32, lines: &[RaceLine]) -> Result<Vec<Call>, NoMemory> {
+    let mut calls = Vec::new(alloc);
+    for line in lines {
+        if line.caller == caller {
+            calls.push(line.call.clone()?)?;
+        }
+    }
+    Ok(calls)
+}
+
+/// A script for each caller, of its calls among these lines.
+fn scripts_of<K: TokenId>(
+    alloc: Global,
+    callers: Vec<Caller<K>>,
+    lines: &[RaceLine],
+) -> Result<Vec<Script<K>>, NoMemory> {
+    let mut scripts = Vec::new(alloc);
+    for caller in callers {
+        let calls = calls_by(alloc, caller.number(), lines)?;
+        add_script(alloc, caller, calls, &mut scripts)?;
+    }
+    Ok(scripts)
+}
+
+/// All steps of a script were taken, in a thread of its own.
+pub(crate) fn check_taken<K: TokenId, S: Drop, A: Drop>(
+    script: &Script<K, S, A>,
+) -> anyhow::Result<()> {
+    ensure!(script.started(), "a script had no thread");
+    script.outcome()?;
+    Ok(())
+}
+
+/// The callers of scripts come back. What each was answered is added to all replies.
+pub(crate) fn finish<K: TokenId>(
+    scripts: Vec<Script<K>>,
+    callers: &mut Vec<Caller<K>>,
+    all: &mut Vec<CallerReplies>,
+) -> anyhow::Result<()> {
+    for script in scripts {
+        check_taken(&script)?;
+        let (caller, replies) = script.into_parts();
+        all.push((caller.number(), replies))?;
+        callers.push(caller)?;
+    }
+    Ok(())
+}
+
+/// The callers make their calls of a race by scripts, each begun before it is held. Gives the
+/// replies to each.
+pub(crate) fn run_held<K: TokenId + Send + Sync, R: Runtime>(
+    rt: &R,
+    alloc: Global,
+    token: &SharedToken<K, Token, R>,
+    callers: &mut Vec<Caller<K>>,
+    race: &Race,
+    order: &CallOrder,
+) -> anyhow::Result<Vec<CallerReplies>> {
+    let owned = mem::replace(callers, Vec::new(alloc));
+    let scripts = scripts_of(alloc, owned, &race.lines)?;
+    let scripts = run_scripts(rt, alloc, &BegunGate::new(token, order), scripts);
+    let mut all = Vec::new(alloc);
+    finish(scripts, callers, &mut all)?;
+    Ok(all)
+}

@@ -1,0 +1,185 @@
+//! A token that is shared among callers which stay in one thread, until it is taken back.
+ghost use Rattle.std.specs.Prelude.{◌≡◌, ◌≤◌, ℕ, IfErr};
+ghost use Rattle.ck_journal.specs.Histories.{start, start_of};
+ghost use Rattle.ck_callers.specs.Accounts.{name_of};
+
+use crate::asks::log_in_and_ask;
+use crate::eight_scripts::run_eight;
+use crate::held_steps::open_sessions;
+use crate::journals::CallerReplies;
+use crate::orders::CallOrder;
+use crate::races::Race;
+use crate::retried_scripts::make_by_scripts;
+use crate::retries::make_race;
+use crate::scripts::run_held;
+use anyhow::{bail, ensure};
+use ck_shared::{Caller, Ends, NewIdentity, Runtime, SharedToken, TokenId};
+use ck_token::Token;
+use ck_types::NoMemory;
+use std::alloc::Global;
+use std::marker::Brand;
+
+/// What is done with a shared token and its callers.
+#[derive(Drop)]
+pub(crate) enum SharedWork<'a> {
+    /// One caller logs in while another asks. Before, this is answered about the token.
+    LoginAndAsks(&'a str),
+    /// Each of two callers opens a session, first this one.
+    Openings {
+        first: u32,
+        order: &'a CallOrder<'a>,
+    },
+    /// Two callers make all calls of a race, one after the other.
+    AllCalls(&'a Race<'a>),
+    /// One caller makes the calls of a race by scripts.
+    CallsByScripts(&'a Race<'a>),
+    /// Eight callers make their calls of a race by scripts, in an order.
+    HeldScripts {
+        race: &'a Race<'a>,
+        order: &'a CallOrder<'a>,
+    },
+    /// Eight callers make the calls of their scripts.
+    EightScripts,
+}
+
+/// What came of it.
+#[derive(Drop)]
+pub(crate) struct Outcome {
+    /// The replies to each caller, where they are compared with the journal.
+    pub(crate) replies: Vec<CallerReplies>,
+    /// How many calls were made again.
+    pub(crate) retries: u64,
+}
+
+/// A token that was taken back, and what came of the work.
+pub(crate) type Returned = (Token, Outcome);
+
+/// The token isn't taken back where a caller is missing: the other callers come back with it.
+fn try_without_one<K: TokenId, R: Runtime>(
+    rt: &R,
+    token: SharedToken<K, Token, R>,
+    mut callers: Vec<Caller<K>>,
+) -> anyhow::Result<(SharedToken<K, Token, R>, Vec<Caller<K>>)> {
+    let Some(missing) = callers.pop() else {
+        bail!("no callers came back");
+    };
+    let others = callers.len();
+    match token.close(rt, callers) {
+        Ok(_) => bail!("a token was taken back, and a caller is missing"),
+        Err((token, mut callers)) => {
+            ensure!(callers.len() == others, "another caller is missing");
+            callers.push(missing)?;
+            Ok((token, callers))
+        }
+    }
+}
+
+/// Takes the token back from all of its callers.
+fn close<K: TokenId, R: Runtime>(
+    rt: &R,
+    token: SharedToken<K, Token, R>,
+    callers: Vec<Caller<K>>,
+) -> anyhow::Result<Token> {
+    let (token, callers) = try_without_one(rt, token, callers)?;
+    match token.close(rt, callers) {
+        Ok(token) => Ok(token),
+        Err(_) => bail!("a caller is missing"),
+    }
+}
+
+/// Does the work. All callers stay among these.
+fn act<K: TokenId + Send + Sync, R: Runtime>(
+    rt: &R,
+    alloc: Global,
+    token: &SharedToken<K, Token, R>,
+    callers: &mut Vec<Caller<K>>,
+    work: &SharedWork,
+) -> anyhow::Result<Outcome> {
+    let mut replies = Vec::new(alloc);
+    let mut retries = 0;
+    match work {
+        SharedWork::LoginAndAsks(state) => log_in_and_ask(rt, alloc, token, callers, state)?,
+        SharedWork::Openings { first, order } => {
+            open_sessions(rt, alloc, token, callers, *first, order)?;
+        }
+        SharedWork::AllCalls(race) => retries = make_race(rt, alloc, token, callers, race)?,
+        SharedWork::CallsByScripts(race) => {
+            retries = make_by_scripts(rt, alloc, token, callers, race)?;
+        }
+        SharedWork::HeldScripts { race, order } => {
+            replies = run_held(rt, alloc, token, callers, race, order)?;
+        }
+        SharedWork::EightScripts => replies = run_eight(rt, alloc, token, callers)?,
+    }
+    Ok(Outcome { replies, retries })
+}
+
+/// Does the work, and takes the token back.
+fn act_and_close<K: TokenId + Send + Sync, R: Runtime>(
+    rt: &R,
+    alloc: Global,
+    token: SharedToken<K, Token, R>,
+    mut callers: Vec<Caller<K>>,
+    work: &SharedWork,
+) -> anyhow::Result<Returned> {
+    let outcome = act(rt, alloc, &token, &mut callers, work)?;
+    Ok((close(rt, token, callers)?, outcome))
+}
+
+/// As `share_once`, where `K` stands for the token's history.
+fn share_as<K: TokenId + Send + Sync, R: Runtime>(
+    rt: R,
+    alloc: Global,
+    token: Token,
+    callers: u32,
+    identity: NewIdentity,
+    work: &SharedWork,
+) -> Result<anyhow::Result<Returned>, Token>
+    requires history { token.history ≡ start K.base }
+    requires limits { token.limits ≡ K.limits }
+    requires callers { (1 ≤ callers) × (callers ≤ 8) × (callers ≡ K.callers) }
+    requires book { identity.history.seen.book ≡ K.book }
+    requires ledgers { (n : ℕ) → K.ledger n ≡ name_of identity.ledgers n }
+    ensures { IfErr result (λ back. back ≡ token) }
+{
+    match SharedToken::<K, Token, R>::adopt(rt, alloc, token, callers, identity) {
+        Ok(Ends { token, callers }) => Ok(act_and_close(&rt, alloc, token, callers, work)),
+        Err((token, NoMemory)) => Err(token),
+    }
+}
+
+/// As `share_with`. Where there is no memory to share the token, it comes back.
+fn share_once<R: Runtime>(
+    rt: R,
+    alloc: Global,
+    token: Token,
+    callers: u32,
+    work: &SharedWork,
+) -> Result<anyhow::Result<Returned>, Token>
+    requires history { token.history ≡ start (start_of token.history) }
+    requires callers { (1 ≤ callers) × (callers ≤ 8) }
+    ensures { IfErr result (λ back. back ≡ token) }
+{
+    share_as::<Brand, R>(rt, alloc, token, callers, NewIdentity::new(), work)
+}
+
+/// Shares a token whose journal has no entries among callers, does the work and takes the token
+/// back. Where there is no memory to share it, it is tried once more: the token is as it was.
+pub(crate) fn share_with<R: Runtime>(
+    rt: R,
+    alloc: Global,
+    token: Token,
+    callers: u32,
+    work: &SharedWork,
+) -> anyhow::Result<Returned>
+    requires history { token.history ≡ start (start_of token.history) }
+    requires callers { (1 ≤ callers) × (callers ≤ 8) }
+{
+    match share_once(rt, alloc, token, callers, work) {
+        Ok(done) => done,
+        Err(token) => match share_once(rt, alloc, token, callers, work) {
+            Ok(done) => done,
+            Err(_) => Err(NoMemory.into()),
+        },
+    }
+}
