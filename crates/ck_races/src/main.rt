@@ -12,7 +12,6 @@
 #![tactic(auto)]
 
 mod asks;
-mod begun_calls;
 mod drawing_callers;
 mod drawn_calls;
 mod eight_scripts;
