@@ -1,6 +1,6 @@
 -- Work on a call's message that is done before the call is made
 use Rattle.std.specs.Prelude.{◌≡◌, ℕ, Bool, List, [], ◌++◌, Option, Some, None, ◌==◌, ◌||◌, not}
-use Rattle.std.specs.Prelude.{length, option_map, if◌then◌else◌}
+use Rattle.std.specs.Prelude.{length, nat_le, option_map, if◌then◌else◌}
 use Rattle.std.specs.Option.{option_map_or}
 use Rattle.ck_mac.specs.Computations.{Computation, HoldsTag}
 use Rattle.ck_mac.specs.declared.running_tags.RunningTag.{RunningTag}
@@ -27,6 +27,10 @@ bytes_taken other = []
 -- those of a call; none for a call that brings none
 abbrev pub taken_bytes : Call → List ℕ
 taken_bytes c = option_map_or (λ (o : OperationStep). bytes_taken o.step) (operation_step c) []
+
+-- work is begun on a message of 4,096 bytes or more
+abbrev pub brings_long_message : Call → Bool
+brings_long_message c = nat_le 4096 (length (taken_bytes c))
 
 -- ---- whether an operation is as it was
 

@@ -230,11 +230,14 @@ impl Clone for Call {
     }
 }
 
+/// From how many bytes on a message is long.
+const LONG_MESSAGE: usize = 4096;
+
 impl Call {
     ghost use Rattle.std.specs.Prelude.{◌≡◌, not, Some, IsTrue};
     ghost use Rattle.ck_journal.specs.Boards.{LeavesBoard};
     ghost use Rattle.ck_journal.specs.Effects.{effects_of};
-    ghost use Rattle.ck_journal.specs.Works.{operation_of, taken_bytes};
+    ghost use Rattle.ck_journal.specs.Works.{operation_of, taken_bytes, brings_long_message};
 
     /// The kind and the session of the operation that the call starts, goes on with or finishes.
     pub fn operation(&self) -> Option<(OperationKind, u64)>
@@ -271,6 +274,14 @@ impl Call {
             | Call::VerifyUpdate { bytes, .. } => bytes.as_slice(),
             _ => &[],
         }
+    }
+
+    /// Whether the call brings a long message, of 4,096 bytes or more: to take in a shorter one is
+    /// as fast as to begin the work on it and to take a lock again.
+    pub fn brings_long_message(&self) -> bool
+        ensures { result ≡ brings_long_message self.now }
+    {
+        self.taken_bytes().len() >= LONG_MESSAGE
     }
 
     /// Whether the call, however it is answered, leaves the sessions, the login and the PINs.

@@ -28,6 +28,7 @@ mod retries;
 mod runs;
 mod scripts;
 mod shared_work;
+mod taken_messages;
 mod tokens;
 mod words;
 

@@ -103,7 +103,8 @@ fn run_shared<R: Runtime>(
     check_run(alloc, &mut token, race, &order, all)
 }
 
-/// The same by `run_scripts`, where the bytes of each call are taken in before it is held.
+/// The same by `run_scripts`, where the bytes of each long message are taken in before the call is
+/// held.
 fn run_scripted<R: Runtime>(
     rt: R,
     alloc: Global,

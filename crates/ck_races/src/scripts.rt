@@ -1,7 +1,8 @@
 //! Callers make their calls by `run_scripts`, at a gate that holds each until it is the next one.
 use crate::journals::CallerReplies;
-use crate::orders::{CallOrder, HeldGate};
+use crate::orders::CallOrder;
 use crate::races::{Race, RaceLine};
+use crate::taken_messages::TakingGate;
 use anyhow::ensure;
 use ck_journal::Call;
 use ck_shared::{Caller, Runtime, Script, SharedToken, TokenId, run_scripts};
@@ -80,8 +81,8 @@ pub(crate) fn finish<K: TokenId>(
     Ok(())
 }
 
-/// The callers make their calls of a race by scripts, each of which is held until it is the next
-/// one. Gives the replies to each.
+/// The callers make their calls of a race by scripts. The bytes of a long message are taken in, and
+/// then each call is held until it is the next one. Gives the replies to each.
 pub(crate) fn run_held<K: TokenId + Send + Sync, R: Runtime>(
     rt: &R,
     alloc: Global,
@@ -92,7 +93,7 @@ pub(crate) fn run_held<K: TokenId + Send + Sync, R: Runtime>(
 ) -> anyhow::Result<Vec<CallerReplies>> {
     let owned = mem::replace(callers, Vec::new(alloc));
     let scripts = scripts_of(alloc, owned, &race.lines)?;
-    let scripts = run_scripts(rt, alloc, &HeldGate::new(token, order), scripts);
+    let scripts = run_scripts(rt, alloc, &TakingGate::new(token, order), scripts);
     let mut all = Vec::new(alloc);
     finish(scripts, callers, &mut all)?;
     Ok(all)

@@ -14,5 +14,5 @@ pub use ck_callers::{
 };
 pub use locked::Locked;
 pub use runtimes::Runtime;
-pub use shared::{Ends, SharedToken};
+pub use shared::{Ends, SharedToken, TakenMessage};
 pub use sharing::{CallerWork, share};

@@ -1,6 +1,6 @@
 use crate::locked::Locked;
-use ck_callers::{Caller, CallerCount, NewIdentity, Opened, TokenId};
-use ck_journal::{Call, JournaledToken, Reply};
+use ck_callers::{Caller, CallerCount, Front, NewIdentity, Opened, TokenId};
+use ck_journal::{Call, JournaledToken, Reply, Work};
 use ck_types::{Limits, NoMemory};
 use crossbeam_utils::Backoff;
 use std::alloc::Global;
@@ -22,6 +22,15 @@ pub struct Ends<K: TokenId, G: JournaledToken, R: Wait + Drop> {
     pub callers: Vec<Caller<K>>,
 }
 
+/// The long message of a call, whose bytes are taken in before the call is made.
+#[derive(Drop)]
+pub struct TakenMessage<K: TokenId> {
+    /// The work on the message, which is done.
+    pub(crate) work: Work,
+    /// The history at which the work was begun.
+    pub(crate) front: Front<K>,
+}
+
 /// How often a thread looks whether the lock is free before it sleeps. The first looks follow one
 /// another within about a microsecond.
 const LOOKS: u32 = 24;
@@ -38,21 +47,14 @@ fn let_others_run() {
     }
 }
 
-/// From how many bytes on a message is long. The token begins no work on shorter ones.
-const LONG_MESSAGE: usize = 4096;
-
-/// Whether a call brings a long message. With a shorter one it takes the lock once: to take it
-/// twice would take longer than the bytes.
-fn brings_long_message(call: &Call) -> bool {
-    call.taken_bytes().len() >= LONG_MESSAGE
-}
-
 impl<K: TokenId, G: JournaledToken, R: Wait + Drop> SharedToken<K, G, R> {
-    ghost use Rattle.std.specs.Prelude.{◌≡◌, ◌≤◌, ℕ, true, false, All, IfOk, OnOk, IfErr, OnErr};
+    ghost use Rattle.std.specs.Prelude.{◌≡◌, ◌≤◌, ℕ, true, false, All, IfSome};
+    ghost use Rattle.std.specs.Prelude.{IfOk, OnOk, IfErr, OnErr};
     ghost use Rattle.ck_journal.specs.Bases.{empty_base};
     ghost use Rattle.ck_journal.specs.Callers.{AreCallers};
     ghost use Rattle.ck_journal.specs.Fronts.{IsFront};
     ghost use Rattle.ck_journal.specs.Histories.{start};
+    ghost use Rattle.ck_journal.specs.Works.{IsDone};
     ghost use Rattle.ck_callers.specs.Accounts.{name_of};
     ghost use Rattle.ck_callers.specs.Callers.{HasCalled, IsSettled, are_all, new_callers};
 
@@ -143,32 +145,44 @@ impl<K: TokenId, G: JournaledToken, R: Wait + Drop> SharedToken<K, G, R> {
             HasCalled K.limits caller.old call reply caller.new) }
         ensures caller { OnErr result (caller.new ≡ caller.old) }
     {
-        if brings_long_message(&call) {
-            return self.call_with_work(rt, alloc, caller, call);
+        if !call.brings_long_message() {
+            return self.lock(rt).step(rt, alloc, caller, call);
         }
-        self.lock(rt).step(rt, alloc, caller, call)
+        let message = self.take_in(rt, &call);
+        self.call_with(rt, alloc, caller, call, message)
     }
 
-    /// One call of a caller, which brings a long message. The lock is taken twice, shortly: to
-    /// begin the work on it, and to make the call once that is done.
+    /// Takes in the bytes of a long message that the call brings: the lock is taken shortly, to
+    /// begin the work on it. `None` where this saves nothing (`JournaledToken::work`).
     #[inline(never)]
-    fn call_with_work<W: Wait>(
+    pub fn take_in<W: Wait>(&self, rt: &W, call: &Call) -> Option<TakenMessage<K>>
+        ensures { IfSome result (λ message. IsDone message.front call.now message.work) }
+    {
+        let (mut work, front) = self.lock(rt).begin(call)?;
+        work.finish(call);
+        Some(TakenMessage { work, front })
+    }
+
+    /// One call of a caller, under the lock. Where its message is taken in, its bytes are taken in
+    /// once more only if the operation has changed since.
+    #[inline(never)]
+    pub fn call_with<W: Wait>(
         &self,
         rt: &W,
         alloc: Global,
         caller: &mut Caller<K>,
         call: Call,
+        message: Option<TakenMessage<K>>,
     ) -> Result<Reply, NoMemory>
+        requires { IfSome message (λ message. IsDone message.front call message.work) }
         ensures called { IfOk result (λ reply.
             HasCalled K.limits caller.old call reply caller.new) }
         ensures caller { OnErr result (caller.new ≡ caller.old) }
     {
-        let begun = self.lock(rt).begin(&call);
-        let Some((mut work, front)) = begun else {
-            return self.lock(rt).step(rt, alloc, caller, call);
-        };
-        work.finish(&call);
         let mut locked = self.lock(rt);
+        let Some(TakenMessage { work, front }) = message else {
+            return locked.step(rt, alloc, caller, call);
+        };
         locked.show_front(rt, &front);
         locked.step_after(rt, alloc, caller, call, Some(&work))
     }

@@ -3,14 +3,10 @@ use ck_journal::{Call, Work, is_long_piece};
 use ck_mac::RunningTag;
 use ck_operations::Operation;
 
-/// How many bytes a long message has at least. Taking in fewer is as fast as beginning the work.
-const LONG_MESSAGE: usize = 4096;
-
 /// Whether the call takes in a long message: it isn't refused for its length or for an earlier
 /// update, and its reply has more than a length.
 fn takes_long_message(call: &Call, operation: &Operation) -> bool {
-    let bytes = call.taken_bytes();
-    if bytes.len() < LONG_MESSAGE || is_long_piece(bytes) {
+    if !call.brings_long_message() || is_long_piece(call.taken_bytes()) {
         return false;
     }
     match call {
