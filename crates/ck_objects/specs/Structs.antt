@@ -67,7 +67,7 @@ object_items (object.Key k) = key_items k
 
 -- ---- the structs that a new object begins with
 
--- a data object with the defaults of the table
+-- a data object with the defaults of the table of attributes
 abbrev pub blank_data : Data
 blank_data = record {
   token = false;
@@ -81,7 +81,7 @@ blank_data = record {
   destroyable = true;
 }
 
--- a key with the defaults of the table, of no bytes
+-- a key with the defaults of the table of attributes and a value of no bytes
 abbrev pub blank_key : Origin → Key
 blank_key origin = record {
   token = false;

@@ -70,7 +70,7 @@ impl Data {
         Ok(data)
     }
 
-    /// A data object with the table's defaults. It takes no memory.
+    /// A data object with the defaults of the table in specs/Attributes.antt. It takes no memory.
     fn blank(alloc: Global) -> Data
         ensures { result ≡ blank_data }
     {

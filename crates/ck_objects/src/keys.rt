@@ -125,7 +125,8 @@ impl Key {
         Key::new(alloc, origin, items, value)
     }
 
-    /// A key with the table's defaults and a value of no bytes. It takes no memory.
+    /// A key with the defaults of the table in specs/Attributes.antt and a value of no bytes. It
+    /// takes no memory.
     fn blank(alloc: Global, origin: Origin) -> Key
         ensures { result ≡ blank_key origin }
     {
