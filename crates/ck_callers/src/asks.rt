@@ -6,7 +6,7 @@ ghost use Rattle.ck_journal.specs.Histories.{History};
 ghost use Rattle.ck_callers.specs.Asks.{call_of, reply_of};
 
 use ck_journal::{Reply, TokenBoard};
-use ck_types::mechanism_types;
+use ck_types::{MECHANISM_COUNT, mechanism_types};
 
 /// What reads the state of a token without a call.
 #[derive(Clone, Copy, Debug, PartialEq, Eq)]
@@ -24,7 +24,7 @@ pub enum Ask {
 #[derive(Drop)]
 pub enum Status {
     Reply(Reply),
-    Mechanisms([u64; 13]),
+    Mechanisms([u64; MECHANISM_COUNT]),
 }
 
 /// What a board answers.

@@ -7,6 +7,7 @@ use Rattle.ck_mac.specs.Macs.{hmac, HoldsMac}
 use Rattle.ck_mac.specs.declared.running_tags.RunningTag.{RunningTag}
 use Rattle.ck_mac.specs.declared.running_tags.RunningTag.TheVariants as running_tag
 
+-- the digest by a hash function; the HMAC by a hash function under a key, as a tag of n bytes
 pub data Computation : Type 0 where
   digest_by : Hash → Computation
   hmac_by : Hash → List ℕ → ℕ → Computation

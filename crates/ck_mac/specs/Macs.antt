@@ -11,7 +11,7 @@ use Rattle.ck_mac.specs.Padding.{with_zeros}
 use Rattle.ck_mac.specs.declared.macs.Mac.{Mac}
 
 -- the key, or its digest where it is longer than a block, followed by zeros up to the block
--- (K0, section 4, steps 1 to 3)
+-- (K0; FIPS 198-1, section 4, steps 1 to 3)
 unfoldable pub block_key : Hash → List ℕ → List ℕ
 block_key h key =
     with_zeros (block_length h)
@@ -21,19 +21,19 @@ block_key h key =
 abbrev pub xor_each : ℕ → List ℕ → List ℕ
 xor_each pad bytes = map (λ byte. bit_xor byte pad) bytes
 
--- what the inner and the outer digest begin with
+-- what the messages of the inner and of the outer digest begin with
 abbrev pub inner_key : Hash → List ℕ → List ℕ
 inner_key h key = xor_each 0x36 (block_key h key)
 
 abbrev pub outer_key : Hash → List ℕ → List ℕ
 outer_key h key = xor_each 0x5c (block_key h key)
 
--- H((K0 xor opad) || H((K0 xor ipad) || message))
+-- H((K0 xor opad) || H((K0 xor ipad) || message)) (FIPS 198-1, section 4)
 unfoldable pub hmac : Hash → List ℕ → List ℕ → List ℕ
 hmac h key message = digest_of h (outer_key h key ++ digest_of h (inner_key h key ++ message))
 
 -- the inner digest has taken in the inner key and the message, the outer digest the outer key, and
--- the tag's length fits
+-- the tag is no longer than a digest
 pub record TakesIn (h : Hash) (key : List ℕ) (n : ℕ) (mac : Mac) (message : List ℕ) : Type 0 where
   pub inner : Holds h mac.inner (inner_key h key ++ message)
   pub outer : Holds h mac.outer (outer_key h key)
@@ -45,8 +45,7 @@ pub record TakesIn (h : Hash) (key : List ℕ) (n : ℕ) (mac : Mac) (message : 
 unfoldable pub HoldsMac : Hash → List ℕ → ℕ → Mac → List ℕ → Type 0
 HoldsMac h key n mac message = TakesIn h key n mac message
 
--- what a signature that is checked against a tag is refused with: its length is looked at first,
--- then its bytes
+-- the error of a signature that is checked against a tag: by its length first, then by its bytes
 abbrev pub signature_error : List ℕ → List ℕ → Option RvError
 signature_error tag signature =
     if length signature == length tag

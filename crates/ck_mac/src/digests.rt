@@ -14,7 +14,7 @@ enum Hasher {
     Sha512(Sha512),
 }
 
-/// The digest of a message that comes in pieces.
+/// A running digest: that of a message that comes in pieces (FIPS 180-4).
 #[derive(Drop)]
 pub struct Running {
     hasher: Hasher,
@@ -24,7 +24,7 @@ impl Running {
     ghost use Rattle.ck_types.specs.declared.hashes.Hash.{Hash};
     ghost use Rattle.ck_mac.specs.Digests.{Holds};
 
-    /// The digest of the empty message.
+    /// A running digest whose message is empty so far.
     pub fn new(hash: Hash) -> Running
         ensures { Holds hash result [] }
     {

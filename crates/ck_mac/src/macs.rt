@@ -12,19 +12,20 @@ use std::alloc::AllocError;
 /// The length in bytes of the longest block.
 const LONGEST_BLOCK: usize = 128;
 
-/// The bytes that the key is combined with (ipad and opad; FIPS 198-1, section 2.3).
+/// Each byte of the inner pad (ipad; FIPS 198-1, section 2.3).
 const INNER_PAD: u8 = 0x36;
 
+/// Each byte of the outer pad (opad).
 const OUTER_PAD: u8 = 0x5c;
 
-/// The HMAC of a message that comes in pieces (FIPS 198-1), or its first bytes.
+/// A running HMAC: that of a message that comes in pieces (FIPS 198-1), whole or its first bytes.
 #[derive(Drop)]
 pub struct Mac {
-    /// Of the key combined with the inner pad, and then the message.
+    /// Has taken in the key combined with the inner pad, and then the message so far.
     inner: Running,
-    /// Of the key combined with the outer pad.
+    /// Has taken in the key combined with the outer pad.
     outer: Running,
-    /// How many bytes the tag has.
+    /// The length of the tag in bytes.
     len: u64,
 }
 
@@ -32,14 +33,14 @@ impl Mac {
     ghost use Rattle.ck_types.specs.Checks.{check_of};
     ghost use Rattle.ck_mac.specs.Macs.{HoldsMac, hmac, signature_error};
 
-    /// The HMAC of the empty message under this key, of any length.
+    /// A running HMAC under this key, whose message is empty so far. The key may have any length.
     pub fn new(hash: Hash, key: &[u8]) -> Mac
         ensures { HoldsMac hash key.now (digest_length hash) result [] }
     {
         Mac::general(hash, key, hash.len())
     }
 
-    /// The first `n` bytes of the HMAC of the empty message under this key, of any length.
+    /// A running HMAC as `new` makes it, whose tag is the first `n` bytes of the HMAC.
     #[tactic(auto, unfolding(crate::specs::Macs::HoldsMac))]
     pub fn general(hash: Hash, key: &[u8], n: u64) -> Mac
         requires at_least_one { 1 ≤ n }
@@ -64,7 +65,7 @@ impl Mac {
         self.inner.update(bytes);
     }
 
-    /// How many bytes the tag has.
+    /// The length of the tag in bytes.
     #[tactic(auto, unfolding(crate::specs::Macs::HoldsMac))]
     pub fn len(&self) -> u64
         ensures { (hash : Hash) (key : List ℕ) (n : ℕ) (message : List ℕ)
@@ -73,7 +74,7 @@ impl Mac {
         self.len
     }
 
-    /// The HMAC of the message, or its first bytes.
+    /// The tag: the HMAC of the message, or its first bytes.
     pub fn finish(self) -> Tag
         ensures { (hash : Hash) (key : List ℕ) (n : ℕ) (message : List ℕ)
             → HoldsMac hash key n self message → result ≡ take n (hmac hash key message) }
@@ -89,8 +90,8 @@ impl Mac {
         tag
     }
 
-    /// Checks a signature against the HMAC of the message, or its first bytes:
-    /// CKR_SIGNATURE_LEN_RANGE for one of another length, CKR_SIGNATURE_INVALID for other bytes.
+    /// Checks a signature against the tag: CKR_SIGNATURE_LEN_RANGE for another length,
+    /// CKR_SIGNATURE_INVALID for other bytes of the same length.
     pub fn check(self, signature: &[u8]) -> Result<(), RvError>
         ensures { (hash : Hash) (key : List ℕ) (n : ℕ) (message : List ℕ)
             → HoldsMac hash key n self message
@@ -115,7 +116,7 @@ impl Clone for Mac {
     }
 }
 
-/// The key as one block, followed by zeros: where it is longer than a block, its digest
+/// The key, or its digest where it is longer than a block, followed by zeros. Its first block is K0
 /// (FIPS 198-1, section 4).
 #[tactic(auto, using(crate::proofs::KeyLemmas::key_blocks))]
 fn block_key(hash: Hash, key: &[u8]) -> [u8; LONGEST_BLOCK]
@@ -128,7 +129,7 @@ fn block_key(hash: Hash, key: &[u8]) -> [u8; LONGEST_BLOCK]
     }
 }
 
-/// A digest whose message begins with the block of the key, each byte combined with the pad.
+/// A running digest that has taken in the block of the key, each byte combined with the pad.
 #[tactic(auto, using(crate::proofs::LengthLemmas::block_length_le_128))]
 fn keyed_digest(hash: Hash, mut block: [u8; LONGEST_BLOCK], pad: u8) -> Running
     ensures { Holds hash result (xor_each pad (take (block_length hash) block)) }

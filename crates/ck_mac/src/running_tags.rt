@@ -3,7 +3,7 @@ use crate::macs::Mac;
 use crate::tags::Tag;
 use std::alloc::AllocError;
 
-/// The tag of a message that comes in pieces: a digest or an HMAC.
+/// A running tag: the digest or the HMAC of a message that comes in pieces.
 #[derive(Drop)]
 pub enum RunningTag {
     Digest(Running),
@@ -26,7 +26,7 @@ impl RunningTag {
         }
     }
 
-    /// How many bytes the tag has, whatever the message.
+    /// The length of the tag in bytes. It is the same for every message.
     pub fn len(&self) -> u64
         ensures { (computation : Computation) (message : List ℕ)
             → HoldsTag computation self.now message → result ≡ tag_size computation }
@@ -48,7 +48,7 @@ impl RunningTag {
         }
     }
 
-    /// The tag of the message so far, followed by these bytes.
+    /// The tag of the message so far with these bytes at its end. They aren't added to the message.
     pub fn tag_with(&self, bytes: &[u8]) -> Tag
         ensures { (computation : Computation) (message : List ℕ)
             → HoldsTag computation self.now message

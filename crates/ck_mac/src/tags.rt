@@ -38,7 +38,7 @@ impl Tag {
         }
     }
 
-    /// The tag without what comes after its first `len` bytes.
+    /// Cuts the tag to its first `len` bytes, where it has more.
     pub(crate) fn truncate(&mut self, len: usize)
         ensures { self.new ≡ take len self.old }
     {
@@ -47,15 +47,16 @@ impl Tag {
         }
     }
 
-    /// The bytes of the tag, in the order of the standard.
+    /// The bytes of the tag, in their order.
     pub fn bytes(&self) -> &[u8]
         ensures { result.now ≡ self.now }
     {
         &self.bytes[..self.len]
     }
 
-    /// Checks a signature against the tag: CKR_SIGNATURE_LEN_RANGE for one of another length,
-    /// CKR_SIGNATURE_INVALID for other bytes.
+    /// Checks a signature against the tag: CKR_SIGNATURE_LEN_RANGE for another length,
+    /// CKR_SIGNATURE_INVALID for other bytes of the same length. The comparison doesn't stop at the
+    /// first byte that differs.
     pub fn check(&self, signature: &[u8]) -> Result<(), RvError>
         ensures { result ≡ check_of (signature_error self.now signature.now) }
     {

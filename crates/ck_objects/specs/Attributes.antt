@@ -18,8 +18,8 @@ abbrev pub flag_bytes : Bool → List ℕ
 flag_bytes false = 0 ∷ []
 flag_bytes true = 1 ∷ []
 
--- a value is of a form: a flag is one byte 0 or 1, a number 8 bytes; a class is 0 or 4, a key type
--- 16 and, in a template, a key state 0 or 1
+-- a value in a template is of a form: a flag is one byte 0 or 1, a number 8 bytes; a class is the
+-- number 0 or 4, a key type 16, and a key state 0 or 1
 abbrev pub is_of_form : Form → List ℕ → Bool
 is_of_form form.Flag value =
     same_bytes value (flag_bytes false) || same_bytes value (flag_bytes true)
@@ -44,8 +44,9 @@ may_give purposes purpose.Generate = purposes.generate
 may_give purposes purpose.Copy = purposes.copy
 may_give purposes purpose.Set = purposes.set
 
--- the value of an attribute that a template doesn't give: the template must give it, it is these
--- bytes, or the token computes it from how the object came to be. Data objects aren't generated.
+-- what becomes of an attribute that a template doesn't give: the template is refused, the value is
+-- these bytes, or the token computes it from how the object came to be. Data objects aren't
+-- generated.
 pub data Default : Type 0 where
   required : Default
   preset : List ℕ → Default
@@ -139,7 +140,7 @@ table attribute.KeyState =
     row 0x80000001 form.KeyState None
     (column CG (preset (number_bytes 1)) (preset (number_bytes 1)))
 
--- all attributes, in rising types
+-- all attributes, by ascending type
 abbrev pub attributes : List Attribute
 attributes =
     attribute.Class ∷ attribute.Token ∷ attribute.Private ∷ attribute.Label ∷ attribute.Application

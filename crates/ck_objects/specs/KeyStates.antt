@@ -25,7 +25,7 @@ state_of_number number = find (λ s. state_number s == number) key_states
 abbrev pub same_state : KeyState → KeyState → Bool
 same_state a b = state_number a == state_number b
 
--- the states that a key of this state may go over to
+-- the states that a key in this state may be taken to
 abbrev pub next_states : KeyState → List KeyState
 next_states state.PreActivation = state.Active ∷ state.Compromised ∷ state.Destroyed ∷ []
 next_states state.Active =

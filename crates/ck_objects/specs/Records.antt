@@ -1,4 +1,4 @@
--- The attributes of an object, in the order of the table
+-- The attributes of an object as items, by ascending type
 use Rattle.std.specs.Prelude.{ℕ, Bool, true, false, List, [], ◌∷◌, Option, Some, None}
 use Rattle.std.specs.Prelude.{not, ◌&&◌, ◌||◌, ◌==◌, if◌then◌else◌, map, find, length}
 use Rattle.std.specs.Prelude.{option_map, option_and_then, unwrap_or, is_none}
@@ -92,7 +92,7 @@ state_item s = item_of attribute.KeyState (number_bytes (state_number s))
 abbrev pub with_state : KeyState → List Item → List Item
 with_state s items = with_given (state_item s ∷ []) items
 
--- the bytes of a key with these attributes
+-- the value of a key with these attributes
 abbrev pub key_value : List Item → List ℕ
 key_value items = value_or items (type_of attribute.Value) []
 
@@ -180,6 +180,6 @@ has_item items item =
 
 -- an object with these attributes matches a search template: it has each attribute of the template
 -- with equal bytes, none of them hidden. The template isn't checked, so a type that the object
--- doesn't have, or two values of one type, match nothing.
+-- doesn't have, or two different values of one type, match nothing.
 abbrev pub matches : List Item → List Item → Bool
 matches items template = list_all (has_item items) template

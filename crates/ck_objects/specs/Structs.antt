@@ -1,5 +1,5 @@
 -- How the private structs of objects show as items, what a new one begins with, and what templates
--- make of them. These mirror the code; no answer rests on them.
+-- make of them. These mirror the code; the answers to calls aren't defined by them.
 use Rattle.std.specs.Prelude.{◌≡◌, ℕ, true, false, List, [], ◌∷◌, length, unwrap_or}
 use Rattle.ck_types.specs.Numbers.{number_bytes}
 use Rattle.ck_objects.specs.Attributes.{flag_bytes, type_of}
@@ -67,7 +67,7 @@ object_items (object.Key k) = key_items k
 
 -- ---- the structs that a new object begins with
 
--- a data object with the defaults of the table
+-- a data object with the defaults of the table of attributes
 abbrev pub blank_data : Data
 blank_data = record {
   token = false;
@@ -81,7 +81,7 @@ blank_data = record {
   destroyable = true;
 }
 
--- a key with the defaults of the table, of no bytes
+-- a key with the defaults of the table of attributes and a value of no bytes
 abbrev pub blank_key : Origin → Key
 blank_key origin = record {
   token = false;
@@ -105,11 +105,12 @@ blank_key origin = record {
   state = state.Active;
 }
 
--- the items give the attribute this value, or none
+-- the items give the attribute this value, or don't give it
 abbrev pub keeps : List Item → Attribute → List ℕ → Type 0
 keeps items a value = value_or items (type_of a) value ≡ value
 
--- what no template changes in a key, the items give as the key has it, or don't give
+-- the attributes of a key that stay when it is given items: the items give each as the key has it,
+-- or don't give it
 pub record KeepsKey (items : List Item) (key : Key) : Type 0 where
   pub class : keeps items attribute.Class (number_bytes 4)
   pub key_type : keeps items attribute.KeyType (number_bytes 16)
@@ -122,7 +123,7 @@ pub record KeepsKey (items : List Item) (key : Key) : Type 0 where
       keeps items attribute.AlwaysSensitive (flag_bytes key.origin.always_sensitive)
   pub generation : keeps items attribute.KeyGenMechanism (number_bytes key.origin.generation)
 
--- the objects with the items' values of the attributes that a change may give
+-- an object with the values that items give of the attributes that a change may give
 abbrev pub changed_data : List Item → Data → Data
 changed_data items d = record d {
   label = value_or items (type_of attribute.Label) d.label;

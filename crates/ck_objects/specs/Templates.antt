@@ -42,7 +42,7 @@ flag_at items a = option_and_then (flag_of (form_of a)) (value_at items (type_of
 
 -- ---- the checks
 
--- the type is known, and the value is of its form
+-- the error of a value: its type isn't known, or it isn't of the type's form
 abbrev pub value_error : Option Attribute → List ℕ → Option RvError
 value_error None value = Some rv_error.AttributeTypeInvalid
 value_error (Some a) value =
@@ -63,7 +63,8 @@ has_two_values items a =
     list_any (λ (item : Item). (type_of a == item.kind)
     && not (same_bytes item.value (value_or items (type_of a) item.value))) items
 
--- objects of the class have the attribute, and a template of this purpose may give it
+-- the error where objects of the class don't have the attribute, or a template of this purpose may
+-- not give it
 abbrev pub error_of_permission : Option Bool → Option RvError
 error_of_permission None = Some rv_error.AttributeTypeInvalid
 error_of_permission (Some false) = Some rv_error.AttributeReadOnly
@@ -73,18 +74,19 @@ abbrev pub permission_error : Class → Purpose → Item → Option RvError
 permission_error class purpose item =
     error_of_permission (option_and_then (permission class purpose) (attribute_of item.kind))
 
--- the class of an object with these attributes: a secret key where CLASS is CKO_SECRET_KEY (4),
+-- the class of an object with these attributes: a secret key where CKA_CLASS is CKO_SECRET_KEY (4),
 -- else a data object
 abbrev pub class_of : List Item → Class
 class_of items =
     if same_bytes (value_or items (type_of attribute.Class) []) (number_bytes 4)
     then class.SecretKey else class.Data
 
--- a key has 1 to 4096 bytes
+-- a key's value has 1 to 4096 bytes
 abbrev pub is_key_length : ℕ → Bool
 is_key_length n = nat_le 1 n && nat_le n 4096
 
--- the attributes that a created key can't do without; its value is of a key's length
+-- the error of a template that creates a key: it gives no key type or no value, or a value of a
+-- length that keys don't have
 abbrev pub new_key_error : List Item → Option RvError
 new_key_error template = first_of (
     error_if (is_none (value_at template (type_of attribute.KeyType))) rv_error.TemplateIncomplete
@@ -107,12 +109,12 @@ created_error template = first_of (
     ∷ new_object_error (class_of template) template
     ∷ [])
 
--- the template gives a class that isn't that of secret keys
+-- the template gives another class than that of secret keys
 abbrev pub gives_other_class : List Item → Bool
 gives_other_class template =
     not (same_bytes (value_or template (type_of attribute.Class) (number_bytes 4)) (number_bytes 4))
 
--- the length that the template gives a key, in bytes
+-- the length in bytes that the template gives a key's value (CKA_VALUE_LEN)
 abbrev pub given_length : List Item → ℕ
 given_length template = from_le_bytes w64 (value_or template (type_of attribute.ValueLen) [])
 
@@ -130,8 +132,8 @@ generated_error template random = first_of (
     ∷ error_if (not (length random == given_length template)) rv_error.ArgumentsBad
     ∷ [])
 
--- the error of a template that changes an object of the class, or that a copy of one is made with,
--- by the checks that ask for no more of the object than its class
+-- the error of a template that changes or copies an object of the class, by the checks that look at
+-- nothing of the object except its class
 abbrev pub template_error : Class → Purpose → List Item → Option RvError
 template_error class purpose items = first_of (
     first_error form_error items

@@ -4,8 +4,8 @@ use std::alloc::{AllocError, Global};
 use std::marker::Model;
 
 /// The bytes of an attribute's value (CK_ATTRIBUTE; PKCS #11 Base 3.0, Object types). A copy of at
-/// most 16 bytes lies in the value itself, so most labels, identifiers and flags take no memory of
-/// their own; a longer one lies in a vector. Contracts see the bytes.
+/// most 16 bytes lies in the value itself and takes no memory of its own; a longer one lies in a
+/// vector. Contracts see the bytes.
 #[derive(Drop)]
 pub struct AttributeValue {
     bytes: SmallVec<u8, 16>,
@@ -45,7 +45,7 @@ impl AttributeValue {
         }
     }
 
-    /// A copy of these bytes.
+    /// A copy of these bytes. One of at most 16 bytes takes no memory.
     pub fn from_slice(alloc: Global, bytes: &[u8]) -> Result<AttributeValue, NoMemory>
         ensures copied { IfOk result (λ value. value ≡ bytes.now) }
         ensures short { length bytes.now ≤ 16 → IsOk result }
@@ -54,7 +54,8 @@ impl AttributeValue {
         Ok(AttributeValue { bytes })
     }
 
-    /// The bytes of a vector, which takes no memory. A vector with room for more than 16 is kept.
+    /// The bytes of a vector. This takes no memory: a vector with room for more than 16 bytes is
+    /// kept, and the bytes of a smaller one are moved into the value.
     pub fn from_vec(bytes: Vec<u8>) -> AttributeValue
         ensures { result ≡ bytes.items }
     {

@@ -3,8 +3,8 @@ ghost use Rattle.ck_objects.specs.declared.attributes.Class.TheVariants as class
 
 use crate::forms::Form;
 
-/// An object's class (CK_OBJECT_CLASS; PKCS #11 Base 3.0, Object types): data objects and secret
-/// keys.
+/// An object's class (CK_OBJECT_CLASS; PKCS #11 Base 3.0, Object types): CKO_DATA or
+/// CKO_SECRET_KEY.
 #[derive(Clone, Copy, Debug, PartialEq, Eq)]
 pub enum Class {
     Data,
@@ -21,7 +21,7 @@ impl Class {
     }
 }
 
-/// What a template is for.
+/// What a template is for: C_CreateObject, C_GenerateKey, C_CopyObject or C_SetAttributeValue.
 #[derive(Clone, Copy, Debug, PartialEq, Eq)]
 pub enum Purpose {
     Create,
@@ -67,7 +67,7 @@ impl Attribute {
     ghost use Rattle.ck_objects.specs.Attributes.{type_of, form_of, permission, attribute_of};
     ghost use Rattle.ck_objects.specs.declared.attributes.Attribute.{Attribute};
 
-    /// Every attribute, in rising types.
+    /// Every attribute, by ascending type.
     pub(crate) const ALL: [Attribute; 27] = [
         Attribute::Class,
         Attribute::Token,
@@ -105,7 +105,7 @@ impl Attribute {
         self as u64
     }
 
-    /// The attribute of a type, or `None` where the token knows no such type.
+    /// The attribute of this type, or `None` where the token knows no such type.
     pub fn of(kind: u64) -> Option<Attribute>
         ensures attribute { result ≡ attribute_of kind }
         ensures number { IfSome result (λ a. type_of a ≡ kind) }
@@ -177,8 +177,8 @@ impl Attribute {
         }
     }
 
-    /// Whether the attribute may be given in a template of this purpose for an object of this
-    /// class, or `None` where objects of the class don't have it.
+    /// Whether a template of this purpose may give the attribute to an object of this class, or
+    /// `None` where objects of the class don't have it.
     pub(crate) fn permission(self, class: Class, purpose: Purpose) -> Option<bool>
         ensures { result ≡ permission class purpose self }
     {

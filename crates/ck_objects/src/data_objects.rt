@@ -6,9 +6,9 @@ use crate::object_flags::Placement;
 use ck_types::NoMemory;
 use std::alloc::{AllocError, Global};
 
-/// A data object (PKCS #11 Base 3.0, Data objects). Its class is no field. What most calls read
-/// stands first: the label, and then the flags that are read before it. So a call among many
-/// objects asks for both at once, and for no memory beside them.
+/// A data object (PKCS #11 Base 3.0, Data objects). Its class is no field. The fields that most
+/// calls read stand first and side by side, for calls that look at many objects: the label, and the
+/// flags that are read before it.
 #[derive(Drop)]
 pub(crate) struct Data {
     label: AttributeValue,
@@ -22,7 +22,7 @@ pub(crate) struct Data {
     object_id: AttributeValue,
 }
 
-// Not derived: what a derived one ensures of this many fields takes the prover many minutes.
+// Not derived: with this many fields, proving a derived clone takes many minutes.
 impl Clone for Data {
     ghost use Rattle.std.specs.Prelude.{◌≡◌};
 
@@ -70,7 +70,7 @@ impl Data {
         Ok(data)
     }
 
-    /// A data object with the table's defaults, which takes no memory.
+    /// A data object with the defaults of the table in specs/Attributes.antt. It takes no memory.
     fn blank(alloc: Global) -> Data
         ensures { result ≡ blank_data }
     {
@@ -87,8 +87,8 @@ impl Data {
         }
     }
 
-    /// Gives the object the items' values of the attributes that they give. The items get what the
-    /// object had.
+    /// Gives the object the values of the attributes that the items give. Values of bytes are
+    /// exchanged, so the items get what the object had.
     pub(crate) fn set(&mut self, items: &mut [Item])
         requires well_formed { first_error form_error items.old ≡ None }
         requires class { keeps items.old attribute.Class (number_bytes 0) }
@@ -102,8 +102,7 @@ impl Data {
         self.change(items);
     }
 
-    /// Gives the object the items' values of the attributes that a change may give. The items get
-    /// what the object had.
+    /// As `set`, but only for the attributes that a change may give.
     pub(crate) fn change(&mut self, items: &mut [Item])
         ensures { self.new ≡ changed_data items.old self.old }
     {

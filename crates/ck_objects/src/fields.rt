@@ -2,7 +2,8 @@ use crate::attribute_values::AttributeValue;
 use ck_types::NoMemory;
 use std::alloc::Global;
 
-/// A value of an attribute as an object has it (PKCS #11 Base 3.0, Objects).
+/// The value of an attribute as an object keeps it (PKCS #11 Base 3.0, Objects). As bytes, a flag
+/// is one byte 0 or 1 (CK_BBOOL), and a number is 8 bytes, the least significant first (CK_ULONG).
 #[derive(Drop)]
 pub enum Field<'a> {
     Flag(bool),
@@ -15,7 +16,7 @@ impl<'a> Field<'a> {
     ghost use Rattle.ck_types.specs.Numbers.{same_bytes};
     ghost use Rattle.ck_objects.specs.Fields.{field_bytes};
 
-    /// How many bytes the value has.
+    /// The length of the value in bytes.
     pub fn len(&self) -> u64
         ensures { result ≡ length (field_bytes self.now) }
     {
@@ -37,7 +38,7 @@ impl<'a> Field<'a> {
         }
     }
 
-    /// A copy of the value. One of at most 16 bytes takes no memory.
+    /// A copy of the value's bytes. One of at most 16 bytes takes no memory.
     pub fn to_value(&self, alloc: Global) -> Result<AttributeValue, NoMemory>
         ensures copied { IfOk result (λ value. value ≡ field_bytes self.now) }
         ensures short { length (field_bytes self.now) ≤ 16 → IsOk result }

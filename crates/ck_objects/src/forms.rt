@@ -1,21 +1,22 @@
 ghost use Rattle.std.specs.Prelude.{◌≡◌};
 ghost use Rattle.ck_types.specs.Numbers.{same_bytes, number_bytes};
 
-/// CKO_DATA, the class of data objects.
+/// CKO_DATA, the class of data objects (PKCS #11 Base 3.0, Data objects).
 pub const DATA: u64 = 0;
 
-/// CKO_SECRET_KEY, the class of keys.
+/// CKO_SECRET_KEY, the class of secret keys (PKCS #11 Base 3.0, Secret key objects).
 pub const SECRET_KEY: u64 = 4;
 
-/// CKK_GENERIC_SECRET, the type of all keys of the token.
+/// CKK_GENERIC_SECRET, the key type of all keys of the token (PKCS #11 Current Mechanisms 3.0,
+/// Generic secret key).
 pub const GENERIC_SECRET: u64 = 16;
 
-/// What an attribute's value looks like.
+/// The form of an attribute's value.
 #[derive(Clone, Copy, Debug, PartialEq, Eq)]
 pub enum Form {
     /// One byte, 0 or 1 (CK_BBOOL).
     Flag,
-    /// 8 bytes, the least first (CK_ULONG).
+    /// 8 bytes, the least significant first (CK_ULONG).
     Number,
     /// A number that is CKO_DATA (0) or CKO_SECRET_KEY (4).
     Class,
@@ -45,7 +46,7 @@ impl Form {
     }
 }
 
-/// Whether these are the 8 bytes of a number, the least first.
+/// Whether these are the 8 bytes of the number, the least significant first.
 pub(crate) fn is_number(value: &[u8], number: u64) -> bool
     ensures { result ≡ same_bytes value.now (number_bytes number) }
 {

@@ -6,7 +6,7 @@ use crate::templates::Template;
 use ck_types::{NoMemory, Sequence};
 use std::alloc::Global;
 
-/// Templates that are made attribute by attribute.
+/// Templates that are made attribute by attribute. What they give isn't checked here.
 impl Template {
     ghost use Rattle.std.specs.Prelude.{◌≡◌, ◌++◌, ◌∷◌, [], IfOk};
     ghost use Rattle.ck_types.specs.Numbers.{number_bytes};
@@ -22,8 +22,9 @@ impl Template {
         }
     }
 
-    /// The template that creates a generic secret key of these bytes (CKO_SECRET_KEY,
-    /// CKK_GENERIC_SECRET), and gives nothing else.
+    /// A template by which C_CreateObject makes a generic secret key. It gives the class
+    /// (CKO_SECRET_KEY), the key type (CKK_GENERIC_SECRET) and these bytes as the value, and
+    /// nothing else.
     pub fn secret_key(alloc: Global, value: &[u8]) -> Result<Template, NoMemory>
         ensures { IfOk result (λ template. template.items ≡ record {
           kind = type_of attribute.Class;
@@ -39,7 +40,7 @@ impl Template {
             .bytes(Attribute::Value, value)
     }
 
-    /// The template, which gives this attribute too, with these bytes as its value.
+    /// The template with one item more: this attribute, with these bytes as its value.
     pub fn bytes(self, attribute: Attribute, value: &[u8]) -> Result<Template, NoMemory>
         ensures { IfOk result (λ template. template.items ≡ self.items
             ++ record { kind = type_of attribute; value = value.now } ∷ []) }
@@ -55,7 +56,7 @@ impl Template {
         })
     }
 
-    /// The template, which gives this attribute too, with a flag as its value (CK_BBOOL).
+    /// The template with one item more: this attribute, with a flag as its value (CK_BBOOL).
     pub fn flag(self, attribute: Attribute, value: bool) -> Result<Template, NoMemory>
         ensures { IfOk result (λ template. template.items ≡ self.items
             ++ record { kind = type_of attribute; value = flag_bytes value } ∷ []) }
@@ -63,8 +64,8 @@ impl Template {
         self.bytes(attribute, [u8::from(value)].as_slice())
     }
 
-    /// The template, which gives this attribute too, with a number as its value (CK_ULONG), such as
-    /// `SECRET_KEY` for the class or `GENERIC_SECRET` for the key type.
+    /// The template with one item more: this attribute, with a number as its value (CK_ULONG), such
+    /// as `SECRET_KEY` for the class or `GENERIC_SECRET` for the key type.
     pub fn number(self, attribute: Attribute, value: u64) -> Result<Template, NoMemory>
         ensures { IfOk result (λ template. template.items ≡ self.items
             ++ record { kind = type_of attribute; value = number_bytes value } ∷ []) }

@@ -97,7 +97,7 @@ pub(crate) fn check_permissions(
     Ok(())
 }
 
-/// The value that the items give a type: that of the first item of the type.
+/// The value of the first item of the type, or `None` where there is no such item.
 pub(crate) fn value_at(items: &[Item], kind: u64) -> Option<&AttributeValue>
     ensures { option_copied result ≡ value_at items.now kind }
 {
@@ -113,8 +113,8 @@ fn position_of(items: &[Item], kind: u64) -> Option<usize>
     items.iter().position(|item| item.kind == kind)
 }
 
-/// Moves the value that the items give the attribute, where they give one, into the field. The item
-/// gets what the field had.
+/// Exchanges the field with the value of the first item of the attribute's type, where there is
+/// one.
 pub(crate) fn take_value(items: &mut [Item], attribute: Attribute, field: &mut AttributeValue)
     ensures value { field.new ≡ value_or items.old (type_of attribute) field.old }
     ensures others { (kind : ℕ) → kind ≢ type_of attribute
@@ -125,8 +125,8 @@ pub(crate) fn take_value(items: &mut [Item], attribute: Attribute, field: &mut A
     }
 }
 
-/// The flag that the items give the attribute, else this one. Well-formed items give it one byte,
-/// 0 or 1.
+/// The flag that the items give the attribute, else `other`. In well-formed items it is one byte, 0
+/// or 1.
 pub(crate) fn flag_or(items: &[Item], attribute: Attribute, other: bool) -> bool
     requires { form_of attribute ≡ form.Flag }
     ensures flag { result ≡ unwrap_or (flag_at items.now attribute) other }
@@ -146,7 +146,7 @@ pub(crate) fn copied_items(alloc: Global, items: &[Item]) -> Result<Vec<Item>, N
     Ok(Vec::from_clones(alloc, items)?)
 }
 
-/// A copy of the value that the items give the attribute, of no bytes where they give none.
+/// A copy of the value that the items give the attribute. Where they give none it has no bytes.
 pub(crate) fn copied_value(
     alloc: Global,
     items: &[Item],
@@ -160,7 +160,7 @@ pub(crate) fn copied_value(
     }
 }
 
-/// The number that the items give the attribute. Well-formed items give a number 8 bytes.
+/// The number that the items give the attribute. In well-formed items it is 8 bytes.
 pub(crate) fn number_at(items: &[Item], attribute: Attribute) -> Option<u64>
     requires form { form_of attribute ≡ form.Number }
     requires well_formed { first_error form_error items.now ≡ None }
@@ -175,8 +175,8 @@ pub(crate) fn number_at(items: &[Item], attribute: Attribute) -> Option<u64>
     }
 }
 
-/// The key state that the items give, else this one. Well-formed items give the number of
-/// Pre-Activation or of Active.
+/// The key state that the items give, else `other`. In well-formed items it is pre-activation (0)
+/// or active (1).
 pub(crate) fn state_or(items: &[Item], other: KeyState) -> KeyState
     requires well_formed { first_error form_error items.now ≡ None }
     ensures { number_bytes (state_number result)
@@ -194,7 +194,7 @@ pub(crate) fn state_or(items: &[Item], other: KeyState) -> KeyState
     }
 }
 
-/// The class that the items give.
+/// The class that the items give, or `None` where they give none.
 pub(crate) fn given_class(items: &[Item]) -> Option<Class>
     ensures class { unwrap_or result class.Data ≡ class_of items.now }
     ensures missing { is_none result ≡ is_none (value_at items.now (type_of attribute.Class)) }
@@ -209,7 +209,7 @@ pub(crate) fn given_class(items: &[Item]) -> Option<Class>
     }
 }
 
-/// The class of an object with these attributes.
+/// The class of an object with these attributes; where they give none, that of data objects.
 pub(crate) fn class_of(items: &[Item]) -> Class
     ensures { result ≡ class_of items.now }
 {
@@ -237,7 +237,7 @@ fn has_conflict_in(attributes: &[Attribute], items: &[Item]) -> bool
 }
 
 /// Whether two items of one type have different values. Each attribute takes at most two walks over
-/// the items, so that the time stays in proportion to their number.
+/// the items; comparing each item with each other would take far more for a long template.
 pub(crate) fn has_conflict(items: &[Item]) -> bool
     requires well_formed { first_error form_error items.now ≡ None }
     ensures { result ≡ has_conflict items.now }

@@ -24,7 +24,7 @@ impl KeyState {
         self as u64
     }
 
-    /// The state of a number, or `None` where there is none.
+    /// The state with this number, or `None` where there is none.
     pub fn of(number: u64) -> Option<KeyState>
         ensures state { result ≡ state_of_number number }
         ensures number { IfSome result (λ state. state_number state ≡ number) }
@@ -41,7 +41,7 @@ impl KeyState {
         }
     }
 
-    /// Whether a key of this state may go over to the other.
+    /// Whether a key in this state may be taken to the other. No state may become itself.
     pub fn may_become(self, after: KeyState) -> bool
         ensures { result ≡ may_become self after }
     {
@@ -72,14 +72,14 @@ impl KeyState {
         }
     }
 
-    /// Whether a key of this state may sign.
+    /// Whether a key in this state may sign.
     pub fn may_sign(self) -> bool
         ensures { result ≡ may_sign self }
     {
         matches!(self, KeyState::Active)
     }
 
-    /// Whether a key of this state may verify.
+    /// Whether a key in this state may verify.
     pub fn may_verify(self) -> bool
         ensures { result ≡ may_verify self }
     {
@@ -89,7 +89,7 @@ impl KeyState {
         )
     }
 
-    /// Whether it is that of a destroyed key.
+    /// Whether the state is that of a destroyed key.
     pub(crate) fn is_destroyed(self) -> bool
         ensures { result ≡ is_destroyed self }
     {

@@ -8,7 +8,7 @@ use crate::object_flags::Placement;
 use ck_types::{GENERIC_SECRET_KEY_GEN, NoMemory};
 use std::alloc::{AllocError, Global};
 
-/// How a key came to be: the attributes that no template gives. A copy has its source's.
+/// How a key came to be: the attributes that no template may give. A copy has those of its source.
 #[derive(Clone, Copy)]
 pub(crate) struct Origin {
     local: bool,
@@ -20,8 +20,8 @@ pub(crate) struct Origin {
 }
 
 /// A generic secret key (PKCS #11 Current Mechanisms 3.0, Generic secret key objects). Its class,
-/// its key type and the length of its value are no fields. What most calls read stands first, as in
-/// a data object.
+/// its key type and the length of its value are no fields. The fields that most calls read stand
+/// first, as in a data object.
 #[derive(Drop)]
 pub(crate) struct Key {
     label: AttributeValue,
@@ -45,7 +45,7 @@ pub(crate) struct Key {
     origin: Origin,
 }
 
-// Not derived: what a derived one ensures of this many fields takes the prover many minutes.
+// Not derived: with this many fields, proving a derived clone takes many minutes.
 impl Clone for Key {
     ghost use Rattle.std.specs.Prelude.{◌≡◌};
 
@@ -125,7 +125,8 @@ impl Key {
         Key::new(alloc, origin, items, value)
     }
 
-    /// A key with the table's defaults and no bytes, which takes no memory.
+    /// A key with the defaults of the table in specs/Attributes.antt and a value of no bytes. It
+    /// takes no memory.
     fn blank(alloc: Global, origin: Origin) -> Key
         ensures { result ≡ blank_key origin }
     {
@@ -152,7 +153,7 @@ impl Key {
         }
     }
 
-    /// A new key of this value, with the items' values of the other attributes that they give.
+    /// A new key with this value, and with the values of the other attributes that the items give.
     fn new(
         alloc: Global,
         origin: Origin,
@@ -173,8 +174,8 @@ impl Key {
         Ok(key)
     }
 
-    /// Gives the key the items' values of the attributes that they give. The items get what the
-    /// key had.
+    /// Gives the key the values of the attributes that the items give. Values of bytes are
+    /// exchanged, so the items get what the key had.
     pub(crate) fn set(&mut self, items: &mut [Item])
         requires well_formed { first_error form_error items.old ≡ None }
         requires keeps { KeepsKey items.old self.old }
@@ -189,8 +190,7 @@ impl Key {
         self.change(items);
     }
 
-    /// Gives the key the items' values of the attributes that a change may give. The items get what
-    /// the key had.
+    /// As `set`, but only for the attributes that a change may give.
     pub(crate) fn change(&mut self, items: &mut [Item])
         ensures { self.new ≡ changed_key items.old self.old }
     {

@@ -1,4 +1,4 @@
-//! Attributes, templates and the records of objects of a PKCS #11 token.
+//! Attributes, templates, key states and the records of objects of a PKCS #11 token.
 #![tactic(auto)]
 
 mod attribute_values;

@@ -18,7 +18,7 @@ enum Object {
     Key(Key),
 }
 
-/// The attributes of one object. Contracts see them as items in the order of the table.
+/// The attributes of one object. Contracts see them as items, by ascending type.
 #[derive(Drop)]
 pub struct Record {
     object: Object,
@@ -65,7 +65,7 @@ impl Record {
     ghost use Rattle.ck_objects.specs.Records.{is_set, has_item, matches};
     ghost use Rattle.ck_objects.specs.Fields.{field_bytes};
 
-    /// The object that a template of C_CreateObject makes, which passes `Template::check_creation`
+    /// The object that C_CreateObject makes by a template that passes `Template::check_creation`
     /// (PKCS #11 Base 3.0, Object management functions).
     pub fn create_with(alloc: Global, template: &Template) -> Result<Record, NoMemory>
         requires { created_error template.now.items ≡ None }
@@ -84,8 +84,9 @@ impl Record {
         }
     }
 
-    /// The key that C_GenerateKey makes from random bytes by a template, which pass
-    /// `Template::check_generation` (PKCS #11 Base 3.0, Key management functions).
+    /// The key that C_GenerateKey makes by a template and random bytes that pass
+    /// `Template::check_generation` (PKCS #11 Base 3.0, Key management functions). Its value is the
+    /// random bytes.
     pub fn generate_with(
         alloc: Global,
         template: &Template,
@@ -114,9 +115,10 @@ impl Record {
         }
     }
 
-    /// The checks of a template of C_CopyObject for this object, of which the first that fails
-    /// answers: a type that the token doesn't know (CKR_ATTRIBUTE_TYPE_INVALID) or a value that
-    /// isn't of its form (CKR_ATTRIBUTE_VALUE_INVALID), item by item; two values of one type
+    /// The checks of a template of C_CopyObject for this object (PKCS #11 Base 3.0, Object
+    /// management functions). The first that fails gives the code: a type that the token doesn't
+    /// know (CKR_ATTRIBUTE_TYPE_INVALID) or a value that isn't of its form
+    /// (CKR_ATTRIBUTE_VALUE_INVALID), item by item; two different values of one type
     /// (CKR_TEMPLATE_INCONSISTENT); an attribute that the object's class doesn't have
     /// (CKR_ATTRIBUTE_TYPE_INVALID) or that a copy may not be given (CKR_ATTRIBUTE_READ_ONLY), item
     /// by item; CKA_SENSITIVE false for a sensitive key or CKA_EXTRACTABLE true for a key that
@@ -150,8 +152,8 @@ impl Record {
         }
     }
 
-    /// A copy of the object with the values that a template of C_CopyObject gives, which passes
-    /// `check_copy` (PKCS #11 Base 3.0, Object management functions).
+    /// A copy of the object, with the values that a template of C_CopyObject gives, where the
+    /// template passes `check_copy` (PKCS #11 Base 3.0, Object management functions).
     pub fn copy_with(&self, alloc: Global, template: &Template) -> Result<Record, NoMemory>
         requires { copied_error (class_of self.now) (protections_of self.now) template.now.items
             ≡ None }
@@ -166,8 +168,9 @@ impl Record {
         Ok(copy)
     }
 
-    /// The checks of a template of C_SetAttributeValue for this object: those of `check_copy`
-    /// except the last, for the attributes that may be set (else CKR_ATTRIBUTE_READ_ONLY).
+    /// The checks of a template of C_SetAttributeValue for this object (PKCS #11 Base 3.0, Object
+    /// management functions): those of `check_copy` except the last. An attribute that may not be
+    /// set is CKR_ATTRIBUTE_READ_ONLY.
     #[tactic(auto, using(ck_types::proofs::CheckLemmas::checks))]
     pub fn check_change(&self, template: &Template) -> Result<(), RvError>
         ensures { result ≡ check_of
@@ -180,9 +183,9 @@ impl Record {
         )
     }
 
-    /// Gives the object the values of a template of C_SetAttributeValue, which passes
-    /// `check_change` (PKCS #11 Base 3.0, Object management functions). They are moved into the
-    /// object, so this takes no memory. CKA_PRIVATE stays as it was.
+    /// Gives the object the values of a template of C_SetAttributeValue that passes `check_change`
+    /// (PKCS #11 Base 3.0, Object management functions). They are moved into the object, so this
+    /// takes no memory. CKA_PRIVATE stays as it was.
     pub fn change(&mut self, values: Template)
         requires { changed_error (class_of self.old) (protections_of self.old) values.items
             ≡ None }
@@ -257,7 +260,7 @@ impl Record {
         }
     }
 
-    /// Whether the attribute is a value that may not be revealed.
+    /// Whether the attribute of this type is a value (CKA_VALUE) that may not be revealed.
     fn is_hidden(&self, kind: u64) -> bool
         ensures { result ≡ is_hidden self.now kind }
     {
@@ -309,7 +312,7 @@ impl Record {
         }
     }
 
-    /// Moves a key to another state, whether or not it may go over to it. A data object has no
+    /// Gives a key this state, also where `KeyState::may_become` forbids it. A data object has no
     /// state and stays as it is.
     pub fn set_state(&mut self, state: KeyState)
         ensures { self.new ≡ with_state state self.old }

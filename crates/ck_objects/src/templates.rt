@@ -28,14 +28,14 @@ impl Template {
     ghost use Rattle.ck_objects.specs.Records.{created_items, generated_items, placement_of};
     ghost use Rattle.ck_objects.specs.Records.{exposes_key, makes_public};
 
-    /// The checks of a template of C_CreateObject (PKCS #11 Base 3.0, Object management functions),
-    /// of which the first that fails answers: a type that the token doesn't know
+    /// The checks of a template of C_CreateObject (PKCS #11 Base 3.0, Object management functions).
+    /// The first that fails gives the code: a type that the token doesn't know
     /// (CKR_ATTRIBUTE_TYPE_INVALID) or a value that isn't of its form
-    /// (CKR_ATTRIBUTE_VALUE_INVALID), item by item; two values of one type
+    /// (CKR_ATTRIBUTE_VALUE_INVALID), item by item; two different values of one type
     /// (CKR_TEMPLATE_INCONSISTENT); no class (CKR_TEMPLATE_INCOMPLETE); an attribute that the class
     /// doesn't have (CKR_ATTRIBUTE_TYPE_INVALID) or that may not be given
     /// (CKR_ATTRIBUTE_READ_ONLY), item by item; for a key no key type or no value
-    /// (CKR_TEMPLATE_INCOMPLETE), or a value of no byte or more than 4096
+    /// (CKR_TEMPLATE_INCOMPLETE), or a value of 0 bytes or of more than 4096
     /// (CKR_ATTRIBUTE_VALUE_INVALID).
     #[tactic(auto, using(ck_types::proofs::CheckLemmas::checks))]
     pub fn check_creation(&self) -> Result<(), RvError>
@@ -62,12 +62,12 @@ impl Template {
     }
 
     /// The checks of a template of C_GenerateKey (PKCS #11 Base 3.0, Key management functions) and
-    /// of the random bytes that the key gets, of which the first that fails answers: types and
-    /// values as in `check_creation`; two values of one type or another class than that of secret
-    /// keys (CKR_TEMPLATE_INCONSISTENT); an attribute that keys don't have
+    /// of the random bytes that are the key's value. The first that fails gives the code: types and
+    /// values as in `check_creation`; two different values of one type, or another class than that
+    /// of secret keys (CKR_TEMPLATE_INCONSISTENT); an attribute that keys don't have
     /// (CKR_ATTRIBUTE_TYPE_INVALID) or that may not be given (CKR_ATTRIBUTE_READ_ONLY), item by
-    /// item; no length (CKR_TEMPLATE_INCOMPLETE), or one of 0 or more than 4096
-    /// (CKR_KEY_SIZE_RANGE); fewer or more random bytes (CKR_ARGUMENTS_BAD).
+    /// item; no CKA_VALUE_LEN (CKR_TEMPLATE_INCOMPLETE), or one of 0 or more than 4096
+    /// (CKR_KEY_SIZE_RANGE); another number of random bytes than CKA_VALUE_LEN (CKR_ARGUMENTS_BAD).
     #[tactic(auto, using(ck_types::proofs::CheckLemmas::checks))]
     pub fn check_generation(&self, random: &[u8]) -> Result<(), RvError>
         ensures { result ≡ check_of (generated_error self.now.items random.now) }
@@ -92,8 +92,8 @@ impl Template {
         placement.with(self.items.as_slice())
     }
 
-    /// The checks of a template that changes an object of the class or that a copy of one is made
-    /// with, except those that look at the object's other attributes.
+    /// The checks of a template that changes or copies an object of the class, except those that
+    /// look at more of the object than its class.
     pub(crate) fn check(&self, class: Class, purpose: Purpose) -> Result<(), RvError>
         ensures { result ≡ check_of (template_error class purpose self.now.items) }
     {
@@ -120,14 +120,14 @@ impl Template {
     }
 }
 
-/// Whether a key may have this many bytes.
+/// Whether a key's value may have this many bytes.
 fn is_key_length(length: u64) -> bool
     ensures { result ≡ is_key_length length }
 {
     1 <= length && length <= 4096
 }
 
-/// The checks of what an object of the class can't do without.
+/// The checks that a template gives what a new object of the class must be given.
 fn check_new_object(class: Class, items: &[Item]) -> Result<(), RvError>
     ensures { result ≡ check_of (new_object_error class items.now) }
 {
@@ -152,7 +152,7 @@ fn check_new_key(items: &[Item]) -> Result<(), RvError>
     }
 }
 
-/// Whether the items give a class that isn't that of secret keys.
+/// Whether the items give another class than that of secret keys.
 fn gives_other_class(items: &[Item]) -> bool
     ensures { result ≡ gives_other_class items.now }
 {

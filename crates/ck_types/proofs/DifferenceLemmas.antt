@@ -1,4 +1,4 @@
--- Bytes that are compared without a branch
+-- The difference of bytes that are compared pair by pair
 use Rattle.std.proofs.Common.{◌≡◌, ℕ, zero, suc, ◌+◌, ◌%◌, ◌<◌, ◌&&◌, ◌==◌, List, [], ◌∷◌, length}
 use Rattle.std.proofs.Common.{take, get_or, arith, sym, ap, ◌∙◌, add-one}
 use Rattle.std.specs.Prelude.{bit_or, bit_xor}

@@ -1,8 +1,8 @@
--- Checks in order: each finds an error or none
+-- Checks that are made in order: each finds an error or none
 use Rattle.std.specs.Prelude.{Bool, true, false, List, [], ◌∷◌, Option, Some, None, Result, Ok, Err}
 use Rattle.ck_types.specs.declared.errors.RvError.{RvError}
 
--- the error, where the test says so
+-- the error, where the test is true
 abbrev pub error_if : Bool → RvError → Option RvError
 error_if false error = None
 error_if true error = Some error
@@ -22,7 +22,7 @@ abbrev pub first_error : {A : Type 0} → (A → Option RvError) → List A → 
 first_error check [] = None
 first_error check (item ∷ items) = or_else (check item) (first_error check items)
 
--- what a check answers: its error, or that there is none
+-- the result of a check: Err with its error, or Ok where it finds none
 abbrev pub check_of : Option RvError → Result (Unit {0}) RvError
 check_of None = Ok tt
 check_of (Some error) = Err error

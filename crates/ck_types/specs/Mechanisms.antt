@@ -12,7 +12,7 @@ use Rattle.ck_types.specs.declared.mechanisms.Algorithm.{Algorithm}
 use Rattle.ck_types.specs.declared.mechanisms.Algorithm.TheVariants as algorithm
 use Rattle.ck_types.specs.declared.mechanisms.Mechanism.{Mechanism}
 
--- each line: the mechanism's type, what it computes; in rising types
+-- each line: a mechanism's type, what it computes; by ascending type
 abbrev pub mechanisms : List (ℕ × Algorithm)
 mechanisms =
     (0x250, algorithm.Digest hash.Sha256)
@@ -34,7 +34,7 @@ mechanisms =
 abbrev pub mechanism_types : List ℕ
 mechanism_types = map (λ (row : ℕ × Algorithm). row.0) mechanisms
 
--- what the mechanism of this type computes
+-- what the mechanism of this type computes, where the token has it
 abbrev pub algorithm_of : ℕ → Option Algorithm
 algorithm_of kind =
     option_map (λ (row : ℕ × Algorithm). row.1)
@@ -53,11 +53,12 @@ abbrev pub generates : Algorithm → Bool
 generates algorithm.GenericSecretKey = true
 generates other = false
 
--- the hash of the digest mechanism of this type
+-- the hash function of the mechanism of this type, where it computes a digest
 abbrev pub digest_hash : ℕ → Option Hash
 digest_hash kind = option_and_then hash_of_digest (algorithm_of kind)
 
--- the hash of the mechanism of this type that computes an HMAC, whole or its first bytes
+-- the hash function of the mechanism of this type, where it computes an HMAC, whole or its first
+-- bytes
 abbrev pub hmac_hash : ℕ → Option Hash
 hmac_hash kind = option_and_then hash_of_hmac (algorithm_of kind)
 
@@ -67,22 +68,23 @@ is_key_generator kind = option_map_or generates (algorithm_of kind) false
 
 -- ---- how long a tag is
 
--- a length in bytes, given as a number of 8 bytes, the least first, from 1 to the length of the
--- hash function's digest
+-- the length in bytes that a parameter gives (CK_MAC_GENERAL_PARAMS): 8 bytes, the least
+-- significant first, from 1 to the digest's length
 abbrev pub given_tag_length : Hash → List ℕ → Option ℕ
 given_tag_length h parameter =
     let n = from_le_bytes w64 parameter in
     if length parameter == 8 && nat_le 1 n && nat_le n (digest_length h) then Some n else None
 
--- the length of the tag that the algorithm computes with this parameter, or None where it can't
--- have the parameter: a whole HMAC has none, the first bytes of one have their number
+-- the length in bytes of the tag that the algorithm computes with this parameter, or None where it
+-- computes no tag or the parameter isn't valid. A whole HMAC has no parameter; that of a general
+-- HMAC is the length.
 abbrev pub tag_length_of : Algorithm → List ℕ → Option ℕ
 tag_length_of (algorithm.Hmac h) parameter =
     if length parameter == 0 then Some (digest_length h) else None
 tag_length_of (algorithm.GeneralHmac h) parameter = given_tag_length h parameter
 tag_length_of other parameter = None
 
--- the length of the mechanism's tag, where it computes one and its parameter is as it must be
+-- the length in bytes of the mechanism's tag, where it computes one and its parameter is valid
 abbrev pub tag_length : Mechanism → Option ℕ
 tag_length mechanism =
     option_and_then (λ a. tag_length_of a mechanism.parameter) (algorithm_of mechanism.kind)

@@ -3,7 +3,7 @@ use Rattle.std.specs.Prelude.{ℕ, Bool, List, ◌==◌}
 use Rattle.std.specs.Int.{w64, to_le_bytes}
 use Rattle.std.specs.Cmp.Lexicographic.{pointwise}
 
--- a number as 8 bytes (CK_ULONG), the least first
+-- a number as 8 bytes (CK_ULONG), the least significant first
 abbrev pub number_bytes : ℕ → List ℕ
 number_bytes n = to_le_bytes w64 n
 

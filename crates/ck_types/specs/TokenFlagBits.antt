@@ -5,9 +5,8 @@ abbrev pub with_flag : Bool → ℕ → ℕ → ℕ
 with_flag false flag flags = flags
 with_flag true flag flags = bit_or flags flag
 
--- the flags of a token: a login is required; whether the user has a PIN and the token is
--- initialized; and for each of the two users whether there are wrong tries of its PIN since they
--- last went back to 0, only one try is left, or none
+-- the flags of a token. A login is always required. The tries are each user's wrong tries since
+-- they last went back to 0: from 1 on the count is low, 2 leave a final try, and 3 lock the PIN.
 abbrev pub token_flags : Bool → Bool → ℕ → ℕ → ℕ
 token_flags is_initialized has_user_pin user_tries so_tries =
     with_flag (so_tries == 3) 0x400000

@@ -22,7 +22,8 @@ state_number state.RwPublic = 2
 state_number state.RwUser = 3
 state_number state.RwSo = 4
 
--- the state of a session, by who is logged in and whether the session is read/write
+-- the state of a session, by who is logged in and whether the session is read/write. While the
+-- security officer is logged in, no session is read-only.
 abbrev pub session_state : Option UserType → Bool → SessionState
 session_state None false = state.RoPublic
 session_state None true = state.RwPublic

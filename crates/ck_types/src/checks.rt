@@ -3,7 +3,7 @@ ghost use Rattle.ck_types.specs.Checks.{check_of, error_if};
 
 use crate::errors::RvError;
 
-/// A check that fails with the error where the test says so.
+/// Fails with the error where the test is true.
 pub fn error_if(test: bool, error: RvError) -> Result<(), RvError>
     ensures { result ≡ check_of (error_if test error) }
 {

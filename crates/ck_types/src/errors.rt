@@ -3,9 +3,10 @@ ghost use Rattle.std.specs.Prelude.{◌≡◌, Some, IfSome};
 use std::error::Error;
 use std::fmt;
 
-/// A return code that is an error (CK_RV except CKR_OK; PKCS #11 Base 3.0, Function return
-/// values), with the number that the standard gives it. `HostMemory` and `KeyTypeInconsistent` are
-/// answered by no call: out of memory is `NoMemory`, and there is one key type.
+/// A return code that the token knows, except CKR_OK (CK_RV; PKCS #11 Base 3.0, Function return
+/// values), with the number that the standard gives it. No call is answered `HostMemory` or
+/// `KeyTypeInconsistent`: a call without memory ends with `NoMemory`, for which the C module gives
+/// CKR_HOST_MEMORY, and all keys are of one key type.
 #[derive(Clone, Copy, Debug, PartialEq, Eq)]
 pub enum RvError {
     HostMemory = 0x2,
@@ -60,7 +61,7 @@ impl RvError {
         *self as u64
     }
 
-    /// The error of a number, or `None` where the token has no such error.
+    /// The error with this number, or `None` where the token has no such error.
     pub fn of(number: u64) -> Option<RvError>
         ensures error { result ≡ error_of number }
         ensures number { IfSome result (λ error. error_number error ≡ number) }

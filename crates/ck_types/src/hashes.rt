@@ -12,7 +12,7 @@ pub enum Hash {
 impl Hash {
     ghost use Rattle.ck_types.specs.Hashes.{digest_length, block_length};
 
-    /// The length of a digest in bytes.
+    /// The length of a digest in bytes (FIPS 180-4, figure 1).
     pub fn len(self) -> u64
         ensures { result ≡ digest_length self }
     {
@@ -24,7 +24,7 @@ impl Hash {
         }
     }
 
-    /// The length in bytes of the blocks that a message is taken in.
+    /// The length of a block in bytes (FIPS 180-4, figure 1). A message is hashed block by block.
     pub fn block(self) -> u64
         ensures { result ≡ block_length self }
     {

@@ -25,7 +25,9 @@ pub use mechanism_numbers::{
     SHA256_HMAC_GENERAL, SHA384, SHA384_HMAC, SHA384_HMAC_GENERAL, SHA512, SHA512_HMAC,
     SHA512_HMAC_GENERAL,
 };
-pub use mechanisms::{Mechanism, digest_of, is_key_generator, mac_of, mechanism_types};
+pub use mechanisms::{
+    MECHANISM_COUNT, Mechanism, digest_of, is_key_generator, mac_of, mechanism_types,
+};
 pub use memory::NoMemory;
 pub use numbers::number_of;
 pub use pins::Pin;

@@ -18,7 +18,7 @@ use std::alloc::Global;
 pub struct Mechanism {
     /// The mechanism's type (CK_MECHANISM_TYPE), known to the token or not.
     pub kind: u64,
-    /// The bytes of the parameter. No bytes are no parameter.
+    /// The bytes of the parameter. Where there are none, there is no parameter.
     pub parameter: Bytes,
 }
 
@@ -27,7 +27,8 @@ impl Mechanism {
     ghost use Rattle.ck_types.specs.Mechanisms.{tag_length};
     ghost use Rattle.ck_types.specs.Numbers.{number_bytes};
 
-    /// The mechanism of this type without a parameter, such as `SHA256_HMAC`. It takes no memory.
+    /// A mechanism of this type without a parameter; the type is, for example, `SHA256_HMAC`. It
+    /// takes no memory.
     pub fn new(alloc: Global, kind: u64) -> Mechanism
         ensures { result ≡ record { kind = kind; parameter = [] } }
     {
@@ -37,8 +38,8 @@ impl Mechanism {
         }
     }
 
-    /// The mechanism of this type with a length in bytes as its parameter (CK_MAC_GENERAL_PARAMS),
-    /// such as `SHA256_HMAC_GENERAL`.
+    /// A mechanism of this type with a length in bytes as its parameter (CK_MAC_GENERAL_PARAMS);
+    /// the type is, for example, `SHA256_HMAC_GENERAL`. The length isn't checked.
     pub fn with_length(alloc: Global, kind: u64, length: u64) -> Result<Mechanism, NoMemory>
         ensures { IfOk result (λ made.
             made ≡ record { kind = kind; parameter = number_bytes length }) }
@@ -47,10 +48,10 @@ impl Mechanism {
         Ok(Mechanism { kind, parameter })
     }
 
-    /// The length in bytes of the tag that the mechanism signs with, or `None` where it doesn't
-    /// sign or can't have the parameter. A whole HMAC has no parameter; one of a given length has
-    /// the length (CK_MAC_GENERAL_PARAMS), 8 bytes with the least first, from 1 to that of the
-    /// digest.
+    /// The length in bytes of the mechanism's signatures, or `None` where it doesn't sign or its
+    /// parameter isn't valid. A whole HMAC has no parameter. The parameter of a general HMAC is the
+    /// length (CK_MAC_GENERAL_PARAMS): 8 bytes, the least significant first, from 1 to the digest's
+    /// length.
     pub fn tag_length(&self) -> Option<u64>
         ensures { result ≡ tag_length self.now }
     {
@@ -69,7 +70,8 @@ impl Mechanism {
     }
 }
 
-/// The length of a tag that the parameter gives, where the hash function has one so long.
+/// The length that the parameter gives, or `None` where it isn't 8 bytes or isn't from 1 to the
+/// digest's length.
 fn given_tag_length(hash: Hash, parameter: &[u8]) -> Option<u64>
     ensures { result ≡ given_tag_length hash parameter.now }
 {
@@ -86,13 +88,16 @@ fn given_tag_length(hash: Hash, parameter: &[u8]) -> Option<u64>
 enum Algorithm {
     Digest(Hash),
     Hmac(Hash),
-    /// The first bytes of an HMAC, as many as the parameter says.
+    /// The first bytes of an HMAC. Their number is the parameter.
     GeneralHmac(Hash),
     GenericSecretKey,
 }
 
-/// All mechanisms that the token has, in rising types.
-const MECHANISMS: [(u64, Algorithm); 13] = [
+/// How many mechanisms the token has.
+pub const MECHANISM_COUNT: usize = 13;
+
+/// All mechanisms of the token, by ascending type.
+const MECHANISMS: [(u64, Algorithm); MECHANISM_COUNT] = [
     (SHA256, Algorithm::Digest(Hash::Sha256)),
     (SHA256_HMAC, Algorithm::Hmac(Hash::Sha256)),
     (SHA256_HMAC_GENERAL, Algorithm::GeneralHmac(Hash::Sha256)),
@@ -108,9 +113,9 @@ const MECHANISMS: [(u64, Algorithm); 13] = [
     (GENERIC_SECRET_KEY_GEN, Algorithm::GenericSecretKey),
 ];
 
-/// The types of all mechanisms that the token has, rising (C_GetMechanismList; PKCS #11 Base 3.0,
-/// Slot and token management functions). Their numbers are those of the Current Mechanisms 3.0.
-pub fn mechanism_types() -> [u64; 13]
+/// The types of all mechanisms of the token, ascending (C_GetMechanismList; PKCS #11 Base 3.0, Slot
+/// and token management functions). The numbers are those of Current Mechanisms 3.0.
+pub fn mechanism_types() -> [u64; MECHANISM_COUNT]
     ensures { result ≡ mechanism_types }
 {
     MECHANISMS.map(|(kind, _)| kind)
@@ -122,7 +127,7 @@ fn algorithm_of(kind: u64) -> Option<Algorithm>
     MECHANISMS.iter().find(|row| row.0 == kind).map(|row| row.1)
 }
 
-/// The hash function of a mechanism that digests a message, or `None` for every other mechanism.
+/// The hash function of the mechanism of this type, where it computes a digest; else `None`.
 pub fn digest_of(kind: u64) -> Option<Hash>
     ensures { result ≡ digest_hash kind }
 {
@@ -132,8 +137,8 @@ pub fn digest_of(kind: u64) -> Option<Hash>
     }
 }
 
-/// The hash function of a mechanism that signs by an HMAC, whole or of a length that its parameter
-/// gives, or `None` for every other mechanism.
+/// The hash function of the mechanism of this type, where it computes an HMAC, whole or its first
+/// bytes; else `None`.
 pub fn mac_of(kind: u64) -> Option<Hash>
     ensures { result ≡ hmac_hash kind }
 {
@@ -143,7 +148,7 @@ pub fn mac_of(kind: u64) -> Option<Hash>
     }
 }
 
-/// Whether the mechanism generates keys.
+/// Whether the mechanism of this type generates keys.
 pub fn is_key_generator(kind: u64) -> bool
     ensures { result ≡ is_key_generator kind }
 {

@@ -1,7 +1,8 @@
 use std::alloc::{AllocError, AllocFailed};
 use thiserror::Error;
 
-/// Out of memory. What answers it has changed nothing that a caller can see.
+/// Out of memory. A call of the token that ends so has no reply. It isn't in the journal, and no
+/// later reply differs for it.
 #[derive(Clone, Copy, Debug, PartialEq, Eq, Error)]
 #[error("out of memory")]
 pub struct NoMemory;

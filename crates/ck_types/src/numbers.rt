@@ -2,7 +2,8 @@ ghost use Rattle.std.specs.Prelude.{◌≡◌, ◌==◌, Some, None, IfSome, len
 ghost use Rattle.std.specs.Int.{w64, from_le_bytes};
 ghost use Rattle.ck_types.specs.Numbers.{number_bytes};
 
-/// The number of 8 bytes, the least first (CK_ULONG), or `None` for fewer or more bytes.
+/// The number that 8 bytes stand for, the least significant first (CK_ULONG), or `None` for fewer
+/// or more bytes.
 pub fn number_of(bytes: &[u8]) -> Option<u64>
     ensures number { result
         ≡ (if length bytes.now == 8 then Some (from_le_bytes w64 bytes.now) else None) }

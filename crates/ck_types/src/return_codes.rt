@@ -24,7 +24,7 @@ impl Rv {
         }
     }
 
-    /// The code of a number, or `None` where the token has no such code.
+    /// The code with this number, or `None` where the token has no such code.
     pub fn of(number: u64) -> Option<Rv>
         ensures code { result ≡ code_of number }
         ensures number { IfSome result (λ code. number_of code ≡ number) }

@@ -2,8 +2,8 @@ use crate::memory::NoMemory;
 use std::alloc::{AllocError, Global};
 use std::marker::Model;
 
-/// A list of values in a field. Contracts see it as its items, so two of them are equal where their
-/// items are, whatever room they have.
+/// A vector of which contracts see only the items: two of them are equal where their items are,
+/// whatever their capacities.
 #[derive(Drop)]
 pub struct Sequence<T> {
     items: Vec<T>,
@@ -51,14 +51,14 @@ impl<T> Sequence<T> {
         }
     }
 
-    /// The items of a vector, which takes no memory.
+    /// A sequence of the vector's items. They are moved, so this takes no memory.
     pub fn from_vec(items: Vec<T>) -> Sequence<T>
         ensures { result ≡ items.items }
     {
         Sequence { items }
     }
 
-    /// The items in a vector of their own, which takes no memory.
+    /// A vector of the items. They are moved, so this takes no memory.
     pub fn into_vec(self) -> Vec<T>
         ensures { result.items ≡ self }
     {

@@ -3,7 +3,8 @@ ghost use Rattle.ck_types.specs.TokenFlagBits.{token_flags, with_flag};
 
 use bitflags::{Flag, Flags, bitflag_items};
 
-/// What C_GetTokenInfo says of the token (CK_TOKEN_INFO; PKCS #11 Base 3.0, Slot and token types).
+/// The flags that C_GetTokenInfo gives (CK_TOKEN_INFO; PKCS #11 Base 3.0, Slot and token types).
+/// They have the standard's names without CKF_.
 #[derive(Clone, Copy, Debug, PartialEq, Eq)]
 pub struct TokenFlags(u64);
 
@@ -48,8 +49,9 @@ impl Flags for TokenFlags {
 }
 
 impl TokenFlags {
-    /// The flags of a token: whether it is initialized, whether the user has a PIN, and how many
-    /// wrong tries of their PINs the user and the security officer have made.
+    /// The flags of a token. A login is always required. The tries are the wrong tries (0 to 3) of
+    /// the user's and of the security officer's PIN: from 1 on the count is low, 2 leave a final
+    /// try, and 3 lock the PIN.
     pub fn of(
         is_initialized: bool,
         has_user_pin: bool,
@@ -76,7 +78,7 @@ impl TokenFlags {
         self.bits()
     }
 
-    /// These flags, and another one where it holds.
+    /// These flags, with another one where `holds` is true.
     fn with(self, holds: bool, flag: TokenFlags) -> TokenFlags
         ensures { result.0 ≡ with_flag holds flag.0 self.0 }
     {

@@ -1,17 +1,19 @@
 use std::marker::Model;
 
-/// The most sessions that any token may have open at once.
+/// The largest limit on sessions that are open at once.
 pub const MOST_SESSIONS: u64 = 64;
 
-/// The most openings of sessions, and the most creations of objects.
+/// The largest limit on openings of sessions, and on creations of objects.
 const MOST_HANDLES: u64 = 0xffff_ffff;
 
-/// The most OK logins of the user.
+/// The largest limit on logins of the user.
 const MOST_LOGINS: u64 = 0x7fff_ffff;
 
-/// The limits of one token: sessions open at once (1 to 64), openings of sessions in all and
-/// creations of objects in all (each 1 to 2^32 - 1), and OK logins of the user in all
-/// (1 to 2^31 - 1).
+/// The limits of one token: sessions that are open at once (1 to 64), openings of sessions in all
+/// (1 to 2^32 - 1), creations of objects in all (1 to 2^32 - 1; C_CreateObject, C_GenerateKey and
+/// C_CopyObject) and logins of the user in all (1 to 2^31 - 1; each a C_Login answered CKR_OK). The
+/// code for a call that would exceed the first is CKR_SESSION_COUNT, for any other
+/// CKR_DEVICE_MEMORY.
 #[derive(Clone, Copy, Debug, PartialEq, Eq)]
 pub struct Limits {
     sessions: u64,
@@ -102,21 +104,21 @@ impl Limits {
         self.sessions
     }
 
-    /// The most sessions that are opened in all.
+    /// The most sessions that may be opened in all.
     pub fn openings(&self) -> u64
         ensures { result ≡ self.now.openings }
     {
         self.openings
     }
 
-    /// The most objects that are created in all.
+    /// The most objects that may be created in all.
     pub fn creations(&self) -> u64
         ensures { result ≡ self.now.creations }
     {
         self.creations
     }
 
-    /// The most OK logins of the user in all.
+    /// The most logins of the user in all.
     pub fn logins(&self) -> u64
         ensures { result ≡ self.now.logins }
     {

@@ -11,7 +11,8 @@ pub enum UserType {
 }
 
 impl UserType {
-    /// The user of a number: 0 is the security officer, 1 the user, and no other number is one.
+    /// The user with this number: CKU_SO is 0, CKU_USER is 1. `None` for any other number,
+    /// for which C_Login has the code CKR_USER_TYPE_INVALID.
     pub fn of(number: u64) -> Option<UserType>
         ensures { result ≡ user_of number }
     {
