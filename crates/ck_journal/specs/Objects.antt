@@ -86,7 +86,8 @@ attributes_among view object count handle =
 
 -- ---- what a call does to an object
 
--- the attributes of a new object, by those of the object that a handle names
+-- the attributes of the object that a call creates; `named` gives those of the object that a handle
+-- names, which a copy reads
 abbrev pub creation_attributes : Option Call → (ℕ → Option (List Item)) → List Item
 creation_attributes (Some (call.CreateObject session template)) named =
     created_items template.items
@@ -99,7 +100,7 @@ creation_attributes other named = []
 abbrev pub is_session_object : List Item → Bool
 is_session_object attributes = not (is_set attributes attribute.Token)
 
--- the attributes of a key in this state; as they are where there is no such state
+-- the attributes of a key in this state; as they are where there is none
 abbrev pub in_state : Option KeyState → List Item → List Item
 in_state None attributes = attributes
 in_state (Some state) attributes = with_state state attributes

@@ -15,15 +15,15 @@ use Rattle.ck_journal.specs.Bases.{base_tries}
 use Rattle.ck_journal.specs.Histories.{History, start, ◌◁◌, done, wrong_try}
 use Rattle.ck_journal.specs.Sessions.{state_of}
 
--- this is the PIN, if there is one
+-- there is a PIN, and the given one is the same
 abbrev pub is_pin : Option Pin → Pin → Bool
 is_pin None given = false
 is_pin (Some pin) given = same_pin pin given
 
 -- ---- whom a call is about
 
--- whose PIN C_SetPIN changes in a session of this state: the security officer's in read/write SO,
--- else the normal user's
+-- whose PIN C_SetPIN changes in a session of this state: in CKS_RW_SO_FUNCTIONS the security
+-- officer's, else the normal user's
 abbrev pub pin_owner : SessionState → UserType
 pin_owner state.RwSo = user.So
 pin_owner other = user.User

@@ -21,7 +21,8 @@ abbrev pub starts_search : Option Call → ℕ → Bool
 starts_search (Some (call.FindObjectsInit session template)) s = session == s
 starts_search other s = false
 
--- the call ends the session's search: C_FindObjectsFinal, and what ends all its operations
+-- the call ends the session's search: C_FindObjectsFinal, and what ends all operations of the
+-- session
 abbrev pub ends_search : Option Call → ℕ → Bool
 ends_search (Some (call.FindObjectsFinal session)) s = session == s
 ends_search other s = ends_operations other s
