@@ -74,7 +74,7 @@ is_so_state other = false
 abbrev pub session_error : History → ℕ → Option RvError
 session_error h session = error_if (not (is_open h session)) rv_error.SessionHandleInvalid
 
--- the user is locked, or this isn't the user's PIN
+-- this user is locked, or the PIN isn't this user's
 abbrev pub pin_error : UserType → History → Pin → Option RvError
 pin_error u h pin = first_of (
     error_if (is_locked u h) rv_error.PinLocked
@@ -121,7 +121,7 @@ open_session_error limits h flags = first_of (
     ∷ error_if (nat_le limits.openings (openings h)) rv_error.DeviceMemory
     ∷ [])
 
--- a user is logged in: the same one or the other
+-- somebody is logged in: the user who would log in, or the other one
 abbrev pub logged_in_error : UserType → Option UserType → Option RvError
 logged_in_error u None = None
 logged_in_error u (Some other) =
@@ -373,7 +373,7 @@ verify_final_error h session signature = first_of (
     ∷ signature_error (tag_in kind.Verify h session (message_in kind.Verify h session)) signature
     ∷ [])
 
--- the flags have others than CKF_DIGEST (0x400), CKF_SIGN (0x800) and CKF_VERIFY (0x2000)
+-- the flags have bits other than CKF_DIGEST (0x400), CKF_SIGN (0x800) and CKF_VERIFY (0x2000)
 abbrev pub session_cancel_error : History → ℕ → ℕ → Option RvError
 session_cancel_error h session flags = first_of (
     session_error h session

@@ -30,7 +30,7 @@ kept_attributes b n =
     option_map (λ (kept : KeptObject). kept.attributes)
     (find (λ (kept : KeptObject). kept.number == n) b.objects)
 
--- the user's wrong tries
+-- this user's wrong tries
 abbrev pub base_tries : UserType → Base → ℕ
 base_tries user.So b = b.so_tries
 base_tries user.User b = b.user_tries

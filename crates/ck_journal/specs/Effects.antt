@@ -59,8 +59,8 @@ effects_of (Some (call.FindObjects session max)) = on_searches
 effects_of (Some (call.FindObjectsFinal session)) = on_searches
 effects_of other = nothing
 
--- what an entry may change; a refusal may only end an operation, or count as a wrong try of a PIN,
--- which isn't marked
+-- what an entry may change; a refusal may only end the operation that its call is on, or count as a
+-- wrong try of a PIN, which isn't marked
 abbrev pub effects : Entry → Effects
 effects e = record (effects_of (done e)) {
   operations = (effects_of (done e)).operations || is_some (operation_step e.call);

@@ -1,5 +1,5 @@
 -- What is so in every history that is legal from a sound base: laws of what keys reveal, of their
--- states and of their copies
+-- states (NIST SP 800-57 Part 1 Rev. 5, Key states and transitions) and of their copies
 use Rattle.std.specs.Prelude.{◌≡◌, ℕ, suc, Bool, true, false, List, Option, Some, ◌==◌}
 use Rattle.std.specs.List.{slice_get}
 use Rattle.ck_objects.specs.Attributes.{type_of}
@@ -72,13 +72,13 @@ verifies (Some (call.Verify session bytes signature)) s = session == s
 verifies (Some (call.VerifyFinal session signature)) s = session == s
 verifies other s = false
 
--- where a signing is answered OK, just before it its key hasn't ended and is of a state that signs
+-- where a signing is answered OK, its key hasn't ended just before and is of a state that signs
 abbrev pub SigningKeysMaySign : Type 0
 SigningKeysMaySign =
     (limits : Ranges) (e : Entry) (h : History) → IsSoundHistory limits (e ◁ h) → (session : ℕ)
     → signs (done e) session ≡ true → HasKey kind.Sign may_sign h session
 
--- where a verifying is answered OK, just before it its key hasn't ended and is of a state that
+-- where a verifying is answered OK, its key hasn't ended just before and is of a state that
 -- verifies
 abbrev pub VerifyingKeysMayVerify : Type 0
 VerifyingKeysMayVerify =

@@ -27,7 +27,7 @@ creates (Some (call.GenerateKey session mechanism template random)) = true
 creates (Some (call.CopyObject session object template)) = true
 creates other = false
 
--- how many objects have been created; an object's number is this count up to and with its creation
+-- how many objects have been created; an object's number is this count, its own creation included
 abbrev pub creations : History → ℕ
 creations (start b) = b.creations
 creations (e ◁ h) = if creates (done e) then suc (creations h) else creations h

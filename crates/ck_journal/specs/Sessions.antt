@@ -88,7 +88,7 @@ abbrev pub logs_user_in : Option Call → Bool
 logs_user_in (Some (call.Login session user pin)) = user == 1
 logs_user_in other = false
 
--- how many times the user has logged in
+-- how many times the normal user has logged in
 abbrev pub user_logins : History → ℕ
 user_logins (start b) = b.logins
 user_logins (e ◁ h) = if logs_user_in (done e) then suc (user_logins h) else user_logins h

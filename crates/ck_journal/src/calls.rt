@@ -14,16 +14,21 @@ pub struct AttributeQuery {
 }
 
 /// A call of the application with its arguments, named after the standard's function (PKCS #11 Base
-/// 3.0, Functions). Only SetKeyState is no function of the standard.
+/// 3.0, Functions). Only SetKeyState is no function of the standard. `session`, `object` and `key`
+/// are handles.
 #[derive(Drop)]
 pub enum Call {
     InitToken {
+        /// The security officer's PIN: the first initialization sets it.
         pin: Pin,
     },
     InitPin {
         session: u64,
+        /// The normal user's new PIN.
         pin: Pin,
     },
+    /// Changes the security officer's PIN in a session of state CKS_RW_SO_FUNCTIONS, else the
+    /// normal user's.
     SetPin {
         session: u64,
         old: Pin,
@@ -85,7 +90,8 @@ pub enum Call {
         object: u64,
         template: Template,
     },
-    /// Takes a key to another state, which no function of the standard does.
+    /// Takes a key to another state (NIST SP 800-57 Part 1 Rev. 5, Key states and transitions),
+    /// which no function of the standard does.
     SetKeyState {
         session: u64,
         key: u64,
@@ -276,8 +282,8 @@ impl Call {
         }
     }
 
-    /// Whether the call, whatever its reply, leaves what a board has of a token: the open sessions
-    /// with their flags, the login, whether there are PINs, and the wrong tries.
+    /// Whether the call, whatever its reply, leaves what a `TokenBoard` has of a token: the open
+    /// sessions with their flags, the login, whether there are PINs, and the wrong tries.
     pub fn leaves_board(&self) -> bool
         ensures kind { result ≡ not (effects_of (Some self.now)).sessions }
         ensures leaves { IsTrue result → LeavesBoard self.now }

@@ -1,7 +1,7 @@
 //! Laws of every history that is legal from a sound base, and of what calls and cuts make of it, in
 //! any order and however often. Each function's contract is one law; the function takes nothing and
-//! does nothing. A front is the history up to some entry. "Just before" a reply is at the front
-//! that ends before its entry.
+//! does nothing. A front is the history as it stands between two calls; "just before" means at the
+//! front that a call found.
 ghost use Rattle.ck_journal.specs.KeyLaws.{
   CopiesStaySensitive,
   CopiesStayUnextractable,

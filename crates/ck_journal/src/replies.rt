@@ -22,13 +22,13 @@ pub enum Body {
     Empty,
     /// The handle of a new session or a new object.
     Handle(u64),
-    /// A session's state, and the flags that it was opened with.
+    /// A session's state, and the flags that it was opened with (CK_SESSION_INFO).
     Session {
         state: SessionState,
         flags: u64,
     },
     /// The token's flags, the most sessions that may be open at once, and how many sessions and how
-    /// many read/write sessions are open.
+    /// many read/write sessions are open (CK_TOKEN_INFO).
     Token {
         flags: TokenFlags,
         limit: u64,

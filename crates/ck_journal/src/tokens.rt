@@ -8,7 +8,7 @@ use ck_types::{Limits, NoMemory};
 use std::alloc::Global;
 
 /// What answers calls and enters each in a journal: a token. The crates that share a token among
-/// threads, audit a journal and play a script need nothing else of it.
+/// threads, audit a journal and play a script need nothing else of a token.
 pub trait JournaledToken: Drop {
     ghost use Rattle.std.specs.Prelude.{◌≡◌, IfOk, IfSome, OnErr};
     ghost use Rattle.std.specs.Option.{option_copied};

@@ -103,7 +103,8 @@ impl Operation {
         self.running.len()
     }
 
-    /// The tag of the message so far: its digest or its HMAC.
+    /// The tag of the message so far: its digest (FIPS 180-4), or the first bytes of its HMAC (FIPS
+    /// 198-1), as many as `len` says.
     pub fn tag(&self) -> Tag
         ensures { (computation : Computation) (message : List ℕ)
             → HoldsMessage computation self.now message → result ≡ tag_of computation message }

@@ -15,7 +15,7 @@ pub(crate) enum Ending {
     Session(u64),
     /// All sessions are closed.
     AllSessions,
-    /// The user logs out, which ends the private ones.
+    /// A logout, which ends the private ones.
     Logout,
 }
 
