@@ -128,7 +128,7 @@ logged_in_error u (Some other) =
     Some (if same_user u other then rv_error.UserAlreadyLoggedIn
     else rv_error.UserAnotherAlreadyLoggedIn)
 
--- the security officer logs in only while no read-only session is open
+-- the security officer would log in while a read-only session is open
 abbrev pub read_only_error : UserType → History → Option RvError
 read_only_error user.So h =
     error_if (list_any (λ s. not (is_read_write h s)) (open_sessions h))
@@ -311,8 +311,8 @@ usage_error k attributes = first_of (
     ∷ key_state_error k attributes
     ∷ [])
 
--- the start of a signing or a verifying: the mechanism is an HMAC's with the parameter that it must
--- have, and the key may be used
+-- the start of a signing or a verifying: another of the kind is active, the mechanism is no HMAC's
+-- or its parameter isn't as it must be, or the key may not be used
 abbrev pub hmac_init_error : OperationKind → History → ℕ → Mechanism → ℕ → Option RvError
 hmac_init_error k h session mechanism key = first_of (
     session_error h session

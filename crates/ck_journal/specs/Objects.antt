@@ -129,7 +129,7 @@ object_after (Some (call.Logout session)) view n creator attributes =
 object_after other view n creator attributes = Some attributes
 
 -- the attributes of the object of this number, where it has been created and hasn't ended since. A
--- copy's source is `attributes_named h` below, written out here, since that rests on this.
+-- copy's source is `attributes_named h` below, written out here, since that is defined by this.
 abbrev pub object_at : History → ℕ → Option (List Item)
 object_at (start b) n = kept_attributes b n
 object_at (e ◁ h) n =
