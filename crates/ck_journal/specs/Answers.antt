@@ -74,14 +74,15 @@ is_so_state other = false
 abbrev pub session_error : History → ℕ → Option RvError
 session_error h session = error_if (not (is_open h session)) rv_error.SessionHandleInvalid
 
--- the user's PIN is locked, or this isn't it
+-- this user is locked, or the PIN isn't this user's
 abbrev pub pin_error : UserType → History → Pin → Option RvError
 pin_error u h pin = first_of (
     error_if (is_locked u h) rv_error.PinLocked
     ∷ error_if (not (is_pin (present_pin u h) pin)) rv_error.PinIncorrect
     ∷ [])
 
--- a token that isn't initialized takes any PIN that fits; later it must be the security officer's
+-- the first initialization takes any PIN of 4 to 64 bytes; a later one must be given the security
+-- officer's PIN
 abbrev pub init_token_error : History → Pin → Option RvError
 init_token_error h pin = first_of (
     error_if (not (length (open_sessions h) == 0)) rv_error.SessionExists
@@ -120,14 +121,14 @@ open_session_error limits h flags = first_of (
     ∷ error_if (nat_le limits.openings (openings h)) rv_error.DeviceMemory
     ∷ [])
 
--- a user is logged in: the same one or the other
+-- somebody is logged in: the user who would log in, or the other one
 abbrev pub logged_in_error : UserType → Option UserType → Option RvError
 logged_in_error u None = None
 logged_in_error u (Some other) =
     Some (if same_user u other then rv_error.UserAlreadyLoggedIn
     else rv_error.UserAnotherAlreadyLoggedIn)
 
--- the security officer logs in only beside read/write sessions
+-- the security officer would log in while a read-only session is open
 abbrev pub read_only_error : UserType → History → Option RvError
 read_only_error user.So h =
     error_if (list_any (λ s. not (is_read_write h s)) (open_sessions h))
@@ -164,7 +165,7 @@ logout_error h session = first_of (
     ∷ error_if (is_none (login h)) rv_error.UserNotLoggedIn
     ∷ [])
 
--- a token object is written in a read-only session
+-- a token object would be created, changed or ended in a read-only session
 abbrev pub read_only_session_error : History → ℕ → Placement → Option RvError
 read_only_session_error h session placement =
     error_if (placement.token && not (is_read_write h session)) rv_error.SessionReadOnly
@@ -310,8 +311,8 @@ usage_error k attributes = first_of (
     ∷ key_state_error k attributes
     ∷ [])
 
--- the start of a signing or a verifying: the mechanism is an HMAC's with the parameter that it must
--- have, and the key may be used
+-- the start of a signing or a verifying: another of the kind is active, the mechanism is no HMAC's
+-- or its parameter isn't as it must be, or the key may not be used
 abbrev pub hmac_init_error : OperationKind → History → ℕ → Mechanism → ℕ → Option RvError
 hmac_init_error k h session mechanism key = first_of (
     session_error h session
@@ -321,7 +322,7 @@ hmac_init_error k h session mechanism key = first_of (
     ∷ key_error h key (usage_error k)
     ∷ [])
 
--- the key of an operation, if it has one, hasn't ended and is still of a state that serves
+-- the key of an operation, if it has one, has ended, or is no longer of a state that serves
 abbrev pub present_key_error : OperationKind → History → Option ℕ → Option RvError
 present_key_error k h None = None
 present_key_error k h (Some n) =
@@ -330,8 +331,8 @@ present_key_error k h (Some n) =
 abbrev pub piece_error : List ℕ → Option RvError
 piece_error bytes = error_if (is_long_piece bytes) rv_error.DataLenRange
 
--- a message that comes as a whole; one that was begun by updates is finished only by the kind's
--- final call
+-- a single-part message; a message that an update has begun is finished only by the kind's final
+-- call
 abbrev pub message_error : OperationKind → History → ℕ → List ℕ → Option RvError
 message_error k h session bytes = first_of (
     operation_error k h session
@@ -340,22 +341,22 @@ message_error k h session bytes = first_of (
     ∷ present_key_error k h (key_in k h session)
     ∷ [])
 
--- a piece of a message
+-- a piece of a multiple-part message
 abbrev pub update_error : OperationKind → History → ℕ → List ℕ → Option RvError
 update_error k h session bytes = first_of (
     operation_error k h session
     ∷ piece_error bytes
     ∷ [])
 
--- the end of a message
+-- the end of a multiple-part message
 abbrev pub final_error : OperationKind → History → ℕ → Option RvError
 final_error k h session = first_of (
     operation_error k h session
     ∷ present_key_error k h (key_in k h session)
     ∷ [])
 
--- the tag of a message by the session's operation of the kind; the checks leave no call that reads
--- it without one
+-- the tag of a message by the session's operation of the kind; [] where it computes nothing, which
+-- no call that passes its checks meets
 abbrev pub tag_in : OperationKind → History → ℕ → List ℕ → List ℕ
 tag_in k h session message =
     option_map_or (λ computation. tag_of computation message) (computation_in k h session) []
@@ -372,7 +373,7 @@ verify_final_error h session signature = first_of (
     ∷ signature_error (tag_in kind.Verify h session (message_in kind.Verify h session)) signature
     ∷ [])
 
--- the flags name no other operations than digests, signings and verifyings
+-- the flags have bits other than CKF_DIGEST (0x400), CKF_SIGN (0x800) and CKF_VERIFY (0x2000)
 abbrev pub session_cancel_error : History → ℕ → ℕ → Option RvError
 session_cancel_error h session flags = first_of (
     session_error h session

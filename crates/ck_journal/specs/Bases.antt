@@ -30,12 +30,12 @@ kept_attributes b n =
     option_map (λ (kept : KeptObject). kept.attributes)
     (find (λ (kept : KeptObject). kept.number == n) b.objects)
 
--- the user's wrong tries
+-- this user's wrong tries
 abbrev pub base_tries : UserType → Base → ℕ
 base_tries user.So b = b.so_tries
 base_tries user.User b = b.user_tries
 
--- a number from 1 to the count of creations
+-- the object's number is from 1 to the count of creations
 abbrev pub IsCreated : ℕ → KeptObject → Type 0
 IsCreated creations kept = (1 ≤ kept.number) × (kept.number ≤ creations)
 
@@ -48,9 +48,9 @@ pub record IsProtected (attributes : List Item) : Type 0 where
       → is_set attributes attribute.Extractable ≡ false
 
 -- a sound base has what every base that calls leave has: the security officer has a PIN exactly
--- where the token is initialized, no user has made more than three wrong tries, the counts are in
--- range, and the objects are token objects whose numbers rise from 1 to the count of creations, and
--- each is protected (IsProtected)
+-- where the token is initialized, no user has more than three wrong tries, the counts are in range,
+-- and the objects are token objects whose numbers rise and are from 1 to the count of creations,
+-- and each is protected (IsProtected)
 pub record IsSound (b : Base) : Type 0 where
   pub so_pin : is_some b.so ≡ b.initialized
   pub so_tries : b.so_tries ≤ 3

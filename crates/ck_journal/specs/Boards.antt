@@ -10,7 +10,7 @@ use Rattle.ck_journal.specs.Pins.{is_initialized, user_pin, tries}
 use Rattle.ck_journal.specs.Sessions.{flags_of, open_sessions, login}
 
 -- how many sessions may be open at once; the handles and flags of the open sessions, in the order
--- of their openings; and the login and the PINs
+-- of their openings; and the login, which PINs there are, and the wrong tries
 pub record BoardState : Type 0 where
   pub limit : ℕ
   pub sessions : List (ℕ × ℕ)
@@ -34,7 +34,7 @@ board_of limits h =
       status = login_status h;
     }
 
--- no reply to the call changes the board
+-- whatever its reply, the call leaves the board as it is
 abbrev pub LeavesBoard : Call → Type 0
 LeavesBoard c =
     (limits : Ranges) (h : History) (e : Entry) → e.call ≡ c

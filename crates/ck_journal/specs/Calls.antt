@@ -1,4 +1,4 @@
--- The lists of calls
+-- Which calls have lists
 use Rattle.std.specs.Prelude.{Bool, true, false}
 use Rattle.ck_journal.specs.declared.calls.Call.{Call}
 use Rattle.ck_journal.specs.declared.calls.Call.TheVariants as call

@@ -59,6 +59,6 @@ abbrev pub CutLaw : Type 0
 CutLaw = (limits : Ranges) (h : History) → IsSoundHistory limits h → open_sessions h ≡ []
     → IsSound (base_of h) × IsLeftBy limits h (base_of h)
 
--- a history of no calls leaves the base that it starts from
+-- a history without entries leaves the sound base that it starts from
 abbrev pub BaseLaw : Type 0
 BaseLaw = (b : Base) → IsSound b → base_of (start b) ≡ b

@@ -1,5 +1,5 @@
--- What an entry may change, in rough, for proofs and for what a board shows. This mirrors the code
--- (`Call::leaves_board`); no answer rests on it.
+-- What an entry may change, roughly, for proofs and for what a board shows. The code mirrors the
+-- marks of sessions (`Call::leaves_board`); no answer depends on the table.
 use Rattle.std.specs.Prelude.{Bool, true, false, Option, Some, ◌||◌, is_some}
 use Rattle.ck_journal.specs.declared.calls.Call.{Call}
 use Rattle.ck_journal.specs.declared.calls.Call.TheVariants as call
@@ -7,8 +7,8 @@ use Rattle.ck_journal.specs.declared.calls.Entry.{Entry}
 use Rattle.ck_journal.specs.Histories.{done}
 use Rattle.ck_journal.specs.OperationCalls.{operation_step}
 
--- sessions, the login or PINs, except wrong tries, which are read off `wrong_try`; objects;
--- searches; operations that take a message in pieces
+-- sessions, the login, PINs, or wrong tries that go back to 0 (one more wrong try isn't marked: see
+-- `wrong_try`); objects; searches; digests, signings and verifyings
 pub record Effects : Type 0 where
   pub sessions : Bool
   pub objects : Bool
@@ -36,7 +36,8 @@ on_sessions_and_objects = record nothing { sessions = true; objects = true }
 abbrev on_all : Effects
 on_all = record { sessions = true; objects = true; searches = true; operations = true }
 
--- what a call that was answered OK may change, beside the operation that it starts or goes on with
+-- what a call that was answered OK may change, apart from the operation that it starts or goes on
+-- with
 abbrev pub effects_of : Option Call → Effects
 effects_of (Some (call.InitToken pin)) = on_sessions_and_objects
 effects_of (Some (call.InitPin session pin)) = on_sessions
@@ -58,8 +59,8 @@ effects_of (Some (call.FindObjects session max)) = on_searches
 effects_of (Some (call.FindObjectsFinal session)) = on_searches
 effects_of other = nothing
 
--- what an entry may change; also a refusal may end an operation or count as a wrong try of a PIN,
--- and changes nothing else
+-- what an entry may change; a refusal may only end the operation that its call is on, or count as a
+-- wrong try of a PIN, which isn't marked
 abbrev pub effects : Entry → Effects
 effects e = record (effects_of (done e)) {
   operations = (effects_of (done e)).operations || is_some (operation_step e.call);

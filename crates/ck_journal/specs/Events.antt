@@ -1,4 +1,4 @@
--- What befalls a journal: a call is answered, or the journal is cut; a cut leaves its base only
+-- What happens to a journal: a call is answered, or the journal is cut, which leaves only a base
 use Rattle.std.specs.Prelude.{◌≡◌, List, [], ◌∷◌}
 use Rattle.ck_types.specs.TokenLimits.{Ranges}
 use Rattle.ck_journal.specs.declared.calls.Entry.{Entry}

@@ -1,6 +1,6 @@
--- A history is a base and the answered calls since: `start b` is the base b only, and `e ◁ h` is
--- the history h and then the entry e. A front of a history is what is left where its last entries
--- are taken away.
+-- A history is a base and the answered calls since: `start b` is only the base b, and `e ◁ h` is
+-- the history h and then the entry e. A front of a history is what is left of it without its last
+-- entries, or the whole history.
 use Rattle.std.specs.Prelude.{ℕ, suc, Bool, true, false, List, [], ◌∷◌, Option, Some, None, ◌==◌}
 use Rattle.std.specs.Prelude.{if◌then◌else◌}
 use Rattle.ck_types.specs.declared.return_codes.Rv.{Rv}

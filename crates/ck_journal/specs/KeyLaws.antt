@@ -1,5 +1,5 @@
 -- What is so in every history that is legal from a sound base: laws of what keys reveal, of their
--- states and of their copies
+-- states (NIST SP 800-57 Part 1 Rev. 5, Key states and transitions) and of their copies
 use Rattle.std.specs.Prelude.{◌≡◌, ℕ, suc, Bool, true, false, List, Option, Some, ◌==◌}
 use Rattle.std.specs.List.{slice_get}
 use Rattle.ck_objects.specs.Attributes.{type_of}
@@ -26,8 +26,7 @@ use Rattle.ck_journal.specs.Operations.{key_in}
 
 -- ---- what may be read
 
--- the entry, whatever its code, answers a query for the VALUE of the object that this handle names
--- with these bytes
+-- the entry, whatever its code, answers a query for CKA_VALUE under this handle with these bytes
 pub record GivesValue (e : Entry) (handle : ℕ) (bytes : List ℕ) : Type 0 where
   pub session : ℕ
   pub queries : List AttributeQuery
@@ -40,7 +39,7 @@ pub record GivesValue (e : Entry) (handle : ℕ) (bytes : List ℕ) : Type 0 whe
   pub of_value : query.kind ≡ type_of attribute.Value
   pub given : slice_get answers place ≡ Some (answer.Value bytes)
 
--- a VALUE is given only where it may be revealed just before
+-- a CKA_VALUE is given only where it may be revealed just before
 abbrev pub HiddenValuesAreNotGiven : Type 0
 HiddenValuesAreNotGiven =
     (limits : Ranges) (e : Entry) (h : History) → IsSoundHistory limits (e ◁ h)
@@ -61,25 +60,25 @@ pub record HasKey (k : OperationKind) (test : KeyState → Bool) (h : History) (
   pub has_state : state_in attributes ≡ Some state
   pub serves : test state ≡ true
 
--- the call signs in this session, at once or as the end of a message in pieces
+-- the call signs in this session: a single-part message, or the end of a multiple-part one
 abbrev pub signs : Option Call → ℕ → Bool
 signs (Some (call.Sign session bytes room)) s = session == s
 signs (Some (call.SignFinal session room)) s = session == s
 signs other s = false
 
--- it verifies a signature in this session
+-- the call verifies a signature in this session, likewise
 abbrev pub verifies : Option Call → ℕ → Bool
 verifies (Some (call.Verify session bytes signature)) s = session == s
 verifies (Some (call.VerifyFinal session signature)) s = session == s
 verifies other s = false
 
--- a signing that was answered OK stands where its key hasn't ended and is of a state that signs
+-- where a signing is answered OK, its key hasn't ended just before and is of a state that signs
 abbrev pub SigningKeysMaySign : Type 0
 SigningKeysMaySign =
     (limits : Ranges) (e : Entry) (h : History) → IsSoundHistory limits (e ◁ h) → (session : ℕ)
     → signs (done e) session ≡ true → HasKey kind.Sign may_sign h session
 
--- a verifying that was answered OK stands where its key hasn't ended and is of a state that
+-- where a verifying is answered OK, its key hasn't ended just before and is of a state that
 -- verifies
 abbrev pub VerifyingKeysMayVerify : Type 0
 VerifyingKeysMayVerify =

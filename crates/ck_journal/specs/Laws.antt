@@ -33,7 +33,7 @@ pub record IsSoundHistory (limits : Ranges) (h : History) : Type 0 where
 
 -- ---- wrong tries
 
--- wrong tries never pass three
+-- no user has more than three wrong tries
 abbrev pub TriesAreAtMostThree : Type 0
 TriesAreAtMostThree =
     (limits : Ranges) (h : History) → IsSoundHistory limits h → (u : UserType) → tries u h ≤ 3
@@ -61,7 +61,7 @@ PrivateObjectsAreVisibleToTheUser =
     (limits : Ranges) (h : History) → IsSoundHistory limits h → (n : ℕ)
     → IsPrivate h n → is_visible h n ≡ true → login h ≡ Some user.User
 
--- the handle of the object that a call works on
+-- the handle of the object or key that a call takes
 abbrev pub named_handle : Option Call → Option ℕ
 named_handle (Some (call.CopyObject session object template)) = Some object
 named_handle (Some (call.GetAttributeValue session object queries)) = Some object
@@ -85,7 +85,8 @@ PrivateObjectsAreNamedByTheUser =
     (limits : Ranges) (e : Entry) (h : History) → IsSoundHistory limits (e ◁ h) → (handle : ℕ)
     → named_handle (done e) ≡ Some handle → NamesObject h handle
 
--- the entry answers a C_GetAttributeValue of this handle with attributes, whatever its code
+-- the entry answers a C_GetAttributeValue of this handle with answers to its queries, whatever its
+-- code
 pub record GivesAttributes (e : Entry) (handle : ℕ) : Type 0 where
   pub session : ℕ
   pub queries : List AttributeQuery
@@ -93,7 +94,7 @@ pub record GivesAttributes (e : Entry) (handle : ℕ) : Type 0 where
   pub asks : e.call ≡ call.GetAttributeValue session handle queries
   pub returns : e.reply.body ≡ body.Attributes answers
 
--- a handle whose attributes are given names an object just before, and the normal user is logged in
+-- a handle whose queries are answered names an object just before, and the normal user is logged in
 -- there if the object is private
 abbrev pub PrivateAttributesAreGivenToTheUser : Type 0
 PrivateAttributesAreGivenToTheUser =

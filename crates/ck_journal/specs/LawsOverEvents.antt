@@ -95,8 +95,8 @@ UnextractableStays =
     → object_at h n ≡ Some before → object_at (after_events h later) n ≡ Some now
     → is_extractable before ≡ false → is_extractable now ≡ false
 
--- a key of which ALWAYS_SENSITIVE is true at a front was sensitive at every earlier one where it
--- was there, and is at this one
+-- a key of which CKA_ALWAYS_SENSITIVE is true at a front was sensitive at every earlier one where
+-- it was there, and is at this one
 abbrev pub AlwaysSensitiveIsTrue : Type 0
 AlwaysSensitiveIsTrue =
     (limits : Ranges) (h : History) (later : List Event) → AreSoundEvents limits h later
@@ -104,8 +104,8 @@ AlwaysSensitiveIsTrue =
     → object_at h n ≡ Some before → object_at (after_events h later) n ≡ Some now
     → is_set now attribute.AlwaysSensitive ≡ true → is_sensitive_key before ≡ true
 
--- a key of which NEVER_EXTRACTABLE is true at a front was extractable at no earlier one, and isn't
--- at this one
+-- a key of which CKA_NEVER_EXTRACTABLE is true at a front was extractable at no earlier one, and
+-- isn't at this one
 abbrev pub NeverExtractableIsTrue : Type 0
 NeverExtractableIsTrue =
     (limits : Ranges) (h : History) (later : List Event) → AreSoundEvents limits h later
@@ -115,8 +115,8 @@ NeverExtractableIsTrue =
 
 -- ---- private keys
 
--- an operation whose key was private at a front is active only while the normal user is logged in,
--- be the key there or not
+-- an operation whose key was private at this front or an earlier one is active only while the
+-- normal user is logged in, also where the key has ended
 abbrev pub PrivateKeysServeTheUser : Type 0
 PrivateKeysServeTheUser =
     (limits : Ranges) (h : History) (later : List Event) → AreSoundEvents limits h later

@@ -6,7 +6,7 @@ abbrev pub is_empty : {X : Type 0} → List X → Bool
 is_empty [] = true
 is_empty (x ∷ xs) = false
 
--- the list with the first item that passes changed
+-- the list with its first item that passes the test changed
 abbrev pub change_first : {X : Type 0} → (X → Bool) → (X → X) → List X → List X
 change_first test change [] = []
 change_first test change (x ∷ xs) =

@@ -27,7 +27,7 @@ creates (Some (call.GenerateKey session mechanism template random)) = true
 creates (Some (call.CopyObject session object template)) = true
 creates other = false
 
--- how many objects have been created; an object's number is this count up to and with its creation
+-- how many objects have been created; an object's number is this count, its own creation included
 abbrev pub creations : History → ℕ
 creations (start b) = b.creations
 creations (e ◁ h) = if creates (done e) then suc (creations h) else creations h
@@ -86,7 +86,8 @@ attributes_among view object count handle =
 
 -- ---- what a call does to an object
 
--- the attributes of a new object, by those of the object that a handle names
+-- the attributes of the object that a call creates; `named` gives those of the object that a handle
+-- names, which a copy reads
 abbrev pub creation_attributes : Option Call → (ℕ → Option (List Item)) → List Item
 creation_attributes (Some (call.CreateObject session template)) named =
     created_items template.items
@@ -99,7 +100,7 @@ creation_attributes other named = []
 abbrev pub is_session_object : List Item → Bool
 is_session_object attributes = not (is_set attributes attribute.Token)
 
--- the attributes of a key in this state; as they are where there is no such state
+-- the attributes of a key in this state; as they are where there is none
 abbrev pub in_state : Option KeyState → List Item → List Item
 in_state None attributes = attributes
 in_state (Some state) attributes = with_state state attributes
@@ -128,7 +129,7 @@ object_after (Some (call.Logout session)) view n creator attributes =
 object_after other view n creator attributes = Some attributes
 
 -- the attributes of the object of this number, where it has been created and hasn't ended since. A
--- copy's source is `attributes_named h` below, written out here, since that rests on this.
+-- copy's source is `attributes_named h` below, written out here, since that is defined by this.
 abbrev pub object_at : History → ℕ → Option (List Item)
 object_at (start b) n = kept_attributes b n
 object_at (e ◁ h) n =

@@ -1,4 +1,4 @@
--- What calls do with operations that take a message in pieces (PKCS #11 Base 3.0, Message digesting
+-- What calls do with digests, signings and verifyings (PKCS #11 Base 3.0, Message digesting
 -- functions, Signing and MACing functions, Functions for verifying signatures and MACs)
 use Rattle.std.specs.Prelude.{ℕ, Bool, true, false, List, [], ◌∷◌, Option, Some, None, ◌==◌, ◌&&◌}
 use Rattle.std.specs.Prelude.{if◌then◌else◌}
@@ -13,8 +13,8 @@ same_kind kind.Sign kind.Sign = true
 same_kind kind.Verify kind.Verify = true
 same_kind other another = false
 
--- what a call does with an operation: it starts one, takes in its message as a whole and finishes
--- it, adds a piece to its message, or finishes it
+-- what a call does with an operation: it starts one, takes in a single-part message and finishes
+-- it, adds a piece to a multiple-part message, or finishes such a message
 pub data Step : Type 0 where
   initialize : Step
   take_whole : List ℕ → Step

@@ -1,5 +1,5 @@
--- Operations of sessions that take a message in pieces (PKCS #11 Base 3.0, Message digesting
--- functions, Signing and MACing functions, Functions for verifying signatures and MACs)
+-- Digests, signings and verifyings of sessions (PKCS #11 Base 3.0, Message digesting functions,
+-- Signing and MACing functions, Functions for verifying signatures and MACs)
 use Rattle.std.specs.Prelude.{ℕ, ◌^◌, Bool, true, false, List, [], ◌++◌, Option, Some, None}
 use Rattle.std.specs.Prelude.{◌==◌, ◌&&◌, ◌||◌, not, nat_lt, length, bit_and}
 use Rattle.std.specs.Prelude.{option_map, option_and_then, if◌then◌else◌}
@@ -37,8 +37,8 @@ abbrev pub starts : Option Call → OperationKind → ℕ → Bool
 starts None k s = false
 starts (Some c) k s = is_initialization (step_of c k s)
 
--- a call that would finish an operation leaves it active by this code and body: the room is too
--- small, or a length was asked for
+-- by this code and body, a call that would finish an operation leaves it active: the room is too
+-- small, or only the length was asked for
 abbrev pub leaves_active : Rv → Body → Bool
 leaves_active (rv.Error rv_error.BufferTooSmall) given = true
 leaves_active rv.Ok (body.Length n) = true
@@ -48,9 +48,9 @@ abbrev pub is_data_len_range : Rv → Bool
 is_data_len_range (rv.Error rv_error.DataLenRange) = true
 is_data_len_range other = false
 
--- a step ends the operation by this reply: one that takes in the whole message or finishes it,
--- unless the reply leaves it active, which none to a verifying does; a piece where it is refused as
--- too long
+-- a step ends the operation by this reply. One that takes in a single-part message or finishes a
+-- multiple-part one does, unless the reply leaves it active, which no reply to a verifying does.
+-- One that adds a piece does where the piece is refused as too long.
 abbrev pub ends_by : Option Step → Reply → Bool
 ends_by (Some (take_whole bytes)) reply = not (leaves_active reply.rv reply.body)
 ends_by (Some finish) reply = not (leaves_active reply.rv reply.body)
@@ -89,12 +89,13 @@ is_active k (e ◁ h) s =
 
 -- ---- what it computes
 
--- the HMAC by a hash function, or its first bytes, this many of them
+-- the first n bytes of the HMAC by a hash function, where both are given
 abbrev pub hmac_of : Option Hash → Option ℕ → List ℕ → Option Computation
 hmac_of (Some hash) (Some n) key = Some (hmac_by hash key n)
 hmac_of hash n key = None
 
--- what a mechanism computes under a key, where it is an HMAC's and its parameter is as it must be
+-- what a mechanism computes under a key with these bytes, where it is an HMAC's and its parameter
+-- is as it must be
 abbrev pub hmac_with : Mechanism → List ℕ → Option Computation
 hmac_with mechanism key = hmac_of (hmac_hash mechanism.kind) (tag_length mechanism) key
 
@@ -141,14 +142,14 @@ abbrev pub pieces_in : OperationKind → History → ℕ → List (List ℕ)
 pieces_in k (start b) s = []
 pieces_in k (e ◁ h) s = if starts (done e) k s then [] else pieces_in k h s ++ piece_of (done e) k s
 
--- there was an update, be it of no bytes
+-- there was an update, even if of no bytes
 abbrev pub is_updated : OperationKind → History → ℕ → Bool
 is_updated k h s = not (length (pieces_in k h s) == 0)
 
 abbrev pub message_in : OperationKind → History → ℕ → List ℕ
 message_in k h s = concat (pieces_in k h s)
 
--- the most bytes that a piece may have
+-- the most bytes of a single-part message, and of a piece of a multiple-part one
 abbrev pub piece_limit : ℕ
 piece_limit = 2 ^ 20
 

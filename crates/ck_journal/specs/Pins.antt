@@ -15,15 +15,15 @@ use Rattle.ck_journal.specs.Bases.{base_tries}
 use Rattle.ck_journal.specs.Histories.{History, start, ◌◁◌, done, wrong_try}
 use Rattle.ck_journal.specs.Sessions.{state_of}
 
--- this is the PIN, if there is one
+-- there is a PIN, and the given one is the same
 abbrev pub is_pin : Option Pin → Pin → Bool
 is_pin None given = false
 is_pin (Some pin) given = same_pin pin given
 
 -- ---- whom a call is about
 
--- whose PIN C_SetPIN changes in a session of this state: the security officer's in read/write SO,
--- else the normal user's
+-- whose PIN C_SetPIN changes in a session of this state: in CKS_RW_SO_FUNCTIONS the security
+-- officer's, else the normal user's
 abbrev pub pin_owner : SessionState → UserType
 pin_owner state.RwSo = user.So
 pin_owner other = user.User
@@ -61,8 +61,8 @@ so_pin_after (Some (call.InitToken pin)) about_so None = Some pin
 so_pin_after (Some (call.SetPin session old new)) true before = Some new
 so_pin_after other about_so before = before
 
--- the user's PIN after a call, where the call is about the user or not: an initialization takes it
--- away
+-- the normal user's PIN after a call, where the call is about the normal user or not: an
+-- initialization takes it away
 abbrev pub user_pin_after : Option Call → Bool → Option Pin → Option Pin
 user_pin_after (Some (call.InitToken pin)) about_user before = None
 user_pin_after (Some (call.InitPin session pin)) about_user before = Some pin
@@ -83,12 +83,12 @@ present_pin user.User h = user_pin h
 
 -- ---- wrong tries
 
--- the user's tries go back to 0: a call that is about the user's PIN was answered OK, or the token
--- was initialized
+-- this user's tries go back to 0: a call that is about this user's PIN was answered OK, or the
+-- token was initialized
 abbrev pub resets : UserType → History → Option Call → Bool
 resets u h c = is_about u h c || initializes c
 
--- how many wrong tries of the user's PIN were made since they last went back to 0
+-- how many wrong tries of this user's PIN were made since they last went back to 0
 abbrev pub tries : UserType → History → ℕ
 tries u (start b) = base_tries u b
 tries u (e ◁ h) =

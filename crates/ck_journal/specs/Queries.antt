@@ -14,8 +14,8 @@ use Rattle.ck_journal.specs.declared.calls.AttributeQuery.{AttributeQuery}
 use Rattle.ck_journal.specs.declared.replies.Body.TheVariants as body
 use Rattle.ck_journal.specs.declared.replies.Reply.{Reply}
 
--- a value, if there is one that may be read, asked for with this room; room None, like a NULL
--- pValue, asks for its length
+-- the answer to a query with this room, by the value, if there is one that may be read; room None,
+-- like a NULL pValue, asks for its length
 abbrev pub value_answer : Option (List ℕ) → Option ℕ → Answer
 value_answer None room = answer.Unavailable
 value_answer (Some value) None = answer.Length (length value)
@@ -25,7 +25,7 @@ value_answer (Some value) (Some room) =
 abbrev pub query_answer : List Item → AttributeQuery → Answer
 query_answer attributes query = value_answer (readable_value attributes query.kind) query.room
 
--- the attribute is a value that may not be revealed
+-- the query asks for a value that may not be revealed
 abbrev pub asks_hidden : List Item → AttributeQuery → Bool
 asks_hidden attributes query = is_hidden attributes query.kind
 
@@ -41,8 +41,8 @@ is_longer other room = false
 abbrev pub lacks_room : List Item → AttributeQuery → Bool
 lacks_room attributes query = is_longer (readable_value attributes query.kind) query.room
 
--- the one code of the call: a hidden value comes before a missing attribute, and that before too
--- little room
+-- the one code of the call: that of a hidden value comes before that of a missing attribute, and
+-- that before the code of too little room
 abbrev pub queries_code : List Item → List AttributeQuery → Rv
 queries_code attributes queries =
     if list_any (asks_hidden attributes) queries then rv.Error rv_error.AttributeSensitive

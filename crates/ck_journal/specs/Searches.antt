@@ -21,7 +21,8 @@ abbrev pub starts_search : Option Call → ℕ → Bool
 starts_search (Some (call.FindObjectsInit session template)) s = session == s
 starts_search other s = false
 
--- the call ends the session's search: C_FindObjectsFinal, and what ends all its operations
+-- the call ends the session's search: C_FindObjectsFinal, and what ends all operations of the
+-- session
 abbrev pub ends_search : Option Call → ℕ → Bool
 ends_search (Some (call.FindObjectsFinal session)) s = session == s
 ends_search other s = ends_operations other s
@@ -41,7 +42,7 @@ abbrev pub is_match_with : View → List Item → List Item → Bool
 is_match_with view template attributes =
     is_visible_with view attributes && matches attributes template
 
--- the objects that are visible and match the template, in the order of their creations
+-- the numbers of the objects that are visible and match the template, in rising order
 abbrev pub matching_objects : History → List Item → List ℕ
 matching_objects h template =
     filter (λ n. is_some_with (is_match_with (view_of h) template) (object_at h n))
@@ -96,6 +97,6 @@ last_number (e ◁ h) s =
 abbrev pub remaining_objects : History → ℕ → List ℕ
 remaining_objects h s = filter (λ n. nat_lt (last_number h s) n) (found_objects h s)
 
--- of these, the objects that are visible now
+-- of these, the numbers of the objects that are visible now
 abbrev pub search_rest : History → ℕ → List ℕ
 search_rest h s = filter (is_visible h) (remaining_objects h s)

@@ -19,7 +19,7 @@ abbrev pub opens : Option Call → Bool
 opens (Some (call.OpenSession flags)) = true
 opens other = false
 
--- how many sessions have been opened; a session's handle is this count up to and with its opening
+-- how many sessions have been opened; a session's handle is this count, its own opening included
 abbrev pub openings : History → ℕ
 openings (start b) = b.openings
 openings (e ◁ h) = if opens (done e) then suc (openings h) else openings h
@@ -77,8 +77,8 @@ login_after (Some (call.Login session user pin)) before = user_of user
 login_after (Some (call.Logout session)) before = None
 login_after other before = before
 
--- who is logged in: nobody where no session is open, else the user of the last login with no logout
--- and no front without an open session after it
+-- who is logged in: the user of the last login; nobody where there was none, or where a logout or a
+-- front without an open session came after it
 abbrev pub login : History → Option UserType
 login (start b) = None
 login (e ◁ h) = if length (open_sessions (e ◁ h)) == 0 then None else login_after (done e) (login h)
@@ -88,7 +88,7 @@ abbrev pub logs_user_in : Option Call → Bool
 logs_user_in (Some (call.Login session user pin)) = user == 1
 logs_user_in other = false
 
--- how many times the user has logged in
+-- how many times the normal user has logged in
 abbrev pub user_logins : History → ℕ
 user_logins (start b) = b.logins
 user_logins (e ◁ h) = if logs_user_in (done e) then suc (user_logins h) else user_logins h

@@ -25,19 +25,19 @@ pub record IsAnswered (old new : TokenState) (caller : ℕ) (call : Call) (reply
   pub limits : new.limits ≡ old.limits
   pub entered : new.history ≡ entry_of old.limits old.history caller call ◁ old.history
 
--- nothing that a caller can see has changed, but that there may be more room
+-- limits and history are as they were; the room for entries may differ
 pub record IsUnchanged (old new : TokenState) : Type 0 where
   pub limits : new.limits ≡ old.limits
   pub history : new.history ≡ old.history
 
 -- ---- lists of calls, each with its caller
 
--- the history after these calls, from a history on
+-- the history, and then the entries of these calls, the first call first
 abbrev pub after : Ranges → History → List (ℕ × Call) → History
 after limits h [] = h
 after limits h (c ∷ calls) = after limits (entry_of limits h c.0 c.1 ◁ h) calls
 
--- the token has answered these calls and no other
+-- the token has answered these calls and no other, and its history is legal
 pub record HasAnswered (old new : TokenState) (calls : List (ℕ × Call)) : Type 0 where
   pub limits : new.limits ≡ old.limits
   pub history : new.history ≡ after old.limits old.history calls

@@ -14,17 +14,18 @@ use Rattle.ck_journal.specs.OperationCalls.{Step, take_whole, add_piece, Operati
 use Rattle.ck_journal.specs.OperationCalls.{operation_step}
 use Rattle.ck_journal.specs.Operations.{starts, piece_of, computation_in, message_in}
 
--- the kind and the session of the operation that a call starts, goes on with or finishes
+-- the kind and the session of the operation that a call starts, goes on with or finishes; None for
+-- every other call
 abbrev pub operation_of : Call → Option (OperationKind × ℕ)
 operation_of c = option_map (λ (o : OperationStep). (o.kind, o.session)) (operation_step c)
 
--- the bytes of the message that a step brings, as a whole or as one piece
+-- the bytes that a step brings: a single-part message, or one piece of a multiple-part one
 abbrev pub bytes_taken : Step → List ℕ
 bytes_taken (take_whole bytes) = bytes
 bytes_taken (add_piece bytes) = bytes
 bytes_taken other = []
 
--- those of a call; none for a call that brings none
+-- the bytes that a call brings; none where it has no such step
 abbrev pub taken_bytes : Call → List ℕ
 taken_bytes c = option_map_or (λ (o : OperationStep). bytes_taken o.step) (operation_step c) []
 
@@ -38,7 +39,7 @@ brings_long_message c = nat_le 4096 (length (taken_bytes c))
 abbrev pub changes_message : OperationKind → Entry → ℕ → Bool
 changes_message k e s = starts (done e) k s || not (length (piece_of (done e) k s) == 0)
 
--- how many entries there were before the last one that did so
+-- how many entries there were before the last one that did so; 0 where none did
 abbrev pub changed_in : OperationKind → History → ℕ → ℕ
 changed_in k (start b) s = 0
 changed_in k (e ◁ h) s = if changes_message k e s then entry_count h else changed_in k h s

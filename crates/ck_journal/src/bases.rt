@@ -5,12 +5,13 @@ use std::alloc::Global;
 /// A token object as a journal starts with it.
 #[derive(Clone, Drop)]
 pub struct KeptObject {
+    /// Its place among all creations of objects, from 1.
     pub number: u64,
     pub attributes: Record,
 }
 
-/// What a journal starts from: what is left of the calls before its first entry where no session is
-/// open.
+/// What a journal starts from: the token's state after the calls before its first entry, at a time
+/// when no session is open.
 #[derive(Clone, Drop)]
 pub struct Base {
     pub initialized: bool,
@@ -18,7 +19,9 @@ pub struct Base {
     pub so: Option<Pin>,
     /// The normal user's PIN.
     pub user: Option<Pin>,
+    /// How many wrong tries of the security officer's PIN were made since they last went back to 0.
     pub so_tries: u64,
+    /// As `so_tries`, of the normal user's PIN.
     pub user_tries: u64,
     /// How many sessions have been opened.
     pub openings: u64,

@@ -24,8 +24,9 @@ pub struct LoginStatus {
 }
 
 /// What C_GetSessionInfo and C_GetTokenInfo (PKCS #11 Base 3.0, Session management functions, Slot
-/// and token management functions) read of a token: a copy of it answers them as the token does. It
-/// takes no memory beside its own, which has a place for each session that a token may have open.
+/// and token management functions) read of a token. A copy of it answers them as the token did when
+/// the board was made. It asks for no memory: it has a place for each of the 64 sessions that a
+/// token may have open.
 #[derive(Debug, Drop)]
 pub struct TokenBoard {
     limit: u64,
@@ -52,7 +53,7 @@ impl Model for TokenBoard {
 }
 
 /// The state of a session, by who is logged in and whether the session is read/write (PKCS #11 Base
-/// 3.0, Session types).
+/// 3.0, Session types). While the security officer is logged in, all sessions are read/write.
 pub fn session_state(login: Option<UserType>, is_read_write: bool) -> SessionState
     ensures { result ≡ session_state login is_read_write }
 {
@@ -85,7 +86,7 @@ impl TokenBoard {
     ghost use Rattle.ck_journal.specs.Histories.{History};
     ghost use Rattle.ck_journal.specs.declared.calls.Call.TheVariants as call;
 
-    /// A board without sessions, of a token that may have as many open at once as `limit` says.
+    /// A board without sessions. `limit` is how many sessions may be open at once.
     pub fn new(limit: u64, status: LoginStatus) -> TokenBoard
         ensures { result ≡ record { limit = limit; sessions = []; status = status } }
     {
@@ -97,7 +98,7 @@ impl TokenBoard {
         }
     }
 
-    /// Adds a session with these flags.
+    /// Adds an open session and its flags, behind those that are there.
     pub fn push(&mut self, handle: u64, flags: u64)
         requires { length self.old.sessions < 64 }
         ensures { self.new

@@ -5,7 +5,7 @@ use ck_types::{Bytes, Mechanism, Pin, Sequence};
 use std::alloc::AllocError;
 
 /// What C_GetAttributeValue is asked of one attribute: its type, and the room for its value in
-/// bytes. Room `None`, like a NULL pValue, asks for the value's length alone (PKCS #11 Base 3.0,
+/// bytes. Room `None`, like a NULL pValue, asks only for the value's length (PKCS #11 Base 3.0,
 /// Object management functions).
 #[derive(Clone, Copy, Debug, PartialEq, Eq)]
 pub struct AttributeQuery {
@@ -14,22 +14,28 @@ pub struct AttributeQuery {
 }
 
 /// A call of the application with its arguments, named after the standard's function (PKCS #11 Base
-/// 3.0, Functions). SetKeyState alone is no function of the standard.
+/// 3.0, Functions). Only SetKeyState is no function of the standard. `session`, `object` and `key`
+/// are handles.
 #[derive(Drop)]
 pub enum Call {
     InitToken {
+        /// The security officer's PIN: the first initialization sets it.
         pin: Pin,
     },
     InitPin {
         session: u64,
+        /// The normal user's new PIN.
         pin: Pin,
     },
+    /// Changes the security officer's PIN in a session of state CKS_RW_SO_FUNCTIONS, else the
+    /// normal user's.
     SetPin {
         session: u64,
         old: Pin,
         new: Pin,
     },
     OpenSession {
+        /// CKF_SERIAL_SESSION (4), and for a read/write session also CKF_RW_SESSION (2).
         flags: u64,
     },
     CloseSession {
@@ -38,7 +44,7 @@ pub enum Call {
     CloseAllSessions,
     Login {
         session: u64,
-        /// A user's number (CK_USER_TYPE).
+        /// A user's number (CK_USER_TYPE): CKU_SO is 0, CKU_USER is 1.
         user: u64,
         pin: Pin,
     },
@@ -53,7 +59,8 @@ pub enum Call {
     /// Ends operations of the session.
     SessionCancel {
         session: u64,
-        /// The kinds of operations that end: CKF_DIGEST, CKF_SIGN and CKF_VERIFY.
+        /// The kinds of operations that end: CKF_DIGEST (0x400), CKF_SIGN (0x800), CKF_VERIFY
+        /// (0x2000), or some of these together.
         flags: u64,
     },
     CreateObject {
@@ -64,7 +71,8 @@ pub enum Call {
         session: u64,
         mechanism: Mechanism,
         template: Template,
-        /// The bytes of the key, which come from the caller: as many as CKA_VALUE_LEN says.
+        /// The bytes of the key, which come from the caller. Where the template's CKA_VALUE_LEN
+        /// isn't how many they are, the call is refused.
         random: Bytes,
     },
     CopyObject {
@@ -82,11 +90,12 @@ pub enum Call {
         object: u64,
         template: Template,
     },
-    /// Takes a key to another state, which no function of the standard does.
+    /// Takes a key to another state (NIST SP 800-57 Part 1 Rev. 5, Key states and transitions),
+    /// which no function of the standard does.
     SetKeyState {
         session: u64,
         key: u64,
-        /// The number of the state.
+        /// The number of the state, as `KeyState` has it.
         state: u64,
     },
     DestroyObject {
@@ -178,8 +187,8 @@ macro_rules! copy_of {
     };
 }
 
-/// A copy of a call that brings no list takes no memory.
-// Not derived: that clones the numbers too, which makes its proof many times as long.
+/// A copy of a call that has no mechanism, template, queries, message or signature takes no memory.
+// Not derived: a derived copy clones the numbers too, which makes its proof many times as long.
 impl Clone for Call {
     ghost use Rattle.std.specs.Prelude.{◌≡◌, false};
     ghost use Rattle.ck_journal.specs.Calls.{brings_list};
@@ -260,8 +269,8 @@ impl Call {
         }
     }
 
-    /// The bytes of a message that the call brings, as a whole or as one piece; none for a call
-    /// that brings none.
+    /// The bytes of a message that the call brings: a single-part message, or one piece of a
+    /// multiple-part one. They are empty for every other call.
     pub fn taken_bytes(&self) -> &[u8]
         ensures { result.now ≡ taken_bytes self.now }
     {
@@ -284,7 +293,8 @@ impl Call {
         self.taken_bytes().len() >= LONG_MESSAGE
     }
 
-    /// Whether the call, however it is answered, leaves the sessions, the login and the PINs.
+    /// Whether the call, whatever its reply, leaves what a `TokenBoard` has of a token: the open
+    /// sessions with their flags, the login, whether there are PINs, and the wrong tries.
     pub fn leaves_board(&self) -> bool
         ensures kind { result ≡ not (effects_of (Some self.now)).sessions }
         ensures leaves { IsTrue result → LeavesBoard self.now }
@@ -292,7 +302,8 @@ impl Call {
         !self.is_about_sessions()
     }
 
-    /// Whether the call, where it is answered OK, may change sessions, the login or PINs.
+    /// Whether the call, where it is answered CKR_OK, may change sessions, the login, PINs or wrong
+    /// tries. No other call counts a wrong try where it is refused.
     fn is_about_sessions(&self) -> bool
         ensures { result ≡ (effects_of (Some self.now)).sessions }
     {
@@ -310,11 +321,11 @@ impl Call {
     }
 }
 
-/// The most callers that share a token. They are numbered from 1.
+/// The most callers that may share a token. A shared token numbers its callers from 1.
 pub const MOST_CALLERS: u32 = 8;
 
-/// An answered call: who made it, what was called and what was answered. Callers have numbers of
-/// the application's choice.
+/// An answered call: the caller's number, the call and the reply. Callers have numbers of the
+/// application's choice, and no reply depends on them.
 #[derive(Drop)]
 pub struct Entry {
     pub caller: u32,

@@ -1,6 +1,7 @@
 //! Laws of every history that is legal from a sound base, and of what calls and cuts make of it, in
-//! any order and however often. Each function's contract is one law; it takes nothing and does
-//! nothing.
+//! any order and however often. Each function's contract is one law; the function takes nothing and
+//! does nothing. A front is the history as it stands between two calls; "just before" means at the
+//! front that a call found.
 ghost use Rattle.ck_journal.specs.KeyLaws.{
   CopiesStaySensitive,
   CopiesStayUnextractable,
@@ -48,12 +49,12 @@ pub fn session_handles_are_given_once()
     ensures { SessionHandlesAreGivenOnce }
 {}
 
-/// No user's wrong tries pass three.
+/// No user has more than three wrong tries.
 pub fn tries_are_at_most_three()
     ensures { TriesAreAtMostThree }
 {}
 
-/// A session object that hasn't ended has its session open.
+/// As long as a session object hasn't ended, its session is open.
 pub fn session_objects_have_open_sessions()
     ensures { SessionObjectsHaveOpenSessions }
 {}
@@ -63,14 +64,14 @@ pub fn private_objects_are_visible_to_the_user()
     ensures { PrivateObjectsAreVisibleToTheUser }
 {}
 
-/// An OK call with the handle of an object names one, and if it is private the normal user is
-/// logged in just before.
+/// Where a call that takes the handle of an object or a key is answered CKR_OK, the handle names an
+/// object just before it, and if that is private the normal user is logged in there.
 pub fn private_objects_are_named_by_the_user()
     ensures { PrivateObjectsAreNamedByTheUser }
 {}
 
-/// A reply to C_GetAttributeValue, whatever its code, has attributes only of an object that the
-/// handle names just before, and if it is private the normal user is logged in there.
+/// A reply to C_GetAttributeValue, whatever its code, has answers to queries only where the handle
+/// names an object just before, and if that is private the normal user is logged in there.
 pub fn private_attributes_are_given_to_the_user()
     ensures { PrivateAttributesAreGivenToTheUser }
 {}
@@ -81,7 +82,8 @@ pub fn private_handles_are_returned_to_the_user()
     ensures { PrivateHandlesAreReturnedToTheUser }
 {}
 
-/// An operation whose key was private at a front is active only while the normal user is logged in.
+/// An operation whose key was private at some front so far is active only while the normal user is
+/// logged in.
 pub fn private_keys_serve_the_user()
     ensures { PrivateKeysServeTheUser }
 {}
@@ -92,13 +94,14 @@ pub fn hidden_values_are_not_given()
     ensures { HiddenValuesAreNotGiven }
 {}
 
-/// Each OK C_Sign and C_SignFinal stands where the key hasn't ended and its state lets it sign.
+/// Where C_Sign or C_SignFinal is answered CKR_OK, the operation's key hasn't ended just before,
+/// and its state lets it sign.
 pub fn signing_keys_may_sign()
     ensures { SigningKeysMaySign }
 {}
 
-/// Each OK C_Verify and C_VerifyFinal stands where the key hasn't ended and its state lets it
-/// verify.
+/// Where C_Verify or C_VerifyFinal is answered CKR_OK, the operation's key hasn't ended just
+/// before, and its state lets it verify.
 pub fn verifying_keys_may_verify()
     ensures { VerifyingKeysMayVerify }
 {}
@@ -108,7 +111,7 @@ pub fn sensitive_stays()
     ensures { SensitiveStays }
 {}
 
-/// A key that isn't extractable stays so while it lasts.
+/// A key that isn't extractable doesn't become extractable while it lasts.
 pub fn unextractable_stays()
     ensures { UnextractableStays }
 {}
@@ -123,14 +126,14 @@ pub fn copies_stay_unextractable()
     ensures { CopiesStayUnextractable }
 {}
 
-/// Where CKA_ALWAYS_SENSITIVE of a key is true at a front, the key is sensitive there, and was at
-/// every earlier front at which it was there.
+/// Where CKA_ALWAYS_SENSITIVE of a key is true at a front, the key is sensitive there, and was
+/// sensitive at every earlier front at which it was there.
 pub fn always_sensitive_is_true()
     ensures { AlwaysSensitiveIsTrue }
 {}
 
 /// Where CKA_NEVER_EXTRACTABLE of a key is true at a front, the key isn't extractable there, and
-/// was so at no earlier front.
+/// was extractable at no earlier front.
 pub fn never_extractable_is_true()
     ensures { NeverExtractableIsTrue }
 {}

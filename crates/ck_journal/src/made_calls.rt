@@ -5,7 +5,7 @@ ghost use Rattle.ck_journal.specs.declared.calls.Call.TheVariants as call;
 use crate::calls::Call;
 use ck_types::{Bytes, Mechanism, Pin, UserType};
 
-/// Calls that are made of what a program has.
+/// Functions that make a call, for programs.
 impl Call {
     ghost use Rattle.std.specs.Prelude.{ℕ};
 
@@ -21,7 +21,7 @@ impl Call {
         }
     }
 
-    /// C_SignInit with this key.
+    /// C_SignInit with this mechanism and key.
     pub fn sign_init(session: u64, mechanism: Mechanism, key: u64) -> Call
         ensures { result ≡ call.SignInit session mechanism key }
     {
@@ -32,7 +32,7 @@ impl Call {
         }
     }
 
-    /// C_Sign of a single-part message, with so much room for the signature in bytes.
+    /// C_Sign of a single-part message, with room for a signature of `room` bytes.
     pub fn sign(session: u64, bytes: Bytes, room: u64) -> Call
         ensures { result ≡ call.Sign session bytes (Some room) }
     {

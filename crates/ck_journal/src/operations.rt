@@ -1,9 +1,9 @@
 ghost use Rattle.std.specs.Prelude.{◌≡◌};
 ghost use Rattle.ck_journal.specs.Operations.{is_long_piece};
 
-/// The kinds of operations that take a message in pieces. A session has at most one active
-/// operation of each kind (PKCS #11 Base 3.0, Message digesting functions, Signing and MACing
-/// functions, Functions for verifying signatures and MACs).
+/// The kinds of operations that take a message: a single-part one at once, or a multiple-part one
+/// in pieces. A session has at most one active operation of each kind (PKCS #11 Base 3.0, Message
+/// digesting functions, Signing and MACing functions, Functions for verifying signatures and MACs).
 #[derive(Clone, Copy, Debug, PartialEq, Eq)]
 pub enum OperationKind {
     Digest,
@@ -34,11 +34,12 @@ impl OperationKind {
     }
 }
 
-/// The most bytes that a message as a whole, or one piece of one, may have: a limit of this token.
+/// The most bytes that a single-part message, or one piece of a multiple-part one, may have: a
+/// limit of this token.
 const PIECE_LIMIT: usize = 0x10_0000;
 
-/// Whether the bytes are more than a message as a whole, or one piece of one, may have
-/// (CKR_DATA_LEN_RANGE).
+/// Whether the bytes are more than a single-part message, or one piece of a multiple-part one, may
+/// have, which is 2^20 (CKR_DATA_LEN_RANGE).
 pub fn is_long_piece(bytes: &[u8]) -> bool
     ensures { result ≡ is_long_piece bytes.now }
 {

@@ -5,7 +5,7 @@ ghost use Rattle.ck_journal.specs.Bodies.{body_attributes, result_of};
 use ck_objects::AttributeValue;
 use ck_types::{Bytes, Rv, RvError, Sequence, SessionState, TokenFlags};
 
-/// What one query of an attribute is answered.
+/// The answer to one query of an attribute.
 #[derive(Clone, Drop)]
 pub enum Answer {
     Value(AttributeValue),
@@ -16,39 +16,39 @@ pub enum Answer {
     Unavailable,
 }
 
-/// What a reply has beside its return code.
+/// What a reply has besides its return code.
 #[derive(Clone, Drop)]
 pub enum Body {
     Empty,
     /// The handle of a new session or a new object.
     Handle(u64),
-    /// A session's state, and the flags that it was opened with.
+    /// A session's state, and the flags that it was opened with (CK_SESSION_INFO).
     Session {
         state: SessionState,
         flags: u64,
     },
     /// The token's flags, the most sessions that may be open at once, and how many sessions and how
-    /// many read/write sessions are open.
+    /// many read/write sessions are open (CK_TOKEN_INFO).
     Token {
         flags: TokenFlags,
         limit: u64,
         sessions: u64,
         rw_sessions: u64,
     },
-    /// The types of all mechanisms of the token, rising.
+    /// The types of all mechanisms of the token, in rising order.
     Mechanisms(Sequence<u64>),
     /// One answer for each query, in their order.
     Attributes(Sequence<Answer>),
     /// The handles of the objects that a search returns, in the order of their creations.
     Handles(Sequence<u64>),
-    /// The length in bytes of what the call would give, where the room for it is too small or its
-    /// length was asked for.
+    /// The length in bytes of the digest or the signature, where the room for it is too small or
+    /// only its length was asked for.
     Length(u64),
     /// A digest or a signature.
     Bytes(Bytes),
 }
 
-/// What a call is answered.
+/// The reply to a call.
 #[derive(Drop)]
 pub struct Reply {
     pub rv: Rv,
@@ -56,8 +56,8 @@ pub struct Reply {
 }
 
 impl Reply {
-    /// The body where the call was answered CKR_OK, else the error, so that `?` looks at the code.
-    /// The body that some errors have is let go.
+    /// The body where the call was answered CKR_OK, else the error, so that `?` hands it on. The
+    /// body of a reply with an error is dropped.
     pub fn ok(self) -> Result<Body, RvError>
         ensures { result ≡ result_of self }
     {
@@ -99,7 +99,7 @@ impl Body {
         }
     }
 
-    /// The length in bytes of what the call would give, if the body is one.
+    /// The length in bytes of a digest or a signature, if the body is one.
     pub fn length(self) -> Option<u64>
         ensures { result ≡ body_length self }
     {

@@ -7,8 +7,8 @@ use crate::works::Work;
 use ck_types::{Limits, NoMemory};
 use std::alloc::Global;
 
-/// What answers calls and enters each in a journal: a token. What threads share, what audits a
-/// journal and what plays a script stand on this alone.
+/// What answers calls and enters each in a journal: a token. The crates that share a token among
+/// threads, audit a journal and play a script need nothing else of a token.
 pub trait JournaledToken: Drop {
     ghost use Rattle.std.specs.Prelude.{◌≡◌, IfOk, IfSome, OnErr};
     ghost use Rattle.std.specs.Option.{option_copied};
@@ -33,23 +33,22 @@ pub trait JournaledToken: Drop {
         ensures limits { IfOk result (λ token. (state token).limits ≡ limits) }
         ensures history { IfOk result (λ token. (state token).history ≡ start base) };
 
-    /// Answers a call and enters it in the journal. Where there is no memory for it, nothing has
-    /// changed and the call isn't in the journal.
+    /// Answers a call and enters it in the journal. Where there is no memory for it, the call isn't
+    /// in the journal, and the limits and the history are as they were.
     fn call(&mut self, alloc: Global, caller: u32, call: Call) -> Result<Reply, NoMemory>
         ensures answered { IfOk result (λ reply.
             IsAnswered (state self.old) (state self.new) caller call reply) }
         ensures unchanged { OnErr result (IsUnchanged (state self.old) (state self.new)) }
         ensures legal { IsLegal (state self.new).limits (state self.new).history };
 
-    /// Begins the work on a long message that the call brings, so that its bytes can be taken in
-    /// before the call is made. It takes no memory. `None` where this saves nothing: the message is
-    /// short, or there is none.
+    /// Begins the work on a message that the call brings, so that its bytes can be taken in before
+    /// the call is made. The token may give `None` for any call; then there is no work to do.
     fn work(&self, call: &Call) -> Option<Work>
         ensures { IfSome result (IsBegun (state self.now).history call.now) };
 
-    /// As `call`, by work that was begun for this call and is done. The work counts only where the
-    /// call's operation hasn't changed since; the reply and the entry are those of `call` in any
-    /// case.
+    /// As `call`, with work that was begun for this call and is done. With or without work, the
+    /// reply and the entry are those of `call`. Work is of no use where its operation has ended,
+    /// was started again or got a piece since the work was begun.
     fn call_after(
         &mut self,
         alloc: Global,
@@ -63,12 +62,13 @@ pub trait JournaledToken: Drop {
         ensures unchanged { OnErr result (IsUnchanged (state self.old) (state self.new)) }
         ensures legal { IsLegal (state self.new).limits (state self.new).history };
 
-    /// All answered calls.
+    /// The base that the token started from, and all calls that it has answered since.
     fn journal(&self) -> &Journal
         ensures history { result.now.history ≡ (state self.now).history }
         ensures legal { IsLegal (state self.now).limits (state self.now).history };
 
-    /// How many sessions may be open, and how many sessions, objects and logins there may be.
+    /// How many sessions may be open at once, and how many openings of sessions, creations of
+    /// objects and logins of the user there may be in all.
     fn limits(&self) -> Limits
         ensures { result ≡ (state self.now).limits };
 

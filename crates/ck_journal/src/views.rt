@@ -4,19 +4,18 @@ ghost use Rattle.ck_journal.specs.Searches.{number_of_handle};
 
 use ck_objects::{Attribute, Record};
 
-/// How far the handles of private objects move with each login of the user.
+/// What each login of the user adds to the handles of private objects.
 const LOGIN_STEP: u64 = 0x1_0000_0000;
 
-/// The number of the object that a handle is of, as `View::handle` gives it to objects of numbers
-/// below 2^32.
+/// The number of the object that a handle of `View::handle` is of: the handle modulo 2^32.
 pub fn number_of_handle(handle: u64) -> u64
     ensures { result ≡ number_of_handle handle }
 {
     handle % LOGIN_STEP
 }
 
-/// What the handles of objects depend on beside the objects: whether the normal user is logged in,
-/// and how many times the user has logged in so far.
+/// What handles depend on apart from the objects: whether the normal user is logged in, and how
+/// many times the user has logged in so far.
 #[derive(Clone, Copy, Debug, PartialEq, Eq)]
 pub struct View {
     pub user: bool,

@@ -9,8 +9,8 @@ use ck_mac::RunningTag;
 pub struct Work {
     /// How many entries the journal had when the work was begun.
     pub entries: u64,
-    /// The tag of the message of the call's operation, as it was then; once the work is done, also
-    /// of the bytes of the call.
+    /// The running tag of the operation's message as it was then; once the work is done, of that
+    /// message followed by the bytes of the call.
     pub running: RunningTag,
 }
 
@@ -18,7 +18,8 @@ impl Work {
     ghost use Rattle.ck_journal.specs.Histories.{History};
     ghost use Rattle.ck_journal.specs.Works.{IsBegun, IsDone};
 
-    /// Does the work: takes in the bytes of the call. It takes no memory.
+    /// Does the work that was begun for this call, once: takes in the bytes of the call. It takes
+    /// no memory.
     pub fn finish(&mut self, call: &Call)
         ensures { (h : History) → IsBegun h call.now self.old → IsDone h call.now self.new }
     {

@@ -1,6 +1,7 @@
 use crate::attribute_values::AttributeValue;
 use crate::attributes::Attribute;
 use crate::fields::Field;
+use crate::forms::DATA;
 use crate::items::{Item, copied_items, flag_or, take_value};
 use crate::object_flags::Placement;
 use ck_types::NoMemory;
@@ -120,7 +121,7 @@ impl Data {
         ensures flag { flag_field result ≡ flag_at (data_items self.now) attribute }
     {
         match attribute {
-            Attribute::Class => Some(Field::Number(0)),
+            Attribute::Class => Some(Field::Number(DATA)),
             Attribute::Token => Some(Field::Flag(self.token)),
             Attribute::Private => Some(Field::Flag(self.private)),
             Attribute::Label => Some(Field::Bytes(&self.label)),

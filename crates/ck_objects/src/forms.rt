@@ -1,6 +1,8 @@
 ghost use Rattle.std.specs.Prelude.{◌≡◌};
 ghost use Rattle.ck_types.specs.Numbers.{same_bytes, number_bytes};
 
+use crate::key_states::KeyState;
+
 /// CKO_DATA, the class of data objects (PKCS #11 Base 3.0, Data objects).
 pub const DATA: u64 = 0;
 
@@ -40,7 +42,10 @@ impl Form {
             Form::Number => value.len() == 8,
             Form::Class => is_number(value, DATA) || is_number(value, SECRET_KEY),
             Form::KeyType => is_number(value, GENERIC_SECRET),
-            Form::KeyState => is_number(value, 0) || is_number(value, 1),
+            Form::KeyState => {
+                is_number(value, KeyState::PreActivation.number())
+                    || is_number(value, KeyState::Active.number())
+            }
             Form::Bytes => true,
         }
     }

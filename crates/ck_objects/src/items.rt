@@ -185,7 +185,7 @@ pub(crate) fn state_or(items: &[Item], other: KeyState) -> KeyState
     match value_at(items, Attribute::KeyState.number()) {
         None => other,
         Some(value) => {
-            if is_number(value.as_slice(), 0) {
+            if is_number(value.as_slice(), KeyState::PreActivation.number()) {
                 KeyState::PreActivation
             } else {
                 KeyState::Active

@@ -8,6 +8,9 @@ use crate::object_flags::Placement;
 use ck_types::{GENERIC_SECRET_KEY_GEN, NoMemory};
 use std::alloc::{AllocError, Global};
 
+/// CK_UNAVAILABLE_INFORMATION: all ones, what stands for a number that isn't known.
+const UNAVAILABLE_INFORMATION: u64 = u64::MAX;
+
 /// How a key came to be: the attributes that no template may give. A copy has those of its source.
 #[derive(Clone, Copy)]
 pub(crate) struct Origin {
@@ -102,7 +105,7 @@ impl Key {
             local: false,
             never_extractable: false,
             always_sensitive: false,
-            generation: u64::MAX,
+            generation: UNAVAILABLE_INFORMATION,
         };
         let value = copied_value(alloc, items, Attribute::Value)?;
         Key::new(alloc, origin, items, value)

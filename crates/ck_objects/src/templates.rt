@@ -120,11 +120,14 @@ impl Template {
     }
 }
 
+/// The most bytes that a key's value may have: a limit of this token.
+const LONGEST_KEY: u64 = 4096;
+
 /// Whether a key's value may have this many bytes.
 fn is_key_length(length: u64) -> bool
     ensures { result ≡ is_key_length length }
 {
-    1 <= length && length <= 4096
+    1 <= length && length <= LONGEST_KEY
 }
 
 /// The checks that a template gives what a new object of the class must be given.

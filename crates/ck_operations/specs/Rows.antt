@@ -28,7 +28,7 @@ HoldsMessage computation o message = HoldsTag computation o.running message
 abbrev pub HoldsMessageOf : Option Computation → Operation → List ℕ → Type 0
 HoldsMessageOf computation o message = HoldsTagOf computation o.running message
 
--- the number of the key that it computes with
+-- the number of the key that it computes with; a digest has none
 abbrev pub operation_key : Operation → Option ℕ
 operation_key o = o.key
 
@@ -40,7 +40,7 @@ has_update o = o.updated
 abbrev pub last_change : Operation → ℕ
 last_change o = o.changed
 
--- an operation before its first update, started by the entry that comes after so many
+-- an operation before its first update, started by the entry after the first `entries` ones
 abbrev pub new_operation : OperationKind → ℕ → RunningTag → Option ℕ → ℕ → Operation
 new_operation k s running key entries = record {
   kind = k;
@@ -74,7 +74,7 @@ pub record IsUpdateOf (piece : Piece) (old new : Operation) : Type 0 where
   pub updated : new.updated ≡ true
   pub changed : new.changed ≡ piece.entries
 
--- where there is one
+-- the same, where there is an operation
 abbrev pub IsUpdateOfOption : Piece → Option Operation → Option Operation → Type 0
 IsUpdateOfOption piece (Some old) (Some new) = IsUpdateOf piece old new
 IsUpdateOfOption piece None None = Unit {0}

@@ -8,8 +8,8 @@ ghost use Rattle.std.specs.Option.{option_copied};
 use ck_journal::OperationKind;
 use ck_mac::{RunningTag, Tag};
 
-/// An active operation of a session: a message that comes in pieces (PKCS #11 Base 3.0, Message
-/// digesting functions, Signing and MACing functions, Functions for verifying signatures and MACs).
+/// An active digest, signing or verifying of a session (PKCS #11 Base 3.0, Message digesting
+/// functions, Signing and MACing functions, Functions for verifying signatures and MACs).
 #[derive(Drop)]
 pub struct Operation {
     kind: OperationKind,
@@ -18,7 +18,7 @@ pub struct Operation {
     running: RunningTag,
     /// The number of the key that it computes with; a digest has none.
     key: Option<u64>,
-    /// Whether there was an update, be it of no bytes.
+    /// Whether there was an update, even if of no bytes.
     updated: bool,
     /// How many entries the journal had before the one that last started the operation or added to
     /// its message.
@@ -26,7 +26,7 @@ pub struct Operation {
 }
 
 impl Operation {
-    /// An operation before its first update, which the entry after these starts.
+    /// An operation before its first update, which the entry after the first `entries` ones starts.
     pub(crate) fn new(
         kind: OperationKind,
         session: u64,
@@ -71,7 +71,7 @@ impl Operation {
         self.key
     }
 
-    /// Whether there was an update since it began, be it of no bytes.
+    /// Whether there was an update since it was started, even if of no bytes.
     pub fn is_updated(&self) -> bool
         ensures { result ≡ has_update self.now }
     {
@@ -103,7 +103,8 @@ impl Operation {
         self.running.len()
     }
 
-    /// The tag of the message so far: its digest or its HMAC.
+    /// The tag of the message so far: its digest (FIPS 180-4), or the first bytes of its HMAC (FIPS
+    /// 198-1), as many as `len` says.
     pub fn tag(&self) -> Tag
         ensures { (computation : Computation) (message : List ℕ)
             → HoldsMessage computation self.now message → result ≡ tag_of computation message }
@@ -112,7 +113,7 @@ impl Operation {
     }
 
     /// The tag of the message so far, followed by these bytes. `ready`, where it is given, is the
-    /// running tag that has taken them in already.
+    /// running tag that has taken in both already.
     pub fn tag_with(&self, bytes: &[u8], ready: Option<&RunningTag>) -> Tag
         ensures { (computation : Computation) (message : List ℕ)
             → IfSome (option_copied ready.entry)
@@ -126,8 +127,8 @@ impl Operation {
         }
     }
 
-    /// Adds a piece to its message, by the entry after these. `ready`, where it is given, is the
-    /// running tag that has taken it in already.
+    /// Adds a piece to its message, by the entry after the first `entries` ones. `ready`, where it
+    /// is given, is the running tag that has taken in the message and the piece already.
     pub(crate) fn add_piece(&mut self, bytes: &[u8], ready: Option<&RunningTag>, entries: u64)
         ensures { IsUpdateOf (record {
           bytes = bytes.now;

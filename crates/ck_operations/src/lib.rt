@@ -1,5 +1,5 @@
-//! The active operations of a PKCS #11 token's sessions that take a message in pieces: what the
-//! journal says of them.
+//! The active digests, signings and verifyings of a PKCS #11 token's sessions, as the journal has
+//! them.
 #![tactic(auto)]
 
 mod active_operations;

@@ -6,9 +6,9 @@ use ck_types::NoMemory;
 use std::alloc::Global;
 use std::marker::Model;
 
-/// The active operations of all sessions that take a message in pieces, at most one of a kind in a
-/// session (PKCS #11 Base 3.0, Message digesting functions, Signing and MACing functions, Functions
-/// for verifying signatures and MACs).
+/// The active digests, signings and verifyings of all sessions, at most one of a kind in a session
+/// (PKCS #11 Base 3.0, Message digesting functions, Signing and MACing functions, Functions for
+/// verifying signatures and MACs).
 #[derive(Drop)]
 pub struct Operations {
     rows: Vec<Operation>,
@@ -69,8 +69,9 @@ impl Operations {
     // ---- changes, each by what the entry of an answered call does to operations
 
     /// Starts an operation where the session has none of the kind and there is room for it, and
-    /// takes no memory. The tag is that of the empty message; `key` is the number of its key;
-    /// `entries` is how many entries the journal has before this one.
+    /// takes no memory. `running` is the running tag of the empty message, `key` the number of the
+    /// operation's key, which a digest has not, and `entries` is how many entries the journal has
+    /// before this one.
     pub fn start(
         &mut self,
         kind: OperationKind,
@@ -91,8 +92,8 @@ impl Operations {
     }
 
     /// Adds a piece to the message of the session's operation of the kind. `ready`, where it is
-    /// given, is the running tag that has taken it in already, and then takes the place of the
-    /// operation's; `entries` is how many entries the journal has before this one.
+    /// given, is the running tag that has taken in the message and the piece already, and takes the
+    /// place of the operation's; `entries` is how many entries the journal has before this one.
     pub fn add_piece(
         &mut self,
         kind: OperationKind,

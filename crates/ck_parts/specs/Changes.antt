@@ -1,5 +1,6 @@
 -- What an answered call changes of sessions, objects and operations, read off the history just
--- before it
+-- before it. In a legal history no default of an `unwrap_or` is met here: the call's checks see to
+-- that.
 use Rattle.std.specs.Prelude.{ℕ, true, not, Option, Some, None, map, unwrap_or}
 use Rattle.ck_objects.specs.KeyStates.{state_of_number}
 use Rattle.ck_types.specs.Mechanisms.{digest_hash, hmac_hash, tag_length}
@@ -43,7 +44,7 @@ start_hmac k session mechanism key =
     change.StartHmac k session (unwrap_or (hmac_hash mechanism.kind) hash.Sha256)
     (unwrap_or key 0) (unwrap_or (tag_length mechanism) 0)
 
--- the change of a call that passes its checks and is answered this body
+-- the change of a call that passes its checks, by the body of its reply
 abbrev pub change_of : History → Call → Body → Change
 change_of h (call.InitToken pin) body = change.InitToken pin
 change_of h (call.InitPin session pin) body = change.InitPin pin
@@ -101,7 +102,7 @@ abbrev pub end_if_too_long : OperationKind → ℕ → RvError → Change
 end_if_too_long k session rv_error.DataLenRange = change.FinishOperation k session true
 end_if_too_long k session other = change.Nothing
 
--- the change of a refused call that makes this step on an operation
+-- the change of a refused call that would make this step on an operation
 abbrev pub refused_step : OperationKind → ℕ → Step → RvError → Change
 refused_step k session initialize code = change.Nothing
 refused_step k session (add_piece bytes) code = end_if_too_long k session code

@@ -1,6 +1,6 @@
-//! What a change adds. A compiled function clears the room of its values where it begins, so each
-//! of these is a function that stays one: other changes take no time for their values, which are
-//! large.
+//! What a change adds. A compiled function clears the stack room of its values where it begins, and
+//! these values are large. So the functions that add are never inlined, and other changes take no
+//! time for their values.
 ghost use Rattle.std.specs.Prelude.{◌≡◌, ◌+◌, ◌<◌, ◌≤◌, ◌^◌, [], true, false, Some, None};
 ghost use Rattle.std.specs.Prelude.{unwrap_or};
 ghost use Rattle.ck_types.specs.Hashes.{digest_length};
@@ -38,7 +38,8 @@ pub(crate) fn create_object(objects: &mut Store, session: u64, attributes: Boxed
     objects.create(session, attributes.into_inner());
 }
 
-/// Starts a digest, where the session has none and there is room for it, by the entry after these.
+/// Starts a digest, where the session has none and there is room for it, by the entry after the
+/// first `entries` ones.
 #[inline(never)]
 pub(crate) fn start_digest(operations: &mut Operations, session: u64, hash: Hash, entries: u64)
     requires { 0 < operations.old.spare }
@@ -63,7 +64,8 @@ fn key_value(objects: &Store, number: u64) -> &[u8]
 }
 
 /// Starts a signing or a verifying under the key of this number, where the session has none of the
-/// kind and there is room for it, by the entry after these. A signature has `len` bytes.
+/// kind and there is room for it, by the entry after the first `entries` ones. `len` is how many
+/// bytes a signature has.
 #[inline(never)]
 pub(crate) fn start_hmac(
     operations: &mut Operations,

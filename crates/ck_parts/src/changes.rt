@@ -7,7 +7,7 @@ use ck_types::{Hash, Pin, Sequence, UserType};
 #[derive(Drop)]
 pub enum Change {
     Nothing,
-    /// The try of a wrong PIN.
+    /// A wrong try of this user's PIN.
     WrongTry {
         user: UserType,
     },
@@ -53,12 +53,12 @@ pub enum Change {
     /// The session's search starts or ends.
     SetSearch {
         session: u64,
-        /// The numbers of the objects that a new search found.
+        /// The numbers of the objects that a new search found; `None` ends the search.
         found: Option<Sequence<u64>>,
     },
     AdvanceSearch {
         session: u64,
-        /// The number of the last object that the search has given.
+        /// The number of the object that the search returned last; 0 where it has returned none.
         number: u64,
     },
     StartDigest {
@@ -80,7 +80,7 @@ pub enum Change {
         kind: OperationKind,
         session: u64,
     },
-    /// What the reply to a call that may end an operation makes of it.
+    /// A reply that may end the session's operation of the kind.
     FinishOperation {
         kind: OperationKind,
         session: u64,

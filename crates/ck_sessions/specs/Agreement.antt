@@ -12,8 +12,8 @@ use Rattle.ck_sessions.specs.declared.credentials.Credential.{Credential}
 use Rattle.ck_sessions.specs.declared.searches.Search.{Search}
 
 -- the open sessions, for how many more there is room, how many have been opened, who is logged in,
--- how many times the user has logged in, and the PINs and wrong tries of the security officer and
--- the user
+-- how many times the normal user has logged in, and the PINs and wrong tries of the security
+-- officer and the normal user
 pub record SessionsState : Type 0 where
   pub rows : List SessionRow
   pub spare : ℕ

@@ -23,7 +23,8 @@ is_rw_row row = has_rw_flag row.flags
 abbrev pub is_read_only_row : SessionRow → Bool
 is_read_only_row row = not (has_rw_flag row.flags)
 
--- the number of the object that the session's search, if it has one, returned last
+-- the number of the object that the session's search returned last; 0 where it has no search, or
+-- one that has returned none
 abbrev pub last_found : SessionRow → ℕ
 last_found row = option_map_or (λ (s : Search). s.last) row.search 0
 

@@ -9,7 +9,7 @@ pub struct Credential {
     pub tries: u64,
 }
 
-/// The credential of a user who has no PIN.
+/// The credential of a user who has no PIN and no wrong tries.
 pub(crate) const NO_PIN: Credential = Credential {
     pin: None,
     tries: 0,

@@ -73,8 +73,8 @@ impl Session {
         self.search.is_some()
     }
 
-    /// The numbers of the objects that its search found and has not returned yet, rising, or `None`
-    /// where no search is active.
+    /// The numbers, rising, of the objects that its search found and that come after the one that
+    /// it returned last, or `None` where no search is active. Some may have ended since.
     pub fn remaining_objects(&self) -> Option<&[u64]>
         ensures { (h : History) (s : ℕ) → self.now ≡ session_row h s
             → option_copied result ≡ search_left h s }
@@ -85,7 +85,8 @@ impl Session {
         }
     }
 
-    /// The number of the object that its search returned last, 0 where none.
+    /// The number of the object that its search returned last; 0 where it has returned none, or
+    /// where no search is active.
     pub fn last_found(&self) -> u64
         ensures value { result ≡ last_found self.now }
         ensures last { (h : History) (s : ℕ) → self.now ≡ session_row h s → is_searching h s ≡ true
@@ -97,7 +98,7 @@ impl Session {
         }
     }
 
-    /// Gives it this search, or none.
+    /// Makes this its search; `None` ends its search.
     pub(crate) fn set_search(&mut self, search: Option<Search>)
         ensures { self.new ≡ with_search search self.old }
     {

@@ -23,7 +23,7 @@ pub(crate) fn count_read_write(rows: &[Session]) -> u64
     rows.iter().filter(|row| row.is_read_write()).count() as u64
 }
 
-/// Whether a session is read-only.
+/// Whether any of the sessions is read-only.
 pub(crate) fn has_read_only(rows: &[Session]) -> bool
     ensures { result ≡ list_any is_read_only_row rows.now }
 {
@@ -43,7 +43,7 @@ fn position_of(rows: &[Session], session: u64) -> Option<usize>
     rows.iter().position(|row| row.has_handle(session))
 }
 
-/// Gives the session this search, or none.
+/// Makes this the session's search; `None` ends its search.
 pub(crate) fn set_search(rows: &mut Vec<Session>, session: u64, search: Option<Search>)
     ensures { rows.new.items
         ≡ change_first (is_session session) (with_search search) rows.old.items }

@@ -9,7 +9,7 @@ use ck_types::Sequence;
 pub(crate) struct Search {
     /// The numbers of the objects that it found when it started, rising.
     found: Sequence<u64>,
-    /// The number of the object that it returned last, 0 where none.
+    /// The number of the object that it returned last; 0 where it has returned none.
     pub(crate) last: u64,
 }
 
@@ -21,7 +21,8 @@ impl Search {
         Search { found, last: 0 }
     }
 
-    /// What it found and has not returned yet. Its beginning is found by a binary search.
+    /// What it found and comes after the object that it returned last. The beginning is found by a
+    /// binary search.
     pub(crate) fn remaining(&self) -> &[u64]
         ensures { IsNonDecreasingBy (λ n. n) self.now.found
             → result.now ≡ filter (λ n. nat_lt self.now.last n) self.now.found }

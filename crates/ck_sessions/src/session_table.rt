@@ -67,7 +67,7 @@ impl Sessions {
     ghost use Rattle.ck_sessions.specs.Agreement.{SessionsAgree, credential_of, session_at};
     ghost use Rattle.ck_sessions.specs.SearchCalls.{SetsSearch};
 
-    /// The sessions of a new token: none, and no PINs. It takes no memory.
+    /// No sessions and no PINs, as a new token has them. It takes no memory.
     pub fn new(alloc: Global) -> Sessions
         ensures { SessionsAgree (start empty_base) result }
     {
@@ -81,7 +81,7 @@ impl Sessions {
         }
     }
 
-    /// The sessions that start from a base: none, and its PINs and counts. It takes no memory.
+    /// No sessions, and the PINs, wrong tries and counts of a base. It takes no memory.
     pub fn from_base(alloc: Global, base: &Base) -> Sessions
         requires { IsSound base.now }
         ensures { SessionsAgree (start base.now) result }
@@ -217,7 +217,7 @@ impl Sessions {
     }
 
     /// What C_GetSessionInfo and C_GetTokenInfo read of the token, where `limit` sessions may be
-    /// open at once. It takes no memory beside the board's own.
+    /// open at once. It takes no memory.
     pub fn board(&self, limit: u64) -> TokenBoard
         requires { length self.now.rows ≤ 64 }
         ensures { (limits : Ranges) (h : History) → SessionsAgree h self.now
@@ -230,8 +230,8 @@ impl Sessions {
 
     // ---- changes, each that of a call that was answered OK or of a wrong try
 
-    /// Initializes the token: the security officer keeps a PIN that was set before, the user's is
-    /// taken away.
+    /// Initializes the token: the security officer keeps a PIN that was set before, the normal
+    /// user's is taken away, and the wrong tries of both go back to 0.
     pub fn init_token(&mut self, pin: Pin)
         ensures agree { (h : History) (e : Entry) → done e ≡ Some (call.InitToken pin)
             → SessionsAgree h self.old → SessionsAgree (e ◁ h) self.new }
@@ -241,7 +241,8 @@ impl Sessions {
         self.user = NO_PIN;
     }
 
-    /// Sets the user's PIN for the security officer.
+    /// Sets the normal user's PIN, as the security officer does; the user's wrong tries go back
+    /// to 0.
     pub fn init_pin(&mut self, pin: Pin)
         ensures agree { (h : History) (e : Entry) (session : ℕ)
             → done e ≡ Some (call.InitPin session pin)
@@ -250,7 +251,7 @@ impl Sessions {
         self.user = Credential::new(pin);
     }
 
-    /// Sets the PIN of its owner, who has one.
+    /// Sets a new PIN of a user who has one; the user's wrong tries go back to 0.
     pub fn set_pin(&mut self, owner: UserType, pin: Pin)
         requires { is_some (credential_of owner self.old).pin ≡ true }
         ensures agree { (h : History) (e : Entry) (session : ℕ) (before : Pin)
@@ -325,8 +326,8 @@ impl Sessions {
         end_searches(self.rows.as_mut_slice());
     }
 
-    /// Sets the session's search: to a new one, which found the objects of these numbers, or to
-    /// none.
+    /// Starts a search of the session that found the objects of these numbers; `None` ends the
+    /// session's search.
     pub fn set_search(&mut self, session: u64, found: Option<Sequence<u64>>)
         ensures agree { (h : History) (e : Entry) (c : Call) → done e ≡ Some c
             → SetsSearch h c session found

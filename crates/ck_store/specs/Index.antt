@@ -104,16 +104,16 @@ pub record IsGiven (number : ℕ) (values : List Item) (old new : Slab ObjectRow
   pub private : (key : ℕ) (row : ObjectRow) → get old key ≡ Some row → has_number number row ≡ true
       → is_set attributes attribute.Private ≡ is_private_row row
 
--- some of the objects of the test are there no more; the others are, each under its key
+-- objects that pass the test may be there no more; all others are, each under its key
 abbrev pub IsLeft : (ObjectRow → Bool) → Slab ObjectRow → Slab ObjectRow → Type 0
 IsLeft test old new = (key : ℕ) → (get new key ≡ get old key)
     ⊎ ((get new key ≡ None) × ((row : ObjectRow) → get old key ≡ Some row → test row ≡ true))
 
--- the place has no object of the test
+-- the place has no object that passes the test
 abbrev pub HasNone : (ObjectRow → Bool) → Slab ObjectRow → Place → Type 0
 HasNone test objects p = (row : ObjectRow) → object_at objects p ≡ Some row → test row ≡ false
 
--- no object of the test is there
+-- no object that passes the test is there
 abbrev pub EndsAll : (ObjectRow → Bool) → Slab ObjectRow → Type 0
 EndsAll test objects =
     (key : ℕ) (row : ObjectRow) → get objects key ≡ Some row → test row ≡ false

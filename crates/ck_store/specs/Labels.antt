@@ -25,7 +25,7 @@ IsWanted template mark = (mark ≡ 0)
     ⊎ ((item : Item) × Contains template item × (item.kind ≡ type_of attribute.Label)
     × (mark ≡ label_mark item.value))
 
--- the label that is wanted is another one
+-- both marks are known and differ, so the label that is wanted is another one
 abbrev pub has_other_label : ℕ → ℕ → Bool
 has_other_label mark wanted = not (mark == 0) && not (wanted == 0) && not (mark == wanted)
 

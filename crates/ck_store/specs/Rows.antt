@@ -21,8 +21,8 @@ pub record ObjectRow : Type 0 where
   pub session : Option ℕ
   pub attributes : List Item
 
--- the session of an object with these attributes, by the one that created it; a token object is
--- nobody's
+-- the session of an object with these attributes, by the one that created it; a token object
+-- belongs to no session
 abbrev pub owning_session : ℕ → List Item → Option ℕ
 owning_session session attributes = if is_session_object attributes then Some session else None
 
@@ -48,7 +48,7 @@ is_private_row row = is_set row.attributes attribute.Private
 abbrev pub is_private_session_row : ObjectRow → Bool
 is_private_session_row row = is_session_row row && is_private_row row
 
--- it is a session object that ends
+-- it is a session object that the ending ends
 abbrev pub is_ended_by : Ending → ObjectRow → Bool
 is_ended_by (ending.Session session) row = is_of_session session row
 is_ended_by ending.AllSessions row = is_session_row row

@@ -15,13 +15,13 @@ pub(crate) enum Ending {
     Session(u64),
     /// All sessions are closed.
     AllSessions,
-    /// The user logs out, which ends the private ones.
+    /// A logout, which ends the private ones.
     Logout,
 }
 
 impl Ending {
-    /// Whether it ends the objects of the session's list of private objects, or of that of public
-    /// ones.
+    /// Whether it ends the objects in the session's list of private objects, or in that of public
+    /// ones where `private` is false.
     pub(crate) fn concerns(self, session: u64, private: bool) -> bool
         ensures { result ≡ concerns self session private }
     {
@@ -33,7 +33,7 @@ impl Ending {
     }
 }
 
-/// Ends the object of the place, where it is one of those that end.
+/// Ends the object of the place, where the ending ends it.
 fn end_object(objects: &mut Slab<StoredObject>, place: Place, ending: Ending)
     ensures left { IsLeft (is_ended_by ending) objects.old objects.new }
     ensures ended { HasNone (is_ended_by ending) objects.new place }
@@ -56,7 +56,7 @@ fn end_objects(objects: &mut Slab<StoredObject>, places: &[Place], ending: Endin
     }
 }
 
-/// Ends those of the objects in the lists that end.
+/// Ends the objects in the lists that the ending ends.
 pub(crate) fn end_listed(objects: &mut Slab<StoredObject>, lists: &[SessionList], ending: Ending)
     ensures left { IsLeft (is_ended_by ending) objects.old objects.new }
     ensures ended { (session : ℕ) (private : Bool) (p : Place)
@@ -70,7 +70,7 @@ pub(crate) fn end_listed(objects: &mut Slab<StoredObject>, lists: &[SessionList]
     }
 }
 
-/// Ends the newest object, where it is in no list yet and is one of those that end.
+/// Ends the newest object, where it is in no list yet and the ending ends it.
 pub(crate) fn end_newest(objects: &mut Slab<StoredObject>, unlisted: Option<Place>, ending: Ending)
     ensures left { IsLeft (is_ended_by ending) objects.old objects.new }
     ensures ended { (p : Place) → unlisted ≡ Some p

@@ -1,13 +1,12 @@
-//! Marks of labels, by which a search passes over most objects and looks at none of their
-//! attributes.
+//! Marks of labels. By them a search for a label passes over most objects with another label, and
+//! looks at none of their attributes.
 ghost use Rattle.std.specs.Prelude.{◌≡◌, ◌≢◌, ◌⊎◌, ℕ, get_or};
 ghost use Rattle.ck_store.specs.Labels.{label_mark, IsMarkOf, IsWanted, has_other_label};
 
 use ck_objects::{Attribute, Field, Record, Template};
 
-/// The mark of a label, a hash of 32 bits. It begins with the offset of the FNV-1 hash; for each
-/// byte it is multiplied by the prime of that hash, and the byte is added. Equal labels have equal
-/// marks, and others seldom do.
+/// The mark of a label, a hash of 32 bits: FNV-1, except that each byte is added, and not combined
+/// by exclusive or. Equal labels have equal marks, and others seldom have.
 fn label_mark(label: &[u8]) -> u32
     ensures { result ≡ label_mark label.now }
 {
@@ -40,7 +39,8 @@ pub(crate) fn wanted_mark(template: &Template) -> u32
     }
 }
 
-/// Whether the label of the object under the key isn't the one that is wanted.
+/// Whether the marks show that the object under the key has another label than the wanted one. A
+/// missing mark or 0 shows nothing.
 pub(crate) fn has_other_label(marks: &[u32], key: usize, wanted: u32) -> bool
     ensures { result ≡ has_other_label (get_or marks.now key 0) wanted }
 {
@@ -61,7 +61,7 @@ pub(crate) fn set_mark(marks: &mut Vec<u32>, key: usize, mark: u32)
     }
 }
 
-/// Makes room for the marks of the keys below this one, where there is memory for it.
+/// Makes room for the marks of the keys below `past`, where there is memory for it.
 pub(crate) fn grow_marks(marks: &mut Vec<u32>, past: usize)
     ensures { (key : ℕ) → (get_or marks.new.items key 0 ≡ get_or marks.old.items key 0)
         ⊎ (get_or marks.new.items key 0 ≡ 0) }

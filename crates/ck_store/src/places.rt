@@ -18,7 +18,8 @@ use ck_types::NoMemory;
 use slab::Slab;
 use std::alloc::Global;
 
-/// Where the object of a number lies. Once the object has ended, its key may have another object.
+/// Where the object of a number lies: under this key of the slab, which is no cryptographic key.
+/// Once the object has ended, another object may lie under the key.
 #[derive(Clone, Copy)]
 pub(crate) struct Place {
     pub(crate) number: u64,
@@ -43,8 +44,9 @@ fn is_there(objects: &Slab<StoredObject>, place: Place) -> bool
     object_at(objects, place).is_some()
 }
 
-/// The position that is as far from the first one as the number is from the index's first number,
-/// where the number stands there. It does where the index lacks no number between the two.
+/// A guess at the position of a number in the index: as far from the first position as the number
+/// is from the index's first number. `None` where the number doesn't stand there. It does where the
+/// index has each number between the two.
 fn guess_position(index: &[Place], number: u64) -> Option<usize>
     ensures { IfSome result (λ i. (i < length index.now)
         × ((get_or index.now i (place 0 0)).number ≡ number)) }
@@ -58,8 +60,8 @@ fn guess_position(index: &[Place], number: u64) -> Option<usize>
     }
 }
 
-/// The position of a number in an index whose numbers rise. In a large index a search takes long,
-/// since most places that it looks at are in no cache.
+/// The position of a number in an index whose numbers rise. A guess comes first, since a binary
+/// search of a large index takes long: most places that it looks at are in no cache.
 fn position_of(index: &[Place], number: u64) -> Option<usize>
     ensures within { IfSome result (λ i. i < length index.now) }
     ensures position { PlacesRise index.now → result ≡ position (is_at number) index.now }
@@ -81,7 +83,7 @@ fn guess_place(number: u64) -> Place
     Place { number, key }
 }
 
-/// The key of the object that has the number.
+/// The slab's key of the object that has the number.
 pub(crate) fn key_of(objects: &Slab<StoredObject>, index: &[Place], number: u64) -> Option<usize>
     ensures { IsIndex objects.now index.now → IsKeyOf objects.now number result }
 {
@@ -109,8 +111,8 @@ pub(crate) fn find_numbered<'a>(
     objects.get(key_of(objects, index, number)?)
 }
 
-/// The number of the place's object, where it is visible and matches the template, which asks for a
-/// label of this mark.
+/// The number of the place's object, where it is visible and matches the template. `wanted` is the
+/// mark of the label that the template asks for, or 0.
 fn match_at(
     objects: &Slab<StoredObject>,
     marks: &[u32],
@@ -176,7 +178,7 @@ pub(crate) fn change_at(objects: &mut Slab<StoredObject>, key: usize, values: Te
     }
 }
 
-/// Gives the object under the key, a key, this state.
+/// Gives the cryptographic key that lies under the slab's key this state.
 pub(crate) fn set_state_at(objects: &mut Slab<StoredObject>, key: usize, state: KeyState)
     ensures { (number : ℕ) → IsKeyOf objects.old number (Some key)
         → IsChanged (with_key_state number state) objects.old objects.new }
@@ -204,7 +206,8 @@ pub(crate) fn remove_numbered(objects: &mut Slab<StoredObject>, index: &[Place],
     }
 }
 
-/// Drops the places of ended objects, where they are more than half of the index.
+/// Drops the places of ended objects, where the index has more than twice as many places as there
+/// are objects, and one.
 pub(crate) fn compact(objects: &Slab<StoredObject>, index: &mut Vec<Place>)
     ensures objects { objects_at objects.now index.new.items
         ≡ objects_at objects.now index.old.items }

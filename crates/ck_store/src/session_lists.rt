@@ -10,8 +10,8 @@ use ck_types::NoMemory;
 use slab::Slab;
 use std::alloc::Global;
 
-/// The places of a session's private objects, or of its public ones, so that a logout walks over no
-/// others. A place stays in the list for a while after its object has ended.
+/// The places of a session's private session objects, or of its public ones, so that a logout walks
+/// only over private ones. A place stays in the list for a while after its object has ended.
 #[derive(Drop)]
 pub(crate) struct SessionList {
     pub(crate) session: u64,
@@ -57,8 +57,8 @@ impl SessionList {
 }
 
 /// Makes room for one more place. A list that is full first drops the places whose objects have
-/// ended, and then grows by half of what is left at least, so that on the whole a place is walked
-/// over a few times at most.
+/// ended, and then gets room for at least half as many as are left. So on average few places are
+/// walked over for each one that is added.
 fn make_room(objects: &Slab<StoredObject>, places: &mut Vec<Place>) -> Result<(), NoMemory>
     ensures kept { (p : Place) (row : ObjectRow) → Contains places.old.items p
         → object_at objects.now p ≡ Some row → Contains places.new.items p }

@@ -10,7 +10,7 @@ use std::marker::Model;
 pub(crate) struct StoredObject {
     number: u64,
     attributes: Record,
-    /// The session that created it; a token object is nobody's.
+    /// The session that created it; a token object belongs to no session.
     session: Option<u64>,
 }
 

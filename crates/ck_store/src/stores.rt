@@ -24,7 +24,7 @@ pub struct Store {
     /// The newest object, until its session's list takes it.
     unlisted: Option<Place>,
     creations: u64,
-    /// By an object's key the mark of its label.
+    /// The marks of the objects' labels, by the objects' keys in the slab; 0 where one is missing.
     marks: Vec<u32>,
 }
 
@@ -182,7 +182,7 @@ impl Store {
 
     /// Makes room for one more object, which any session may create. The newest object gets its
     /// place in its session's list here, since this may ask for memory and a creation may not.
-    /// Where there is room, this takes no memory.
+    /// Where there is room already, this succeeds.
     pub fn reserve(&mut self) -> Result<(), NoMemory>
         ensures agree { (h : History) → StoreAgrees h self.old → StoreAgrees h self.new }
         ensures rows { self.new.rows ≡ self.old.rows }
@@ -285,7 +285,7 @@ impl Store {
         compact(&self.objects, &mut self.index);
     }
 
-    /// Ends all objects.
+    /// Ends all objects. The count of creations stays.
     pub fn clear(&mut self)
         ensures agree { (h : History) (e : Entry) (pin : Pin) → done e ≡ Some (call.InitToken pin)
             → StoreAgrees h self.old → StoreAgrees (e ◁ h) self.new }
