@@ -23,6 +23,8 @@ pub(crate) enum Round {
     Digest,
     /// Asks for the state of its session by the lock.
     Wait,
+    /// Reads the clock twice, and makes no call.
+    Pause,
 }
 
 /// What a caller does: rounds of one kind.
@@ -159,6 +161,12 @@ impl<'a, K: TokenId, G: Gate<K>, R: Wait + Clock> Client<'a, K, G, R> {
     }
 }
 
+/// The nanoseconds between two readings of the clock.
+fn pause<R: Clock>(rt: &R) -> anyhow::Result<u128> {
+    let before = Instant::now(rt)?;
+    Ok(before.elapsed(rt)?.as_nanos())
+}
+
 impl<'a> Tasks<'a> {
     pub(crate) fn new(alloc: Global, tasks: &'a [Task]) -> Result<Tasks<'a>, NoMemory> {
         let message = Bytes::from_vec(vec![in alloc; 0u8; LONG_MESSAGE]?);
@@ -171,7 +179,7 @@ impl<'a> Tasks<'a> {
     }
 
     /// Does a caller's task in a session. Gives the nanoseconds that it takes; of rounds that wait
-    /// for the lock those of the longest, and 0 of a task that goes on beside another.
+    /// or pause those of the longest, and 0 of a task that goes on beside another.
     fn do_task<K: TokenId, G: Gate<K>, R: Wait + Clock>(
         &self,
         client: &mut Client<K, G, R>,
@@ -190,12 +198,13 @@ impl<'a> Tasks<'a> {
                 Round::Change => client.change(session)?,
                 Round::Digest => client.digest(session, &self.message)?,
                 Round::Wait => longest = client.wait(session)?.max(longest),
+                Round::Pause => longest = pause(client.rt)?.max(longest),
             }
         }
         match task {
             Task { rounds: None, .. } => Ok(0),
             Task {
-                round: Round::Wait,
+                round: Round::Wait | Round::Pause,
                 ..
             } => Ok(longest),
             _ => Ok(before.elapsed(client.rt)?.as_nanos()),

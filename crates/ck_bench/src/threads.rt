@@ -62,8 +62,10 @@ fn measure_tasks<R: Clock + Print + Runtime>(
 }
 
 /// Writes what callers take, by the clock where that is asked for: one asks `asks` times, all of
-/// four do, one asks beside another that changes the token; one and four change it a hundredth as
-/// often; one and four digest a long message, and one waits for the lock beside another that does.
+/// four do, one asks beside another that changes the token; four change it a hundredth as often,
+/// and one as often as all four, so that both journals grow alike; one and four digest a long
+/// message. Beside another that does, one waits for the lock, and one only reads the clock: what
+/// that is interrupted for is the system's.
 pub(crate) fn measure_together<R: Clock + Print + Runtime>(
     rt: R,
     alloc: Global,
@@ -75,13 +77,17 @@ pub(crate) fn measure_together<R: Clock + Print + Runtime>(
     measure_tasks(rt, alloc, "asks of four callers", &[ask; 4], is_timed)?;
     let beside = [ask, Task::beside(Round::Change)];
     measure_tasks(rt, alloc, "asks beside changes", &beside, is_timed)?;
+    let all_changes = Task::new(Round::Change, asks / 25);
+    measure_tasks(rt, alloc, "changes of one caller", &[all_changes], is_timed)?;
     let change = Task::new(Round::Change, asks / 100);
-    measure_tasks(rt, alloc, "changes of one caller", &[change], is_timed)?;
     measure_tasks(rt, alloc, "changes of four callers", &[change; 4], is_timed)?;
     let digest = Task::new(Round::Digest, asks / 100_000 + 1);
     measure_tasks(rt, alloc, "digests of one caller", &[digest], is_timed)?;
     measure_tasks(rt, alloc, "digests of four callers", &[digest; 4], is_timed)?;
     let wait = Task::new(Round::Wait, asks / 40);
     let beside = [wait, Task::beside(Round::Digest)];
-    measure_tasks(rt, alloc, "wait beside digests", &beside, is_timed)
+    measure_tasks(rt, alloc, "wait beside digests", &beside, is_timed)?;
+    let pause = Task::new(Round::Pause, asks / 20);
+    let beside = [pause, Task::beside(Round::Digest)];
+    measure_tasks(rt, alloc, "pause beside digests", &beside, is_timed)
 }
