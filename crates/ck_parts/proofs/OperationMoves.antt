@@ -28,7 +28,6 @@ use Rattle.std.proofs.lemmas.Bool.{true≢false}
 use Rattle.std.proofs.lemmas.Option.{cond_some}
 use Rattle.std.proofs.Math.Bool.{or-false}
 use Rattle.std.proofs.Math.Dec.{eqb-suc-zero}
-use Rattle.ck_journal.specs.Objects.{creates}
 use Rattle.ck_journal.specs.Pins.{about, is_about, is_user}
 use Rattle.ck_journal.specs.Sessions.{ends_operations}
 use Rattle.ck_journal.proofs.OperationMoves.{starts_none, ends_none, adds_none, starts_no_step}
@@ -200,15 +199,6 @@ module _ (e : Entry) (c : Call) (d : done e ≡ Some c) where
       ∙ ap (λ c. is_some (operation_step c)) called ∙ ap is_some quiet in
       operations-left h o agree e
       (λ k s. (starts_none e l k s, ends_none e l k s, adds_none e l k s))
-
-  creation-quiet : (c : Call) → creates (Some c) ≡ true
-      → ((effects_of (Some c)).operations ≡ false) × (operation_step c ≡ None)
-  creation-quiet (call.InitToken pin) t = cc
-  creation-quiet other t = (cc, cc)
-
-  pub operations-created : creates (Some c) ≡ true → (h : History) (o : OperationsState)
-      → OperationsAgree h o → OperationsAgree (e ◁ h) o
-  operations-created t h o agree = let q = creation-quiet c t in operations-kept h o q.0 q.1 agree
 
   -- one that ends operations, and makes no step on one
   ends-done : operation_step c ≡ None → (k : OperationKind) (s : ℕ) (t : Bool)
