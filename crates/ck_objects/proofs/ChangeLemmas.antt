@@ -181,7 +181,7 @@ flag-fixed c p template items a fixed fine =
     (value_at-with_given template (type_of a)
     (no-value-refused c p a template refused.0 refused.1 fine) items)
 
--- a template of this purpose that passes its checks, and so exposes no key
+-- a template of this purpose that passes its checks exposes no key, and keeps what protects it
 template-keeps : (p : Purpose) (template items : List Item) (later : Option RvError)
     → IsFixed p attribute.AlwaysSensitive → IsFixed p attribute.NeverExtractable
     → or_else (template_error (class_of items) p template)
@@ -213,39 +213,28 @@ template-keeps p template items later always never passes =
       never_extractable = flag-fixed c p template items attribute.NeverExtractable never fine;
     }
 
-always-sensitive-copy : IsFixed purpose.Copy attribute.AlwaysSensitive
+-- one that data objects don't have, and that is read-only in keys
+fixed : (p : Purpose) (a : Attribute)
+    → error_of_permission (permission class.Data p a) ≡ Some rv_error.AttributeTypeInvalid
+    → error_of_permission (permission class.SecretKey p a) ≡ Some rv_error.AttributeReadOnly
+    → IsFixed p a
 unfolding IsFixed
-always-sensitive-copy class.Data = (rv_error.AttributeTypeInvalid, refl)
-always-sensitive-copy class.SecretKey = (rv_error.AttributeReadOnly, refl)
-
-never-extractable-copy : IsFixed purpose.Copy attribute.NeverExtractable
-unfolding IsFixed
-never-extractable-copy class.Data = (rv_error.AttributeTypeInvalid, refl)
-never-extractable-copy class.SecretKey = (rv_error.AttributeReadOnly, refl)
-
-always-sensitive-set : IsFixed purpose.Set attribute.AlwaysSensitive
-unfolding IsFixed
-always-sensitive-set class.Data = (rv_error.AttributeTypeInvalid, refl)
-always-sensitive-set class.SecretKey = (rv_error.AttributeReadOnly, refl)
-
-never-extractable-set : IsFixed purpose.Set attribute.NeverExtractable
-unfolding IsFixed
-never-extractable-set class.Data = (rv_error.AttributeTypeInvalid, refl)
-never-extractable-set class.SecretKey = (rv_error.AttributeReadOnly, refl)
+fixed p a none never class.Data = (rv_error.AttributeTypeInvalid, none)
+fixed p a none never class.SecretKey = (rv_error.AttributeReadOnly, never)
 
 -- a copy keeps it
 pub copied-protection : (template items : List Item)
     → copied_error (class_of items) (protections_of items) template ≡ None
     → KeepsProtection items (with_given template items)
 copied-protection template items fine =
-    template-keeps purpose.Copy template items _ always-sensitive-copy never-extractable-copy fine
+    template-keeps purpose.Copy template items _ (fixed _ _ refl refl) (fixed _ _ refl refl) fine
 
 -- so does a change
 pub changed-protection : (template items : List Item)
     → changed_error (class_of items) (protections_of items) template ≡ None
     → KeepsProtection items (with_given template items)
 changed-protection template items fine =
-    template-keeps purpose.Set template items _ always-sensitive-set never-extractable-set fine
+    template-keeps purpose.Set template items _ (fixed _ _ refl refl) (fixed _ _ refl refl) fine
 
 -- and another state
 pub protection-in_state : (s : KeyState) (items : List Item)
