@@ -1,6 +1,6 @@
 -- What the calls do to operations
 use Rattle.std.proofs.Common.{◌≡◌, ℕ, Bool, true, false, cond, not, List, [], ◌∷◌, Option, Some}
-use Rattle.std.proofs.Common.{None, refl, sym, ap, ◌∙◌, length}
+use Rattle.std.proofs.Common.{None, refl, sym, ap, ◌∙◌, length, rules}
 use Rattle.std.specs.Prelude.{◌==◌, ◌&&◌, ◌||◌, is_some}
 use Rattle.ck_types.specs.declared.errors.RvError.{RvError}
 use Rattle.ck_types.specs.declared.errors.RvError.TheVariants as rv_error
@@ -54,30 +54,13 @@ pub record IsStepAlone (h : History) (c : Call) : Type 0 where
 pub step-alone : (h : History) (c : Call) (o : OperationStep) → operation_step c ≡ Some o
     → IsStepAlone h c
 step-alone h (call.InitToken pin) o e = cc
-step-alone h other o e = record {
-  sessions = cc;
-  objects = cc;
-  searches = cc;
-  unclosed = λ s. cc;
-  uncancelled = λ k s. cc;
-  about = cc;
-}
+step-alone h other o e = first_of (cc, search rules)
 
 -- a call that changes nothing makes no step either
 pub reading-alone : (h : History) (c : Call) (b : Body) → change.Nothing ≡ change_of h c b
     → IsStepAlone h c × (operation_step c ≡ None)
 reading-alone h (call.InitToken pin) b is = cc
-reading-alone h other b is = (
-  record {
-    sessions = cc;
-    objects = cc;
-    searches = cc;
-    unclosed = λ s. cc;
-    uncancelled = λ k s. cc;
-    about = cc;
-  },
-  cc,
-)
+reading-alone h other b is = first_of (cc, search rules)
 
 -- what an entry is of: its call and the reply's code and body
 abbrev pub entry : ℕ → Call → Rv → Body → Entry
