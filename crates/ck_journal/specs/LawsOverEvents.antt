@@ -56,12 +56,16 @@ NewObjectsHaveNewHandles =
     → AreSoundEvents limits h (answered e ∷ later) → (handle n : ℕ)
     → Names h handle n → GivesObject e handle → ⊥
 
--- no two creations return one handle
-abbrev pub ObjectHandlesAreGivenOnce : Type 0
-ObjectHandlesAreGivenOnce =
+-- no two entries give one handle
+abbrev pub AreGivenOnce : (Entry → ℕ → Type 0) → Type 0
+AreGivenOnce Gives =
     (limits : Ranges) (h : History) (first : Entry) (later : List Event) (second : Entry)
     → AreSoundEvents limits (first ◁ h) (answered second ∷ later) → (handle : ℕ)
-    → GivesObject first handle → GivesObject second handle → ⊥
+    → Gives first handle → Gives second handle → ⊥
+
+-- no two creations return one handle
+abbrev pub ObjectHandlesAreGivenOnce : Type 0
+ObjectHandlesAreGivenOnce = AreGivenOnce GivesObject
 
 -- ---- handles of sessions
 
@@ -72,46 +76,41 @@ pub record GivesSession (e : Entry) (handle : ℕ) : Type 0 where
 
 -- no two sessions are given one handle
 abbrev pub SessionHandlesAreGivenOnce : Type 0
-SessionHandlesAreGivenOnce =
-    (limits : Ranges) (h : History) (first : Entry) (later : List Event) (second : Entry)
-    → AreSoundEvents limits (first ◁ h) (answered second ∷ later) → (handle : ℕ)
-    → GivesSession first handle → GivesSession second handle → ⊥
+SessionHandlesAreGivenOnce = AreGivenOnce GivesSession
 
 -- ---- what protects keys
+
+-- so of an object's attributes at a front and those at every later one where it is there
+abbrev pub BetweenFronts : (List Item → List Item → Type 0) → Type 0
+BetweenFronts Holds =
+    (limits : Ranges) (h : History) (later : List Event) → AreSoundEvents limits h later
+    → (n : ℕ) (before now : List Item)
+    → object_at h n ≡ Some before → object_at (after_events h later) n ≡ Some now
+    → Holds before now
 
 -- a key that is sensitive at a front is sensitive at every later one where it is there
 abbrev pub SensitiveStays : Type 0
 SensitiveStays =
-    (limits : Ranges) (h : History) (later : List Event) → AreSoundEvents limits h later
-    → (n : ℕ) (before now : List Item)
-    → object_at h n ≡ Some before → object_at (after_events h later) n ≡ Some now
-    → is_sensitive_key before ≡ true → is_sensitive_key now ≡ true
+    BetweenFronts (λ before now. is_sensitive_key before ≡ true → is_sensitive_key now ≡ true)
 
 -- one that isn't extractable stays so
 abbrev pub UnextractableStays : Type 0
 UnextractableStays =
-    (limits : Ranges) (h : History) (later : List Event) → AreSoundEvents limits h later
-    → (n : ℕ) (before now : List Item)
-    → object_at h n ≡ Some before → object_at (after_events h later) n ≡ Some now
-    → is_extractable before ≡ false → is_extractable now ≡ false
+    BetweenFronts (λ before now. is_extractable before ≡ false → is_extractable now ≡ false)
 
 -- a key of which CKA_ALWAYS_SENSITIVE is true at a front was sensitive at every earlier one where
 -- it was there, and is at this one
 abbrev pub AlwaysSensitiveIsTrue : Type 0
 AlwaysSensitiveIsTrue =
-    (limits : Ranges) (h : History) (later : List Event) → AreSoundEvents limits h later
-    → (n : ℕ) (before now : List Item)
-    → object_at h n ≡ Some before → object_at (after_events h later) n ≡ Some now
-    → is_set now attribute.AlwaysSensitive ≡ true → is_sensitive_key before ≡ true
+    BetweenFronts (λ before now.
+    is_set now attribute.AlwaysSensitive ≡ true → is_sensitive_key before ≡ true)
 
 -- a key of which CKA_NEVER_EXTRACTABLE is true at a front was extractable at no earlier one, and
 -- isn't at this one
 abbrev pub NeverExtractableIsTrue : Type 0
 NeverExtractableIsTrue =
-    (limits : Ranges) (h : History) (later : List Event) → AreSoundEvents limits h later
-    → (n : ℕ) (before now : List Item)
-    → object_at h n ≡ Some before → object_at (after_events h later) n ≡ Some now
-    → is_set now attribute.NeverExtractable ≡ true → is_extractable before ≡ false
+    BetweenFronts (λ before now.
+    is_set now attribute.NeverExtractable ≡ true → is_extractable before ≡ false)
 
 -- ---- private keys
 

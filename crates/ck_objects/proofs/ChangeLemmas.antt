@@ -5,7 +5,7 @@ use Rattle.std.specs.Prelude.{◌==◌, find, option_and_then, option_map, unwra
 use Rattle.std.proofs.lemmas.Bool.{not-false, eqb-true}
 use Rattle.ck_types.specs.Numbers.{same_bytes}
 use Rattle.ck_objects.specs.Attributes.{type_of, form_of, permission, flag_bytes}
-use Rattle.ck_types.specs.Checks.{error_if, first_error}
+use Rattle.ck_types.specs.Checks.{error_if, first_error, or_else}
 use Rattle.ck_objects.specs.Templates.{value_at, value_or, flag_of, form_error, permission_error}
 use Rattle.ck_objects.specs.Templates.{template_error, has_conflict, flag_at, class_of}
 use Rattle.ck_objects.specs.Templates.{error_of_permission}
@@ -181,16 +181,25 @@ flag-fixed c p template items a fixed fine =
     (value_at-with_given template (type_of a)
     (no-value-refused c p a template refused.0 refused.1 fine) items)
 
-template-keeps : (c : Class) (p : Purpose) (template items : List Item)
+-- a template of this purpose that passes its checks exposes no key, and keeps what protects it
+template-keeps : (p : Purpose) (template items : List Item) (later : Option RvError)
     → IsFixed p attribute.AlwaysSensitive → IsFixed p attribute.NeverExtractable
-    → first_error (permission_error c p) template ≡ None
-    → exposes_key (protections_of items) template ≡ false
+    → or_else (template_error (class_of items) p template)
+    (or_else
+    (error_if (exposes_key (protections_of items) template) rv_error.AttributeReadOnly) later)
+    ≡ None
     → KeepsProtection items (with_given template items)
-template-keeps c p template items always never fine closed =
+template-keeps p template items later always never passes =
+    let c = class_of items in
+    let checks = or_else-none (template_error c p template) _ passes in
+    let fine = (template-passes c p template checks.0).1 in
+    let exposes = error_if (exposes_key (protections_of items) template)
+    rv_error.AttributeReadOnly in
     let parts = exposes-neither (is_set items attribute.Sensitive)
     (not (unwrap_or (flag_at template attribute.Sensitive) true))
     (is_set items attribute.Extractable)
-    (unwrap_or (flag_at template attribute.Extractable) false) closed in
+    (unwrap_or (flag_at template attribute.Extractable) false)
+    (error_if-none _ _ (or_else-none exposes later checks.1).0) in
     let sensitive = type_of attribute.Sensitive in
     let extractable = type_of attribute.Extractable in
     record {
@@ -204,49 +213,28 @@ template-keeps c p template items always never fine closed =
       never_extractable = flag-fixed c p template items attribute.NeverExtractable never fine;
     }
 
-always-sensitive-copy : IsFixed purpose.Copy attribute.AlwaysSensitive
+-- one that data objects don't have, and that is read-only in keys
+fixed : (p : Purpose) (a : Attribute)
+    → error_of_permission (permission class.Data p a) ≡ Some rv_error.AttributeTypeInvalid
+    → error_of_permission (permission class.SecretKey p a) ≡ Some rv_error.AttributeReadOnly
+    → IsFixed p a
 unfolding IsFixed
-always-sensitive-copy class.Data = (rv_error.AttributeTypeInvalid, refl)
-always-sensitive-copy class.SecretKey = (rv_error.AttributeReadOnly, refl)
-
-never-extractable-copy : IsFixed purpose.Copy attribute.NeverExtractable
-unfolding IsFixed
-never-extractable-copy class.Data = (rv_error.AttributeTypeInvalid, refl)
-never-extractable-copy class.SecretKey = (rv_error.AttributeReadOnly, refl)
-
-always-sensitive-set : IsFixed purpose.Set attribute.AlwaysSensitive
-unfolding IsFixed
-always-sensitive-set class.Data = (rv_error.AttributeTypeInvalid, refl)
-always-sensitive-set class.SecretKey = (rv_error.AttributeReadOnly, refl)
-
-never-extractable-set : IsFixed purpose.Set attribute.NeverExtractable
-unfolding IsFixed
-never-extractable-set class.Data = (rv_error.AttributeTypeInvalid, refl)
-never-extractable-set class.SecretKey = (rv_error.AttributeReadOnly, refl)
+fixed p a none never class.Data = (rv_error.AttributeTypeInvalid, none)
+fixed p a none never class.SecretKey = (rv_error.AttributeReadOnly, never)
 
 -- a copy keeps it
 pub copied-protection : (template items : List Item)
     → copied_error (class_of items) (protections_of items) template ≡ None
     → KeepsProtection items (with_given template items)
 copied-protection template items fine =
-    let parts = or_else-none (template_error (class_of items) purpose.Copy template) _ fine in
-    let exposes = error_if (exposes_key (protections_of items) template)
-    rv_error.AttributeReadOnly in
-    template-keeps (class_of items) purpose.Copy template items always-sensitive-copy
-    never-extractable-copy (template-passes (class_of items) purpose.Copy template parts.0).1
-    (error_if-none _ _ (or_else-none exposes _ parts.1).0)
+    template-keeps purpose.Copy template items _ (fixed _ _ refl refl) (fixed _ _ refl refl) fine
 
 -- so does a change
 pub changed-protection : (template items : List Item)
     → changed_error (class_of items) (protections_of items) template ≡ None
     → KeepsProtection items (with_given template items)
 changed-protection template items fine =
-    let parts = or_else-none (template_error (class_of items) purpose.Set template) _ fine in
-    let exposes = error_if (exposes_key (protections_of items) template)
-    rv_error.AttributeReadOnly in
-    template-keeps (class_of items) purpose.Set template items always-sensitive-set
-    never-extractable-set (template-passes (class_of items) purpose.Set template parts.0).1
-    (error_if-none _ _ (or_else-none exposes None parts.1).0)
+    template-keeps purpose.Set template items _ (fixed _ _ refl refl) (fixed _ _ refl refl) fine
 
 -- and another state
 pub protection-in_state : (s : KeyState) (items : List Item)

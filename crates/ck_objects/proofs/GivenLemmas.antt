@@ -13,6 +13,7 @@ use Rattle.ck_objects.specs.Templates.{value_at, value_or, flag_at, flag_of, for
 use Rattle.ck_objects.specs.Templates.{value_error}
 use Rattle.ck_objects.specs.Templates.{permission_error, error_of_permission, class_of}
 use Rattle.ck_objects.specs.Templates.{template_error, has_conflict, created_error}
+use Rattle.ck_objects.specs.Templates.{new_object_error}
 use Rattle.ck_objects.specs.Records.{copied_error}
 use Rattle.ck_objects.specs.declared.attributes.Attribute.{Attribute}
 use Rattle.ck_objects.specs.declared.attributes.Attribute.TheVariants as attribute
@@ -195,36 +196,32 @@ key_type-kept items fine =
 
 -- ---- a template that passes the checks of a creation
 
--- its items have no fault in form
-pub form-created : (items : List Item) → created_error items ≡ None
-    → first_error form_error items ≡ None
-form-created items fine = (or_else-none (first_error form_error items) _ fine).0
+-- its items have no fault in form, it gives a class, and no attribute that it may not give, and it
+-- passes the checks of its class
+pub record PassesCreation (items : List Item) : Type 0 where
+  pub formed : first_error form_error items ≡ None
+  pub class : is_none (value_at items (type_of attribute.Class)) ≡ false
+  pub permitted : first_error (permission_error (class_of items) purpose.Create) items ≡ None
+  pub object : new_object_error (class_of items) items ≡ None
 
--- it gives a class
-pub class-created : (items : List Item) → created_error items ≡ None
-    → is_none (value_at items (type_of attribute.Class)) ≡ false
-class-created items fine =
-    let unlike = (or_else-none (first_error form_error items) _ fine).1 in
-    let rest =
-    (or_else-none (error_if (has_conflict items) rv_error.TemplateInconsistent) _ unlike).1 in
-    error_if-none _ _
-    (or_else-none
+pub creation-passes : (items : List Item) → created_error items ≡ None → PassesCreation items
+creation-passes items fine =
+    let form = or_else-none (first_error form_error items) _ fine in
+    let unlike =
+    or_else-none (error_if (has_conflict items) rv_error.TemplateInconsistent) _ form.1 in
+    let given =
+    or_else-none
     (error_if (is_none (value_at items (type_of attribute.Class))) rv_error.TemplateIncomplete) _
-    rest).0
-
--- and no attribute that it may not give
-pub permitted-created : (items : List Item) → created_error items ≡ None
-    → first_error (permission_error (class_of items) purpose.Create) items ≡ None
-permitted-created items fine =
-    let unlike = (or_else-none (first_error form_error items) _ fine).1 in
-    let rest =
-    (or_else-none (error_if (has_conflict items) rv_error.TemplateInconsistent) _ unlike).1 in
-    let permitted =
-    (or_else-none
-    (error_if (is_none (value_at items (type_of attribute.Class))) rv_error.TemplateIncomplete) _
-    rest).1 in
-    (or_else-none (first_error (permission_error (class_of items) purpose.Create) items) _
-    permitted).0
+    unlike.1 in
+    let may =
+    or_else-none (first_error (permission_error (class_of items) purpose.Create) items) _
+    given.1 in
+    record {
+      formed = form.0;
+      class = error_if-none _ _ given.0;
+      permitted = may.0;
+      object = (or_else-none (new_object_error (class_of items) items) None may.1).0;
+    }
 
 -- a class that isn't that of keys is that of data objects
 data-class : (value : List ℕ) → is_of_form form.Class value ≡ true
@@ -247,7 +244,7 @@ data-created items data_class fine =
     or-default (value_at items (type_of attribute.Class)) (number_bytes 0)
     (λ value e. data-class value
     (is_of_form-value attribute.Class value
-    (value_error-given attribute.Class value items (form-created items fine) e))
+    (value_error-given attribute.Class value items (creation-passes items fine).formed e))
     (subst (λ o. cond (same_bytes (unwrap_or o []) (number_bytes 4)) class.SecretKey class.Data
     ≡ class.Data) e data_class))
 
@@ -262,7 +259,7 @@ pub data-class-given : (items : List Item) → class_of items ≡ class.Data
     → value_or items (type_of attribute.Class) [] ≡ number_bytes 0
 data-class-given items data_class fine =
     other-default (value_at items (type_of attribute.Class)) (number_bytes 0) [] (number_bytes 0)
-    (class-created items fine) (data-created items data_class fine)
+    (creation-passes items fine).class (data-created items data_class fine)
 
 -- ---- a template that passes the checks of a copy or a change
 

@@ -36,9 +36,9 @@ use Rattle.ck_objects.specs.declared.keys.Origin.{Origin}
 use Rattle.ck_objects.specs.declared.object_flags.Placement.{Placement}
 use Rattle.ck_types.proofs.CheckLemmas.{or_else-none, error_if-none}
 use Rattle.ck_objects.proofs.FlagLemmas.{same_bytes-flag_bytes}
-use Rattle.ck_objects.proofs.GivenLemmas.{no-value, key_type-kept, key_type-given, form-created}
-use Rattle.ck_objects.proofs.GivenLemmas.{permitted-created, other-default, data-class-given}
-use Rattle.ck_objects.proofs.GivenLemmas.{class-created, data-created}
+use Rattle.ck_objects.proofs.GivenLemmas.{no-value, key_type-kept, key_type-given}
+use Rattle.ck_objects.proofs.GivenLemmas.{creation-passes, other-default, data-class-given}
+use Rattle.ck_objects.proofs.GivenLemmas.{data-created}
 
 -- ---- what a key keeps
 
@@ -83,7 +83,7 @@ permitted-key : (items : List Item) → class_of items ≡ class.SecretKey
     → first_error (permission_error class.SecretKey purpose.Create) items ≡ None
 permitted-key items key_class fine =
     subst (λ c. first_error (permission_error c purpose.Create) items ≡ None) key_class
-    (permitted-created items fine)
+    (creation-passes items fine).permitted
 
 kept-value : (o : Option (List ℕ)) (value : List ℕ) → value ≡ unwrap_or o []
     → unwrap_or o value ≡ value
@@ -98,8 +98,8 @@ creation-keeps items key key_class fine same =
     let permitted = permitted-key items key_class fine in
     record {
       class = other-default (value_at items (type_of attribute.Class)) [] (number_bytes 4)
-          (number_bytes 4) (class-created items fine) (key-class-given items key_class);
-      key_type = key_type-kept items (form-created items fine);
+          (number_bytes 4) (creation-passes items fine).class (key-class-given items key_class);
+      key_type = key_type-kept items (creation-passes items fine).formed;
       value = kept-value (value_at items (type_of attribute.Value)) key.value same;
       value_len = keeps-unpermitted purpose.Create attribute.ValueLen items _ refl permitted;
       local = keeps-unpermitted purpose.Create attribute.Local items _ refl permitted;
@@ -144,18 +144,7 @@ key_type-created items fine =
 new-key : (items : List Item) → class_of items ≡ class.SecretKey → created_error items ≡ None
     → new_key_error items ≡ None
 new-key items key_class fine =
-    let unlike = (or_else-none (first_error form_error items) _ fine).1 in
-    let rest =
-    (or_else-none (error_if (has_conflict items) rv_error.TemplateInconsistent) _ unlike).1 in
-    let permitted =
-    (or_else-none
-    (error_if (is_none (value_at items (type_of attribute.Class))) rv_error.TemplateIncomplete) _
-    rest).1 in
-    let new =
-    (or_else-none (first_error (permission_error (class_of items) purpose.Create) items) _
-    permitted).1 in
-    subst (λ c. new_object_error c items ≡ None) key_class
-    (or_else-none (new_object_error (class_of items) items) None new).0
+    subst (λ c. new_object_error c items ≡ None) key_class (creation-passes items fine).object
 
 -- how a created key came to be
 abbrev pub created_origin : Origin
@@ -191,7 +180,7 @@ created-key template value key_class fine same =
     let kept =
     creation-keeps template (record (blank_key created_origin) { value = value }) key_class fine
     same in
-    let form = form-created template fine in
+    let form = (creation-passes template fine).formed in
     key-items-created template value kept.class (key-class-given template key_class) kept.key_type
     (key_type-given template [] form (key_type-created template (new-key template key_class fine)))
     kept.value same kept.value_len

@@ -2,7 +2,7 @@
 use Rattle.std.proofs.Common.{◌≡◌, ℕ, Bool, false, List, Some, None, refl, sym, ap}
 use Rattle.std.specs.Prelude.{unwrap_or}
 use Rattle.ck_types.specs.Numbers.{number_bytes}
-use Rattle.ck_objects.specs.Attributes.{type_of, permission, flag_bytes}
+use Rattle.ck_objects.specs.Attributes.{type_of, form_of, permission, flag_bytes}
 use Rattle.ck_types.specs.Checks.{first_error}
 use Rattle.ck_objects.specs.KeyStates.{state_number}
 use Rattle.ck_objects.specs.Templates.{value_or, flag_at, form_error, template_error}
@@ -14,6 +14,7 @@ use Rattle.ck_objects.specs.declared.attributes.Attribute.TheVariants as attribu
 use Rattle.ck_objects.specs.declared.attributes.Class.TheVariants as class
 use Rattle.ck_objects.specs.declared.attributes.Purpose.TheVariants as purpose
 use Rattle.ck_objects.specs.declared.data_objects.Data.{Data}
+use Rattle.ck_objects.specs.declared.forms.Form.TheVariants as form
 use Rattle.ck_objects.specs.declared.items.Item.{Item}
 use Rattle.ck_objects.specs.declared.key_states.KeyState.{KeyState}
 use Rattle.ck_objects.specs.declared.keys.Key.{Key}
@@ -22,69 +23,6 @@ use Rattle.ck_objects.proofs.KeyLemmas.{keeps-unpermitted}
 
 module _ (items : List Item) (k : Key) (token private modifiable copyable destroyable : Bool)
     (state : KeyState) where
-  key-items : KeepsKey items k
-      → flag_bytes token ≡ value_or items (type_of attribute.Token) (flag_bytes k.token)
-      → flag_bytes private ≡ value_or items (type_of attribute.Private) (flag_bytes k.private)
-      → flag_bytes modifiable ≡ value_or items (type_of attribute.Modifiable)
-      (flag_bytes k.modifiable)
-      → flag_bytes copyable ≡ value_or items (type_of attribute.Copyable) (flag_bytes k.copyable)
-      → flag_bytes destroyable
-      ≡ value_or items (type_of attribute.Destroyable) (flag_bytes k.destroyable)
-      → number_bytes (state_number state)
-      ≡ value_or items (type_of attribute.KeyState) (number_bytes (state_number k.state))
-      → flag_bytes (unwrap_or (flag_at items attribute.Sensitive) k.sensitive)
-      ≡ value_or items (type_of attribute.Sensitive) (flag_bytes k.sensitive)
-      → flag_bytes (unwrap_or (flag_at items attribute.Encrypt) k.encrypt)
-      ≡ value_or items (type_of attribute.Encrypt) (flag_bytes k.encrypt)
-      → flag_bytes (unwrap_or (flag_at items attribute.Decrypt) k.decrypt)
-      ≡ value_or items (type_of attribute.Decrypt) (flag_bytes k.decrypt)
-      → flag_bytes (unwrap_or (flag_at items attribute.Wrap) k.wrap)
-      ≡ value_or items (type_of attribute.Wrap) (flag_bytes k.wrap)
-      → flag_bytes (unwrap_or (flag_at items attribute.Unwrap) k.unwrap)
-      ≡ value_or items (type_of attribute.Unwrap) (flag_bytes k.unwrap)
-      → flag_bytes (unwrap_or (flag_at items attribute.Sign) k.sign)
-      ≡ value_or items (type_of attribute.Sign) (flag_bytes k.sign)
-      → flag_bytes (unwrap_or (flag_at items attribute.Verify) k.verify)
-      ≡ value_or items (type_of attribute.Verify) (flag_bytes k.verify)
-      → flag_bytes (unwrap_or (flag_at items attribute.Derive) k.derive)
-      ≡ value_or items (type_of attribute.Derive) (flag_bytes k.derive)
-      → flag_bytes (unwrap_or (flag_at items attribute.Extractable) k.extractable)
-      ≡ value_or items (type_of attribute.Extractable) (flag_bytes k.extractable)
-      → key_items (changed_key items (record k {
-        token = token;
-        private = private;
-        modifiable = modifiable;
-        copyable = copyable;
-        destroyable = destroyable;
-        state = state;
-      })) ≡ with_given items (key_items k)
-  key-items kept t p m c d s f1 f2 f3 f4 f5 f6 f7 f8 f9 =
-      rw (
-        t,
-        p,
-        m,
-        c,
-        d,
-        s,
-        f1,
-        f2,
-        f3,
-        f4,
-        f5,
-        f6,
-        f7,
-        f8,
-        f9,
-        kept.class,
-        kept.key_type,
-        kept.value,
-        kept.value_len,
-        kept.local,
-        kept.never_extractable,
-        kept.always_sensitive,
-        kept.generation,
-      ) refl
-
   -- a key with all values that the items give, where they give what it keeps as it is
   pub given-key : first_error form_error items ≡ None → KeepsKey items k
       → flag_bytes token ≡ value_or items (type_of attribute.Token) (flag_bytes k.token)
@@ -105,16 +43,36 @@ module _ (items : List Item) (k : Key) (token private modifiable copyable destro
         state = state;
       })) ≡ with_given items (key_items k)
   given-key formed kept t p m c d s =
-      key-items kept t p m c d s
-      (flag-given items attribute.Sensitive k.sensitive refl formed)
-      (flag-given items attribute.Encrypt k.encrypt refl formed)
-      (flag-given items attribute.Decrypt k.decrypt refl formed)
-      (flag-given items attribute.Wrap k.wrap refl formed)
-      (flag-given items attribute.Unwrap k.unwrap refl formed)
-      (flag-given items attribute.Sign k.sign refl formed)
-      (flag-given items attribute.Verify k.verify refl formed)
-      (flag-given items attribute.Derive k.derive refl formed)
-      (flag-given items attribute.Extractable k.extractable refl formed)
+      rw (
+        t,
+        p,
+        m,
+        c,
+        d,
+        s,
+        given attribute.Sensitive k.sensitive refl,
+        given attribute.Encrypt k.encrypt refl,
+        given attribute.Decrypt k.decrypt refl,
+        given attribute.Wrap k.wrap refl,
+        given attribute.Unwrap k.unwrap refl,
+        given attribute.Sign k.sign refl,
+        given attribute.Verify k.verify refl,
+        given attribute.Derive k.derive refl,
+        given attribute.Extractable k.extractable refl,
+        kept.class,
+        kept.key_type,
+        kept.value,
+        kept.value_len,
+        kept.local,
+        kept.never_extractable,
+        kept.always_sensitive,
+        kept.generation,
+      ) refl
+    where
+      given : (a : Attribute) (other : Bool) → form_of a ≡ form.Flag
+          → flag_bytes (unwrap_or (flag_at items a) other)
+          ≡ value_or items (type_of a) (flag_bytes other)
+      given a other flag = flag-given items a other flag formed
 
 -- a change gives a key nothing else
 pub changed-key : (items : List Item) (k : Key) → template_error class.SecretKey purpose.Set

@@ -1,6 +1,6 @@
 -- Which call a change is of
 use Rattle.std.proofs.Common.{◌≡◌, ℕ, Bool, true, false, cond, Option, Some, None, refl, sym, ap}
-use Rattle.std.proofs.Common.{◌∙◌, subst}
+use Rattle.std.proofs.Common.{◌∙◌, subst, rules}
 use Rattle.std.specs.Prelude.{map, unwrap_or}
 use Rattle.ck_objects.specs.KeyStates.{state_of_number}
 use Rattle.ck_types.specs.Mechanisms.{digest_hash}
@@ -153,46 +153,14 @@ module _ (h : History) (b : Body) where
   change-of (call.SetAttributeValue session object template) = (session, object, refl, refl)
   change-of (call.SetKeyState session key n) = (session, key, n, refl, refl, refl)
   change-of (call.DestroyObject session object) = (session, object, refl, refl)
-  change-of (call.FindObjectsInit session template) = record {
-    starts = λ s. refl;
-    ends = λ s. refl;
-    finds = λ numbers is. cc;
-    asks = λ s. refl;
-    sessions = refl;
-    objects = refl;
-    operations = refl;
-    step = refl;
-  }
+  change-of (call.FindObjectsInit session template) = search rules
   change-of (call.FindObjects session max) = (max, refl, refl)
-  change-of (call.FindObjectsFinal session) = record {
-    starts = λ s. refl;
-    ends = λ s. refl;
-    finds = λ numbers is. cc;
-    asks = λ s. refl;
-    sessions = refl;
-    objects = refl;
-    operations = refl;
-    step = refl;
-  }
+  change-of (call.FindObjectsFinal session) = search rules
   change-of (call.DigestInit session mechanism) = (mechanism, refl, refl)
   change-of (call.DigestUpdate session bytes) = refl
-  change-of (call.SignInit session mechanism key) =
-      λ limits. (
-        mechanism,
-        key,
-        refl,
-        record
-            { step = refl; error = refl; computation = refl; key = refl },
-      )
+  change-of (call.SignInit session mechanism key) = λ limits. (mechanism, key, refl, search rules)
   change-of (call.SignUpdate session bytes) = refl
-  change-of (call.VerifyInit session mechanism key) =
-      λ limits. (
-        mechanism,
-        key,
-        refl,
-        record
-            { step = refl; error = refl; computation = refl; key = refl },
-      )
+  change-of (call.VerifyInit session mechanism key) = λ limits. (mechanism, key, refl, search rules)
   change-of (call.VerifyUpdate session bytes) = refl
   change-of (call.SessionCancel session flags) = refl
   change-of other = tt

@@ -1,6 +1,6 @@
 -- What the calls do to operations
 use Rattle.std.proofs.Common.{◌≡◌, ℕ, Bool, true, false, cond, not, List, [], ◌∷◌, Option, Some}
-use Rattle.std.proofs.Common.{None, refl, sym, ap, ◌∙◌, length}
+use Rattle.std.proofs.Common.{None, refl, sym, ap, ◌∙◌, length, rules}
 use Rattle.std.specs.Prelude.{◌==◌, ◌&&◌, ◌||◌, is_some}
 use Rattle.ck_types.specs.declared.errors.RvError.{RvError}
 use Rattle.ck_types.specs.declared.errors.RvError.TheVariants as rv_error
@@ -28,7 +28,6 @@ use Rattle.std.proofs.lemmas.Bool.{true≢false}
 use Rattle.std.proofs.lemmas.Option.{cond_some}
 use Rattle.std.proofs.Math.Bool.{or-false}
 use Rattle.std.proofs.Math.Dec.{eqb-suc-zero}
-use Rattle.ck_journal.specs.Objects.{creates}
 use Rattle.ck_journal.specs.Pins.{about, is_about, is_user}
 use Rattle.ck_journal.specs.Sessions.{ends_operations}
 use Rattle.ck_journal.proofs.OperationMoves.{starts_none, ends_none, adds_none, starts_no_step}
@@ -55,30 +54,13 @@ pub record IsStepAlone (h : History) (c : Call) : Type 0 where
 pub step-alone : (h : History) (c : Call) (o : OperationStep) → operation_step c ≡ Some o
     → IsStepAlone h c
 step-alone h (call.InitToken pin) o e = cc
-step-alone h other o e = record {
-  sessions = cc;
-  objects = cc;
-  searches = cc;
-  unclosed = λ s. cc;
-  uncancelled = λ k s. cc;
-  about = cc;
-}
+step-alone h other o e = first_of (cc, search rules)
 
 -- a call that changes nothing makes no step either
 pub reading-alone : (h : History) (c : Call) (b : Body) → change.Nothing ≡ change_of h c b
     → IsStepAlone h c × (operation_step c ≡ None)
 reading-alone h (call.InitToken pin) b is = cc
-reading-alone h other b is = (
-  record {
-    sessions = cc;
-    objects = cc;
-    searches = cc;
-    unclosed = λ s. cc;
-    uncancelled = λ k s. cc;
-    about = cc;
-  },
-  cc,
-)
+reading-alone h other b is = first_of (cc, search rules)
 
 -- what an entry is of: its call and the reply's code and body
 abbrev pub entry : ℕ → Call → Rv → Body → Entry
@@ -200,15 +182,6 @@ module _ (e : Entry) (c : Call) (d : done e ≡ Some c) where
       ∙ ap (λ c. is_some (operation_step c)) called ∙ ap is_some quiet in
       operations-left h o agree e
       (λ k s. (starts_none e l k s, ends_none e l k s, adds_none e l k s))
-
-  creation-quiet : (c : Call) → creates (Some c) ≡ true
-      → ((effects_of (Some c)).operations ≡ false) × (operation_step c ≡ None)
-  creation-quiet (call.InitToken pin) t = cc
-  creation-quiet other t = (cc, cc)
-
-  pub operations-created : creates (Some c) ≡ true → (h : History) (o : OperationsState)
-      → OperationsAgree h o → OperationsAgree (e ◁ h) o
-  operations-created t h o agree = let q = creation-quiet c t in operations-kept h o q.0 q.1 agree
 
   -- one that ends operations, and makes no step on one
   ends-done : operation_step c ≡ None → (k : OperationKind) (s : ℕ) (t : Bool)

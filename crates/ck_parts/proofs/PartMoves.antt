@@ -1,7 +1,7 @@
 -- How sessions and objects keep agreeing with the history where a change is carried out
 use Rattle.std.proofs.Common.{◌≡◌, ℕ, Bool, true, false, cond, List, [], ◌∷◌, Option, Some, None}
 use Rattle.std.proofs.Common.{refl, ap, ◌∙◌}
-use Rattle.std.specs.Prelude.{option_and_then, unwrap_or, is_none, if◌then◌else◌}
+use Rattle.std.specs.Prelude.{option_and_then, unwrap_or, is_none, if◌then◌else◌, ◌==◌, ◌&&◌}
 use Rattle.std.specs.Option.{option_map_or}
 use Rattle.ck_types.specs.Checks.{error_if, or_else, first_of}
 use Rattle.ck_objects.specs.KeyStates.{state_of_number}
@@ -47,38 +47,75 @@ use Rattle.ck_sessions.proofs.Moves.{sessions-left}
 use Rattle.ck_sessions.specs.Agreement.{SessionsState, SessionsAgree}
 use Rattle.ck_store.proofs.Moves.{objects-left}
 use Rattle.ck_store.specs.Agreement.{StoreState, StoreAgrees}
-use Rattle.ck_journal.specs.OperationCalls.{OperationStep, operation_step}
+use Rattle.ck_journal.specs.OperationCalls.{OperationStep, operation_step, same_kind}
 use Rattle.ck_journal.specs.Operations.{is_active, hmac_with}
 use Rattle.ck_mac.specs.Computations.{hmac_by}
-use Rattle.ck_parts.proofs.OperationMoves.{nobody-tried, IsStepAlone, step-alone, reading-alone}
-use Rattle.ck_parts.proofs.OperationMoves.{step-no_try, of-done}
+use Rattle.ck_operations.specs.Agreement.{OperationsState, OperationsAgree}
+use Rattle.ck_operations.specs.Moves.{Stay, End, Does}
+use Rattle.ck_parts.specs.Agreement.{PartsAgree}
+use Rattle.ck_parts.specs.declared.parts.Parts.{Parts}
+use Rattle.ck_parts.proofs.OperationMoves.{nobody-tried, step-alone, reading-alone, operations-kept}
+use Rattle.ck_parts.proofs.OperationMoves.{step-no_try, of-done, finished-is, finish-does}
 use Rattle.ck_parts.specs.Changes.{change_of, wrong_try_change, refused_by, effect, effect_by}
 use Rattle.ck_parts.specs.declared.changes.Change.TheVariants as change
 
--- ---- the part that a call leaves as it is
+-- ---- a call that was answered OK and changes one part only
 
-module _ (h : History) (e : Entry) (c : Call) (d : done e ≡ Some c) where
-  pub sessions-kept : (s : SessionsState) → (effects_of (Some c)).sessions ≡ false
-      → (effects_of (Some c)).searches ≡ false
-      → SessionsAgree h s → SessionsAgree (e ◁ h) s
-  sessions-kept s fixed idle agree =
-      sessions-left h s agree e (ap (λ o. (effects_of o).sessions) d ∙ fixed)
+module _ (h : History) (e : Entry) (c : Call) (d : done e ≡ Some c) (p : Parts)
+    (agree : PartsAgree h p) where
+  sessions-kept : (effects_of (Some c)).sessions ≡ false → (effects_of (Some c)).searches ≡ false
+      → SessionsAgree (e ◁ h) p.sessions
+  sessions-kept fixed idle =
+      sessions-left h _ agree.sessions e (ap (λ o. (effects_of o).sessions) d ∙ fixed)
       (ap (λ o. (effects_of o).searches) d ∙ idle)
       (λ u. ap (is_about u h) (wrong_try-done e c d))
 
-  pub objects-kept : (o : StoreState) → (effects_of (Some c)).objects ≡ false → StoreAgrees h o
-      → StoreAgrees (e ◁ h) o
-  objects-kept o fixed agree = objects-left h o agree e (ap (λ o. (effects_of o).objects) d ∙ fixed)
+  objects-kept : (effects_of (Some c)).objects ≡ false → StoreAgrees (e ◁ h) p.objects
+  objects-kept fixed =
+      objects-left h _ agree.objects e (ap (λ o. (effects_of o).objects) d ∙ fixed)
 
-  creation-kept : (c : Call) → creates (Some c) ≡ true
+  -- the sessions
+  pub sessions-only : (effects_of (Some c)).objects ≡ false
+      → (effects_of (Some c)).operations ≡ false → operation_step c ≡ None
+      → (s : SessionsState) → SessionsAgree (e ◁ h) s
+      → PartsAgree (e ◁ h) (record p { sessions = s })
+  sessions-only fixed quiet idle s sessions = record {
+    sessions = sessions;
+    objects = objects-kept fixed;
+    operations = operations-kept e c d h _ quiet idle agree.operations;
+  }
+
+  -- the objects
+  pub objects-only : (effects_of (Some c)).sessions ≡ false → (effects_of (Some c)).searches ≡ false
+      → (effects_of (Some c)).operations ≡ false → operation_step c ≡ None
+      → (o : StoreState) → StoreAgrees (e ◁ h) o → PartsAgree (e ◁ h) (record p { objects = o })
+  objects-only fixed still quiet idle o objects = record {
+    sessions = sessions-kept fixed still;
+    objects = objects;
+    operations = operations-kept e c d h _ quiet idle agree.operations;
+  }
+
+  -- the operations
+  pub operations-only : (effects_of (Some c)).sessions ≡ false
+      → (effects_of (Some c)).searches ≡ false → (effects_of (Some c)).objects ≡ false
+      → (o : OperationsState) → OperationsAgree (e ◁ h) o
+      → PartsAgree (e ◁ h) (record p { operations = o })
+  operations-only fixed still unmoved o operations = record {
+    sessions = sessions-kept fixed still;
+    objects = objects-kept unmoved;
+    operations = operations;
+  }
+
+  creation-alone : (c : Call) → creates (Some c) ≡ true
       → ((effects_of (Some c)).sessions ≡ false) × ((effects_of (Some c)).searches ≡ false)
-  creation-kept (call.InitToken pin) t = cc
-  creation-kept other t = (cc, cc)
+      × ((effects_of (Some c)).operations ≡ false) × (operation_step c ≡ None)
+  creation-alone (call.InitToken pin) t = cc
+  creation-alone other t = (cc, cc, cc, cc)
 
-  -- a creation leaves sessions
-  pub sessions-created : creates (Some c) ≡ true → (s : SessionsState) → SessionsAgree h s
-      → SessionsAgree (e ◁ h) s
-  sessions-created t s agree = let k = creation-kept c t in sessions-kept s k.0 k.1 agree
+  -- a creation changes the objects
+  pub objects-created : creates (Some c) ≡ true → (o : StoreState) → StoreAgrees (e ◁ h) o
+      → PartsAgree (e ◁ h) (record p { objects = o })
+  objects-created t = let k = creation-alone c t in objects-only k.0 k.1 k.2 k.3
 
 -- ---- nothing changes
 
@@ -323,22 +360,34 @@ hmac-passed k h session mechanism key e =
 
 -- ---- a step on an operation
 
--- leaves sessions and objects
-module _ (h : History) (e : Entry) (o : OperationStep) (is : operation_step e.call ≡ Some o) where
-  quiet : IsStepAlone h e.call
-  quiet = step-alone h e.call o is
+-- it changes the operations only
+pub step-only : (h : History) (e : Entry) (o : OperationStep) → operation_step e.call ≡ Some o
+    → (p : Parts) → PartsAgree h p → (q : OperationsState) → OperationsAgree (e ◁ h) q
+    → PartsAgree (e ◁ h) (record p { operations = q })
+step-only h e o is p agree q operations =
+    let quiet = step-alone h e.call o is in
+    record {
+      sessions = sessions-left h _ agree.sessions e
+          (of-done (λ d. (effects_of d).sessions) false e.call e.reply.rv quiet.sessions refl)
+          (of-done (λ d. (effects_of d).searches) false e.call e.reply.rv quiet.searches refl)
+          (nobody-tried h (is_wrong_pin e.reply.rv) e.call quiet.about);
+      objects = objects-left h _ agree.objects e
+          (of-done (λ d. (effects_of d).objects) false e.call e.reply.rv quiet.objects refl);
+      operations = operations;
+    }
 
-  pub step-sessions : (s : SessionsState) → SessionsAgree h s → SessionsAgree (e ◁ h) s
-  step-sessions s agree =
-      sessions-left h s agree e
-      (of-done (λ d. (effects_of d).sessions) false e.call e.reply.rv quiet.sessions refl)
-      (of-done (λ d. (effects_of d).searches) false e.call e.reply.rv quiet.searches refl)
-      (nobody-tried h (is_wrong_pin e.reply.rv) e.call quiet.about)
-
-  pub step-objects : (s : StoreState) → StoreAgrees h s → StoreAgrees (e ◁ h) s
-  step-objects s agree =
-      objects-left h s agree e
-      (of-done (λ d. (effects_of d).objects) false e.call e.reply.rv quiet.objects refl)
+-- one that ends its operation or leaves it changes nothing else
+pub finish-only : (h : History) (e : Entry) (k : OperationKind) (session : ℕ) (last : Bool)
+    → change.FinishOperation k session last ≡ effect h e.call e.reply
+    → (p : Parts) → PartsAgree h p → (q : OperationsState)
+    → (((l : OperationKind) (s : ℕ)
+    → Does (cond (last && (same_kind k l && session == s)) End Stay) e l s)
+    → OperationsAgree (e ◁ h) q)
+    → PartsAgree (e ◁ h) (record p { operations = q })
+finish-only h e k session last is p agree q moved =
+    let f = finished-is h e.call e.reply.rv e.reply.body k session last is in
+    step-only h e _ f.is p agree q
+    (moved (finish-does h e.caller e.call e.reply.rv e.reply.body k session last f))
 
 -- an HMAC by its parts
 pub hmac-is : (made : Hash) (key : List ℕ) (len : ℕ) (mechanism : Mechanism) (value : List ℕ)

@@ -32,6 +32,22 @@ use Rattle.ck_store.specs.Rows.{is_session_row, is_private_session_row, with_att
 use Rattle.ck_store.specs.Rows.{with_key_state}
 use Rattle.ck_store.proofs.Readings.{names-number, named_attributes-number}
 
+-- a test of a row that reads its owner, where that is the session or none
+by_owner : (test : ObjectRow → Bool) (ends : Bool → Bool) (k creator : ℕ) (attributes : List Item)
+    (t : Bool)
+    → ends true ≡ test (record { number = k; session = Some creator; attributes = attributes })
+    → ends false ≡ test (record { number = k; session = None; attributes = attributes })
+    → cond (ends t) None (Some attributes)
+    ≡ cond (test (record {
+      number = k;
+      session = cond t (Some creator) None;
+      attributes = attributes;
+    })) None (Some attributes)
+by_owner test ends k creator attributes true one none =
+    ap (λ t. cond t None (Some attributes)) one
+by_owner test ends k creator attributes false one none =
+    ap (λ t. cond t None (Some attributes)) none
+
 module _ (h : History) (old : StoreState) (agree : StoreAgrees h old) (e : Entry) where
   -- an entry that leaves objects as they are
   pub objects-left : (effects e).objects ≡ false → StoreAgrees (e ◁ h) old
@@ -117,55 +133,24 @@ module _ (h : History) (old : StoreState) (agree : StoreAgrees h old) (e : Entry
           → StoreAgrees (e ◁ h) new
       StoreAgrees-closed session d rows =
           StoreAgrees-ended (call.CloseSession session) d refl count (is_of_session session)
-          (λ k attributes is. of_session (is_session_object attributes) (session_of h k) attributes)
-          rows
-        where
-          of_session : (t : Bool) (creator : ℕ) (attributes : List Item)
-              → cond (t && session == creator) None (Some attributes)
-              ≡ cond (is_of_session session
-              (record {
-                number = 0;
-                session = cond t (Some creator) None;
-                attributes = attributes;
-              })) None (Some attributes)
-          of_session true creator attributes = refl
-          of_session false creator attributes = refl
+          (λ k attributes is. by_owner (is_of_session session) (λ t. t && session == session_of h k)
+          k (session_of h k) attributes (is_session_object attributes) refl refl) rows
 
       pub StoreAgrees-all_closed : done e ≡ Some call.CloseAllSessions
           → new.rows ≡ filter (λ row. not (is_session_row row)) old.rows → StoreAgrees (e ◁ h) new
       StoreAgrees-all_closed d rows =
           StoreAgrees-ended call.CloseAllSessions d refl count is_session_row
-          (λ k attributes is. of_any (is_session_object attributes) (session_of h k) attributes)
-          rows
-        where
-          of_any : (t : Bool) (creator : ℕ) (attributes : List Item) → cond t None (Some attributes)
-              ≡ cond (is_session_row
-              (record {
-                number = 0;
-                session = cond t (Some creator) None;
-                attributes = attributes;
-              })) None (Some attributes)
-          of_any true creator attributes = refl
-          of_any false creator attributes = refl
+          (λ k attributes is. by_owner is_session_row (λ t. t) k (session_of h k) attributes
+          (is_session_object attributes) refl refl) rows
 
       pub StoreAgrees-logged_out : (session : ℕ) → done e ≡ Some (call.Logout session)
           → new.rows ≡ filter (λ row. not (is_private_session_row row)) old.rows
           → StoreAgrees (e ◁ h) new
       StoreAgrees-logged_out session d rows =
           StoreAgrees-ended (call.Logout session) d refl count is_private_session_row
-          (λ k attributes is. private (is_session_object attributes) (session_of h k) attributes)
-          rows
-        where
-          private : (t : Bool) (creator : ℕ) (attributes : List Item)
-              → cond (t && is_set attributes attribute.Private) None (Some attributes)
-              ≡ cond (is_private_session_row
-              (record {
-                number = 0;
-                session = cond t (Some creator) None;
-                attributes = attributes;
-              })) None (Some attributes)
-          private true creator attributes = refl
-          private false creator attributes = refl
+          (λ k attributes is. by_owner is_private_session_row
+          (λ t. t && is_set attributes attribute.Private) k (session_of h k) attributes
+          (is_session_object attributes) refl refl) rows
 
       -- ---- a call that names an object
 

@@ -120,7 +120,7 @@ names_step true own handle = refl
 names_step false own handle = refl
 
 -- a handle names an object where it is the object's, and the object is visible
-pub names_with-handle : (view : View) (row : ObjectRow) (handle : ℕ) (own : Option ℕ) (same : Bool)
+names_with-handle : (view : View) (row : ObjectRow) (handle : ℕ) (own : Option ℕ) (same : Bool)
     → own ≡ visible_handle view row → same ≡ option_eq eqb own (Some handle)
     → names_with view row.attributes handle row.number ≡ same
 names_with-handle view row handle own same is e =
@@ -168,36 +168,45 @@ module _ (h : History) (old : StoreState) (agree : StoreAgrees h old) (handle : 
   get-none_step (Some attributes) is missing = cc
 
   -- no object has the handle's number
-  pub get-none : None ≡ row_at h (number_of_handle handle) → attributes_named h handle ≡ None
-  get-none missing = get-none_step (object_at h (number_of_handle handle)) refl missing
+  pub get-none : None ≡ find (has_number (number_of_handle handle)) old.rows
+      → attributes_named h handle ≡ None
+  get-none missing =
+      get-none_step (object_at h (number_of_handle handle)) refl
+      (missing ∙ find-numbered h old agree (number_of_handle handle))
 
-  module _ (row : ObjectRow) (found : Some row ≡ row_at h (number_of_handle handle)) where
-    abbrev is_named : Bool
-    is_named = names_with (view_of h) row.attributes handle row.number
+  -- one has it; whether its own handle, where it is visible, is this one
+  module _ (row : ObjectRow)
+      (found : Some row ≡ find (has_number (number_of_handle handle)) old.rows)
+      (own : Option ℕ) (is_own : own ≡ visible_handle (view_of h) row) (same : Bool)
+      (is_same : same ≡ option_eq eqb own (Some handle)) where
+    here : Some row ≡ row_at h (number_of_handle handle)
+    here = found ∙ find-numbered h old agree (number_of_handle handle)
 
     there : object_at h (number_of_handle handle) ≡ Some row.attributes
     there =
         sym (row_at-attributes h (number_of_handle handle))
-        ∙ ap (option_map (λ (r : ObjectRow). r.attributes)) (sym found)
+        ∙ ap (option_map (λ (r : ObjectRow). r.attributes)) (sym here)
 
-    named : object_named h handle ≡ cond is_named (Some (number_of_handle handle)) None
+    named : object_named h handle ≡ cond same (Some (number_of_handle handle)) None
     named =
         object_named-number
         ∙ ap (λ o. cond (is_some_with (names (number_of_handle handle)) o)
         (Some (number_of_handle handle)) None) there
         ∙ ap (λ n. cond (names_with (view_of h) row.attributes handle n)
         (Some (number_of_handle handle)) None)
-        (sym (row_at-number h (number_of_handle handle) row (sym found)))
+        (sym (row_at-number h (number_of_handle handle) row (sym here)))
+        ∙ ap (λ b. cond b (Some (number_of_handle handle)) None)
+        (names_with-handle (view_of h) row handle own same is_own is_same)
 
-    -- one has it, and the handle names that one
-    pub get-number : is_named ≡ true → object_named h handle ≡ Some (number_of_handle handle)
+    -- the handle names it
+    pub get-number : same ≡ true → object_named h handle ≡ Some (number_of_handle handle)
     get-number t = named ∙ ap (λ b. cond b (Some (number_of_handle handle)) None) t
 
-    pub get-attributes : is_named ≡ true → attributes_named h handle ≡ Some row.attributes
+    pub get-attributes : same ≡ true → attributes_named h handle ≡ Some row.attributes
     get-attributes t = ap (option_and_then (object_at h)) (get-number t) ∙ there
 
     -- or doesn't
-    pub get-other : is_named ≡ false → attributes_named h handle ≡ None
+    pub get-other : same ≡ false → attributes_named h handle ≡ None
     get-other t =
         ap (option_and_then (object_at h))
         (named ∙ ap (λ b. cond b (Some (number_of_handle handle)) None) t)

@@ -1,5 +1,5 @@
 -- How the index and the lists stay sound
-use Rattle.std.proofs.Common.{◌≡◌, ◌⊎◌, ℕ, ◌<◌, ◌≤◌, Bool, true, false, cond, not, List, []}
+use Rattle.std.proofs.Common.{◌≡◌, ◌⊎◌, ℕ, ◌<◌, ◌≤◌, ◌^◌, Bool, true, false, cond, not, List, []}
 use Rattle.std.proofs.Common.{◌∷◌, ◌++◌, Option, Some, None, Contains, refl, sym, ap, ◌∙◌, subst}
 use Rattle.std.proofs.Common.{inl, inr, arith, get_or, ◌&&◌}
 use Rattle.std.specs.Prelude.{◌==◌, is_some, filter, map, option_map, option_and_then}
@@ -19,14 +19,16 @@ use Rattle.ck_objects.specs.declared.items.Item.{Item}
 use Rattle.ck_objects.specs.declared.key_states.KeyState.{KeyState}
 use Rattle.ck_objects.specs.declared.attributes.Attribute.TheVariants as attribute
 use Rattle.ck_store.specs.Index.{place, numbered, object_at, objects_at, is_there, IsIndex}
-use Rattle.ck_store.specs.Index.{IsListed}
+use Rattle.ck_store.specs.Index.{IsListed, IsShort}
 use Rattle.ck_store.specs.Index.{IsSound, IsOwn, IsChanged, IsLeft, EndsAll, HasNone}
+use Rattle.ck_store.specs.Labels.{IsMarked}
 use Rattle.ck_store.specs.Rows.{ObjectRow, has_number, is_ended_by, concerns, is_private_row}
 use Rattle.ck_store.specs.Rows.{with_attributes, with_key_state}
 use Rattle.ck_store.specs.declared.endings.Ending.{Ending}
 use Rattle.ck_store.specs.declared.endings.Ending.TheVariants as ending
 use Rattle.ck_store.specs.declared.places.Place.{Place}
 use Rattle.ck_store.specs.declared.session_lists.SessionList.{SessionList}
+use Rattle.ck_store.proofs.LabelLemmas.{IsMarked-fewer}
 use Rattle.ck_store.proofs.PlaceLemmas.{object_at-Some, object_at-here, IsLeft-was}
 use Rattle.ck_store.proofs.PlaceLemmas.{Contains-passing}
 use Rattle.ck_store.proofs.PlaceLemmas.{Contains-unfiltered, filter_map-mapped, filter_map-agree}
@@ -421,21 +423,30 @@ module _ (e : Ending) (old new : Slab ObjectRow) (index : List Place) (lists : L
 
 -- ---- what the methods of a store need
 
--- an index without places of ended objects
-pub IsSound-reindexed : (objects : Slab ObjectRow) (index index' : List Place)
-    (lists : List SessionList) (unlisted : Option Place) (creations : ℕ)
-    → IsSound objects index lists unlisted creations
+-- objects of a test end, and the index drops the places of ended objects
+pub invariant-compacted : (test : ObjectRow → Bool) (old objects : Slab ObjectRow)
+    (index index' : List Place) (lists : List SessionList) (unlisted : Option Place)
+    (creations : ℕ) (marks : List ℕ) → IsLeft test old objects
+    → IsSound objects index lists unlisted creations → creations < 2 ^ 32 → IsMarked old marks
     → (IsIndex objects index → IsIndex objects index')
     → ((p : Place) → Contains index' p → Contains index p)
-    → IsSound objects index' lists unlisted creations
-IsSound-reindexed objects index index' lists unlisted creations sound is_index only = record {
-  indexed = is_index sound.indexed;
-  listed = sound.listed;
-  own = sound.own;
-  index_created = λ p there. sound.index_created p (only p there);
-  unlisted_created = sound.unlisted_created;
-  lists_created = sound.lists_created;
-}
+    → (IsIndex objects index → IsShort objects index')
+    → IsSound objects index' lists unlisted creations × (creations < 2 ^ 32)
+    × IsMarked objects marks × IsShort objects index'
+invariant-compacted test old objects index index' lists unlisted creations marks left sound small
+    marked is_index only short = (
+      record {
+        indexed = is_index sound.indexed;
+        listed = sound.listed;
+        own = sound.own;
+        index_created = λ p there. sound.index_created p (only p there);
+        unlisted_created = sound.unlisted_created;
+        lists_created = sound.lists_created;
+      },
+      small,
+      IsMarked-fewer old objects marks marked (IsLeft-was test old objects left),
+      short sound.indexed,
+    )
 
 -- where there is room, no object is unlisted
 pub unlisted_none : (unlisted : Option Place) (room : ℕ) → 0 < cond (is_some unlisted) 0 room

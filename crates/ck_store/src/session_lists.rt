@@ -122,10 +122,10 @@ fn list_object(
     let Some(object) = object_at(objects, place) else {
         return Ok(());
     };
-    if let Some(session) = object.session() {
-        add_to_list(alloc, lists, session, object.is_private(), objects, place)?;
+    match object.session() {
+        Some(session) => add_to_list(alloc, lists, session, object.is_private(), objects, place),
+        None => Ok(()),
     }
-    Ok(())
 }
 
 /// Adds the newest object to the list of its session, where it is a session object.

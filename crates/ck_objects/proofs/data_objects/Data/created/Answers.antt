@@ -1,4 +1,4 @@
-use Rattle.ck_objects.proofs.GivenLemmas.{data-created, form-created}
+use Rattle.ck_objects.proofs.GivenLemmas.{data-created, creation-passes}
 use Rattle.ck_objects.proofs.KeyLemmas.{created-data}
 use Rattle.ck_objects.proofs.data_objects.Data.created.Goals as goal
 
@@ -6,7 +6,7 @@ use Rattle.ck_objects.proofs.data_objects.Data.created.Goals as goal
 pub set-requires-clause-well_formed : goal.set-requires-clause-well_formed
 set-requires-clause-well_formed c =
     rw (c.deref_mut.ensures.value, c.in_ok-values.ensures)
-    (form-created c.args.items.now c.requires.passes)
+    (creation-passes c.args.items.now c.requires.passes).formed
 
 -- and gives no class except that of data objects
 pub set-requires-clause-class : goal.set-requires-clause-class

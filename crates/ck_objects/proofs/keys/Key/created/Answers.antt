@@ -1,9 +1,10 @@
-use Rattle.ck_objects.proofs.GivenLemmas.{form-created}
+use Rattle.ck_objects.proofs.GivenLemmas.{creation-passes}
 use Rattle.ck_objects.proofs.KeyLemmas.{creation-keeps, created-key}
 use Rattle.ck_objects.proofs.keys.Key.created.Goals as goal
 
 pub new-requires-clause-well_formed : goal.new-requires-clause-well_formed
-new-requires-clause-well_formed c = form-created c.args.items.now c.requires.passes
+new-requires-clause-well_formed c =
+    (creation-passes c.args.items.now c.requires.passes).formed
 
 -- its value is the template's, and nothing else that it keeps is given
 pub new-requires-clause-keeps : goal.new-requires-clause-keeps

@@ -16,15 +16,15 @@ use Rattle.ck_operations.proofs.Moves.{operations-left}
 use Rattle.ck_parts.specs.Agreement.{IsCounted}
 use Rattle.ck_parts.specs.declared.changes.Change.TheVariants as change
 use Rattle.ck_parts.proofs.Counts.{started-injected}
-use Rattle.ck_parts.proofs.OperationMoves.{operations-kept, operations-created, closed-one}
-use Rattle.ck_parts.proofs.OperationMoves.{closed-all, logged-out, cancelled, does-start, does-add}
-use Rattle.ck_parts.proofs.OperationMoves.{finished-is, finish-does, nothing-stays, tried-stays}
+use Rattle.ck_parts.proofs.OperationMoves.{operations-kept, closed-one, closed-all, logged-out}
+use Rattle.ck_parts.proofs.OperationMoves.{cancelled, does-start, does-add, nothing-stays}
+use Rattle.ck_parts.proofs.OperationMoves.{tried-stays}
 use Rattle.ck_parts.proofs.Inversions.{of-effect}
-use Rattle.ck_parts.proofs.PartMoves.{sessions-kept, objects-kept, sessions-created}
+use Rattle.ck_parts.proofs.PartMoves.{sessions-only, objects-only, operations-only}
+use Rattle.ck_parts.proofs.PartMoves.{objects-created, step-only, finish-only}
 use Rattle.ck_parts.proofs.PartMoves.{sessions-unchanged, objects-unchanged, tried, objects-tried}
 use Rattle.ck_parts.proofs.PartMoves.{login-passed, change-passed, destruction-passed, state-passed}
-use Rattle.ck_parts.proofs.PartMoves.{digest-passed, hmac-passed, step-sessions, step-objects}
-use Rattle.ck_parts.proofs.PartMoves.{hmac-is}
+use Rattle.ck_parts.proofs.PartMoves.{digest-passed, hmac-passed, hmac-is}
 use Rattle.ck_parts.proofs.parts.Parts.apply.Goals as goal
 
 pub returns-in-Nothing : goal.returns-in-Nothing
@@ -72,11 +72,8 @@ returns-in-InitPin c = record {
       let made = of-effect h e (change.InitPin c.in-InitPin.pin) (sym c.in-InitPin.is ∙ is) refl in
       let of = made.1 in
       let d = made.0 ∙ ap Some of.1 in
-      record {
-        sessions = c.init_pin.ensures.agree h e of.0 d agree.sessions;
-        objects = objects-kept h e _ d _ refl agree.objects;
-        operations = operations-kept e _ d h _ refl refl agree.operations;
-      };
+      sessions-only h e _ d _ agree refl refl refl _
+      (c.init_pin.ensures.agree h e of.0 d agree.sessions);
 }
 
 pub returns-in-SetPin : goal.returns-in-SetPin
@@ -86,11 +83,8 @@ returns-in-SetPin c = record {
       (sym c.in-SetPin.is ∙ is) refl in
       let of = made.1 in
       let d = made.0 ∙ ap Some of.2 in
-      record {
-        sessions = c.set_pin.ensures.agree h e of.0 of.1 d of.3 agree.sessions;
-        objects = objects-kept h e _ d _ refl agree.objects;
-        operations = operations-kept e _ d h _ refl refl agree.operations;
-      };
+      sessions-only h e _ d _ agree refl refl refl _
+      (c.set_pin.ensures.agree h e of.0 of.1 d of.3 agree.sessions);
 }
 
 pub returns-in-OpenSession : goal.returns-in-OpenSession
@@ -99,12 +93,8 @@ returns-in-OpenSession c = record {
       let made = of-effect h e (change.OpenSession c.in-OpenSession.flags)
       (sym c.in-OpenSession.is ∙ is) refl in
       let d = made.0 ∙ ap Some made.1 in
-      record {
-        sessions =
-            c.open_session.ensures.agree h e d (is_searching-next limits h legal.1) agree.sessions;
-        objects = objects-kept h e _ d _ refl agree.objects;
-        operations = operations-kept e _ d h _ refl refl agree.operations;
-      };
+      sessions-only h e _ d _ agree refl refl refl _
+      (c.open_session.ensures.agree h e d (is_searching-next limits h legal.1) agree.sessions);
 }
 
 pub returns-in-CloseSession : goal.returns-in-CloseSession
@@ -141,13 +131,9 @@ returns-in-LogIn c = record {
       let of = made.1 in
       let d = made.0 ∙ ap Some of.3 in
       let p = login-passed limits h of.0 of.1 of.2 (passed-done limits e h legal _ d) in
-      record {
-        sessions =
-            c.log_in.ensures.agree h e of.0 of.1 of.2 d p.0
-            (p.1 ∙ ap Some (sym of.4)) agree.sessions;
-        objects = objects-kept h e _ d _ refl agree.objects;
-        operations = operations-kept e _ d h _ refl refl agree.operations;
-      };
+      sessions-only h e _ d _ agree refl refl refl _
+      (c.log_in.ensures.agree h e of.0 of.1 of.2 d p.0
+      (p.1 ∙ ap Some (sym of.4)) agree.sessions);
 }
 
 pub returns-in-LogOut : goal.returns-in-LogOut
@@ -170,11 +156,8 @@ returns-in-CreateObject c = record {
       of-effect h e (change.CreateObject c.in-CreateObject.session c.in-CreateObject.attributes)
       (sym c.in-CreateObject.is ∙ is) refl in
       let of = made.1 in
-      record {
-        sessions = sessions-created h e e.call made.0 of.0 _ agree.sessions;
-        objects = c.create_object.ensures h e e.call made.0 of.0 of.1 of.2 agree.objects;
-        operations = operations-created e e.call made.0 of.0 h _ agree.operations;
-      };
+      objects-created h e e.call made.0 _ agree of.0 _
+      (c.create_object.ensures h e e.call made.0 of.0 of.1 of.2 agree.objects);
 }
 
 pub change-requires : goal.change-requires
@@ -191,12 +174,8 @@ returns-in-SetAttributes c = record {
       let of = made.1 in
       let d = made.0 ∙ ap Some of.2 in
       let p = change-passed limits h of.0 of.1 values (passed-done limits e h legal _ d) in
-      record {
-        sessions = sessions-kept h e _ d _ refl refl agree.sessions;
-        objects =
-            c.change.ensures.agree h e of.0 of.1 d (p.0 ∙ ap Some (sym of.3)) p.1 agree.objects;
-        operations = operations-kept e _ d h _ refl refl agree.operations;
-      };
+      objects-only h e _ d _ agree refl refl refl refl _
+      (c.change.ensures.agree h e of.0 of.1 d (p.0 ∙ ap Some (sym of.3)) p.1 agree.objects);
 }
 
 pub returns-in-SetKeyState : goal.returns-in-SetKeyState
@@ -209,13 +188,9 @@ returns-in-SetKeyState c = record {
       let of = made.1 in
       let d = made.0 ∙ ap Some of.3 in
       let p = state-passed limits h of.0 of.1 of.2 (passed-done limits e h legal _ d) in
-      record {
-        sessions = sessions-kept h e _ d _ refl refl agree.sessions;
-        objects =
-            c.set_state.ensures.agree h e of.0 of.1 of.2 d (p.1 ∙ ap Some (sym of.5))
-            (p.0 ∙ ap Some (sym of.4)) agree.objects;
-        operations = operations-kept e _ d h _ refl refl agree.operations;
-      };
+      objects-only h e _ d _ agree refl refl refl refl _
+      (c.set_state.ensures.agree h e of.0 of.1 of.2 d (p.1 ∙ ap Some (sym of.5))
+      (p.0 ∙ ap Some (sym of.4)) agree.objects);
 }
 
 pub returns-in-DestroyObject : goal.returns-in-DestroyObject
@@ -226,11 +201,8 @@ returns-in-DestroyObject c = record {
       let of = made.1 in
       let d = made.0 ∙ ap Some of.2 in
       let p = destruction-passed limits h of.0 of.1 (passed-done limits e h legal _ d) in
-      record {
-        sessions = sessions-kept h e _ d _ refl refl agree.sessions;
-        objects = c.destroy.ensures.agree h e of.0 of.1 d (p ∙ ap Some (sym of.3)) agree.objects;
-        operations = operations-kept e _ d h _ refl refl agree.operations;
-      };
+      objects-only h e _ d _ agree refl refl refl refl _
+      (c.destroy.ensures.agree h e of.0 of.1 d (p ∙ ap Some (sym of.3)) agree.objects);
 }
 
 pub returns-in-SetSearch : goal.returns-in-SetSearch
@@ -240,11 +212,8 @@ returns-in-SetSearch c = record {
       let found = c.in-SetSearch.found in
       let made = of-effect h e (change.SetSearch session found) (sym c.in-SetSearch.is ∙ is) refl in
       let sets = made.1 in
-      record {
-        sessions = c.set_search.ensures.agree h e e.call made.0 sets agree.sessions;
-        objects = objects-kept h e e.call made.0 _ sets.objects agree.objects;
-        operations = operations-kept e e.call made.0 h _ sets.operations sets.step agree.operations;
-      };
+      sessions-only h e e.call made.0 _ agree sets.objects sets.operations sets.step _
+      (c.set_search.ensures.agree h e e.call made.0 sets agree.sessions);
 }
 
 pub returns-in-AdvanceSearch : goal.returns-in-AdvanceSearch
@@ -255,11 +224,8 @@ returns-in-AdvanceSearch c = record {
       (sym c.in-AdvanceSearch.is ∙ is) refl in
       let of = made.1 in
       let d = made.0 ∙ ap Some of.1 in
-      record {
-        sessions = c.advance_search.ensures.agree h e of.0 d of.2 agree.sessions;
-        objects = objects-kept h e _ d _ refl agree.objects;
-        operations = operations-kept e _ d h _ refl refl agree.operations;
-      };
+      sessions-only h e _ d _ agree refl refl refl _
+      (c.advance_search.ensures.agree h e of.0 d of.2 agree.sessions);
 }
 
 pub returns-in-StartDigest : goal.returns-in-StartDigest
@@ -272,20 +238,17 @@ returns-in-StartDigest c = record {
       let of = made.1 in
       let d = made.0 ∙ ap Some of.1 in
       let passed = digest-passed limits h session of.0 (passed-done limits e h legal _ d) in
-      record {
-        sessions = sessions-kept h e _ d _ refl refl agree.sessions;
-        objects = objects-kept h e _ d _ refl agree.objects;
-        operations = c.start_digest.ensures h e now
-            (record {
-              computation =
-                  ap (started_computation h) d
-                  ∙ ap (option_map digest_by) (passed.1 ∙ ap Some (sym of.2));
-              key = ap (λ d. option_and_then (object_named h) (init_key d)) d;
-            })
-            (does-start h e.caller e.call e.reply.rv e.reply.body kind.Digest session initialize
-            (ap operation_step of.1) (cond_some (is_ok e.reply.rv) e.call _ d).0 refl) passed.0
-            agree.operations;
-      };
+      operations-only h e _ d _ agree refl refl refl _
+      (c.start_digest.ensures h e now
+      (record {
+        computation =
+            ap (started_computation h) d
+            ∙ ap (option_map digest_by) (passed.1 ∙ ap Some (sym of.2));
+        key = ap (λ d. option_and_then (object_named h) (init_key d)) d;
+      })
+      (does-start h e.caller e.call e.reply.rv e.reply.body kind.Digest session initialize
+      (ap operation_step of.1) (cond_some (is_ok e.reply.rv) e.call _ d).0 refl) passed.0
+      agree.operations);
 }
 
 pub returns-in-StartHmac : goal.returns-in-StartHmac
@@ -308,21 +271,18 @@ returns-in-StartHmac c = record {
       let key = key_value (unwrap_or (object_at h number) []) in
       let value : key ≡ key_value (named_attributes h of.1) =
       ap (λ o. key_value (unwrap_or (option_and_then (object_at h) o) [])) (sym named) in
-      record {
-        sessions = step-sessions h e _ starts.step _ agree.sessions;
-        objects = step-objects h e _ starts.step _ agree.objects;
-        operations = c.start_hmac.ensures h e now agree.objects
-            (record {
-              computation =
-                  ap (started_computation h) made.0 ∙ starts.computation
-                  ∙ hmac-is hash key len of.0 _ (passed.1 ∙ ap Some (sym same.0)) value
-                  (passed.2 ∙ ap Some (sym same.2));
-              key = ap (λ d. option_and_then (object_named h) (init_key d)) made.0
-                  ∙ ap (option_and_then (object_named h)) starts.key ∙ named;
-            })
-            (does-start h e.caller e.call e.reply.rv e.reply.body k session initialize starts.step
-            (cond_some (is_ok e.reply.rv) e.call _ made.0).0 refl) passed.0 agree.operations;
-      };
+      step-only h e _ starts.step _ agree _
+      (c.start_hmac.ensures h e now agree.objects
+      (record {
+        computation =
+            ap (started_computation h) made.0 ∙ starts.computation
+            ∙ hmac-is hash key len of.0 _ (passed.1 ∙ ap Some (sym same.0)) value
+            (passed.2 ∙ ap Some (sym same.2));
+        key = ap (λ d. option_and_then (object_named h) (init_key d)) made.0
+            ∙ ap (option_and_then (object_named h)) starts.key ∙ named;
+      })
+      (does-start h e.caller e.call e.reply.rv e.reply.body k session initialize starts.step
+      (cond_some (is_ok e.reply.rv) e.call _ made.0).0 refl) passed.0 agree.operations);
 }
 
 pub returns-in-AddPiece : goal.returns-in-AddPiece
@@ -333,47 +293,30 @@ returns-in-AddPiece c = record {
       let made = of-effect h e (change.AddPiece k session) (sym c.in-AddPiece.is ∙ is) refl in
       let step = made.1 in
       let bytes = c.taken_bytes.ensures ∙ ap taken_bytes called in
-      record {
-        sessions = step-sessions h e _ step _ agree.sessions;
-        objects = step-objects h e _ step _ agree.objects;
-        operations = c.add_piece.ensures.agree h e now
-            (rw bytes (ready-for h e.call k session (add_piece (taken_bytes e.call)) step _ ready))
-            (subst (λ bytes. OnlyIn k session (Add bytes) e) (sym bytes)
-            (does-add h e.caller e.call e.reply.rv e.reply.body k session
-            (add_piece (taken_bytes e.call)) step
-            (taken_bytes e.call) (cond_some (is_ok e.reply.rv) e.call _ made.0).0 refl))
-            agree.operations;
-      };
+      step-only h e _ step _ agree _
+      (c.add_piece.ensures.agree h e now
+      (rw bytes (ready-for h e.call k session (add_piece (taken_bytes e.call)) step _ ready))
+      (subst (λ bytes. OnlyIn k session (Add bytes) e) (sym bytes)
+      (does-add h e.caller e.call e.reply.rv e.reply.body k session
+      (add_piece (taken_bytes e.call)) step
+      (taken_bytes e.call) (cond_some (is_ok e.reply.rv) e.call _ made.0).0 refl))
+      agree.operations);
 }
 
 pub returns-then-ends : goal.returns-then-ends
 returns-then-ends c = record {
   agree = λ limits h e legal is called now ready agree.
-      let k = c.in-FinishOperation.kind in
-      let session = c.in-FinishOperation.session in
-      let f = finished-is h e.call e.reply.rv e.reply.body k session _
-      (sym c.in-FinishOperation.is ∙ is) in
-      let does = finish-does h e.caller e.call e.reply.rv e.reply.body k session _ f in
-      record {
-        sessions = step-sessions h e _ f.is _ agree.sessions;
-        objects = step-objects h e _ f.is _ agree.objects;
-        operations = c.end.ensures.agree h e (rw c.if-ends.true at does) agree.operations;
-      };
+      finish-only h e c.in-FinishOperation.kind c.in-FinishOperation.session _
+      (sym c.in-FinishOperation.is ∙ is) _ agree _
+      (λ does. c.end.ensures.agree h e (rw c.if-ends.true at does) agree.operations);
 }
 
 pub returns-else-ends : goal.returns-else-ends
 returns-else-ends c = record {
   agree = λ limits h e legal is called now ready agree.
-      let k = c.in-FinishOperation.kind in
-      let session = c.in-FinishOperation.session in
-      let f = finished-is h e.call e.reply.rv e.reply.body k session _
-      (sym c.in-FinishOperation.is ∙ is) in
-      let does = finish-does h e.caller e.call e.reply.rv e.reply.body k session _ f in
-      record {
-        sessions = step-sessions h e _ f.is _ agree.sessions;
-        objects = step-objects h e _ f.is _ agree.objects;
-        operations = operations-left h _ agree.operations e (rw c.if-ends.false at does);
-      };
+      finish-only h e c.in-FinishOperation.kind c.in-FinishOperation.session _
+      (sym c.in-FinishOperation.is ∙ is) _ agree _
+      (λ does. operations-left h _ agree.operations e (rw c.if-ends.false at does));
 }
 
 pub returns-in-CancelOperations : goal.returns-in-CancelOperations
@@ -384,9 +327,6 @@ returns-in-CancelOperations c = record {
       let made = of-effect h e (change.CancelOperations session flags)
       (sym c.in-CancelOperations.is ∙ is) refl in
       let d = made.0 ∙ ap Some made.1 in
-      record {
-        sessions = sessions-kept h e _ d _ refl refl agree.sessions;
-        objects = objects-kept h e _ d _ refl agree.objects;
-        operations = c.cancel.ensures.agree h e (cancelled e session flags d) agree.operations;
-      };
+      operations-only h e _ d _ agree refl refl refl _
+      (c.cancel.ensures.agree h e (cancelled e session flags d) agree.operations);
 }

@@ -1,9 +1,9 @@
 use Rattle.std.proofs.Common.{◌≡◌, not, filter, ◌∙◌, ap, rules}
 use Rattle.std.proofs.lemmas.Fn.{filter_same}
 use Rattle.ck_store.specs.Rows.{ObjectRow, is_ended_by}
-use Rattle.ck_store.proofs.LabelLemmas.{IsMarked-fewer}
-use Rattle.ck_store.proofs.PlaceLemmas.{IsLeft-then, IsLeft-was, HasNone-later, objects_at-left}
-use Rattle.ck_store.proofs.SoundLemmas.{EndsAll-walked, IsSound-closed, IsSound-reindexed, is_kept}
+use Rattle.ck_store.proofs.PlaceLemmas.{IsLeft-then, HasNone-later, objects_at-left}
+use Rattle.ck_store.proofs.SoundLemmas.{EndsAll-walked, IsSound-closed, is_kept}
+use Rattle.ck_store.proofs.SoundLemmas.{invariant-compacted}
 use Rattle.ck_store.proofs.stores.Store.end.Goals as goal
 
 pub invariant_of-self : goal.invariant_of-self
@@ -22,17 +22,10 @@ invariant_of-self c =
     (λ session private p listed t.
     HasNone-later (is_ended_by c.args.ending) c.end_listed.new.objects
     c.end_newest.new.objects c.end_newest.ensures.left p (walked session private p listed t))
-    c.end_newest.ensures.ended c.retain.new.self.items are in (
-      IsSound-reindexed c.end_newest.new.objects c.self.inside.index.items
-          c.compact.new.index.items c.retain.new.self.items c.self.inside.unlisted
-          c.self.inside.creations sound c.compact.ensures.is_index c.compact.ensures.only,
-      c.self.invariant.1,
-      IsMarked-fewer c.self.inside.objects c.end_newest.new.objects c.self.inside.marks.items
-          c.self.invariant.2
-          (IsLeft-was (is_ended_by c.args.ending) c.self.inside.objects c.end_newest.new.objects
-          left),
-      c.compact.ensures.short sound.indexed,
-    )
+    c.end_newest.ensures.ended c.retain.new.self.items are in
+    invariant-compacted (is_ended_by c.args.ending) c.self.inside.objects _ _
+    c.compact.new.index.items _ _ _ c.self.inside.marks.items left sound c.self.invariant.1
+    c.self.invariant.2 c.compact.ensures.is_index c.compact.ensures.only c.compact.ensures.short
 
 pub returns-clause-rows : goal.returns-clause-rows
 returns-clause-rows c =
