@@ -6,6 +6,6 @@ use Rattle.ck_objects.proofs.items.state_or.Goals as goal
 pub returns-else-is_number : goal.returns-else-is_number
 returns-else-is_number c =
     let test =
-        rw c.number-in-Some.ensures at rw c.as_slice.ensures at c.is_number.ensures in
+    rw c.number-in-Some.ensures at rw c.as_slice.ensures at c.is_number.ensures in
     active-given c.args.items.now _ c.in-Some.value.now _ c.requires.well_formed c.in-Some.ensures
     c.number.ensures (sym (rw c.if-is_number.false at test))
