@@ -1,4 +1,4 @@
-use Rattle.std.proofs.Common.{◌≡◌, ◌==◌, ◌∙◌, sym, ap, refl, cond, None, length, vec_len, arith}
+use Rattle.std.proofs.Common.{◌≡◌, length, refl, vec_len, arith}
 use Rattle.ck_sessions.proofs.Moves.{SessionsAgree-closed}
 use Rattle.ck_sessions.proofs.session_table.Sessions.close.Goals as goal
 
@@ -9,8 +9,7 @@ returns-then-is_empty c =
     record {
       agree = λ h e d agree. SessionsAgree-closed h _
           (rw (← c.self.view_is) at agree) e c.args.session _ d c.remove_session.ensures refl
-          (sym (ap (λ t. cond t None c.self.inside.login)
-          (ap (λ n. n == 0) same ∙ sym c.is_empty.ensures ∙ c.if-is_empty.true))) refl refl refl;
+          (rw (same, ← c.is_empty.ensures, c.if-is_empty.true)) refl refl refl;
     }
 
 pub returns-else-is_empty : goal.returns-else-is_empty
@@ -20,6 +19,5 @@ returns-else-is_empty c =
     record {
       agree = λ h e d agree. SessionsAgree-closed h _
           (rw (← c.self.view_is) at agree) e c.args.session _ d c.remove_session.ensures refl
-          (sym (ap (λ t. cond t None c.self.inside.login)
-          (ap (λ n. n == 0) same ∙ sym c.is_empty.ensures ∙ c.if-is_empty.false))) refl refl refl;
+          (rw (same, ← c.is_empty.ensures, c.if-is_empty.false)) refl refl refl;
     }
