@@ -36,8 +36,8 @@ pub fn are_replies_of(caller: u32, entries: &[Entry], replies: &[Reply]) -> bool
     left.is_empty()
 }
 
-/// Whether two replies have the same code and the same body.
-pub(crate) fn are_same_replies(one: &Reply, other: &Reply) -> bool
+/// Whether two replies have the same code and the same body. It takes no memory.
+pub fn are_same_replies(one: &Reply, other: &Reply) -> bool
     ensures { IsTrue result ↔ (one.now ≡ other.now) }
 {
     one.rv == other.rv && are_same_bodies(&one.body, &other.body)

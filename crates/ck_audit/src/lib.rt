@@ -6,4 +6,4 @@ mod audits;
 mod comparisons;
 
 pub use audits::{Verdict, audit, audit_token};
-pub use comparisons::are_replies_of;
+pub use comparisons::{are_replies_of, are_same_replies};

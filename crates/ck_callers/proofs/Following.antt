@@ -15,12 +15,11 @@ use Rattle.ck_journal.proofs.FrontLemmas.{front_trans}
 use Rattle.ck_callers.specs.Callers.{CallerState, HasCalled, IsNextCall, entry_by}
 
 module _ (c : CallerState) (counts : List ℕ) (call : Call) (reply : Reply) (h : History)
-    (next : IsNextCall c counts call reply h)
-    (low : 1 ≤ c.number) (high : c.number ≤ 8) where
+    (next : IsNextCall c counts call reply h) (range : (1 ≤ c.number) × (c.number ≤ 8)) where
   known_count : slice_index counts (c.number - 1) ≡ call_count c.number next.before
   known_count =
       ap (λ xs. slice_index xs (c.number - 1)) next.counted
-      ∙ call_counts-at c.number next.before low high
+      ∙ call_counts-at c.number next.before range.0 range.1
 
   pub count_fits : entry_count h < 2 ^ 64 → slice_index counts (c.number - 1) + 1 < 2 ^ 64
   count_fits room =
@@ -45,7 +44,8 @@ module _ (c : CallerState) (counts : List ℕ) (call : Call) (reply : Reply) (h 
     books_next =
         ap (λ n. slice_set counts (c.number - 1) (n + 1)) (audited ∙ known_count)
         ∙ ap (λ xs. slice_set xs (c.number - 1) (call_count c.number next.before + 1)) next.counted
-        ∙ sym (call_counts-next c.number (entry_by c.number call reply) next.before refl low high)
+        ∙ sym (call_counts-next c.number (entry_by c.number call reply) next.before refl
+        range.0 range.1)
         ∙ ap call_counts (sym next.next)
 
     pub called : (limits : Ranges) → IsFront c.last c.seen → call_count c.number c.last ≡ c.count

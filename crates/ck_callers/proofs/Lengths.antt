@@ -1,10 +1,9 @@
 -- Fronts of one history, by the logs that were seen and their lengths
-use Rattle.std.proofs.Common.{◌≡◌, ℕ, ◌≤◌, List, [], ◌∷◌, ◌++◌, length, sym, ap, ◌∙◌, subst, arith}
+use Rattle.std.proofs.Common.{◌≡◌, ℕ, ◌+◌, ◌≤◌, List, [], ◌∷◌, ◌++◌, length, sym, ap, ◌∙◌}
+use Rattle.std.proofs.Common.{subst, arith, length-append}
 use mathlib.Core.List.{IsPrefix}
-use Rattle.ck_types.specs.TokenLimits.{Ranges}
 use Rattle.ck_journal.specs.declared.bases.Base.{Base}
 use Rattle.ck_journal.specs.declared.calls.Entry.{Entry}
-use Rattle.ck_journal.specs.Answers.{IsLegal, answer}
 use Rattle.ck_journal.specs.Fronts.{history_of, IsFront}
 use Rattle.ck_journal.specs.Histories.{History, ◌◁◌, entry_count}
 use Rattle.ck_journal.proofs.FrontLemmas.{entry_count-log, front_of_prefix, history_of-next}
@@ -23,26 +22,19 @@ module _ (b : Base) where
         subst (λ x. IsFront x h) is (subst (IsFront (history_of b one)) also
         (front_of_prefix b one two (prefix_shorter one two all p q len)))
 
-  -- an entry was added to all that was seen, which was as long as the one front
-  module _ (one two seen log : List Entry) (e : Entry) (g h : History) (p : IsPrefix one seen)
-      (q : IsPrefix two seen) (is : history_of b one ≡ g) (also : history_of b two ≡ h)
-      (len : length seen ≡ length one) (added : log ≡ seen ++ e ∷ []) where
-    same_seen : one ≡ seen
-    same_seen = prefix_whole one seen p (omega arith)
-
-    pub added_next : history_of b log ≡ e ◁ g
-    added_next =
-        ap (history_of b) added ∙ history_of-next b seen e
-        ∙ ap (λ xs. e ◁ history_of b xs) (sym same_seen)
-        ∙ ap (λ x. e ◁ x) is
-
-    pub added_other : IsFront h g
-    added_other =
-        let short : length two ≤ length one = omega (arith, prefix_length two seen q) in
-        shorter_begins two one seen h g q p also is short
-
-    pub added_legal : (limits : Ranges) → IsLegal limits (history_of b one)
-        → e.reply ≡ answer limits g e.call
-        → IsLegal limits (history_of b log)
-    added_legal limits legal answered =
-        subst (IsLegal limits) (sym added_next) (answered, subst (IsLegal limits) is legal)
+  -- an entry was added to all that was seen, which was as long as the one front: the history is
+  -- then that front and the entry, and the other begins that front
+  pub entry_added : (one two seen log : List Entry) (e : Entry) (g h : History)
+      (p : IsPrefix one seen) (q : IsPrefix two seen)
+      → history_of b one ≡ g → history_of b two ≡ h
+      → (n : ℕ) → n ≡ length one → (log ≡ seen ++ e ∷ []) × (length seen ≡ n)
+      → (n + 1 ≡ length log) × (history_of b log ≡ e ◁ g) × IsFront h g
+  entry_added one two seen log e g h p q is also n len added =
+      let same : one ≡ seen = prefix_whole one seen p (omega arith) in
+      let short : length two ≤ length one = omega (arith, prefix_length two seen q) in (
+        omega (arith, ap length added.0, length-append seen (e ∷ [])),
+        ap (history_of b) added.0 ∙ history_of-next b seen e
+            ∙ ap (λ xs. e ◁ history_of b xs) (sym same)
+            ∙ ap (λ x. e ◁ x) is,
+        shorter_begins two one seen h g q p also is short,
+      )

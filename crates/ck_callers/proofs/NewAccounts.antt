@@ -1,6 +1,13 @@
 -- Accounts of callers that have made no call
-use Rattle.std.proofs.Common.{◌≡◌, ℕ, zero, suc, ◌≤◌, List, [], ◌∷◌, ◌++◌, refl, arith}
-use Rattle.ck_callers.specs.Accounts.{AccountState, AreNew, new_account, new_accounts, with_account}
+use Rattle.std.proofs.Common.{◌≡◌, ℕ, zero, suc, ◌≤◌, List, [], ◌∷◌, ◌++◌, refl, sym, ap, ◌∙◌}
+use Rattle.std.proofs.Common.{arith}
+use Rattle.ck_callers.specs.Accounts.{AccountState, AreNew, LedgerNames, name_of, new_account}
+use Rattle.ck_callers.specs.Accounts.{new_accounts, with_account}
+
+-- names that are known of ledgers are those of the same ledgers
+pub same_name : {l m : LedgerNames} {known : ℕ → ℕ} → l ≡ m → ((n : ℕ) → known n ≡ name_of m n)
+    → (n : ℕ) → name_of l n ≡ known n
+same_name is names n = ap (λ x. name_of x n) is ∙ sym (names n)
 
 -- one more new account
 one_more : (accounts : List AccountState) (number : ℕ) → AreNew accounts

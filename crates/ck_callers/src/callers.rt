@@ -163,32 +163,10 @@ impl<K: TokenId> Caller<K> {
     }
 }
 
-/// What this copy of the board answers, and the history of which that is the answer. It is no
-/// shorter than what the caller knows and has all entries of the caller.
+/// What the published copy of the board answers, and the history of which that is the answer. It is
+/// no shorter than what the caller knows and has all entries of the caller. `None` also where the
+/// copy can't be read.
 fn look<K: TokenId>(
-    board: &BoardCopy<K>,
-    account: &Account<K>,
-    seen: &KnownHistory<K>,
-    ask: Ask,
-) -> Option<(Status, KnownHistory<K>)>
-    ensures front { IfSome result (λ found. IsFront seen.now.history found.1.history) }
-    ensures count { IfSome result (λ found.
-        call_count account.now.number found.1.history ≡ account.now.count) }
-    ensures legal { IfSome result (λ found. IsLegal K.limits found.1.history) }
-    ensures answer { IfSome result (λ found.
-        reply_of found.0 ≡ answer K.limits found.1.history (call_of ask)) }
-{
-    let newest = seen.newest(board.known())?;
-    if newest.calls(account.number()) != account.count() {
-        return None;
-    }
-    // Tells the prover that the history is legal.
-    let _entries = newest.front().len();
-    Some((status_on(board.board(), ask), newest.duplicate()))
-}
-
-/// The same, of the copy that is published. `None` also where it can't be read.
-fn look_through<K: TokenId>(
     reader: &mut ReadHandle<BoardCopy<K>>,
     account: &Account<K>,
     seen: &KnownHistory<K>,
@@ -202,7 +180,13 @@ fn look_through<K: TokenId>(
         reply_of found.0 ≡ answer K.limits found.1.history (call_of ask)) }
 {
     let board = reader.enter()?;
-    look(&*board, account, seen, ask)
+    let newest = seen.newest(board.known())?;
+    if newest.calls(account.number()) != account.count() {
+        return None;
+    }
+    // Tells the prover that the history is legal.
+    let _entries = newest.front().len();
+    Some((status_on(board.board(), ask), newest.duplicate()))
 }
 
 impl<K: TokenId> Caller<K> {
@@ -225,7 +209,7 @@ impl<K: TokenId> Caller<K> {
         ensures same { self.new ≡ record self.old { seen = self.new.seen } }
         ensures unchanged { IfNone result (self.new ≡ self.old) }
     {
-        let (status, known) = look_through(&mut self.reader, &self.account, &self.seen, ask)?;
+        let (status, known) = look(&mut self.reader, &self.account, &self.seen, ask)?;
         self.seen = known;
         Some(status)
     }

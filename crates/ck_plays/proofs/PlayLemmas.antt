@@ -1,24 +1,26 @@
 -- One more read, and how playing ends
-use Rattle.std.proofs.Common.{◌≡◌, ◌<◌, ◌≤◌, ◌+◌, ℕ, suc, Bool, true, false, List, [], ◌∷◌}
+use Rattle.std.proofs.Common.{◌≡◌, ◌≤◌, ◌+◌, ℕ, suc, Bool, true, false, List, [], ◌∷◌}
 use Rattle.std.proofs.Common.{◌++◌, Ok, Err, length, refl, sym, ap, ◌∙◌, subst, arith}
 use Rattle.std.proofs.Common.{add-one}
-use Rattle.std.proofs.lemmas.List.{append-nil, length_push}
+use Rattle.std.proofs.lemmas.List.{length_push}
 use Rattle.std.specs.Prelude.{◌==◌, if◌then◌else◌}
 use Rattle.ck_types.specs.TokenLimits.{Ranges}
 use Rattle.ck_script.specs.Lines.{lines_in}
 use Rattle.ck_journal.specs.TokenStates.{TokenState}
 use Rattle.ck_plays.specs.Devices.{Reading, Writing, end_read, failed_read, read_on}
-use Rattle.ck_plays.specs.Players.{HasAnswered, IsStopped, IsAnsweredSoFar, IsReading, IsReadOn}
-use Rattle.ck_plays.specs.Players.{IsOfLine, onto}
+use Rattle.ck_plays.specs.Players.{IsStopped, IsAnsweredSoFar, IsReading, IsReadOn}
+use Rattle.ck_plays.specs.Players.{IsOfLine, AnswersLine, StopsAtLine, AnswersChunk, StopsInChunk}
+use Rattle.ck_plays.specs.Players.{AnswersRead, StopsInRead}
 use Rattle.ck_journal.specs.Bases.{empty_base}
 use Rattle.ck_journal.specs.Histories.{start}
 use Rattle.ck_plays.specs.Plays.{output_of, after_reads, ended_lines, IsPlayed, AreReads}
-use Rattle.ck_plays.specs.Plays.{failed_reads, one_if, Outcome}
+use Rattle.ck_plays.specs.Plays.{failed_reads, one_if, Outcome, EndedLinesAnswered}
 use Rattle.ck_plays.specs.declared.faults.PlayFault.{PlayFault}
 use Rattle.ck_plays.specs.declared.faults.PlayFault.TheVariants as fault
 use Rattle.ck_plays.specs.Players.{PlayerState}
 use Rattle.ck_plays.proofs.LineLemmas.{lines_in-read_on}
-use Rattle.ck_plays.proofs.ReadingLemmas.{same_reading, one_more, further, at_end}
+use Rattle.ck_plays.proofs.ReadingLemmas.{nothing_read, further, after_failed, at_end}
+use Rattle.ck_plays.proofs.WriteLemmas.{nothing_written}
 
 -- so many lines have their ends where the last has none
 ended_lines-push : (before : List (List ℕ)) (l : List ℕ)
@@ -30,34 +32,34 @@ ended_lines-parts : (lines before : List (List ℕ)) (l : List ℕ) → lines �
     → length before ≡ ended_lines lines
 ended_lines-parts lines before l e = sym (ap ended_lines e ∙ ended_lines-push before l)
 
+-- the lines that have their ends are answered, and no end was found
+open_lines : (limits : Ranges) (written : Writing) (script : List ℕ) (player : PlayerState)
+    (P : Writing → Type 0) (so_far : IsAnsweredSoFar limits written (lines_in script) [] 0 player P)
+    → EndedLinesAnswered limits (lines_in script) false (output_of limits so_far.before)
+open_lines limits written script player P so_far = record {
+  before = so_far.before;
+  open_line = player.open_line;
+  no_end = refl;
+  parts = so_far.parts;
+  good = so_far.answered.good;
+  written = refl;
+}
+
 -- a failed read
-pub played-read_failed : (limits : Ranges) (most : ℕ) (read : Reading) (written : Writing)
-    (reads : ℕ)
-    (player : PlayerState) (A B : Reading → Type 0) (P : Writing → Type 0) (f : PlayFault)
-    → f ≡ fault.Read → reads < most → IsReading limits read written reads player A P
-    → ((r : Reading) → A r → B (failed_read r)) → IsPlayed limits most read written B P (Err f)
-played-read_failed limits most read written reads player A B P f e lt h more =
+pub played-read_failed : (player : PlayerState) (A B : Reading → Type 0) (P : Writing → Type 0)
+    (f : PlayFault)
+    → f ≡ fault.Read → ((r : Reading) → A r → B (failed_read r)) → StopsInRead player A P B P f
+played-read_failed player A B P f e more limits read written reads most lt h =
     subst (λ (g : PlayFault). IsPlayed limits most read written B P (Err g)) (sym e) (record {
       script = h.script;
       earlier = h.script;
       ended = false;
       reads = suc reads;
       output = output_of limits h.so_far.before;
-      reader =
-          same_reading B read (read.bytes ++ h.script) (read.bytes ++ h.script)
-          (read.bytes ++ h.script) (suc (read.reads + reads)) (read.reads + suc reads) read.ends
-          (suc read.failures)
-          refl (one_more read.reads reads) (more _ h.reader);
+      reader = after_failed read h.script h.earlier reads A B h.reader more;
       writer = h.so_far.answered.writer;
       within = omega arith;
-      outcome = record {
-        before = h.so_far.before;
-        open_line = player.open_line;
-        no_end = refl;
-        parts = h.so_far.parts;
-        good = h.so_far.answered.good;
-        written = refl;
-      };
+      outcome = open_lines limits written h.script player P h.so_far;
     })
 
 -- no more reads are allowed
@@ -74,14 +76,7 @@ played-out limits most read written reads player A P e h = record {
   reader = h.reader;
   writer = h.so_far.answered.writer;
   within = e;
-  outcome = record {
-    before = h.so_far.before;
-    open_line = player.open_line;
-    no_end = refl;
-    parts = h.so_far.parts;
-    good = h.so_far.answered.good;
-    written = refl;
-  };
+  outcome = open_lines limits written h.script player P h.so_far;
 }
 
 of_line-reads : (f : PlayFault) (n : ℕ) → IsOfLine f → n ≡ failed_reads n (Err f)
@@ -127,95 +122,73 @@ stopped limits most read written script earlier lines ended least reads B P f d 
           (sym e) s.outcome);
     })
 
--- the end, where the last line is answered
-pub played-ended : (limits : Ranges) (most : ℕ) (read : Reading) (written : Writing) (reads : ℕ)
-    (player : PlayerState) (token : TokenState) (number count : ℕ) (bytes : List ℕ)
-    (A B : Reading → Type 0)
+-- a read that didn't fail
+module _ (player : PlayerState) (count : ℕ) (bytes : List ℕ) (A B : Reading → Type 0)
     (P Q : Writing → Type 0)
-    → reads < most → count ≡ 0 → (h : IsReading limits read written reads player A P)
-    → ((r : Reading) → A r → B (if count == 0 then end_read r else read_on r bytes))
-    → HasAnswered limits written (h.so_far.before ++ player.open_line ∷ []) token number Q
-    → IsPlayed limits most read written B Q (Ok tt)
-played-ended limits most read written reads player token number count bytes A B P Q lt none h more
-    answered = record {
-      script = h.script;
-      earlier = h.script;
-      ended = true;
-      reads = suc reads;
-      output = output_of limits (h.so_far.before ++ player.open_line ∷ []);
-      reader = at_end read h.script h.earlier reads count bytes A B none h.reader more;
-      writer = answered.writer;
-      within = omega arith;
-      outcome = subst (λ (ls : List (List ℕ)).
-          Outcome limits ls true (ended_lines (lines_in h.script))
-          (output_of limits (h.so_far.before ++ player.open_line ∷ [])) (Ok tt))
-          (sym h.so_far.parts)
-          (record { end_found = refl; good = answered.good; written = refl });
-    }
+    (more : (r : Reading) → A r → B (if count == 0 then end_read r else read_on r bytes)) where
+  -- the end, where the last line is answered
+  pub played-ended : (token : TokenState) (number : ℕ) → count ≡ 0
+      → AnswersLine player.open_line player.token player.number P token number Q
+      → AnswersRead player A P player B Q true
+  played-ended token number none answers limits read written reads most lt h =
+      let answered = answers limits written h.so_far.before h.so_far.answered in
+      let output : List ℕ = output_of limits (h.so_far.before ++ player.open_line ∷ []) in
+      record {
+        script = h.script;
+        earlier = h.script;
+        ended = true;
+        reads = suc reads;
+        output = output;
+        reader = at_end read h.script h.earlier reads count bytes A B none h.reader more;
+        writer = answered.writer;
+        within = omega arith;
+        outcome = subst (λ (ls : List (List ℕ)).
+            Outcome limits ls true (ended_lines (lines_in h.script)) output (Ok tt))
+            (sym h.so_far.parts)
+            (record { end_found = refl; good = answered.good; written = refl });
+      }
 
--- the end, where the last line isn't answered
-pub played-ended_stopped : (limits : Ranges) (most : ℕ) (read : Reading) (written : Writing)
-    (reads : ℕ)
-    (player : PlayerState) (count : ℕ) (bytes : List ℕ) (A B : Reading → Type 0)
-    (P Q : Writing → Type 0)
-    (f d : PlayFault)
-    → f ≡ d → reads < most → count ≡ 0 → (h : IsReading limits read written reads player A P)
-    → ((r : Reading) → A r → B (if count == 0 then end_read r else read_on r bytes))
-    → IsStopped limits written (h.so_far.before ++ player.open_line ∷ []) true
-    (length h.so_far.before) Q d
-    → IsPlayed limits most read written B Q (Err f)
-played-ended_stopped limits most read written reads player count bytes A B P Q f d same lt none h
-    more s =
-    stopped limits most read written h.script h.script _ true _
-    (suc reads) B Q f d same h.so_far.parts
-    (ended_lines-parts (lines_in h.script) h.so_far.before player.open_line h.so_far.parts)
-    (omega arith)
-    (at_end read h.script h.earlier reads count bytes A B none h.reader more) s
+  -- the end, where the last line isn't answered
+  pub played-ended_stopped : (f d : PlayFault) → f ≡ d → count ≡ 0
+      → StopsAtLine player.open_line player.token player.number P Q d
+      → StopsInRead player A P B Q f
+  played-ended_stopped f d same none stops limits read written reads most lt h =
+      stopped limits most read written h.script h.script _ true _ (suc reads) B Q f d same
+      h.so_far.parts
+      (ended_lines-parts (lines_in h.script) h.so_far.before player.open_line h.so_far.parts)
+      (omega arith)
+      (at_end read h.script h.earlier reads count bytes A B none h.reader more)
+      (stops limits written h.so_far.before [] true refl h.so_far.answered)
 
--- further bytes, of which a line isn't answered
-pub played-fed_stopped : (limits : Ranges) (most : ℕ) (read : Reading) (written : Writing)
-    (reads : ℕ)
-    (player : PlayerState) (count : ℕ) (bytes : List ℕ) (A B : Reading → Type 0)
-    (P Q : Writing → Type 0)
-    (f d : PlayFault)
-    → f ≡ d → reads < most → (count == 0) ≡ false
-    → (h : IsReading limits read written reads player A P)
-    → ((r : Reading) → A r → B (if count == 0 then end_read r else read_on r bytes))
-    → IsStopped limits written (h.so_far.before ++ onto player.open_line (lines_in bytes))
-    false (length h.so_far.before) Q d
-    → IsPlayed limits most read written B Q (Err f)
-played-fed_stopped limits most read written reads player count bytes A B P Q f d same lt some h
-    more s =
-    stopped limits most read written (h.script ++ bytes) h.script _ false _
-    (suc reads) B Q f d same
-    (lines_in-read_on h.script bytes h.so_far.before player.open_line h.so_far.parts)
-    (ended_lines-parts (lines_in h.script) h.so_far.before player.open_line h.so_far.parts)
-    (omega arith)
-    (further read h.script h.earlier reads count bytes A B some h.reader more) s
+  -- further bytes, of which a line isn't answered
+  pub played-fed_stopped : (f d : PlayFault) → f ≡ d → (count == 0) ≡ false
+      → StopsInChunk bytes player P Q d → StopsInRead player A P B Q f
+  played-fed_stopped f d same some stops limits read written reads most lt h =
+      stopped limits most read written (h.script ++ bytes) h.script _ false _ (suc reads) B Q f d
+      same (lines_in-read_on h.script bytes h.so_far.before player.open_line h.so_far.parts)
+      (ended_lines-parts (lines_in h.script) h.so_far.before player.open_line h.so_far.parts)
+      (omega arith)
+      (further read h.script h.earlier reads count bytes A B some h.reader more)
+      (stops limits written h.so_far.before h.so_far.answered)
 
--- further bytes
-pub reading-so_far : (limits : Ranges) (read : Reading) (written : Writing) (reads : ℕ)
-    (player next : PlayerState) (count : ℕ) (bytes : List ℕ) (A B : Reading → Type 0)
-    (P Q : Writing → Type 0)
-    → (count == 0) ≡ false → (h : IsReading limits read written reads player A P)
-    → ((r : Reading) → A r → B (if count == 0 then end_read r else read_on r bytes))
-    → IsAnsweredSoFar limits written (h.so_far.before ++ onto player.open_line
-    (lines_in bytes)) [] (length h.so_far.before) next Q
-    → IsReading limits read written (suc reads) next B Q
-reading-so_far limits read written reads player next count bytes A B P Q some h more so_far =
-    record {
-      script = h.script ++ bytes;
-      earlier = h.script;
-      so_far = record {
-        before = so_far.before;
-        parts = lines_in-read_on h.script bytes h.so_far.before player.open_line
-            h.so_far.parts
-            ∙ so_far.parts;
-        on_time = omega arith;
-        answered = so_far.answered;
-      };
-      reader = further read h.script h.earlier reads count bytes A B some h.reader more;
-    }
+  -- further bytes
+  pub reading-so_far : (next : PlayerState) → (count == 0) ≡ false
+      → AnswersChunk bytes player P next Q → AnswersRead player A P next B Q false
+  reading-so_far next some answers limits read written reads most lt h =
+      let so_far = answers limits written h.so_far.before h.so_far.answered in
+      record {
+        script = h.script ++ bytes;
+        earlier = h.script;
+        so_far = record {
+          before = so_far.before;
+          parts = lines_in-read_on h.script bytes h.so_far.before player.open_line
+              h.so_far.parts
+              ∙ so_far.parts;
+          on_time = omega arith;
+          answered = so_far.answered;
+        };
+        reader = further read h.script h.earlier reads count bytes A B some h.reader more;
+      }
 
 -- nothing is read yet
 pub reading-nothing : (limits : Ranges) (read : Reading) (written : Writing) (player : PlayerState)
@@ -235,17 +208,10 @@ reading-nothing limits read written player A P same history empty number h w = r
       history = history;
       next_number = number;
       good = tt;
-      writer = subst (λ (xs : List ℕ). P (record {
-        is_known = written.is_known;
-        bytes = xs;
-        failures = written.failures;
-      })) (sym (append-nil written.bytes)) w;
+      writer = nothing_written P written w;
     };
   };
-  reader =
-      same_reading A read read.earlier read.bytes (read.bytes ++ []) read.reads
-      (read.reads + 0) read.ends read.failures
-      (sym (append-nil read.bytes)) (omega arith) h;
+  reader = nothing_read A read h;
 }
 
 -- there is no memory before anything is read
@@ -259,15 +225,8 @@ played-nothing limits most read written A P f e h w =
       ended = false;
       reads = 0;
       output = [];
-      reader =
-          same_reading A read read.earlier read.bytes (read.bytes ++ []) read.reads
-          (read.reads + 0) read.ends read.failures
-          (sym (append-nil read.bytes)) (omega arith) h;
-      writer = subst (λ (xs : List ℕ). P (record {
-        is_known = written.is_known;
-        bytes = xs;
-        failures = written.failures;
-      })) (sym (append-nil written.bytes)) w;
+      reader = nothing_read A read h;
+      writer = nothing_written P written w;
       within = omega arith;
       outcome = record {
         before = [];

@@ -1,5 +1,6 @@
 -- One more line is answered, or playing stops at it
-use Rattle.std.proofs.Common.{◌≡◌, ◌≤◌, ℕ, suc, Bool, true, List, [], ◌∷◌, ◌++◌, Some, None, length}
+use Rattle.std.proofs.Common.{◌≡◌, ◌<◌, ◌≤◌, ◌⊎◌, ℕ, suc, Bool, true, List, [], ◌∷◌, ◌++◌, Some}
+use Rattle.std.proofs.Common.{None, length}
 use Rattle.std.proofs.Common.{refl, sym, ap, ap₂, ◌∙◌, subst, inl, inr, arith, add-one}
 use Rattle.std.proofs.Common.{append_assoc}
 use Rattle.std.proofs.lemmas.List.{length_push}
@@ -15,7 +16,8 @@ use Rattle.ck_journal.specs.TokenStates.{TokenState}
 use Rattle.ck_plays.specs.Devices.{Writing, wrote, failed_write, IsCount}
 use Rattle.ck_plays.specs.Players.{HasAnswered, IsStopped, IsUnwritten, WriteFailed, IsCalled}
 use Rattle.ck_plays.specs.Players.{PlayerState, IsRefused, next_number}
-use Rattle.ck_plays.specs.Plays.{called, history_of, output_of, replies_text, is_over, is_bad}
+use Rattle.ck_plays.specs.Plays.{AreGood, called, history_of, output_of, replies_text, is_over}
+use Rattle.ck_plays.specs.Plays.{is_bad}
 use Rattle.ck_plays.specs.declared.faults.PlayFault.{PlayFault}
 use Rattle.ck_plays.specs.declared.faults.PlayFault.TheVariants as fault
 use Rattle.ck_plays.proofs.LineLemmas.{meaning-too_long, meaning-short}
@@ -83,151 +85,119 @@ answered-call limits written lines l old new number P Q caller call is answered 
           (answered.writer (wrote written (output_of limits lines)) h.writer);
     }
 
--- a bad line
-pub stopped-bad : (limits : Ranges) (written : Writing) (lines later : List (List ℕ)) (ended : Bool)
-    (l : List ℕ) (token : TokenState) (number : ℕ) (reason : BadLine) (P : Writing → Type 0)
-    → None ≡ meaning l → is_over later ended ≡ true
-    → HasAnswered limits written lines token number P
-    → IsStopped limits written (lines ++ l ∷ later) ended (length lines) P
-    (fault.Line number reason)
-stopped-bad limits written lines later ended l token number reason P is over h = record {
-  of_line = tt;
-  output = output_of limits lines;
-  writer = h.writer;
-  outcome = record {
-    before = lines;
-    bad = l;
-    later = later;
-    parts = refl;
-    good = h.good;
-    refused = sym (ap is_bad is);
-    bad_number = h.next_number;
-    over = inl over;
-    on_time = omega arith;
-    written = refl;
-  };
-}
+-- where playing stops at a line behind those that are answered
+module _ (limits : Ranges) (written : Writing) (lines later : List (List ℕ)) (ended : Bool)
+    (l : List ℕ) where
+  -- the line is bad
+  stopped-line : (token : TokenState) (number n : ℕ) (reason : BadLine) (P : Writing → Type 0)
+      → n ≡ number → is_bad (meaning l) ≡ true
+      → (is_over later ended ≡ true) ⊎ (longest_line < length l)
+      → HasAnswered limits written lines token number P
+      → IsStopped limits written (lines ++ l ∷ later) ended (length lines) P (fault.Line n reason)
+  stopped-line token number n reason P same refused over h = record {
+    of_line = tt;
+    output = output_of limits lines;
+    writer = h.writer;
+    outcome = record {
+      before = lines;
+      bad = l;
+      later = later;
+      parts = refl;
+      good = h.good;
+      refused = refused;
+      bad_number = same ∙ h.next_number;
+      over = over;
+      on_time = omega arith;
+      written = refl;
+    };
+  }
 
--- a line that there is no memory for
-pub stopped-memory : (limits : Ranges) (written : Writing) (lines later : List (List ℕ))
-    (ended : Bool)
-    (l : List ℕ) (token : TokenState) (number : ℕ) (P : Writing → Type 0)
-    → length l ≤ longest_line → HasAnswered limits written lines token number P
-    → IsStopped limits written (lines ++ l ∷ later) ended (length lines) P fault.Memory
-stopped-memory limits written lines later ended l token number P short h = record {
-  of_line = tt;
-  output = output_of limits lines;
-  writer = h.writer;
-  outcome = record {
-    before = lines;
-    unanswered = l;
-    later = later;
-    parts = refl;
-    good = h.good;
-    short = short;
-    on_time = omega arith;
-    written = refl;
-  };
-}
+  -- the line means nothing
+  pub stopped-bad : (token : TokenState) (number : ℕ) (reason : BadLine) (P : Writing → Type 0)
+      → None ≡ meaning l → is_over later ended ≡ true
+      → HasAnswered limits written lines token number P
+      → IsStopped limits written (lines ++ l ∷ later) ended (length lines) P
+      (fault.Line number reason)
+  stopped-bad token number reason P is over h =
+      stopped-line token number number reason P refl (sym (ap is_bad is)) (inl over) h
 
--- a reply whose writing failed with a beginning of it written
-cut_off : (limits : Ranges) (written : Writing) (lines later : List (List ℕ)) (ended : Bool)
-    (l : List ℕ) (old : TokenState) (number : ℕ) (P Q : Writing → Type 0) (caller : ℕ) (call : Call)
-    → Some (line.Called caller call) ≡ meaning l → is_over later ended ≡ true
-    → HasAnswered limits written lines old number P
-    → WriteFailed Q (wrote written (output_of limits lines))
-    (reply_text (answer old.limits old.history call))
-    → IsStopped limits written (lines ++ l ∷ later) ended (length lines) Q fault.Write
-cut_off limits written lines later ended l old number P Q caller call is over h b = record {
-  of_line = tt;
-  output = output_of limits lines ++ b.part;
-  writer = subst (λ (w : Writing). Q (failed_write w))
-      (wrote-wrote written (output_of limits lines) b.part) b.writer;
-  outcome = record {
-    before = lines;
-    cut = l;
-    later = later;
-    part = b.part;
-    rest = b.rest;
-    parts = refl;
-    good = AreGood-line lines l h.good (sym (ap is_bad is));
-    over = over;
-    on_time = omega arith;
-    written = refl;
-    reply =
-        ap replies_text (history_of-line limits lines l (Some (line.Called caller call)) is)
-        ∙ ap (λ text. output_of limits lines ++ text)
-        (sym (reply_is limits lines old call h.same_limits h.history) ∙ b.parts)
-        ∙ sym (append_assoc (output_of limits lines) b.part b.rest);
-  };
-}
+  -- there is no memory for the line
+  pub stopped-memory : (P : Writing → Type 0) → length l ≤ longest_line → AreGood lines
+      → P (wrote written (output_of limits lines))
+      → IsStopped limits written (lines ++ l ∷ later) ended (length lines) P fault.Memory
+  stopped-memory P short good writer = record {
+    of_line = tt;
+    output = output_of limits lines;
+    writer = writer;
+    outcome = record {
+      before = lines;
+      unanswered = l;
+      later = later;
+      parts = refl;
+      good = good;
+      short = short;
+      on_time = omega arith;
+      written = refl;
+    };
+  }
 
--- a line whose reply wasn't written whole
-pub stopped-call : (limits : Ranges) (written : Writing) (lines later : List (List ℕ))
-    (ended : Bool)
-    (l : List ℕ) (old : TokenState) (number : ℕ) (P Q : Writing → Type 0) (caller : ℕ) (call : Call)
-    (f : PlayFault)
-    → Some (line.Called caller call) ≡ meaning l → is_over later ended ≡ true
-    → HasAnswered limits written lines old number P
-    → IsUnwritten Q (wrote written (output_of limits lines))
-    (reply_text (answer old.limits old.history call)) f
-    → IsStopped limits written (lines ++ l ∷ later) ended (length lines) Q f
-stopped-call limits written lines later ended l old number P Q caller call
-    (fault.Line n r) is over h u = absurd u
-stopped-call limits written lines later ended l old number P Q caller call fault.Read is over h u =
-    absurd u
-stopped-call limits written lines later ended l old number P Q caller call fault.Write is over h u =
-    cut_off limits written lines later ended l old number P Q caller call is over h u
-stopped-call limits written lines later ended l old number P Q caller call fault.Memory is over h u
-    = record {
-      of_line = tt;
-      output = output_of limits lines;
-      writer = u;
-      outcome = record {
-        before = lines;
-        unanswered = l;
-        later = later;
-        parts = refl;
-        good = h.good;
-        short = meaning-short l (line.Called caller call) is;
-        on_time = omega arith;
-        written = refl;
-      };
-    }
-stopped-call limits written lines later ended l old number P Q caller call fault.Turns is over h u =
-    absurd u
+  -- the writing of the reply failed with a beginning of it written
+  cut_off : (old : TokenState) (number : ℕ) (P Q : Writing → Type 0) (caller : ℕ) (call : Call)
+      → Some (line.Called caller call) ≡ meaning l → is_over later ended ≡ true
+      → HasAnswered limits written lines old number P
+      → WriteFailed Q (wrote written (output_of limits lines))
+      (reply_text (answer old.limits old.history call))
+      → IsStopped limits written (lines ++ l ∷ later) ended (length lines) Q fault.Write
+  cut_off old number P Q caller call is over h b = record {
+    of_line = tt;
+    output = output_of limits lines ++ b.part;
+    writer = subst (λ (w : Writing). Q (failed_write w))
+        (wrote-wrote written (output_of limits lines) b.part) b.writer;
+    outcome = record {
+      before = lines;
+      cut = l;
+      later = later;
+      part = b.part;
+      rest = b.rest;
+      parts = refl;
+      good = AreGood-line lines l h.good (sym (ap is_bad is));
+      over = over;
+      on_time = omega arith;
+      written = refl;
+      reply =
+          ap replies_text (history_of-line limits lines l (Some (line.Called caller call)) is)
+          ∙ ap (λ text. output_of limits lines ++ text)
+          (sym (reply_is limits lines old call h.same_limits h.history) ∙ b.parts)
+          ∙ sym (append_assoc (output_of limits lines) b.part b.rest);
+    };
+  }
 
--- a line that can't be kept
-pub stopped-extend_open_line : (limits : Ranges) (written : Writing) (lines later : List (List ℕ))
-    (ended : Bool) (l : List ℕ) (token : TokenState) (number : ℕ) (P : Writing → Type 0)
-    (f : PlayFault)
-    → IsRefused number l f → HasAnswered limits written lines token number P
-    → IsStopped limits written (lines ++ l ∷ later) ended (length lines) P f
-stopped-extend_open_line limits written lines later ended l token number P
-    (fault.Line n reason) r h = record {
-      of_line = tt;
-      output = output_of limits lines;
-      writer = h.writer;
-      outcome = record {
-        before = lines;
-        bad = l;
-        later = later;
-        parts = refl;
-        good = h.good;
-        refused = ap is_bad (meaning-too_long l r.1);
-        bad_number = r.0 ∙ h.next_number;
-        over = inr r.1;
-        on_time = omega arith;
-        written = refl;
-      };
-    }
-stopped-extend_open_line limits written lines later ended l token number P fault.Read r h = absurd r
-stopped-extend_open_line limits written lines later ended l token number P fault.Write r h =
-    absurd r
-stopped-extend_open_line limits written lines later ended l token number P fault.Memory r h =
-    stopped-memory limits written lines later ended l token number P r h
-stopped-extend_open_line limits written lines later ended l token number P fault.Turns r h =
-    absurd r
+  -- the reply wasn't written whole
+  pub stopped-call : (old : TokenState) (number : ℕ) (P Q : Writing → Type 0) (caller : ℕ)
+      (call : Call) (f : PlayFault)
+      → Some (line.Called caller call) ≡ meaning l → is_over later ended ≡ true
+      → HasAnswered limits written lines old number P
+      → IsUnwritten Q (wrote written (output_of limits lines))
+      (reply_text (answer old.limits old.history call)) f
+      → IsStopped limits written (lines ++ l ∷ later) ended (length lines) Q f
+  stopped-call old number P Q caller call (fault.Line n r) is over h u = absurd u
+  stopped-call old number P Q caller call fault.Read is over h u = absurd u
+  stopped-call old number P Q caller call fault.Write is over h u =
+      cut_off old number P Q caller call is over h u
+  stopped-call old number P Q caller call fault.Memory is over h u =
+      stopped-memory Q (meaning-short l (line.Called caller call) is) h.good u
+  stopped-call old number P Q caller call fault.Turns is over h u = absurd u
+
+  -- the line can't be kept
+  pub stopped-extend_open_line : (token : TokenState) (number : ℕ) (P : Writing → Type 0)
+      (f : PlayFault) → IsRefused number l f → HasAnswered limits written lines token number P
+      → IsStopped limits written (lines ++ l ∷ later) ended (length lines) P f
+  stopped-extend_open_line token number P (fault.Line n reason) r h =
+      stopped-line token number n reason P r.0 (ap is_bad (meaning-too_long l r.1)) (inr r.1) h
+  stopped-extend_open_line token number P fault.Read r h = absurd r
+  stopped-extend_open_line token number P fault.Write r h = absurd r
+  stopped-extend_open_line token number P fault.Memory r h = stopped-memory P r h.good h.writer
+  stopped-extend_open_line token number P fault.Turns r h = absurd r
 
 -- what isn't taken of a player's open line, by its parts and by the player
 pub refused-same : (p q : PlayerState) (piece : List ℕ) (f : PlayFault) → p ≡ q

@@ -1,6 +1,6 @@
 -- What was read, after one more read, and scripts that are read whole
 use Rattle.std.proofs.Common.{◌≡◌, ◌<◌, ◌+◌, ℕ, suc, Bool, true, false, List, [], ◌++◌, Ok, Err}
-use Rattle.std.proofs.Common.{append_assoc, refl, sym, ap, ◌∙◌, subst, arith}
+use Rattle.std.proofs.Common.{append_assoc, refl, sym, ap₂, subst, arith}
 use Rattle.std.proofs.lemmas.List.{append-nil}
 use Rattle.std.specs.Prelude.{◌==◌, if◌then◌else◌, Result}
 use Rattle.std.specs.Result.{is_err, is_ok}
@@ -10,46 +10,36 @@ use Rattle.ck_plays.specs.Readings.{IsReadWhole, IsUnread, HasReadSoFar}
 use Rattle.ck_plays.specs.declared.faults.PlayFault.{PlayFault}
 use Rattle.ck_plays.specs.declared.faults.PlayFault.TheVariants as fault
 
--- the same reading with the same bytes and as many reads
-pub same_reading : (A : Reading → Type 0) (r : Reading) (earlier : List ℕ) (xs ys : List ℕ)
-    (m n ends failures : ℕ)
-    → xs ≡ ys → m ≡ n
-    → A (record {
-      script = r.script;
-      bytes = xs;
-      earlier = earlier;
-      reads = m;
-      ends = ends;
-      failures = failures;
-    })
-    → A (record {
-      script = r.script;
-      bytes = ys;
-      earlier = earlier;
-      reads = n;
-      ends = ends;
-      failures = failures;
-    })
-same_reading A r earlier xs ys m n ends failures e f h =
-    subst (λ (k : ℕ). A (record {
-      script = r.script;
-      bytes = ys;
-      earlier = earlier;
-      reads = k;
-      ends = ends;
-      failures = failures;
-    })) f
-    (subst (λ (bytes : List ℕ). A (record {
-      script = r.script;
-      bytes = bytes;
-      earlier = earlier;
-      reads = m;
-      ends = ends;
-      failures = failures;
-    })) e h)
+-- a reading of the same script
+abbrev reading_of : Reading → List ℕ → List ℕ → ℕ → ℕ → ℕ → Reading
+reading_of r bytes earlier reads ends failures =
+    record r { bytes = bytes; earlier = earlier; reads = reads; ends = ends; failures = failures }
 
-pub one_more : (m n : ℕ) → suc (m + n) ≡ m + suc n
-one_more m n = omega arith
+-- the same reading with the same bytes and as many reads
+same_reading : (A : Reading → Type 0) (r : Reading) (earlier xs ys : List ℕ)
+    (m n ends failures : ℕ)
+    → xs ≡ ys → m ≡ n → A (reading_of r xs earlier m ends failures)
+    → A (reading_of r ys earlier n ends failures)
+same_reading A r earlier xs ys m n ends failures e f h =
+    subst A (ap₂ (λ (bytes : List ℕ) (reads : ℕ). reading_of r bytes earlier reads ends failures)
+    e f) h
+
+-- what was read, where nothing is read yet
+pub nothing_read : (A : Reading → Type 0) (read : Reading) → A read
+    → A (after_reads read [] [] 0 read.ends read.failures)
+nothing_read A read h =
+    same_reading A read read.earlier read.bytes (read.bytes ++ []) read.reads (read.reads + 0)
+    read.ends read.failures (sym (append-nil read.bytes)) (omega arith) h
+
+-- what was read, after one more read
+one_more_read : (A : Reading → Type 0) (read : Reading) (script next bytes : List ℕ)
+    (reads ends failures : ℕ)
+    → bytes ≡ read.bytes ++ next
+    → A (reading_of read bytes (read.bytes ++ script) (suc (read.reads + reads)) ends failures)
+    → A (after_reads read next script (suc reads) ends failures)
+one_more_read A read script next bytes reads ends failures e h =
+    same_reading A read (read.bytes ++ script) bytes (read.bytes ++ next)
+    (suc (read.reads + reads)) (read.reads + suc reads) ends failures e (omega arith) h
 
 -- what was read, after the read that found the end
 pub at_end : (read : Reading) (script earlier : List ℕ) (reads count : ℕ) (bytes : List ℕ)
@@ -58,11 +48,17 @@ pub at_end : (read : Reading) (script earlier : List ℕ) (reads count : ℕ) (b
     → ((r : Reading) → A r → B (if count == 0 then end_read r else read_on r bytes))
     → B (after_reads read script script (suc reads) (suc read.ends) read.failures)
 at_end read script earlier reads count bytes A B none h more =
-    same_reading B read (read.bytes ++ script) (read.bytes ++ script) (read.bytes ++ script)
-    (suc (read.reads + reads)) (read.reads + suc reads) (suc read.ends) read.failures
-    refl (one_more read.reads reads)
+    one_more_read B read script script _ reads (suc read.ends) read.failures refl
     (let r : Reading = after_reads read script earlier reads read.ends read.failures in
     subst (λ (n : ℕ). B (if n == 0 then end_read r else read_on r bytes)) none (more r h))
+
+-- what was read, after a failed read
+pub after_failed : (read : Reading) (script earlier : List ℕ) (reads : ℕ) (A B : Reading → Type 0)
+    → A (after_reads read script earlier reads read.ends read.failures)
+    → ((r : Reading) → A r → B (failed_read r))
+    → B (after_reads read script script (suc reads) read.ends (suc read.failures))
+after_failed read script earlier reads A B h more =
+    one_more_read B read script script _ reads read.ends (suc read.failures) refl (more _ h)
 
 -- what was read, after a read of further bytes
 pub further : (read : Reading) (script earlier : List ℕ) (reads count : ℕ) (bytes : List ℕ)
@@ -71,10 +67,8 @@ pub further : (read : Reading) (script earlier : List ℕ) (reads count : ℕ) (
     → ((r : Reading) → A r → B (if count == 0 then end_read r else read_on r bytes))
     → B (after_reads read (script ++ bytes) script (suc reads) read.ends read.failures)
 further read script earlier reads count bytes A B some h more =
-    same_reading B read (read.bytes ++ script) (read.bytes ++ script ++ bytes)
-    (read.bytes ++ (script ++ bytes)) (suc (read.reads + reads))
-    (read.reads + suc reads) read.ends read.failures
-    (append_assoc read.bytes script bytes) (one_more read.reads reads)
+    one_more_read B read script (script ++ bytes) _ reads read.ends read.failures
+    (append_assoc read.bytes script bytes)
     (let r : Reading = after_reads read script earlier reads read.ends read.failures in
     subst (λ (b : Bool). B (if b then end_read r else read_on r bytes)) some (more r h))
 
@@ -83,10 +77,8 @@ further read script earlier reads count bytes A B some h more =
 pub read-nothing : (read : Reading) (A : Reading → Type 0) (bytes : List ℕ) → bytes ≡ []
     → A read → HasReadSoFar read A bytes 0
 read-nothing read A bytes none h = record {
-  earlier = read.earlier;
-  reader = same_reading A read read.earlier read.bytes (read.bytes ++ bytes) read.reads
-      (read.reads + 0) read.ends read.failures
-      (sym (ap (λ (xs : List ℕ). read.bytes ++ xs) none ∙ append-nil read.bytes)) (omega arith) h;
+  earlier = [];
+  reader = rw none (nothing_read A read h);
 }
 
 -- there was no memory for the first read
@@ -96,10 +88,10 @@ read-unmade most read A h = (
   [],
   record {
     script = [];
-    earlier = read.earlier;
+    earlier = [];
     ended = false;
     reads = 0;
-    reader = (read-nothing read A [] refl h).reader;
+    reader = nothing_read A read h;
     within = omega arith;
     outcome = refl;
   },
@@ -128,10 +120,7 @@ read-failed most read A B bytes reads f e lt h more =
       earlier = bytes;
       ended = false;
       reads = suc reads;
-      reader =
-          same_reading B read (read.bytes ++ bytes) (read.bytes ++ bytes) (read.bytes ++ bytes)
-          (suc (read.reads + reads)) (read.reads + suc reads) read.ends (suc read.failures)
-          refl (one_more read.reads reads) (more _ h.reader);
+      reader = after_failed read bytes h.earlier reads A B h.reader more;
       within = omega arith;
       outcome = refl;
     })

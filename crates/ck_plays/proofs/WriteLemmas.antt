@@ -1,8 +1,8 @@
 -- Writing bytes piece by piece
-use Rattle.std.proofs.Common.{◌≡◌, ℕ, ◌+◌, ◌-◌, List, ◌++◌, length, take, drop, ap, sym, ◌∙◌}
+use Rattle.std.proofs.Common.{◌≡◌, ℕ, ◌+◌, ◌-◌, List, [], ◌++◌, length, take, drop, ap, sym, ◌∙◌}
 use Rattle.std.proofs.Common.{subst, append_assoc}
 use Rattle.std.proofs.Math.Seq.{take-add}
-use Rattle.std.proofs.lemmas.List.{take-append-drop, take_rest}
+use Rattle.std.proofs.lemmas.List.{append-nil, take-append-drop, take_rest}
 use Rattle.ck_plays.specs.Devices.{Writing, wrote, failed_write}
 use Rattle.ck_plays.specs.Players.{WriteFailed}
 
@@ -14,6 +14,10 @@ wrote-wrote w xs ys =
       bytes = bytes;
       failures = w.failures;
     } in r)) (append_assoc w.bytes xs ys)
+
+-- what was written, where nothing is written yet
+pub nothing_written : (P : Writing → Type 0) (w : Writing) → P w → P (wrote w [])
+nothing_written P w h = rw append-nil h
 
 -- one more write of some of the bytes that are left
 pub wrote-more : (P : Writing → Type 0) (w : Writing) (xs : List ℕ) (at count : ℕ)

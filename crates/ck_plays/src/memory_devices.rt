@@ -119,11 +119,8 @@ pub struct MemorySink {
 }
 
 impl MemorySink {
-    ghost use Rattle.std.specs.Prelude.{◌≡◌, ◌≤◌, ◌<◌, ◌+◌, ◌⊎◌, suc, [], true, Some, length};
-    ghost use Rattle.std.specs.Prelude.{IfOk, IsErr, OnErr, vec_len, vec_capacity};
-    ghost use Rattle.std.specs.Io.KnownBytes.{WriteAppends};
-    ghost use Rattle.ck_plays.specs.Devices.{Writing, IsCount};
-    ghost use Rattle.ck_plays.specs.MemoryDevices.{count_taken};
+    ghost use Rattle.std.specs.Prelude.{◌≡◌, [], true};
+    ghost use Rattle.ck_plays.specs.Devices.{Writing};
 
     /// A sink that takes at most `piece` bytes a write. The write of number `fails_at` fails and
     /// that of number `stops_at` takes no byte; 0 is none.
@@ -143,34 +140,6 @@ impl MemorySink {
             writes: 0,
             failures: 0,
         }
-    }
-
-    /// Takes a front of these bytes, or fails where this write is to fail.
-    fn take(&mut self, bytes: &[u8]) -> io::Result<usize>
-        ensures bound { IfOk result (λ count. count ≤ length bytes.now) }
-        ensures taken { WriteAppends (Some self.old.bytes.items) (Some self.new.bytes.items)
-            result bytes.now }
-        ensures counted { IsCount self.new.writes (suc self.old.writes) }
-        ensures failing { self.new.writes ≡ self.new.fails_at → IsErr result }
-        ensures stopping { self.new.writes ≡ self.new.stops_at → IfOk result (λ count. count ≡ 0) }
-        ensures piece { IfOk result (λ count. count ≡
-            count_taken (length bytes.now) self.new.piece self.new.stops_at self.new.writes) }
-        ensures err { OnErr result ((self.new.writes ≡ self.new.fails_at)
-            ⊎ (vec_capacity self.old.bytes < vec_len self.old.bytes
-            + count_taken (length bytes.now) self.new.piece self.new.stops_at self.new.writes)) }
-        ensures set { (self.new.piece ≡ self.old.piece) × (self.new.fails_at ≡ self.old.fails_at)
-            × (self.new.stops_at ≡ self.old.stops_at) × (self.new.failures ≡ self.old.failures) }
-    {
-        self.writes = self.writes.saturating_add(1);
-        let count = if self.writes == self.stops_at {
-            0
-        } else {
-            bytes.len().min(self.piece)
-        };
-        if self.writes == self.fails_at || self.bytes.extend_from_slice(&bytes[..count]).is_err() {
-            return Err(io::Error::from(io::ErrorKind::Other));
-        }
-        Ok(count)
     }
 
     /// What was written.
@@ -206,7 +175,19 @@ impl Sink for MemorySink {
         ensures set { (self.new.piece ≡ self.old.piece) × (self.new.fails_at ≡ self.old.fails_at)
             × (self.new.stops_at ≡ self.old.stops_at) }
     {
-        let write = self.take(bytes);
+        self.writes = self.writes.saturating_add(1);
+        let count = if self.writes == self.stops_at {
+            0
+        } else {
+            bytes.len().min(self.piece)
+        };
+        let fails = self.writes == self.fails_at
+            || self.bytes.extend_from_slice(&bytes[..count]).is_err();
+        let write = if fails {
+            Err(io::Error::from(io::ErrorKind::Other))
+        } else {
+            Ok(count)
+        };
         self.failures = failures_after(self.failures, &write);
         write
     }

@@ -6,7 +6,8 @@ use crate::retried_scripts::retry_script;
 use crate::shared_work::{SharedWork, share_with};
 use crate::tokens::prepared_token;
 use anyhow::{bail, ensure};
-use ck_journal::{Body, Reply};
+use ck_audit::are_same_replies;
+use ck_journal::Reply;
 use ck_shared::{Ask, Caller, Gate, Runtime, SharedToken, Status, TokenId};
 use ck_token::Token;
 use ck_types::NoMemory;
@@ -41,44 +42,6 @@ fn knowledge_of<K: TokenId>(caller: &mut Caller<K>) -> anyhow::Result<Knowledge>
     })
 }
 
-/// Whether two answers about the token, or two about a session, are the same. It takes no memory.
-fn are_same_answers(one: &Reply, other: &Reply) -> bool {
-    one.rv == other.rv && are_same_bodies(&one.body, &other.body)
-}
-
-fn are_same_bodies(one: &Body, other: &Body) -> bool {
-    match (one, other) {
-        (Body::Empty, Body::Empty) => true,
-        (
-            Body::Session { state, flags },
-            Body::Session {
-                state: other_state,
-                flags: other_flags,
-            },
-        ) => state == other_state && flags == other_flags,
-        (
-            Body::Token {
-                flags,
-                limit,
-                sessions,
-                rw_sessions,
-            },
-            Body::Token {
-                flags: other_flags,
-                limit: other_limit,
-                sessions: other_sessions,
-                rw_sessions: other_rw_sessions,
-            },
-        ) => {
-            flags == other_flags
-                && limit == other_limit
-                && sessions == other_sessions
-                && rw_sessions == other_rw_sessions
-        }
-        _ => false,
-    }
-}
-
 /// A caller knows what it knew, and is answered as it was. When it asks it may learn of calls that
 /// others made before.
 fn check_unchanged<K: TokenId>(caller: &mut Caller<K>, before: &Knowledge) -> anyhow::Result<()> {
@@ -86,8 +49,8 @@ fn check_unchanged<K: TokenId>(caller: &mut Caller<K>, before: &Knowledge) -> an
     let after = knowledge_of(caller)?;
     ensure!(
         knows_the_same
-            && are_same_answers(&after.token, &before.token)
-            && are_same_answers(&after.session, &before.session),
+            && are_same_replies(&after.token, &before.token)
+            && are_same_replies(&after.session, &before.session),
         "changed by a call without memory"
     );
     Ok(())

@@ -50,9 +50,8 @@ returns-in-Err-Bad-clause-err g c limits written lines later ended over h =
 
 pub returns-in-Err-Memory-clause-err : goal.returns-in-Err-Memory-clause-err
 returns-in-Err-Memory-clause-err g c limits written lines later ended over h =
-    stopped-memory limits written lines later ended c.args.line.now
-    (g.G.JournaledToken.state c.args.token.now) c.args.number _
+    stopped-memory limits written lines later ended c.args.line.now _
     (memory-short (length c.args.line.now) c.parse.result c.parse.ensures.long
     (c.in-Err-Memory.is
     ∙ ap (λ (e : LineError). (let r : Result Line LineError = Err e in r))
-    c.in-Err-Memory.field-0-is)) h
+    c.in-Err-Memory.field-0-is)) h.good h.writer

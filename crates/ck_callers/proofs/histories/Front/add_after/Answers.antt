@@ -1,11 +1,9 @@
-use Rattle.std.proofs.Common.{◌≡◌, ◌≤◌, ◌++◌, ◌∷◌, [], List, length, length-append, sym, ap, ◌∙◌}
-use Rattle.std.proofs.Common.{subst, arith}
+use Rattle.std.proofs.Common.{◌≡◌, ◌≤◌, length, sym, ap, ◌∙◌, arith}
 use mathlib.Core.List.{IsPrefix}
 use Rattle.ck_journal.specs.Histories.{entry_count}
-use Rattle.ck_journal.specs.declared.calls.Entry.{Entry}
 use Rattle.ck_callers.proofs.Adding.{adds_moves, adds_found}
 use Rattle.ck_callers.proofs.Prefixes.{prefix_length}
-use Rattle.ck_callers.proofs.Lengths.{count_is, added_next, added_other, added_legal}
+use Rattle.ck_callers.proofs.Lengths.{count_is, entry_added}
 use Rattle.ck_callers.proofs.histories.Front.add_after.Goals as goal
 
 pub overflow_add-count : goal.overflow_add-count
@@ -29,9 +27,7 @@ compare_exchange-found-requires g c =
     c.learn.ensures.0 ∙ ap (λ s. s.book) c.again-both.ensures ∙ c.self.invariant.1
     ∙ sym (ap (λ w. w.book) h) in
     let p : IsPrefix c.self.inside.seen.log c.learn.new.self.log =
-    subst (λ (l : List Entry). IsPrefix l c.learn.new.self.log)
-    (ap (λ s. s.log) c.again-both.ensures)
-    c.learn.ensures.2 in
+    rw c.again-both.ensures at c.learn.ensures.2 in
     let len : c.self.inside.count ≤ length c.learn.new.self.log = omega
     (arith, c.self.invariant.0, prefix_length _ _ p) in (
       ap (λ w. w.tracked) h,
@@ -45,59 +41,27 @@ compare_exchange-found-requires g c =
 
 pub invariant_of-self : goal.invariant_of-self
 invariant_of-self g c =
-    let p : IsPrefix c.self.inside.seen.log c.learn.new.self.log =
-    subst (λ (l : List Entry). IsPrefix l c.learn.new.self.log)
-    (ap (λ s. s.log) c.again-both.ensures)
-    c.learn.ensures.2 in
-    let q : IsPrefix c.other.inside.seen.log c.learn.new.self.log = c.learn.ensures.3 in
-    let found = adds_found c.self.inside.count c.compare_exchange-found.result
-    c.plain-offer.result.ask
-    c.learn.new.self.log c.compare_exchange-found.new.seen.log c.if-found-count.false
-    c.compare_exchange-found.ensures.7 in
-    let added : c.compare_exchange-found.new.seen.log ≡ c.learn.new.self.log ++ c.args.entry.now
-    ∷ [] =
-    found.0 ∙ ap (λ (e : Entry). c.learn.new.self.log ++ e ∷ []) c.plain-offer.ensures.1 in
-    let len : length c.learn.new.self.log ≡ length c.self.inside.seen.log = found.1
-    ∙ c.self.invariant.0 in (
-      omega (
-        arith,
-        c.self.invariant.0,
-        found.1,
-        ap length added,
-        length-append c.learn.new.self.log
-            (c.args.entry.now ∷ []),
-      ),
+    let p = rw c.again-both.ensures at c.learn.ensures.2 in
+    let found = rw c.plain-offer.ensures.1 at (adds_found c.self.inside.count
+    c.compare_exchange-found.result c.plain-offer.result.ask c.learn.new.self.log
+    c.compare_exchange-found.new.seen.log c.if-found-count.false
+    c.compare_exchange-found.ensures.7) in
+    let added = entry_added _ c.self.inside.seen.log c.other.inside.seen.log c.learn.new.self.log
+    c.compare_exchange-found.new.seen.log c.args.entry.now _ _ p c.learn.ensures.3 c.self.view_is
+    c.other.view_is _ c.self.invariant.0 found in (
+      added.0,
       c.compare_exchange-found.ensures.0 ∙ c.learn.ensures.0 ∙ ap (λ s. s.book) c.again-both.ensures
           ∙ c.self.invariant.1,
-      added_legal _ c.self.inside.seen.log c.other.inside.seen.log c.learn.new.self.log
-          c.compare_exchange-found.new.seen.log c.args.entry.now _ _ p q c.self.view_is
-          c.other.view_is len
-          added
-          _ c.self.invariant.2 c.requires.legal,
+      rw added.1 (c.requires.legal, rw c.self.view_is at c.self.invariant.2),
     )
 
 pub returns : goal.returns
 returns g c =
-    let p : IsPrefix c.self.inside.seen.log c.learn.new.self.log =
-    subst (λ (l : List Entry). IsPrefix l c.learn.new.self.log)
-    (ap (λ s. s.log) c.again-both.ensures)
-    c.learn.ensures.2 in
-    let q : IsPrefix c.other.inside.seen.log c.learn.new.self.log = c.learn.ensures.3 in
-    let found = adds_found c.self.inside.count c.compare_exchange-found.result
-    c.plain-offer.result.ask
-    c.learn.new.self.log c.compare_exchange-found.new.seen.log c.if-found-count.false
-    c.compare_exchange-found.ensures.7 in
-    let added : c.compare_exchange-found.new.seen.log ≡ c.learn.new.self.log ++ c.args.entry.now
-    ∷ [] =
-    found.0 ∙ ap (λ (e : Entry). c.learn.new.self.log ++ e ∷ []) c.plain-offer.ensures.1 in
-    let len : length c.learn.new.self.log ≡ length c.self.inside.seen.log = found.1
-    ∙ c.self.invariant.0 in (
-      added_next _ c.self.inside.seen.log c.other.inside.seen.log c.learn.new.self.log
-          c.compare_exchange-found.new.seen.log c.args.entry.now _ _ p q c.self.view_is
-          c.other.view_is len
-          added,
-      added_other _ c.self.inside.seen.log c.other.inside.seen.log c.learn.new.self.log
-          c.compare_exchange-found.new.seen.log c.args.entry.now _ _ p q c.self.view_is
-          c.other.view_is len
-          added,
-    )
+    let p = rw c.again-both.ensures at c.learn.ensures.2 in
+    let found = rw c.plain-offer.ensures.1 at (adds_found c.self.inside.count
+    c.compare_exchange-found.result c.plain-offer.result.ask c.learn.new.self.log
+    c.compare_exchange-found.new.seen.log c.if-found-count.false
+    c.compare_exchange-found.ensures.7) in
+    let added = entry_added _ c.self.inside.seen.log c.other.inside.seen.log c.learn.new.self.log
+    c.compare_exchange-found.new.seen.log c.args.entry.now _ _ p c.learn.ensures.3 c.self.view_is
+    c.other.view_is _ c.self.invariant.0 found in (added.1, added.2)

@@ -1,8 +1,6 @@
-use Rattle.std.proofs.Common.{◌≡◌, ◌≤◌, List, length, ap, subst, arith}
+use Rattle.std.proofs.Common.{◌≡◌, ◌≤◌, arith}
 use Rattle.std.proofs.lemmas.Bool.Decides.{nat_tests}
-use mathlib.Core.List.{IsPrefix}
 use Rattle.ck_journal.specs.Histories.{entry_count}
-use Rattle.ck_journal.specs.declared.calls.Entry.{Entry}
 use Rattle.ck_callers.proofs.Lengths.{count_is, shorter_begins}
 use Rattle.ck_callers.proofs.histories.Front.begins.Goals as goal
 
@@ -18,24 +16,13 @@ returns-clause-shorter g c =
 pub returns-clause-front : goal.returns-clause-front
 returns-clause-front g c t =
     let le : c.self.inside.count ≤ c.other.inside.count = grind (arith, nat_tests) in
-    let len : length c.self.inside.seen.log ≤ length c.other.inside.seen.log = omega
-    (arith, c.self.invariant.0, c.other.invariant.0) in
-    let p : IsPrefix c.self.inside.seen.log c.learn.new.self.log =
-    subst (λ (l : List Entry). IsPrefix l c.learn.new.self.log)
-    (ap (λ s. s.log) c.again-both.ensures)
-    c.learn.ensures.2 in
-    shorter_begins _ c.self.inside.seen.log c.other.inside.seen.log c.learn.new.self.log _ _ p
-    c.learn.ensures.3 c.self.view_is c.other.view_is len
+    shorter_begins _ c.self.inside.seen.log c.other.inside.seen.log c.learn.new.self.log _ _
+    (rw c.again-both.ensures at c.learn.ensures.2) c.learn.ensures.3 c.self.view_is c.other.view_is
+    (omega (arith, c.self.invariant.0, c.other.invariant.0))
 
 pub returns-clause-longer : goal.returns-clause-longer
 returns-clause-longer g c f =
     let le : c.other.inside.count ≤ c.self.inside.count = grind (arith, nat_tests) in
-    let len : length c.other.inside.seen.log ≤ length c.self.inside.seen.log = omega
-    (arith, c.self.invariant.0, c.other.invariant.0) in
-    let p : IsPrefix c.self.inside.seen.log c.learn.new.self.log =
-    subst (λ (l : List Entry). IsPrefix l c.learn.new.self.log)
-    (ap (λ s. s.log) c.again-both.ensures)
-    c.learn.ensures.2 in
     shorter_begins _ c.other.inside.seen.log c.self.inside.seen.log c.learn.new.self.log _ _
-    c.learn.ensures.3 p
-    c.other.view_is c.self.view_is len
+    c.learn.ensures.3 (rw c.again-both.ensures at c.learn.ensures.2) c.other.view_is c.self.view_is
+    (omega (arith, c.self.invariant.0, c.other.invariant.0))

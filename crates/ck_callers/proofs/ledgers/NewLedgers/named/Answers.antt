@@ -1,39 +1,29 @@
-use Rattle.std.proofs.Common.{sym, ap, ◌∙◌}
-use Rattle.ck_callers.specs.Accounts.{name_of}
-use Rattle.ck_callers.proofs.NewAccounts.{all_added}
+use Rattle.ck_callers.proofs.NewAccounts.{all_added, same_name}
 use Rattle.ck_callers.proofs.ledgers.NewLedgers.named.Goals as goal
 
 pub open_ledger-one-requires-clause-name : goal.open_ledger-one-requires-clause-name
-open_ledger-one-requires-clause-name g c = ap (λ l. name_of l 1) c.self.view_is
-    ∙ sym (c.requires.names 1)
+open_ledger-one-requires-clause-name g c = same_name c.self.view_is c.requires.names 1
 
 pub open_ledger-two-requires-clause-name : goal.open_ledger-two-requires-clause-name
-open_ledger-two-requires-clause-name g c = ap (λ l. name_of l 2) c.self.view_is
-    ∙ sym (c.requires.names 2)
+open_ledger-two-requires-clause-name g c = same_name c.self.view_is c.requires.names 2
 
 pub open_ledger-three-requires-clause-name : goal.open_ledger-three-requires-clause-name
-open_ledger-three-requires-clause-name g c = ap (λ l. name_of l 3) c.self.view_is
-    ∙ sym (c.requires.names 3)
+open_ledger-three-requires-clause-name g c = same_name c.self.view_is c.requires.names 3
 
 pub open_ledger-four-requires-clause-name : goal.open_ledger-four-requires-clause-name
-open_ledger-four-requires-clause-name g c = ap (λ l. name_of l 4) c.self.view_is
-    ∙ sym (c.requires.names 4)
+open_ledger-four-requires-clause-name g c = same_name c.self.view_is c.requires.names 4
 
 pub open_ledger-five-requires-clause-name : goal.open_ledger-five-requires-clause-name
-open_ledger-five-requires-clause-name g c = ap (λ l. name_of l 5) c.self.view_is
-    ∙ sym (c.requires.names 5)
+open_ledger-five-requires-clause-name g c = same_name c.self.view_is c.requires.names 5
 
 pub open_ledger-six-requires-clause-name : goal.open_ledger-six-requires-clause-name
-open_ledger-six-requires-clause-name g c = ap (λ l. name_of l 6) c.self.view_is
-    ∙ sym (c.requires.names 6)
+open_ledger-six-requires-clause-name g c = same_name c.self.view_is c.requires.names 6
 
 pub open_ledger-seven-requires-clause-name : goal.open_ledger-seven-requires-clause-name
-open_ledger-seven-requires-clause-name g c = ap (λ l. name_of l 7) c.self.view_is
-    ∙ sym (c.requires.names 7)
+open_ledger-seven-requires-clause-name g c = same_name c.self.view_is c.requires.names 7
 
 pub open_ledger-eight-requires-clause-name : goal.open_ledger-eight-requires-clause-name
-open_ledger-eight-requires-clause-name g c = ap (λ l. name_of l 8) c.self.view_is
-    ∙ sym (c.requires.names 8)
+open_ledger-eight-requires-clause-name g c = same_name c.self.view_is c.requires.names 8
 
 pub returns-clause-accounts : goal.returns-clause-accounts
 returns-clause-accounts g c =
