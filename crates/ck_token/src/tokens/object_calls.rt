@@ -72,7 +72,8 @@ impl Token {
         )
     }
 
-    /// Whether a new object may stand in the session.
+    /// The checks of where a new object stands: CKR_SESSION_READ_ONLY for a token object in a
+    /// read-only session, CKR_USER_NOT_LOGGED_IN for a private one without the user's login.
     fn check_placement(&self, row: &Session, placement: Placement) -> Result<(), RvError>
         ensures { (s : ℕ) → row.now ≡ session_row self.now.history s
             → result ≡ check_of (placement_error self.now.history s placement) }
@@ -195,8 +196,9 @@ impl Token {
     }
 
     /// C_GetAttributeValue. Checks: CKR_SESSION_HANDLE_INVALID (b3), CKR_OBJECT_HANDLE_INVALID
-    /// (82). The queries, which are all answered, may have faults: CKR_ATTRIBUTE_SENSITIVE (11),
-    /// CKR_ATTRIBUTE_TYPE_INVALID (12), CKR_BUFFER_TOO_SMALL (150).
+    /// (82). Then all queries are answered, with the first of these codes that one of them has:
+    /// CKR_ATTRIBUTE_SENSITIVE (11), CKR_ATTRIBUTE_TYPE_INVALID (12), CKR_BUFFER_TOO_SMALL (150),
+    /// CKR_OK.
     pub(super) fn get_attribute_value(
         &self,
         alloc: Global,

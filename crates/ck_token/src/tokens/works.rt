@@ -3,11 +3,11 @@ use ck_journal::{Call, Work, is_long_piece};
 use ck_mac::RunningTag;
 use ck_operations::Operation;
 
-/// How many bytes a long message has at least. Taking in fewer is as fast as beginning the work.
+/// The fewest bytes of a long message.
 const LONG_MESSAGE: usize = 4096;
 
 /// Whether the call takes in a long message: it isn't refused for its length or for an earlier
-/// update, and its reply has more than a length.
+/// update, and its reply isn't only a length.
 fn takes_long_message(call: &Call, operation: &Operation) -> bool {
     let bytes = call.taken_bytes();
     if bytes.len() < LONG_MESSAGE || is_long_piece(bytes) {
@@ -30,8 +30,9 @@ impl Token {
     ghost use Rattle.ck_journal.specs.Works.{IsBegun, IsAhead, HoldsAfter};
 
     /// Begins the work on a long message that the call brings, so that its bytes can be taken in
-    /// before the call is made. It takes no memory. `None` where this saves nothing: the message
-    /// has fewer than 4,096 bytes, or the call is refused, or it asks for a length.
+    /// before the call is made. It takes no memory. `None` where there is nothing to take in: fewer
+    /// than 4,096 bytes or more than a call may bring, no operation that takes them in, or a reply
+    /// that is only a length.
     pub fn work(&self, call: &Call) -> Option<Work>
         ensures { IfSome result (IsBegun self.now.history call.now) }
     {
