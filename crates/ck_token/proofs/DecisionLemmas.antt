@@ -6,7 +6,8 @@ use Rattle.std.specs.Prelude.{◌==◌, ◌&&◌, is_none, is_some, nat_lt}
 use Rattle.std.specs.List.{list_any}
 use Rattle.std.specs.Result.{IsErrAnd, IfErr}
 use Rattle.std.specs.Option.{option_map_or}
-use Rattle.ck_types.specs.Checks.{error_if, or_else}
+use Rattle.ck_types.specs.Checks.{error_if, or_else, check_of}
+use Rattle.ck_types.proofs.CheckLemmas.{check_of-ok, check_of-err}
 use Rattle.ck_types.specs.TokenLimits.{Ranges}
 use Rattle.ck_types.specs.declared.errors.RvError.{RvError}
 use Rattle.ck_types.specs.declared.errors.RvError.TheVariants as rv_error
@@ -253,6 +254,20 @@ skip first later passes = rw passes refl
 pub hit : (first later : Option RvError) (code : RvError) → first ≡ Some code
     → or_else first later ≡ Some code
 hit first later code fails = rw fails refl
+
+-- a check that answers Ok passes, also of what is equal to that which it was made of
+pub passes : {A : Type 0} (check : A → Option RvError) (given is : A)
+    (result : Result (Unit {0}) RvError) (u : Unit {0})
+    → given ≡ is → result ≡ check_of (check given) → result ≡ Ok u → check is ≡ None
+passes check given is result u same made was =
+    ap check (sym same) ∙ check_of-ok (check given) u (sym made ∙ was)
+
+-- and one that answers a code fails with it
+pub fails : {A : Type 0} (check : A → Option RvError) (given is : A)
+    (result : Result (Unit {0}) RvError) (code : RvError)
+    → given ≡ is → result ≡ check_of (check given) → result ≡ Err code → check is ≡ Some code
+fails check given is result code same made was =
+    ap check (sym same) ∙ check_of-err (check given) code (sym made ∙ was)
 
 pub session-passes : (h : History) (session : ℕ) → is_open h session ≡ true
     → session_error h session ≡ None
