@@ -1,14 +1,16 @@
 -- What is decided of a call
-use Rattle.std.specs.Prelude.{◌≡◌, Bool, true, false, ◌&&◌, Option, Some, None, Result, Ok, Err}
+use Rattle.std.specs.Prelude.{◌≡◌, ℕ, [], ◌∷◌, Bool, true, false, ◌&&◌, Option, Some, None, Result, Ok, Err}
 use Rattle.std.specs.Prelude.{is_none, is_some, not, take}
+use Rattle.ck_types.specs.Checks.{first_of}
 use Rattle.ck_types.specs.TokenLimits.{Ranges}
 use Rattle.ck_types.specs.declared.errors.RvError.{RvError}
 use Rattle.ck_types.specs.declared.users.UserType.{UserType}
+use Rattle.ck_objects.specs.declared.object_flags.Placement.{Placement}
 use Rattle.ck_journal.specs.declared.calls.Call.{Call}
 use Rattle.ck_journal.specs.declared.calls.Call.TheVariants as call
 use Rattle.ck_journal.specs.declared.replies.Body.{Body}
 use Rattle.ck_journal.specs.declared.replies.Reply.{Reply}
-use Rattle.ck_journal.specs.Answers.{call_error, allowed_reply}
+use Rattle.ck_journal.specs.Answers.{call_error, allowed_reply, placement_error, creations_error}
 use Rattle.ck_journal.specs.Histories.{History}
 use Rattle.ck_journal.specs.Lists.{is_empty}
 use Rattle.ck_journal.specs.Pins.{about}
@@ -66,6 +68,13 @@ IsCheckAbout who error (Ok found) = error ≡ None
 IsCheckAbout who error (Err (refused.Error code change)) =
     (error ≡ Some code) × (change ≡ wrong_try_change code who)
 IsCheckAbout who error (Err refused.Memory) = ⊥
+
+-- the last checks of a call that makes an object of this placement
+abbrev pub new_object_error : Ranges → History → ℕ → Placement → Option RvError
+new_object_error limits h session placement = first_of (
+    placement_error h session placement
+    ∷ creations_error limits h
+    ∷ [])
 
 -- the reply that is decided
 abbrev pub reply_of : Decision → Reply
