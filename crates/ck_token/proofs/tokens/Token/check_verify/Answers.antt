@@ -10,6 +10,6 @@ returns c =
     let bytes = c.args.bytes.now in
     tag-checked (message_error kind.Verify h session bytes) _ (tag_in kind.Verify h session bytes)
     c.args.signature.now _ c.check.ensures
-    (single_part-tag kind.Verify h session _ _ bytes _ c.in_ok-operation.ensures.agrees
+    (single_part-tag kind.Verify h session _ c.in_ok-operation.ensures.agrees _ bytes _
     c.in_ok-operation.ensures.unused c.requires c.tag_with.ensures)
     c.in_ok-operation.ensures.passes

@@ -16,5 +16,5 @@ returns c =
     tag-checked (final_error kind.Verify h session) _
     (tag_in kind.Verify h session (message_in kind.Verify h session))
     c.args.signature.now _ c.check.ensures
-    (message-tag kind.Verify h session _ _ c.in_ok-operation.ensures.agrees c.tag.ensures)
+    (message-tag kind.Verify h session _ c.in_ok-operation.ensures.agrees _ c.tag.ensures)
     c.in_ok-operation.ensures.passes

@@ -18,7 +18,7 @@ tag c =
 
 len : (c : After-len) → length (tag c) ≡ c.len.result
 len c =
-    tag-length c.args.kind c.args.self.now.history c.args.session _ _ _ c.in-Ok.ensures.agrees
+    tag-length c.args.kind c.args.self.now.history c.args.session _ c.in-Ok.ensures.agrees _ _
     c.len.ensures
 
 pub returns-in-Some : goal.returns-in-Some
@@ -33,7 +33,7 @@ returns c =
     let given =
     gives-bytes c.args.kind c.args.session _ _ _ _ c.in_ok-bytes_decision.ensures
     (c.in_default.ensures (tag p) (len p))
-    (message-tag c.args.kind c.args.self.now.history c.args.session _ _ c.in-Ok.ensures.agrees
+    (message-tag c.args.kind c.args.self.now.history c.args.session _ c.in-Ok.ensures.agrees _
     c.tag.ensures) in
     (c.in-Ok.ensures.passes, given.0, given.1)
 

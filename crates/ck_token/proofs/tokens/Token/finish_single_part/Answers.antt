@@ -16,7 +16,7 @@ tag c = tag_in c.args.kind c.args.self.now.history c.args.session c.args.bytes.n
 
 len : (c : After-len) → length (tag c) ≡ c.len.result
 len c =
-    tag-length c.args.kind c.args.self.now.history c.args.session _ _ _ c.in-Ok.ensures.agrees
+    tag-length c.args.kind c.args.self.now.history c.args.session _ c.in-Ok.ensures.agrees _ _
     c.len.ensures
 
 pub returns-in-Some : goal.returns-in-Some
@@ -31,8 +31,8 @@ returns c =
     let given =
     gives-bytes c.args.kind c.args.session _ _ _ _ c.in_ok-bytes_decision.ensures
     (c.in_default.ensures (tag p) (len p))
-    (single_part-tag c.args.kind c.args.self.now.history c.args.session _ _ c.args.bytes.now _
-    c.in-Ok.ensures.agrees c.in-Ok.ensures.unused c.requires c.tag_with-tag.ensures) in
+    (single_part-tag c.args.kind c.args.self.now.history c.args.session _ c.in-Ok.ensures.agrees
+    _ c.args.bytes.now _ c.in-Ok.ensures.unused c.requires c.tag_with-tag.ensures) in
     (c.in-Ok.ensures.passes, given.0, given.1)
 
 pub returns-in_err-bytes_decision : goal.returns-in_err-bytes_decision
