@@ -1,6 +1,5 @@
 use Rattle.std.proofs.lemmas.Grind.{common_steps}
-use Rattle.std.proofs.Common.{arith}
-use Rattle.std.proofs.Common.{◌≡◌, [], sym, ap, ◌∙◌, subst}
+use Rattle.std.proofs.Common.{◌≡◌, [], sym, ap, ◌∙◌, subst, arith}
 use Rattle.std.proofs.lemmas.List.{nil_from_length}
 use Rattle.ck_journal.specs.Bases.{IsSound}
 use Rattle.ck_journal.specs.Cuts.{base_of}
@@ -22,9 +21,7 @@ none c =
     (sym (c.count.ensures h c.self.invariant.parts.sessions) ∙ c.if-count-ne0.false)
 
 good : (c : After-base-base) → IsSoundHistory c.self.inside.limits c.self.inside.journal.history
-good c =
-    good-history c.self.inside.limits c.self.inside.journal.history c.self.inside.parts
-    c.self.invariant
+good c = good-history _ _ _ c.self.invariant
 
 -- the new journal's base is that which the history leaves
 left : (c : After-base-base) → c.base-base.result ≡ base_of c.self.inside.journal.history
@@ -36,9 +33,8 @@ left c =
 
 pub from_base-journal-requires : goal.from_base-journal-requires
 from_base-journal-requires c =
-    let t = c.self.inside in
     let p = (goal.at.from_base-journal-requires c).After-base-base in
-    subst IsSound (sym (left p)) (base-sound t.limits t.journal.history (good p) (none p))
+    subst IsSound (sym (left p)) (base-sound _ _ (good p) (none p))
 
 pub invariant_of-self : goal.invariant_of-self
 invariant_of-self c =
@@ -47,19 +43,17 @@ invariant_of-self c =
     let new = ap (λ (j : JournalState). j.history) c.replace.ensures.after
     ∙ c.from_base-journal.ensures ∙ ap start (left p) in
     subst (λ g. TokenAgrees t.limits g t.parts) (sym new)
-    (token-cut t.limits t.journal.history (good p) (none p) t.parts c.self.invariant)
+    (token-cut _ _ (good p) (none p) t.parts c.self.invariant)
 
 pub returns-clause-sound : goal.returns-clause-sound
 returns-clause-sound c =
-    let t = c.self.inside in
     let p = (goal.at.returns-clause-sound c).After-base-base in
-    rw (← c.self.view_is) (base-sound t.limits t.journal.history (good p) (none p))
+    rw (← c.self.view_is) (base-sound _ _ (good p) (none p))
 
 pub returns-clause-left : goal.returns-clause-left
 returns-clause-left c =
-    let t = c.self.inside in
     let p = (goal.at.returns-clause-left c).After-base-base in
-    rw (← c.self.view_is) (left-by t.limits t.journal.history (good p) (none p))
+    rw (← c.self.view_is) (left-by _ _ (good p) (none p))
 
 pub returns-then-count-ne0-clause-cut : goal.returns-then-count-ne0-clause-cut
 returns-then-count-ne0-clause-cut c = grind (arith, common_steps)
