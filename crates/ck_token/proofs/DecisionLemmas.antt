@@ -1,6 +1,6 @@
 -- Decisions by the checks of a call, one after the other
 use Rattle.std.proofs.Common.{◌≡◌, ℕ, Bool, true, false, cond, not, List, Option, Some, None}
-use Rattle.std.proofs.Common.{[], ◌∷◌, map, take, Result}
+use Rattle.std.proofs.Common.{take, Result}
 use Rattle.std.proofs.Common.{Ok, Err, length, refl, sym, ap, ◌∙◌, subst}
 use Rattle.std.specs.Prelude.{◌==◌, ◌&&◌, is_none, is_some, nat_lt}
 use Rattle.std.specs.List.{list_any}
@@ -35,7 +35,6 @@ use Rattle.ck_journal.specs.Answers.{present_key_error, key_state_error, may_ser
 use Rattle.ck_journal.specs.Answers.{final_error, piece_error, verify_error, verify_final_error}
 use Rattle.ck_journal.specs.Answers.{tag_in}
 use Rattle.ck_journal.specs.Queries.{asks_hidden, is_missing, lacks_room, query_answer}
-use Rattle.ck_journal.specs.Lists.{is_empty}
 use Rattle.ck_journal.specs.Replies.{has_items}
 use Rattle.ck_journal.specs.Searches.{search_rest}
 use Rattle.ck_journal.specs.Histories.{History}
@@ -71,7 +70,7 @@ refused-decision limits h c (Err reason) code made fails nobody =
     subst (λ (reason : Refused). IsDecision limits h c (Err reason)) (sym made)
     (fails, sym (nobody ∙ wrong_try_change-nobody code))
 
--- what is so of an error is so of a result that is it
+-- what is so of a code is so of a result that is this error
 pub of-err : {A : Type 0} (result : Result A RvError) (code : RvError) (P : RvError → Type 0)
     → IsErrAnd result (λ made. made ≡ code) → P code → IfErr result P
 of-err (Ok a) code P is holds = absurd is
@@ -255,14 +254,14 @@ pub hit : (first later : Option RvError) (code : RvError) → first ≡ Some cod
     → or_else first later ≡ Some code
 hit first later code fails = rw fails refl
 
--- a check that answers Ok passes, also of what is equal to that which it was made of
+-- a check that answers Ok finds no error in what it was given, nor in what is equal to that
 pub passes : {A : Type 0} (check : A → Option RvError) (given is : A)
     (result : Result (Unit {0}) RvError) (u : Unit {0})
     → given ≡ is → result ≡ check_of (check given) → result ≡ Ok u → check is ≡ None
 passes check given is result u same made was =
     ap check (sym same) ∙ check_of-ok (check given) u (sym made ∙ was)
 
--- and one that answers a code fails with it
+-- one that answers a code finds this error
 pub fails : {A : Type 0} (check : A → Option RvError) (given is : A)
     (result : Result (Unit {0}) RvError) (code : RvError)
     → given ≡ is → result ≡ check_of (check given) → result ≡ Err code → check is ≡ Some code

@@ -43,26 +43,26 @@ returns-in_err-check_flag c =
     let h = c.args.self.now.history in
     let p = goal.at.returns-in_err-check_flag c in
     let code = c.in_err-check_flag.field-0.0 in
-    let fails = check_of-err (prohibited_error attribute.Copyable c.in_ok-source.source.now) code
+    let refused = check_of-err (prohibited_error attribute.Copyable c.in_ok-source.source.now) code
     (sym c.check_flag.ensures ∙ c.in_err-check_flag.was) in
     refused-decision c.args.self.now.limits h (made p.In_ok-source) _ code
     c.from_residual-in_err-check_flag.ensures.1
     (object-checks h c.args.session c.args.object _ c.in_ok-source.source.now _
     c.in_ok-row.ensures.open c.in_ok-source.ensures.attributes
-    (hit _ _ code fails)) refl
+    (hit _ _ code refused)) refl
 
 pub returns-in_err-check_copy : goal.returns-in_err-check_copy
 returns-in_err-check_copy c =
     let h = c.args.self.now.history in
     let p = goal.at.returns-in_err-check_copy c in
     let code = c.in_err-check_copy.field-0.0 in
-    let fails =
+    let refused =
     check_of-err _ code (sym c.check_copy.ensures ∙ c.in_err-check_copy.was) in
     refused-decision c.args.self.now.limits h (made p.In_ok-source) _ code
     c.from_residual-in_err-check_copy.ensures.1
     (object-checks h c.args.session c.args.object _ c.in_ok-source.source.now _
     c.in_ok-row.ensures.open c.in_ok-source.ensures.attributes
-    (skip _ _ (may_copy p.In_ok-check_flag) ∙ hit _ _ code fails)) refl
+    (skip _ _ (may_copy p.In_ok-check_flag) ∙ hit _ _ code refused)) refl
 
 pub returns-in_err-number : goal.returns-in_err-number
 returns-in_err-number c =

@@ -1,4 +1,4 @@
-use Rattle.std.proofs.Common.{◌≡◌, None, refl, sym, ap, ◌∙◌}
+use Rattle.std.proofs.Common.{arith, ◌≡◌, None, refl, sym, ap, ◌∙◌}
 use Rattle.std.specs.List.{AllZip}
 use Rattle.std.specs.Prelude.{unwrap_or}
 use Rattle.std.proofs.lemmas.List.Elements.{same_from_all_zip}
@@ -15,7 +15,7 @@ use Rattle.ck_journal.specs.declared.calls.Call.TheVariants as call
 use Rattle.ck_parts.specs.declared.changes.Change.TheVariants as change
 use Rattle.ck_token.specs.Decisions.{reply_of}
 use Rattle.ck_token.specs.declared.decisions.Decision.{Decision}
-use Rattle.ck_token.proofs.DecisionLemmas.{refused-decision, memory-decision, object-checks, hit}
+use Rattle.ck_token.proofs.DecisionLemmas.{refused-decision, object-checks, hit}
 use Rattle.ck_token.proofs.DecisionLemmas.{skip, passes, fails}
 use Rattle.ck_token.proofs.tokens.Token.set_attribute_value.Goals.{In_ok-number}
 use Rattle.ck_token.proofs.tokens.Token.set_attribute_value.Goals.{In_ok-check_writable}
@@ -77,39 +77,31 @@ returns-in_err-check_flag c =
     let h = c.args.self.now.history in
     let p = goal.at.returns-in_err-check_flag c in
     let code = c.in_err-check_flag.field-0.0 in
-    let fails = check_of-err (prohibited_error attribute.Modifiable c.in_ok-number.present.now) code
+    let refused = check_of-err (prohibited_error attribute.Modifiable c.in_ok-number.present.now) code
     (sym c.check_flag.ensures ∙ c.in_err-check_flag.was) in
     refused-decision c.args.self.now.limits h (made p.In_ok-number) _ code
     c.from_residual-in_err-check_flag.ensures.1
     (object-checks h c.args.session c.args.object _ c.in_ok-number.present.now _
     c.in_ok-row.ensures.open c.in_ok-number.ensures.attributes
-    (skip _ _ (may_write p.In_ok-check_writable) ∙ hit _ _ code fails)) refl
+    (skip _ _ (may_write p.In_ok-check_writable) ∙ hit _ _ code refused)) refl
 
 pub returns-in_err-check_change : goal.returns-in_err-check_change
 returns-in_err-check_change c =
     let h = c.args.self.now.history in
     let p = goal.at.returns-in_err-check_change c in
     let code = c.in_err-check_change.field-0.0 in
-    let fails = check_of-err _ code (sym c.check_change.ensures ∙ c.in_err-check_change.was) in
+    let refused = check_of-err _ code (sym c.check_change.ensures ∙ c.in_err-check_change.was) in
     refused-decision c.args.self.now.limits h (made p.In_ok-number) _ code
     c.from_residual-in_err-check_change.ensures.1
     (object-checks h c.args.session c.args.object _ c.in_ok-number.present.now _
     c.in_ok-row.ensures.open c.in_ok-number.ensures.attributes
     (skip _ _ (may_write p.In_ok-check_writable) ∙ skip _ _ (may_change p.In_ok-check_flag)
-    ∙ hit _ _ code fails)) refl
+    ∙ hit _ _ code refused)) refl
 
 -- ---- all checks pass
 
 pub returns-in_err-values : goal.returns-in_err-values
-returns-in_err-values c =
-    let h = c.args.self.now.history in
-    let p = goal.at.returns-in_err-values c in
-    memory-decision c.args.self.now.limits h (made p.In_ok-number) _
-    c.from_residual-in_err-values.ensures.1
-    (object-checks h c.args.session c.args.object _ c.in_ok-number.present.now _
-    c.in_ok-row.ensures.open c.in_ok-number.ensures.attributes
-    (skip _ _ (may_write p.In_ok-check_writable) ∙ skip _ _ (may_change p.In_ok-check_flag)
-    ∙ skip _ _ (fits p.In_ok-check_change))) refl
+returns-in_err-values c = grind (arith, check_of-ok)
 
 pub returns : goal.returns
 returns c =
