@@ -43,8 +43,7 @@ returns-in_err-check_flag c =
     let h = c.args.self.now.history in
     let p = goal.at.returns-in_err-check_flag c in
     let code = c.in_err-check_flag.field-0.0 in
-    let refused = check_of-err (prohibited_error attribute.Copyable c.in_ok-source.source.now) code
-    (sym c.check_flag.ensures ∙ c.in_err-check_flag.was) in
+    let refused = check_of-err _ code (sym c.check_flag.ensures ∙ c.in_err-check_flag.was) in
     refused-decision c.args.self.now.limits h (made p.In_ok-source) _ code
     c.from_residual-in_err-check_flag.ensures.1
     (object-checks h c.args.session c.args.object _ c.in_ok-source.source.now _
@@ -56,8 +55,7 @@ returns-in_err-check_copy c =
     let h = c.args.self.now.history in
     let p = goal.at.returns-in_err-check_copy c in
     let code = c.in_err-check_copy.field-0.0 in
-    let refused =
-    check_of-err _ code (sym c.check_copy.ensures ∙ c.in_err-check_copy.was) in
+    let refused = check_of-err _ code (sym c.check_copy.ensures ∙ c.in_err-check_copy.was) in
     refused-decision c.args.self.now.limits h (made p.In_ok-source) _ code
     c.from_residual-in_err-check_copy.ensures.1
     (object-checks h c.args.session c.args.object _ c.in_ok-source.source.now _

@@ -3,7 +3,6 @@ use Rattle.ck_types.specs.Checks.{error_if}
 use Rattle.ck_types.specs.Mechanisms.{is_key_generator}
 use Rattle.ck_types.specs.declared.errors.RvError.TheVariants as rv_error
 use Rattle.ck_types.proofs.CheckLemmas.{check_of-ok, check_of-err}
-use Rattle.ck_objects.specs.Templates.{generated_error}
 use Rattle.ck_objects.specs.declared.items.Item.{Item}
 use Rattle.ck_journal.specs.declared.calls.Call.{Call}
 use Rattle.ck_journal.specs.Answers.{ok, new_handle, parameter_error, generate_key_error}
@@ -55,8 +54,8 @@ pub returns-in_err-check_no_parameter : goal.returns-in_err-check_no_parameter
 returns-in_err-check_no_parameter c =
     let p = goal.at.returns-in_err-check_no_parameter c in
     let code = c.in_err-check_no_parameter.field-0.0 in
-    let refused = check_of-err (parameter_error c.args.mechanism.now) code
-    (sym c.check_no_parameter.ensures ∙ c.in_err-check_no_parameter.was) in
+    let refused =
+    check_of-err _ code (sym c.check_no_parameter.ensures ∙ c.in_err-check_no_parameter.was) in
     refused-decision c.args.self.now.limits c.args.self.now.history (made p.In_ok-row) _ code
     c.from_residual-in_err-check_no_parameter.ensures.1
     (skip _ _ (is_open p.In_ok-row) ∙ skip _ _ (generates p.In_ok-error_if)
@@ -66,8 +65,8 @@ pub returns-in_err-check_generation : goal.returns-in_err-check_generation
 returns-in_err-check_generation c =
     let p = goal.at.returns-in_err-check_generation c in
     let code = c.in_err-check_generation.field-0.0 in
-    let refused = check_of-err (generated_error c.args.template.now.items c.args.random.now) code
-    (sym c.check_generation.ensures ∙ c.in_err-check_generation.was) in
+    let refused =
+    check_of-err _ code (sym c.check_generation.ensures ∙ c.in_err-check_generation.was) in
     refused-decision c.args.self.now.limits c.args.self.now.history (made p.In_ok-row) _ code
     c.from_residual-in_err-check_generation.ensures.1
     (skip _ _ (is_open p.In_ok-row) ∙ skip _ _ (generates p.In_ok-error_if)

@@ -77,8 +77,7 @@ returns-in_err-check_flag c =
     let h = c.args.self.now.history in
     let p = goal.at.returns-in_err-check_flag c in
     let code = c.in_err-check_flag.field-0.0 in
-    let refused = check_of-err (prohibited_error attribute.Modifiable c.in_ok-number.present.now) code
-    (sym c.check_flag.ensures ∙ c.in_err-check_flag.was) in
+    let refused = check_of-err _ code (sym c.check_flag.ensures ∙ c.in_err-check_flag.was) in
     refused-decision c.args.self.now.limits h (made p.In_ok-number) _ code
     c.from_residual-in_err-check_flag.ensures.1
     (object-checks h c.args.session c.args.object _ c.in_ok-number.present.now _
