@@ -1,12 +1,12 @@
 -- Decisions by the checks of a call, one after the other
 use Rattle.std.proofs.Common.{◌≡◌, ℕ, Bool, true, false, cond, not, List, Option, Some, None}
-use Rattle.std.proofs.Common.{[], ◌∷◌, map, take, Result}
-use Rattle.std.proofs.Common.{Ok, Err, length, refl, sym, ap, ◌∙◌, subst}
+use Rattle.std.proofs.Common.{take, Result, Ok, Err, length, refl, sym, ap, ◌∙◌, subst}
 use Rattle.std.specs.Prelude.{◌==◌, ◌&&◌, is_none, is_some, nat_lt}
 use Rattle.std.specs.List.{list_any}
 use Rattle.std.specs.Result.{IsErrAnd, IfErr}
 use Rattle.std.specs.Option.{option_map_or}
-use Rattle.ck_types.specs.Checks.{error_if, or_else}
+use Rattle.ck_types.specs.Checks.{error_if, or_else, check_of}
+use Rattle.ck_types.proofs.CheckLemmas.{check_of-ok, check_of-err}
 use Rattle.ck_types.specs.TokenLimits.{Ranges}
 use Rattle.ck_types.specs.declared.errors.RvError.{RvError}
 use Rattle.ck_types.specs.declared.errors.RvError.TheVariants as rv_error
@@ -34,7 +34,6 @@ use Rattle.ck_journal.specs.Answers.{present_key_error, key_state_error, may_ser
 use Rattle.ck_journal.specs.Answers.{final_error, piece_error, verify_error, verify_final_error}
 use Rattle.ck_journal.specs.Answers.{tag_in}
 use Rattle.ck_journal.specs.Queries.{asks_hidden, is_missing, lacks_room, query_answer}
-use Rattle.ck_journal.specs.Lists.{is_empty}
 use Rattle.ck_journal.specs.Replies.{has_items}
 use Rattle.ck_journal.specs.Searches.{search_rest}
 use Rattle.ck_journal.specs.Histories.{History}
@@ -70,7 +69,7 @@ refused-decision limits h c (Err reason) code made fails nobody =
     subst (λ (reason : Refused). IsDecision limits h c (Err reason)) (sym made)
     (fails, sym (nobody ∙ wrong_try_change-nobody code))
 
--- what is so of an error is so of a result that is it
+-- what is so of a code is so of a result that is this error
 pub of-err : {A : Type 0} (result : Result A RvError) (code : RvError) (P : RvError → Type 0)
     → IsErrAnd result (λ made. made ≡ code) → P code → IfErr result P
 of-err (Ok a) code P is holds = absurd is
@@ -253,6 +252,20 @@ skip first later passes = rw passes refl
 pub hit : (first later : Option RvError) (code : RvError) → first ≡ Some code
     → or_else first later ≡ Some code
 hit first later code fails = rw fails refl
+
+-- a check that answers Ok finds no error in what it was given, nor in what is equal to that
+pub passes : {A : Type 0} (check : A → Option RvError) (given is : A)
+    (result : Result (Unit {0}) RvError) (u : Unit {0})
+    → given ≡ is → result ≡ check_of (check given) → result ≡ Ok u → check is ≡ None
+passes check given is result u same made was =
+    ap check (sym same) ∙ check_of-ok (check given) u (sym made ∙ was)
+
+-- one that answers a code finds this error
+pub fails : {A : Type 0} (check : A → Option RvError) (given is : A)
+    (result : Result (Unit {0}) RvError) (code : RvError)
+    → given ≡ is → result ≡ check_of (check given) → result ≡ Err code → check is ≡ Some code
+fails check given is result code same made was =
+    ap check (sym same) ∙ check_of-err (check given) code (sym made ∙ was)
 
 pub session-passes : (h : History) (session : ℕ) → is_open h session ≡ true
     → session_error h session ≡ None

@@ -16,7 +16,7 @@ use Rattle.ck_types.specs.declared.return_codes.Rv.TheVariants as rv
 use Rattle.ck_objects.specs.declared.items.Item.{Item}
 use Rattle.ck_journal.specs.Queries.{queries_code, asks_hidden, is_missing, lacks_room, is_longer}
 use Rattle.ck_journal.specs.declared.calls.AttributeQuery.{AttributeQuery}
-use Rattle.ck_token.specs.QueryCodes.{graver}
+use Rattle.ck_token.specs.QueryCodes.{higher}
 
 -- where there is an error, there is no value to read
 pub unreadable : (items : List Item) (kind : ℕ) (code : RvError) → Some code ≡ read_error items kind
@@ -44,10 +44,10 @@ or-false : (test : Bool) → code false false (test || false) ≡ code false fal
 or-false true = refl
 or-false false = refl
 
--- one query more makes the code the graver of both
+-- with one query more the code is the higher of both
 code-append : (items : List Item) (queries : List AttributeQuery) (query : AttributeQuery)
     → queries_code items (queries ++ (query ∷ []))
-    ≡ graver (queries_code items queries) (queries_code items (query ∷ []))
+    ≡ higher (queries_code items queries) (queries_code items (query ∷ []))
 code-append items queries query =
     rw (list_any-append (asks_hidden items) queries (query ∷ []))
     (rw (list_any-append (is_missing items) queries (query ∷ []))
@@ -61,7 +61,7 @@ code-append items queries query =
     (list_any (lacks_room items) (query ∷ [])))))
   where
     cases : (a b c x y z : Bool)
-        → code (a || x) (b || y) (c || z) ≡ graver (code a b c) (code x y z)
+        → code (a || x) (b || y) (c || z) ≡ higher (code a b c) (code x y z)
     cases true b c true y z = refl
     cases true b c false true z = refl
     cases true b c false false true = refl
@@ -83,7 +83,7 @@ code-append items queries query =
 pub code-next : (items : List Item) (i : ℕ) (queries : List AttributeQuery) (d : AttributeQuery)
     → i < length queries
     → queries_code items (take (i + 1) queries)
-    ≡ graver (queries_code items (take i queries)) (queries_code items (get_or queries i d ∷ []))
+    ≡ higher (queries_code items (take i queries)) (queries_code items (get_or queries i d ∷ []))
 code-next items i queries d within =
     let next : i + 1 ≡ suc i = omega arith in
     ap (λ k. queries_code items (take k queries)) next

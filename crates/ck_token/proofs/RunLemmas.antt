@@ -14,7 +14,7 @@ use Rattle.ck_token.proofs.DecisionLemmas.{free-call}
 use Rattle.ck_token.specs.Decisions.{takes_memory, may_run_out}
 use Rattle.ck_journal.specs.TokenStates.{TokenState, entry_of, after, HasAnswered, IsAnswered}
 
--- so many calls of the list are answered, and the others are left, the last first
+-- this number of calls of the list is answered, and the others are left, the last first
 pub record Answers (old : TokenState) (calls : List (ℕ × Call)) (count : ℕ) (left : List (ℕ × Call))
     (new : TokenState) : Type 0 where
   pub answered : List (ℕ × Call)

@@ -1,14 +1,16 @@
 -- What is decided of a call
-use Rattle.std.specs.Prelude.{◌≡◌, Bool, true, false, ◌&&◌, Option, Some, None, Result, Ok, Err}
-use Rattle.std.specs.Prelude.{is_none, is_some, not, take}
+use Rattle.std.specs.Prelude.{◌≡◌, ℕ, Bool, true, false, ◌&&◌, [], ◌∷◌, Option, Some, None, Result}
+use Rattle.std.specs.Prelude.{Ok, Err, is_none, is_some, not, take}
+use Rattle.ck_types.specs.Checks.{first_of}
 use Rattle.ck_types.specs.TokenLimits.{Ranges}
 use Rattle.ck_types.specs.declared.errors.RvError.{RvError}
 use Rattle.ck_types.specs.declared.users.UserType.{UserType}
+use Rattle.ck_objects.specs.declared.object_flags.Placement.{Placement}
 use Rattle.ck_journal.specs.declared.calls.Call.{Call}
 use Rattle.ck_journal.specs.declared.calls.Call.TheVariants as call
 use Rattle.ck_journal.specs.declared.replies.Body.{Body}
 use Rattle.ck_journal.specs.declared.replies.Reply.{Reply}
-use Rattle.ck_journal.specs.Answers.{call_error, allowed_reply}
+use Rattle.ck_journal.specs.Answers.{call_error, allowed_reply, placement_error, creations_error}
 use Rattle.ck_journal.specs.Histories.{History}
 use Rattle.ck_journal.specs.Lists.{is_empty}
 use Rattle.ck_journal.specs.Pins.{about}
@@ -19,8 +21,9 @@ use Rattle.ck_token.specs.declared.decisions.Decision.{Decision}
 use Rattle.ck_token.specs.declared.decisions.Refused.{Refused}
 use Rattle.ck_token.specs.declared.decisions.Refused.TheVariants as refused
 
--- the calls that may take memory beside that of their entry: for a session, an object, a search, an
--- operation or a list in the reply, which a call that asks for a length doesn't have
+-- the calls that may take memory beside that of their entry: for a session, an object or its
+-- attributes, a search, an operation, or a list or bytes in the reply; one that asks only for a
+-- length gets no bytes
 abbrev pub takes_memory : Call → Bool
 takes_memory (call.OpenSession flags) = true
 takes_memory call.GetMechanismList = true
@@ -40,7 +43,8 @@ takes_memory (call.SignFinal session room) = is_some room
 takes_memory (call.VerifyInit session mechanism key) = true
 takes_memory other = false
 
--- a request for no attribute, a search that finds no object, and one that returns none
+-- a call that gives nothing: a request for no attribute, a search that finds no object, or a call
+-- for its next objects that returns none
 abbrev pub gives_nothing : History → Call → Bool
 gives_nothing h (call.GetAttributeValue session object queries) = is_empty queries
 gives_nothing h (call.FindObjectsInit session template) =
@@ -52,18 +56,25 @@ gives_nothing h other = false
 abbrev pub may_take_memory : History → Call → Bool
 may_take_memory h c = takes_memory c && not (gives_nothing h c)
 
--- such a call, and it passes its checks
+-- such a call that passes its checks
 abbrev pub may_run_out : Ranges → History → Call → Bool
 may_run_out limits h c = is_none (call_error limits h c) && may_take_memory h c
 
--- a check of a call that is about this user: it finds no error, or this one, and then what the
--- refusal changes
+-- a check of a call that is about this user: it finds no error, or this one with what the refusal
+-- changes
 abbrev pub IsCheckAbout :
     {T : Type 0} → Option UserType → Option RvError → Result T Refused → Type 0
 IsCheckAbout who error (Ok found) = error ≡ None
 IsCheckAbout who error (Err (refused.Error code change)) =
     (error ≡ Some code) × (change ≡ wrong_try_change code who)
 IsCheckAbout who error (Err refused.Memory) = ⊥
+
+-- the last checks of a call that makes an object of this placement
+abbrev pub new_object_error : Ranges → History → ℕ → Placement → Option RvError
+new_object_error limits h session placement = first_of (
+    placement_error h session placement
+    ∷ creations_error limits h
+    ∷ [])
 
 -- the reply that is decided
 abbrev pub reply_of : Decision → Reply

@@ -4,7 +4,7 @@ use Rattle.ck_journal.specs.declared.calls.Call.{Call}
 use Rattle.ck_journal.specs.TokenStates.{TokenState, HasAnswered}
 use Rattle.ck_token.specs.declared.runs.Stopped.{Stopped}
 
--- all calls were answered, or the first of them, fewer than all
+-- all calls were answered; or only this number of them, the first ones, which aren't all
 abbrev pub IsRun :
     {T : Type 0} → TokenState → TokenState → List (ℕ × Call) → Result T Stopped → Type 0
 IsRun old new calls (Ok finished) = HasAnswered old new calls

@@ -1,4 +1,4 @@
--- What a call whose return code is looked at is answered
+-- What a call gives whose codes other than CKR_OK are errors
 use Rattle.std.specs.Prelude.{◌≡◌, ℕ, Result, Ok, Err}
 use Rattle.ck_journal.specs.Answers.{answer}
 use Rattle.ck_journal.specs.Bodies.{result_of}

@@ -65,7 +65,7 @@ impl Decision {
     ghost use Rattle.ck_journal.specs.declared.replies.Body.TheVariants as body;
     ghost use Rattle.ck_parts.specs.declared.changes.Change.TheVariants as change;
 
-    /// A call that changes something and gives nothing beside the code.
+    /// A call that is answered CKR_OK with no body, and changes this.
     #[inline(always)]
     pub fn of_change(change: Change) -> Decision
         ensures { result ≡ record { rv = rv.Ok; body = body.Empty; change = change } }
@@ -77,7 +77,7 @@ impl Decision {
         }
     }
 
-    /// A call that only reads.
+    /// A call that is answered CKR_OK with this body, and changes nothing.
     #[inline(always)]
     pub fn of_body(body: Body) -> Decision
         ensures { result ≡ record { rv = rv.Ok; body = body; change = change.Nothing } }

@@ -1,5 +1,5 @@
-//! One token: each call is answered as the journal of the calls before it says, and stands in the
-//! journal itself.
+//! One token: it answers each call as the journal of the calls before it says, and then enters the
+//! call in the journal.
 //!
 //! A program opens a session, logs in, makes a key and signs (a test of ck_run runs this):
 //!

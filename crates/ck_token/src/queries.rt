@@ -1,16 +1,17 @@
 ghost use Rattle.std.specs.Prelude.{◌≡◌, [], ◌∷◌, false, IfOk, OnErr};
 ghost use Rattle.ck_journal.specs.Lists.{is_empty};
 ghost use Rattle.ck_journal.specs.Queries.{query_answer, queries_code, queries_reply};
-ghost use Rattle.ck_token.specs.QueryCodes.{gravity, graver};
+ghost use Rattle.ck_token.specs.QueryCodes.{rank, higher};
 
 use ck_journal::{Answer, AttributeQuery, Body, Reply};
 use ck_objects::Record;
 use ck_types::{NoMemory, Rv, RvError, Sequence};
 use std::alloc::Global;
 
-/// How grave the code of a query is. A call has the gravest code of its queries.
-fn gravity(code: Rv) -> u64
-    ensures { result ≡ gravity code }
+/// The rank of a query's code: of the codes of its queries, a call of C_GetAttributeValue answers
+/// the one of the highest rank.
+fn rank(code: Rv) -> u64
+    ensures { result ≡ rank code }
 {
     match code {
         Rv::Ok => 0,
@@ -22,15 +23,11 @@ fn gravity(code: Rv) -> u64
     }
 }
 
-/// The code of two queries that by themselves have these codes.
-fn graver(one: Rv, other: Rv) -> Rv
-    ensures { result ≡ graver one other }
+/// Of two queries' codes the one of the higher rank.
+fn higher(one: Rv, other: Rv) -> Rv
+    ensures { result ≡ higher one other }
 {
-    if gravity(one) < gravity(other) {
-        other
-    } else {
-        one
-    }
+    if rank(one) < rank(other) { other } else { one }
 }
 
 /// The answer to a query, and the code that it has by itself.
@@ -75,7 +72,7 @@ pub(crate) fn queries_reply(
     for query in queries {
         let (answer, code) = query_reply(alloc, attributes, query)?;
         answers.push(answer)?;
-        rv = graver(rv, code);
+        rv = higher(rv, code);
     }
     Ok(Reply {
         rv,

@@ -40,7 +40,7 @@ pub fn run(token: &mut Token, alloc: Global, calls: Vec<(u32, Call)>) -> Result<
     Ok(())
 }
 
-/// Makes a call whose reply is read only in the journal.
+/// Makes a call, and leaves its reply to the journal.
 fn make_call(token: &mut Token, alloc: Global, caller: u32, call: Call) -> Result<(), NoMemory>
     ensures answered { OnOk result (IsAnswered token.old token.new caller call
         (answer token.old.limits token.old.history call)) }

@@ -51,8 +51,8 @@ impl Model for Token {
     ghost invariant = { λ t. TokenAgrees t.limits t.journal.history t.parts };
 }
 
-/// Drops what a call leaves that finds no memory. This is done in a function of its own, since a
-/// compiled function clears the room of all that it may drop each time it begins.
+/// Drops what is left of a call that finds no memory. `drop_apart` is a function of its own, since
+/// a compiled function clears the room of all that it may drop each time it begins.
 #[inline(always)]
 fn out_of_memory<T: Drop>(left: T) -> NoMemory {
     drop_apart(left);
@@ -70,7 +70,7 @@ fn reply_with(rv: Rv, body: Body) -> Reply
     Reply { rv, body }
 }
 
-/// All that may fail of entering a call: the journal's copy of the reply's body, and room for the
+/// What may fail when a call is entered: the journal's copy of the reply's body, and room for the
 /// entry and for what the change adds.
 #[inline(always)]
 fn prepare(
@@ -108,7 +108,7 @@ impl Token {
     ghost use Rattle.ck_journal.specs.TokenStates.{IsAnswered, IsUnchanged};
     ghost use Rattle.ck_journal.specs.Works.{IsAhead, HoldsAfter};
 
-    /// A token that has answered no call, which takes no memory.
+    /// A token that has answered no call; to make it takes no memory.
     pub fn new(alloc: Global, limits: Limits) -> Token
         ensures limits { result.limits ≡ limits }
         ensures history { result.history ≡ start empty_base }
@@ -140,7 +140,7 @@ impl Token {
         }
     }
 
-    /// All answered calls.
+    /// The journal: the base that it starts from, and all calls answered since.
     pub fn journal(&self) -> &Journal
         ensures history { result.now.history ≡ self.now.history }
         ensures legal { IsLegal self.now.limits self.now.history }
@@ -173,7 +173,8 @@ impl Token {
         self.journal.spare()
     }
 
-    /// How many sessions may be open, and how many sessions, objects and logins there may be.
+    /// How many sessions may be open at once, and how many openings of sessions, creations of
+    /// objects and logins of the user there may be in all.
     pub fn limits(&self) -> Limits
         ensures { result ≡ self.now.limits }
     {
@@ -205,8 +206,8 @@ impl Token {
     /// Answers a call and enters it in the journal. Where there is no memory for it, nothing has
     /// changed and the call isn't in the journal. Where the journal has room, only a call that
     /// passes its checks can run out of memory, and only one that opens a session, creates or
-    /// changes an object, finds or returns some, reads attributes or the list of mechanisms, starts
-    /// an operation, or gives a digest or a signature.
+    /// copies an object, sets or reads attributes, finds or returns objects, reads the list of
+    /// mechanisms, starts an operation, or gives a digest or a signature.
     pub fn call(&mut self, alloc: Global, caller: u32, call: Call) -> Result<Reply, NoMemory>
         ensures answered { IfOk result (λ reply. IsAnswered self.old self.new caller call reply) }
         ensures unchanged { OnErr result (IsUnchanged self.old self.new) }
@@ -219,9 +220,9 @@ impl Token {
         self.call_after(alloc, caller, call, None)
     }
 
-    /// As `call`, by work that was begun for this call (`work`) and is done. The work counts only
-    /// where the call's operation hasn't changed since; the reply and the entry are those of `call`
-    /// in any case.
+    /// As `call`, with the work that `Token::work` began for this call and that is done. It counts
+    /// only where the call's operation hasn't changed since; the reply and the entry are those of
+    /// `call` in any case.
     // It becomes a part of `call`, so that a call without work takes no time for it.
     #[inline(always)]
     pub fn call_after(

@@ -51,12 +51,12 @@ fn transition(key: &Record, number: u64) -> Result<KeyState, RvError>
 impl Token {
     ghost use Rattle.std.specs.Prelude.{◌+◌, ◌<◌, ◌^◌, ℕ};
     ghost use Rattle.ck_journal.specs.Answers.{ok, read_only_session_error, placement_error};
-    ghost use Rattle.ck_journal.specs.Answers.{creations_error, new_handle};
+    ghost use Rattle.ck_journal.specs.Answers.{new_handle};
     ghost use Rattle.ck_journal.specs.Objects.{creations};
     ghost use Rattle.ck_journal.specs.declared.replies.Body.TheVariants as body;
     ghost use Rattle.ck_journal.specs.declared.calls.Call.TheVariants as call;
     ghost use Rattle.ck_sessions.specs.Agreement.{session_row};
-    ghost use Rattle.ck_token.specs.Decisions.{IsDecision, reply_of};
+    ghost use Rattle.ck_token.specs.Decisions.{IsDecision, new_object_error, reply_of};
     ghost use Rattle.ck_parts.specs.declared.changes.Change.TheVariants as change;
 
     // ---- checks
@@ -72,7 +72,8 @@ impl Token {
         )
     }
 
-    /// Whether a new object may stand in the session.
+    /// The checks of where a new object stands: CKR_SESSION_READ_ONLY for a token object in a
+    /// read-only session, CKR_USER_NOT_LOGGED_IN for a private one without the user's login.
     fn check_placement(&self, row: &Session, placement: Placement) -> Result<(), RvError>
         ensures { (s : ℕ) → row.now ≡ session_row self.now.history s
             → result ≡ check_of (placement_error self.now.history s placement) }
@@ -84,16 +85,20 @@ impl Token {
         )
     }
 
-    /// The number of the next object, else CKR_DEVICE_MEMORY where as many have been created as the
+    /// The number of a new object, where one of this placement may be made. Checks: those of
+    /// `check_placement`, and CKR_DEVICE_MEMORY (31) where as many objects have been created as the
     /// token allows.
-    fn next_number(&self) -> Result<u64, RvError>
+    fn check_new_object(&self, row: &Session, placement: Placement) -> Result<u64, RvError>
         ensures number { IfOk result (λ number. number ≡ creations self.now.history + 1) }
         ensures bound { IfOk result (λ number. number < 2 ^ 32) }
-        ensures free { IfOk result (λ number.
-            creations_error self.now.limits self.now.history ≡ None) }
-        ensures used_up { IfErr result (λ code.
-            creations_error self.now.limits self.now.history ≡ Some code) }
+        ensures passes { (s : ℕ) → row.now ≡ session_row self.now.history s
+            → IfOk result (λ number.
+            new_object_error self.now.limits self.now.history s placement ≡ None) }
+        ensures fails { (s : ℕ) → row.now ≡ session_row self.now.history s
+            → IfErr result (λ code.
+            new_object_error self.now.limits self.now.history s placement ≡ Some code) }
     {
+        self.check_placement(row, placement)?;
         let creations = self.creations();
         if self.limits.creations() <= creations {
             return Err(RvError::DeviceMemory);
@@ -117,8 +122,7 @@ impl Token {
     {
         let row = self.session(session)?;
         template.check_creation()?;
-        self.check_placement(row, template.creation_placement())?;
-        let number = self.next_number()?;
+        let number = self.check_new_object(row, template.creation_placement())?;
         let made = Record::create_with(alloc, template)?;
         let attributes = Boxed::new(alloc, made)?;
         Ok(self.creation(session, number, attributes))
@@ -143,8 +147,7 @@ impl Token {
         error_if(!generates, RvError::MechanismInvalid)?;
         check_no_parameter(mechanism)?;
         template.check_generation(random)?;
-        self.check_placement(row, template.generation_placement())?;
-        let number = self.next_number()?;
+        let number = self.check_new_object(row, template.generation_placement())?;
         let made = Record::generate_with(alloc, template, random)?;
         let attributes = Boxed::new(alloc, made)?;
         Ok(self.creation(session, number, attributes))
@@ -187,16 +190,16 @@ impl Token {
         let (_, source) = self.object(object)?;
         check_flag(source, Attribute::Copyable)?;
         source.check_copy(template)?;
-        self.check_placement(row, source.copy_placement(template))?;
-        let number = self.next_number()?;
+        let number = self.check_new_object(row, source.copy_placement(template))?;
         let made = source.copy_with(alloc, template)?;
         let attributes = Boxed::new(alloc, made)?;
         Ok(self.creation(session, number, attributes))
     }
 
     /// C_GetAttributeValue. Checks: CKR_SESSION_HANDLE_INVALID (b3), CKR_OBJECT_HANDLE_INVALID
-    /// (82). The queries, which are all answered, may have faults: CKR_ATTRIBUTE_SENSITIVE (11),
-    /// CKR_ATTRIBUTE_TYPE_INVALID (12), CKR_BUFFER_TOO_SMALL (150).
+    /// (82). Then all queries are answered, with the first of these codes that one of them has:
+    /// CKR_ATTRIBUTE_SENSITIVE (11), CKR_ATTRIBUTE_TYPE_INVALID (12), CKR_BUFFER_TOO_SMALL (150),
+    /// CKR_OK.
     pub(super) fn get_attribute_value(
         &self,
         alloc: Global,

@@ -21,7 +21,7 @@ use ck_parts::Change;
 use ck_types::{Bytes, Mechanism, NoMemory, Rv, RvError, digest_of, error_if, mac_of};
 use std::alloc::Global;
 
-/// What a reply makes of the session's operation: it ends, or stays as it is.
+/// The session's operation ends, or stays as it is.
 fn finish_operation(kind: OperationKind, session: u64, ends: bool) -> Change
     ensures { result ≡ change.FinishOperation kind session ends }
 {
@@ -169,7 +169,7 @@ impl Token {
         Ok(Decision::of_change(Change::StartDigest { session, hash }))
     }
 
-    /// The number of the key that the handle names, where operations of the kind may have it.
+    /// The number of the key that the handle names, where operations of the kind may use it.
     /// Checks: CKR_KEY_HANDLE_INVALID (60), CKR_KEY_FUNCTION_NOT_PERMITTED (68) for its flag or its
     /// state.
     fn usable_key(&self, kind: OperationKind, handle: u64) -> Result<u64, RvError>
@@ -234,9 +234,9 @@ impl Token {
         self.operation(kind, session)
     }
 
-    /// The checks of the key of an operation, if it has one: it hasn't ended
-    /// (CKR_KEY_HANDLE_INVALID, 60), and its state lets the operation have it
-    /// (CKR_KEY_FUNCTION_NOT_PERMITTED, 68).
+    /// The checks of the key of an operation, if it has one: it still exists, else
+    /// CKR_KEY_HANDLE_INVALID (60), and its state permits the operation, else
+    /// CKR_KEY_FUNCTION_NOT_PERMITTED (68).
     fn check_present_key(&self, kind: OperationKind, key: Option<u64>) -> Result<(), RvError>
         ensures { result ≡ check_of (present_key_error kind self.now.history key) }
     {
@@ -252,7 +252,7 @@ impl Token {
     /// The session's active operation, where it may take in this message as its single part.
     /// Checks: those of `check_active`, CKR_OPERATION_NOT_INITIALIZED (91) where there was an
     /// update, CKR_DATA_LEN_RANGE (21), those of `check_present_key`.
-    fn check_unused(
+    fn check_single_part(
         &self,
         kind: OperationKind,
         session: u64,
@@ -276,7 +276,7 @@ impl Token {
 
     /// The session's active operation, where its multiple-part message may end. Checks: those of
     /// `check_active`, those of `check_present_key`.
-    fn check_may_finish(&self, kind: OperationKind, session: u64) -> Result<&Operation, RvError>
+    fn check_final(&self, kind: OperationKind, session: u64) -> Result<&Operation, RvError>
         ensures passes { IfOk result (λ operation.
             final_error kind self.now.history session ≡ None) }
         ensures agrees { IfOk result (λ operation.
@@ -291,8 +291,8 @@ impl Token {
 
     // ---- messages
 
-    /// C_Digest and C_Sign, of a single-part message. Checks: those of `check_unused`, and then
-    /// CKR_BUFFER_TOO_SMALL (150). Each reply ends the operation, except one that has only a
+    /// C_Digest and C_Sign, of a single-part message. Checks: those of `check_single_part`, and
+    /// then CKR_BUFFER_TOO_SMALL (150). Each reply ends the operation, except one that has only a
     /// length. `ready` is as that of `Operation::tag_with`.
     pub(super) fn finish_single_part(
         &self,
@@ -310,7 +310,7 @@ impl Token {
             (λ b. finish_change kind session rv.Ok b)
             (λ code. finish_change kind session (rv.Error code) body.Empty) (is_some room) result }
     {
-        let operation = match self.check_unused(kind, session, bytes) {
+        let operation = match self.check_single_part(kind, session, bytes) {
             Err(error) => return Err(ending_refusal(kind, session, error)),
             Ok(operation) => operation,
         };
@@ -339,9 +339,9 @@ impl Token {
         Ok(Decision::of_change(Change::AddPiece { kind, session }))
     }
 
-    /// C_DigestFinal and C_SignFinal, of a multiple-part message. Checks: those of
-    /// `check_may_finish`, and then CKR_BUFFER_TOO_SMALL (150). Each reply ends the operation,
-    /// except one that has only a length.
+    /// C_DigestFinal and C_SignFinal, of a multiple-part message. Checks: those of `check_final`,
+    /// and then CKR_BUFFER_TOO_SMALL (150). Each reply ends the operation, except one that has only
+    /// a length.
     pub(super) fn finish_multiple_part(
         &self,
         alloc: Global,
@@ -355,7 +355,7 @@ impl Token {
             (λ b. finish_change kind session rv.Ok b)
             (λ code. finish_change kind session (rv.Error code) body.Empty) (is_some room) result }
     {
-        let operation = match self.check_may_finish(kind, session) {
+        let operation = match self.check_final(kind, session) {
             Err(error) => return Err(ending_refusal(kind, session, error)),
             Ok(operation) => operation,
         };
@@ -365,7 +365,7 @@ impl Token {
         Ok(bytes_decision(alloc, kind, session, &operation.tag())?)
     }
 
-    /// The checks of C_Verify: those of `check_unused`, CKR_SIGNATURE_LEN_RANGE (c1),
+    /// The checks of C_Verify: those of `check_single_part`, CKR_SIGNATURE_LEN_RANGE (c1),
     /// CKR_SIGNATURE_INVALID (c0). `ready` is as that of `Operation::tag_with`.
     fn check_verify(
         &self,
@@ -379,16 +379,16 @@ impl Token {
         ensures { result
             ≡ check_of (verify_error self.now.history session bytes.now signature.now) }
     {
-        let operation = self.check_unused(OperationKind::Verify, session, bytes)?;
+        let operation = self.check_single_part(OperationKind::Verify, session, bytes)?;
         operation.tag_with(bytes, ready).check(signature)
     }
 
-    /// The checks of C_VerifyFinal: those of `check_may_finish`, CKR_SIGNATURE_LEN_RANGE (c1),
+    /// The checks of C_VerifyFinal: those of `check_final`, CKR_SIGNATURE_LEN_RANGE (c1),
     /// CKR_SIGNATURE_INVALID (c0).
     fn check_verify_final(&self, session: u64, signature: &[u8]) -> Result<(), RvError>
         ensures { result ≡ check_of (verify_final_error self.now.history session signature.now) }
     {
-        let operation = self.check_may_finish(OperationKind::Verify, session)?;
+        let operation = self.check_final(OperationKind::Verify, session)?;
         operation.tag().check(signature)
     }
 

@@ -14,7 +14,7 @@ use ck_types::{Pin, RvError, SessionState, UserType, error_if};
 /// How many wrong tries lock a user.
 const MOST_TRIES: u64 = 3;
 
-/// Whether a PIN is the known one, if there is one. The time doesn't tell where digests differ.
+/// Whether the given PIN is the known one. Where none is known it isn't.
 fn is_pin(known: Option<Pin>, given: Pin) -> bool
     ensures { result ≡ is_pin known given }
 {
@@ -41,7 +41,7 @@ fn check_lock(credential: Credential) -> Result<(), RvError>
     error_if(credential.tries == MOST_TRIES, RvError::PinLocked)
 }
 
-/// CKR_PIN_INCORRECT, and a wrong try of the user's, where the PIN is another one.
+/// CKR_PIN_INCORRECT where this isn't the user's PIN, which counts as a wrong try.
 fn check_pin(user: UserType, credential: Credential, pin: Pin) -> Result<(), Refused>
     ensures { IsCheckAbout (Some user)
         (error_if (not (is_pin credential.pin pin)) rv_error.PinIncorrect) result }
@@ -150,7 +150,7 @@ impl Token {
         Ok(())
     }
 
-    /// CKR_SESSION_READ_ONLY_EXISTS for the security officer beside a read-only session.
+    /// CKR_SESSION_READ_ONLY_EXISTS for the security officer where a read-only session is open.
     fn check_read_write(&self, user: UserType) -> Result<(), RvError>
         ensures { result ≡ check_of (read_only_error user self.now.history) }
     {
@@ -160,7 +160,7 @@ impl Token {
         }
     }
 
-    /// CKR_DEVICE_MEMORY where the user has logged in as often as the token allows.
+    /// CKR_DEVICE_MEMORY where the normal user has logged in as often as the token allows.
     fn check_login_count(&self, user: UserType) -> Result<(), RvError>
         ensures { result ≡ check_of (logins_error self.now.limits user self.now.history) }
     {

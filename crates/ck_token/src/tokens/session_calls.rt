@@ -7,7 +7,7 @@ use ck_parts::Change;
 use ck_types::{Rv, RvError, Sequence, TokenFlags, UserType, error_if, mechanism_types};
 use std::alloc::Global;
 
-/// All flags by which operations are cancelled: CKF_DIGEST, CKF_SIGN and CKF_VERIFY.
+/// The flags that C_SessionCancel takes: CKF_DIGEST, CKF_SIGN and CKF_VERIFY.
 const CANCEL_FLAGS: u64 = 0x2c00;
 
 /// Opening and closing sessions, cancelling their operations, and what is read of them and of the

@@ -4,7 +4,7 @@ use ck_mac::RunningTag;
 use ck_operations::Operation;
 
 /// Whether the call takes in a long message: it isn't refused for its length or for an earlier
-/// update, and its reply has more than a length.
+/// update, and its reply isn't only a length.
 fn takes_long_message(call: &Call, operation: &Operation) -> bool {
     if !call.brings_long_message() || is_long_piece(call.taken_bytes()) {
         return false;
@@ -26,8 +26,9 @@ impl Token {
     ghost use Rattle.ck_journal.specs.Works.{IsBegun, IsAhead, HoldsAfter};
 
     /// Begins the work on a long message that the call brings, so that its bytes can be taken in
-    /// before the call is made. It takes no memory. `None` where this saves nothing: the message
-    /// has fewer than 4,096 bytes, or the call is refused, or it asks for a length.
+    /// before the call is made. It takes no memory. `None` where there is nothing to take in: fewer
+    /// than 4,096 bytes or more than a call may bring, no operation that takes them in, or a reply
+    /// that is only a length.
     pub fn work(&self, call: &Call) -> Option<Work>
         ensures { IfSome result (IsBegun self.now.history call.now) }
     {

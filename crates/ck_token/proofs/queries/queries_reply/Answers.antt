@@ -5,7 +5,7 @@ use Rattle.std.proofs.Math.Seq.{take-suc}
 use Rattle.std.proofs.lemmas.List.{map-append}
 use Rattle.ck_journal.specs.Queries.{query_answer, queries_code}
 use Rattle.ck_journal.specs.declared.calls.AttributeQuery.{AttributeQuery}
-use Rattle.ck_token.specs.QueryCodes.{graver}
+use Rattle.ck_token.specs.QueryCodes.{higher}
 use Rattle.ck_token.proofs.QueryLemmas.{code-next}
 use Rattle.ck_token.proofs.queries.queries_reply.Goals as goal
 
@@ -25,9 +25,9 @@ loop-query-preserved c =
           (get_or queries index other ∷ []))
           ∙ sym (ap (map (query_answer items)) (take-suc queries index other within))
           ∙ sym (ap (λ k. map (query_answer items) (take k queries)) next),
-      c.graver-rv.ensures
-          ∙ ap (λ rv. graver rv c.in_ok-answer.code) c.loop-query.invariant.1
-          ∙ ap (graver (queries_code items (take index queries))) c.in_ok-answer.ensures.code
+      c.higher-rv.ensures
+          ∙ ap (λ rv. higher rv c.in_ok-answer.code) c.loop-query.invariant.1
+          ∙ ap (higher (queries_code items (take index queries))) c.in_ok-answer.ensures.code
           ∙ sym (code-next items index queries other within),
     )
 

@@ -1,7 +1,6 @@
-use Rattle.std.proofs.Common.{◌≡◌, ◌<◌, ℕ, Bool, true, false, cond, Some, None, sym, ◌∙◌, subst}
+use Rattle.std.proofs.Common.{◌<◌, ℕ, Bool, true, false, cond, Some, None, sym, ◌∙◌, subst}
 use Rattle.ck_journal.specs.Histories.{History}
 use Rattle.ck_journal.specs.Operations.{is_active}
-use Rattle.ck_journal.specs.Works.{changed_in}
 use Rattle.ck_journal.specs.declared.operations.OperationKind.{OperationKind}
 use Rattle.ck_journal.proofs.WorkLemmas.{done-since}
 use Rattle.ck_operations.specs.Agreement.{OptionAgrees, OperationAgrees, operation_at}

@@ -1,4 +1,4 @@
-use Rattle.std.proofs.Common.{◌≡◌, None, refl, sym, ap, ◌∙◌}
+use Rattle.std.proofs.Common.{arith, ◌≡◌, None, refl, sym, ap, ◌∙◌}
 use Rattle.std.specs.List.{AllZip}
 use Rattle.std.specs.Prelude.{unwrap_or}
 use Rattle.std.proofs.lemmas.List.Elements.{same_from_all_zip}
@@ -6,7 +6,6 @@ use Rattle.ck_objects.specs.Records.{protections_of, changed_error, placement_of
 use Rattle.ck_objects.specs.Templates.{class_of}
 use Rattle.ck_objects.specs.declared.attributes.Attribute.TheVariants as attribute
 use Rattle.ck_objects.specs.declared.items.Item.{Item}
-use Rattle.ck_objects.specs.declared.object_flags.Placement.{Placement}
 use Rattle.ck_objects.specs.declared.templates.Template.{Template}
 use Rattle.ck_types.proofs.CheckLemmas.{check_of-ok, check_of-err}
 use Rattle.ck_journal.specs.Answers.{read_only_session_error, prohibited_error}
@@ -16,8 +15,8 @@ use Rattle.ck_journal.specs.declared.calls.Call.TheVariants as call
 use Rattle.ck_parts.specs.declared.changes.Change.TheVariants as change
 use Rattle.ck_token.specs.Decisions.{reply_of}
 use Rattle.ck_token.specs.declared.decisions.Decision.{Decision}
-use Rattle.ck_token.proofs.DecisionLemmas.{refused-decision, memory-decision, object-checks, hit}
-use Rattle.ck_token.proofs.DecisionLemmas.{skip}
+use Rattle.ck_token.proofs.DecisionLemmas.{refused-decision, object-checks, hit}
+use Rattle.ck_token.proofs.DecisionLemmas.{skip, passes, fails}
 use Rattle.ck_token.proofs.tokens.Token.set_attribute_value.Goals.{In_ok-number}
 use Rattle.ck_token.proofs.tokens.Token.set_attribute_value.Goals.{In_ok-check_writable}
 use Rattle.ck_token.proofs.tokens.Token.set_attribute_value.Goals.{In_ok-check_flag}
@@ -39,10 +38,9 @@ may_write : (c : In_ok-check_writable)
     → read_only_session_error c.args.self.now.history c.args.session
     (placement_of c.in_ok-number.present.now) ≡ None
 may_write c =
-    ap (λ (p : Placement). read_only_session_error c.args.self.now.history c.args.session p)
-    (sym c.placement.ensures)
-    ∙ check_of-ok _ _ (sym (c.check_writable.ensures c.args.session c.in_ok-row.ensures.row)
-    ∙ c.in_ok-check_writable.was)
+    passes (read_only_session_error c.args.self.now.history c.args.session) _ _ _ _
+    c.placement.ensures (c.check_writable.ensures c.args.session c.in_ok-row.ensures.row)
+    c.in_ok-check_writable.was
 
 may_change : (c : In_ok-check_flag)
     → prohibited_error attribute.Modifiable c.in_ok-number.present.now ≡ None
@@ -64,54 +62,45 @@ returns-in_err-check_writable c =
     let h = c.args.self.now.history in
     let p = goal.at.returns-in_err-check_writable c in
     let code = c.in_err-check_writable.field-0.0 in
-    let fails =
-    ap (λ (q : Placement). read_only_session_error h c.args.session q) (sym c.placement.ensures)
-    ∙ check_of-err _ code (sym (c.check_writable.ensures c.args.session c.in_ok-row.ensures.row)
-    ∙ c.in_err-check_writable.was) in
+    let refused =
+    fails (read_only_session_error h c.args.session) _ _ _ code c.placement.ensures
+    (c.check_writable.ensures c.args.session c.in_ok-row.ensures.row)
+    c.in_err-check_writable.was in
     refused-decision c.args.self.now.limits h (made p.In_ok-number) _ code
     c.from_residual-in_err-check_writable.ensures.1
     (object-checks h c.args.session c.args.object _ c.in_ok-number.present.now _
     c.in_ok-row.ensures.open c.in_ok-number.ensures.attributes
-    (hit _ _ code fails)) refl
+    (hit _ _ code refused)) refl
 
 pub returns-in_err-check_flag : goal.returns-in_err-check_flag
 returns-in_err-check_flag c =
     let h = c.args.self.now.history in
     let p = goal.at.returns-in_err-check_flag c in
     let code = c.in_err-check_flag.field-0.0 in
-    let fails = check_of-err (prohibited_error attribute.Modifiable c.in_ok-number.present.now) code
-    (sym c.check_flag.ensures ∙ c.in_err-check_flag.was) in
+    let refused = check_of-err _ code (sym c.check_flag.ensures ∙ c.in_err-check_flag.was) in
     refused-decision c.args.self.now.limits h (made p.In_ok-number) _ code
     c.from_residual-in_err-check_flag.ensures.1
     (object-checks h c.args.session c.args.object _ c.in_ok-number.present.now _
     c.in_ok-row.ensures.open c.in_ok-number.ensures.attributes
-    (skip _ _ (may_write p.In_ok-check_writable) ∙ hit _ _ code fails)) refl
+    (skip _ _ (may_write p.In_ok-check_writable) ∙ hit _ _ code refused)) refl
 
 pub returns-in_err-check_change : goal.returns-in_err-check_change
 returns-in_err-check_change c =
     let h = c.args.self.now.history in
     let p = goal.at.returns-in_err-check_change c in
     let code = c.in_err-check_change.field-0.0 in
-    let fails = check_of-err _ code (sym c.check_change.ensures ∙ c.in_err-check_change.was) in
+    let refused = check_of-err _ code (sym c.check_change.ensures ∙ c.in_err-check_change.was) in
     refused-decision c.args.self.now.limits h (made p.In_ok-number) _ code
     c.from_residual-in_err-check_change.ensures.1
     (object-checks h c.args.session c.args.object _ c.in_ok-number.present.now _
     c.in_ok-row.ensures.open c.in_ok-number.ensures.attributes
     (skip _ _ (may_write p.In_ok-check_writable) ∙ skip _ _ (may_change p.In_ok-check_flag)
-    ∙ hit _ _ code fails)) refl
+    ∙ hit _ _ code refused)) refl
 
 -- ---- all checks pass
 
 pub returns-in_err-values : goal.returns-in_err-values
-returns-in_err-values c =
-    let h = c.args.self.now.history in
-    let p = goal.at.returns-in_err-values c in
-    memory-decision c.args.self.now.limits h (made p.In_ok-number) _
-    c.from_residual-in_err-values.ensures.1
-    (object-checks h c.args.session c.args.object _ c.in_ok-number.present.now _
-    c.in_ok-row.ensures.open c.in_ok-number.ensures.attributes
-    (skip _ _ (may_write p.In_ok-check_writable) ∙ skip _ _ (may_change p.In_ok-check_flag)
-    ∙ skip _ _ (fits p.In_ok-check_change))) refl
+returns-in_err-values c = grind (arith, check_of-ok)
 
 pub returns : goal.returns
 returns c =

@@ -1,14 +1,12 @@
 use Rattle.std.proofs.Common.{◌≡◌, None, refl, sym, ap, ◌∙◌}
 use Rattle.ck_objects.specs.Records.{placement_of}
-use Rattle.ck_objects.specs.declared.object_flags.Placement.{Placement}
 use Rattle.ck_types.specs.declared.errors.RvError.TheVariants as rv_error
-use Rattle.ck_types.proofs.CheckLemmas.{check_of-ok, check_of-err}
 use Rattle.ck_journal.specs.Answers.{read_only_session_error}
 use Rattle.ck_journal.specs.Objects.{key_named}
 use Rattle.ck_journal.specs.declared.calls.Call.TheVariants as call
 use Rattle.ck_token.specs.declared.decisions.Decision.{Decision}
 use Rattle.ck_token.specs.Decisions.{reply_of}
-use Rattle.ck_token.proofs.DecisionLemmas.{refused-decision, named-checks, hit, skip}
+use Rattle.ck_token.proofs.DecisionLemmas.{refused-decision, named-checks, hit, skip, passes, fails}
 use Rattle.ck_token.proofs.tokens.Token.set_key_state.Goals.{In_ok-check_writable}
 use Rattle.ck_token.proofs.tokens.Token.set_key_state.Goals as goal
 
@@ -17,10 +15,9 @@ may_write : (c : In_ok-check_writable)
     → read_only_session_error c.args.self.now.history c.args.session
     (placement_of c.in_ok-number.attributes.now) ≡ None
 may_write c =
-    ap (λ (p : Placement). read_only_session_error c.args.self.now.history c.args.session p)
-    (sym c.placement.ensures)
-    ∙ check_of-ok _ _ (sym (c.check_writable.ensures c.args.session c.in_ok-row.ensures.row)
-    ∙ c.in_ok-check_writable.was)
+    passes (read_only_session_error c.args.self.now.history c.args.session) _ _ _ _
+    c.placement.ensures (c.check_writable.ensures c.args.session c.in_ok-row.ensures.row)
+    c.in_ok-check_writable.was
 
 -- ---- the call is refused by the first check that fails
 
@@ -29,14 +26,13 @@ returns-in_err-check_writable c =
     let h = c.args.self.now.history in
     let s = c.args.session in
     let code = c.in_err-check_writable.field-0.0 in
-    let fails =
-    ap (λ (p : Placement). read_only_session_error h s p) (sym c.placement.ensures)
-    ∙ check_of-err _ code (sym (c.check_writable.ensures s c.in_ok-row.ensures.row)
-    ∙ c.in_err-check_writable.was) in
+    let refused =
+    fails (read_only_session_error h s) _ _ _ code c.placement.ensures
+    (c.check_writable.ensures s c.in_ok-row.ensures.row) c.in_err-check_writable.was in
     refused-decision c.args.self.now.limits h (call.SetKeyState s c.args.key c.args.state) _ code
     c.from_residual-in_err-check_writable.ensures.1
     (named-checks h s (key_named h c.args.key) rv_error.KeyHandleInvalid _ _ _
-    c.in_ok-row.ensures.open c.in_ok-number.ensures.attributes (hit _ _ code fails)) refl
+    c.in_ok-row.ensures.open c.in_ok-number.ensures.attributes (hit _ _ code refused)) refl
 
 pub returns-in_err-state : goal.returns-in_err-state
 returns-in_err-state c =
