@@ -253,19 +253,22 @@ pub hit : (first later : Option RvError) (code : RvError) → first ≡ Some cod
     → or_else first later ≡ Some code
 hit first later code fails = rw fails refl
 
--- a check that answers Ok finds no error in what it was given, nor in what is equal to that
-pub passes : {A : Type 0} (check : A → Option RvError) (given is : A)
-    (result : Result (Unit {0}) RvError) (u : Unit {0})
-    → given ≡ is → result ≡ check_of (check given) → result ≡ Ok u → check is ≡ None
-passes check given is result u same made was =
-    ap check (sym same) ∙ check_of-ok (check given) u (sym made ∙ was)
+-- a check that passes by its result, and the later ones
+pub pass : (first later : Option RvError) (result : Result (Unit {0}) RvError) (u : Unit {0})
+    → result ≡ check_of first → result ≡ Ok u → or_else first later ≡ later
+pass first later result u made was = skip first later (check_of-ok first u (sym made ∙ was))
 
--- one that answers a code finds this error
-pub fails : {A : Type 0} (check : A → Option RvError) (given is : A)
-    (result : Result (Unit {0}) RvError) (code : RvError)
-    → given ≡ is → result ≡ check_of (check given) → result ≡ Err code → check is ≡ Some code
-fails check given is result code same made was =
-    ap check (sym same) ∙ check_of-err (check given) code (sym made ∙ was)
+-- a check that fails by its result
+pub stop : (first later : Option RvError) (result : Result (Unit {0}) RvError) (code : RvError)
+    → result ≡ check_of first → result ≡ Err code → or_else first later ≡ Some code
+stop first later result code made was =
+    hit first later code (check_of-err first code (sym made ∙ was))
+
+-- the result of a check of what is equal to this
+pub same_check : {A : Type 0} (check : A → Option RvError) (given is : A)
+    (result : Result (Unit {0}) RvError) → given ≡ is → result ≡ check_of (check given)
+    → result ≡ check_of (check is)
+same_check check given is result same made = made ∙ ap (λ x. check_of (check x)) same
 
 pub session-passes : (h : History) (session : ℕ) → is_open h session ≡ true
     → session_error h session ≡ None

@@ -43,8 +43,8 @@ takes_memory (call.SignFinal session room) = is_some room
 takes_memory (call.VerifyInit session mechanism key) = true
 takes_memory other = false
 
--- a call that gives nothing: a request for no attribute, a search that finds no object, or a call
--- for its next objects that returns none
+-- a call that gives nothing: a request for no attribute, a search that finds no object, or a
+-- request for a search's next objects that returns none
 abbrev pub gives_nothing : History → Call → Bool
 gives_nothing h (call.GetAttributeValue session object queries) = is_empty queries
 gives_nothing h (call.FindObjectsInit session template) =

@@ -72,8 +72,9 @@ impl Token {
         )
     }
 
-    /// The checks of where a new object stands: CKR_SESSION_READ_ONLY for a token object in a
-    /// read-only session, CKR_USER_NOT_LOGGED_IN for a private one without the user's login.
+    /// The checks of where a new object stands: CKR_SESSION_READ_ONLY (b5) for a token object in a
+    /// read-only session, CKR_USER_NOT_LOGGED_IN (101) for a private object where the normal user
+    /// isn't logged in.
     fn check_placement(&self, row: &Session, placement: Placement) -> Result<(), RvError>
         ensures { (s : ℕ) → row.now ≡ session_row self.now.history s
             → result ≡ check_of (placement_error self.now.history s placement) }

@@ -1,27 +1,14 @@
 use Rattle.std.proofs.Common.{◌≡◌, List, None, refl, sym, ap, ◌∙◌}
-use Rattle.ck_types.proofs.CheckLemmas.{check_of-ok, check_of-err}
 use Rattle.ck_objects.specs.declared.items.Item.{Item}
 use Rattle.ck_journal.specs.Answers.{ok, new_handle, create_object_error}
 use Rattle.ck_journal.specs.declared.replies.Body.TheVariants as body
 use Rattle.ck_journal.specs.declared.calls.Call.TheVariants as call
 use Rattle.ck_parts.specs.declared.changes.Change.TheVariants as change
 use Rattle.ck_token.specs.Decisions.{new_object_error}
-use Rattle.ck_token.proofs.DecisionLemmas.{refused-decision, memory-decision, skip, hit}
+use Rattle.ck_token.proofs.DecisionLemmas.{refused-decision, memory-decision, skip, pass, stop}
 use Rattle.ck_token.proofs.DecisionLemmas.{session-passes}
 use Rattle.ck_token.proofs.tokens.Token.create_object.Goals.{In_ok-number}
 use Rattle.ck_token.proofs.tokens.Token.create_object.Goals as goal
-
--- the checks find no error
-allowed : (c : In_ok-number)
-    → create_object_error c.args.self.now.limits c.args.self.now.history c.args.session
-    c.args.template.now.items ≡ None
-allowed c =
-    let h = c.args.self.now.history in
-    let s = c.args.session in
-    skip _ _ (session-passes h s c.in_ok-row.ensures.open)
-    ∙ skip _ _ (check_of-ok _ _ (sym c.check_creation.ensures ∙ c.in_ok-check_creation.was))
-    ∙ ap (new_object_error c.args.self.now.limits h s) (sym c.creation_placement.ensures)
-    ∙ c.in_ok-number.ensures.passes s c.in_ok-row.ensures.row
 
 -- ---- the call is refused by the first check that fails
 
@@ -30,11 +17,10 @@ returns-in_err-check_creation c =
     let h = c.args.self.now.history in
     let s = c.args.session in
     let code = c.in_err-check_creation.field-0.0 in
-    let refused =
-    check_of-err _ code (sym c.check_creation.ensures ∙ c.in_err-check_creation.was) in
     refused-decision c.args.self.now.limits h (call.CreateObject s c.args.template.now) _ code
     c.from_residual-in_err-check_creation.ensures.1
-    (skip _ _ (session-passes h s c.in_ok-row.ensures.open) ∙ hit _ _ code refused) refl
+    (skip _ _ (session-passes h s c.in_ok-row.ensures.open)
+    ∙ stop _ _ _ code c.check_creation.ensures c.in_err-check_creation.was) refl
 
 pub returns-in_err-number : goal.returns-in_err-number
 returns-in_err-number c =
@@ -44,11 +30,22 @@ returns-in_err-number c =
     refused-decision limits h (call.CreateObject s c.args.template.now) _
     c.in_err-number.field-0.0 c.from_residual-in_err-number.ensures.1
     (skip _ _ (session-passes h s c.in_ok-row.ensures.open)
-    ∙ skip _ _ (check_of-ok _ _ (sym c.check_creation.ensures ∙ c.in_ok-check_creation.was))
+    ∙ pass _ _ _ _ c.check_creation.ensures c.in_ok-check_creation.was
     ∙ ap (new_object_error limits h s) (sym c.creation_placement.ensures)
     ∙ c.in_err-number.ensures.fails s c.in_ok-row.ensures.row) refl
 
 -- ---- all checks pass
+
+allowed : (c : In_ok-number)
+    → create_object_error c.args.self.now.limits c.args.self.now.history c.args.session
+    c.args.template.now.items ≡ None
+allowed c =
+    let h = c.args.self.now.history in
+    let s = c.args.session in
+    skip _ _ (session-passes h s c.in_ok-row.ensures.open)
+    ∙ pass _ _ _ _ c.check_creation.ensures c.in_ok-check_creation.was
+    ∙ ap (new_object_error c.args.self.now.limits h s) (sym c.creation_placement.ensures)
+    ∙ c.in_ok-number.ensures.passes s c.in_ok-row.ensures.row
 
 pub returns-in_err-made : goal.returns-in_err-made
 returns-in_err-made c =
