@@ -1,5 +1,5 @@
 //! Auditors of journals: the calls of a journal are made again, and each reply is compared. Also
-//! whether a caller got the replies of its entries.
+//! whether a caller got the replies of its entries, and whether two replies are the same.
 #![tactic(auto)]
 
 mod audits;
