@@ -5,7 +5,7 @@
 
 #include <string.h>
 
-/* The sizes of keys in bytes. */
+/* Key sizes are in bytes. */
 static const CK_MECHANISM_INFO digest = {.flags = CKF_DIGEST};
 static const CK_MECHANISM_INFO hmac = {1, LONGEST_KEY, CKF_SIGN | CKF_VERIFY};
 static const CK_MECHANISM_INFO generation = {1, LONGEST_KEY, CKF_GENERATE};

@@ -53,7 +53,7 @@ replies_of [] = []
 replies_of (answered.Reply reply n ∷ answers) = reply ∷ replies_of answers
 replies_of (answered.Status status n ∷ answers) = replies_of answers
 
--- the front of a history that has so many entries
+-- the front of a history that has n entries
 abbrev pub front_at : History → ℕ → History
 front_at (start b) n = start b
 front_at (e ◁ h) n = if n == suc (entry_count h) then e ◁ h else front_at h n

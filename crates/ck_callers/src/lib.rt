@@ -1,5 +1,5 @@
 //! The callers of a token that threads share: one history for all of them, of which each knows a
-//! front, how many calls of each were answered, the board that callers read without the lock, and
+//! front; how many calls of each were answered; the board that callers read without the lock; and
 //! runs of callers through a gate, each in a thread of its own.
 #![tactic(auto)]
 

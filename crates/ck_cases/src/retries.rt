@@ -36,7 +36,7 @@ impl RetryingToken {
         self.retries
     }
 
-    /// Counts a retry. The journal must have so many entries.
+    /// Counts a retry. The journal must have this many entries.
     fn retry(&mut self, entries: u64) -> Result<(), CaseError> {
         let came = self.token.journal().len();
         if came != entries {

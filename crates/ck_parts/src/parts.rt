@@ -67,8 +67,9 @@ impl Parts {
         }
     }
 
-    /// Carries out the change of an answered call, and takes no memory. `ready`, where it is given,
-    /// is the running tag of the call's operation that has taken in the bytes of the call already;
+    /// Carries out the change of an answered call, and takes no memory. The bytes of an update are
+    /// read off the call, so that the change has no copy of them. `ready`, where it is given, is
+    /// the running tag of the call's operation that has taken in the bytes of the call already;
     /// `entries` is how many entries the journal has before this one.
     pub fn apply(&mut self, change: Change, call: &Call, ready: Option<&RunningTag>, entries: u64)
         requires room { HasRoom self.old change }

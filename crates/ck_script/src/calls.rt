@@ -14,7 +14,8 @@ use crate::splits::Split;
 use ck_journal::Call;
 use std::alloc::Global;
 
-/// The arguments of a call in a line.
+/// The arguments of a call in a line. Its functions are given what makes the call of their values,
+/// so that the table of calls has one arm for each.
 #[derive(Drop)]
 struct Arguments<'a> {
     alloc: Global,

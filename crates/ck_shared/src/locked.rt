@@ -117,7 +117,7 @@ fn show_by<K: TokenId, G: JournaledToken, R: Wait + Drop, W: Wait>(
     }
 }
 
-/// What the token answers to a call of this caller, by work that is done where there is any.
+/// What the token answers to a call of this caller: by the work on its message, where this is done.
 #[inline(always)]
 fn answer<G: JournaledToken>(
     token: &mut G,
@@ -223,7 +223,7 @@ impl<K: TokenId, G: JournaledToken, R: Wait + Drop> Locked<K, G, R> {
         show_front(rt, caller.known().front(), self.known.front());
     }
 
-    /// The token without its lock. It waits for those who still read the board.
+    /// The token without its lock. It may wait for those who still read the board.
     pub(crate) fn into_token(self) -> G
         ensures token { G.state result ≡ self }
         ensures limits { (G.state result).limits ≡ K.limits }
@@ -279,7 +279,7 @@ impl<K: TokenId, G: JournaledToken, R: Wait + Drop> Locked<K, G, R> {
         self.step_after(rt, alloc, caller, call, None)
     }
 
-    /// As `step`, by work on the message of the call that is done, where there is any.
+    /// As `step`, by the work on the message of the call, where this is done.
     pub(crate) fn step_after<W: Wait>(
         &mut self,
         rt: &W,

@@ -21,7 +21,8 @@ pub struct Store {
     /// object has ended: until the places are more than twice as many as the objects, and one.
     index: Vec<Place>,
     lists: Vec<SessionList>,
-    /// The newest object, until its session's list takes it.
+    /// The newest object, until its session's list takes it: at the next `reserve`, since a
+    /// creation takes no memory.
     unlisted: Option<Place>,
     creations: u64,
     /// The marks of the objects' labels, by the objects' keys in the slab; 0 where one is missing.
