@@ -27,7 +27,7 @@ pub(crate) struct CallOrder<'a> {
     come: AtomicU64,
     /// How many were made.
     made: AtomicU64,
-    /// How often a call has come or was made.
+    /// How many times a call has come or was made.
     moves: AtomicU64,
 }
 
