@@ -70,7 +70,8 @@ CK_RV C_GetSlotInfo(CK_SLOT_ID slot, CK_SLOT_INFO_PTR info) {
     return leave(CKR_OK);
 }
 
-/* What the token's reply doesn't have: the label, which the library keeps, and what never changes. */
+/* What the token's reply doesn't have: the label, which the library keeps, and what never
+ * changes. */
 static void describe_token(CK_TOKEN_INFO *info) {
     memcpy(info->label, library.label, sizeof info->label);
     copy_padded(info->manufacturerID, sizeof info->manufacturerID, MANUFACTURER);

@@ -73,8 +73,8 @@ AreAnswersIn limits caller h [] (a ∷ answers) = ⊥
 AreAnswersIn limits caller h (s ∷ steps) (a ∷ answers) =
     IsAnswerIn limits caller h s a × AreAnswersIn limits caller h steps answers
 
--- the numbers of the answers go from the first number to the last: that of a reply is larger than the
--- one before, that of a status no smaller, and where there is no status it is the same
+-- the numbers of the answers go from the first number to the last: that of a reply is larger than
+-- the one before, that of a status no smaller, and where there is no status it is the same
 abbrev pub Rises : ℕ → List Answered → ℕ → Type 0
 Rises n [] last = n ≡ last
 Rises n (answered.Reply reply m ∷ answers) last = (n < m) × Rises m answers last

@@ -187,8 +187,8 @@ pub extern "C" fn ospreyrack_sign_final(
     handle.as_mut().call(alloc, caller, call).number()
 }
 
-/// C_VerifyInit (PKCS #11 Base 3.0, Functions for verifying signatures and MACs). An empty parameter
-/// is none.
+/// C_VerifyInit (PKCS #11 Base 3.0, Functions for verifying signatures and MACs). An empty
+/// parameter is none.
 #[unsafe(no_mangle)]
 pub extern "C" fn ospreyrack_verify_init(
     alloc: Global,
