@@ -77,8 +77,8 @@ impl<K: TokenId> BoardCopy<K> {
     }
 }
 
-/// No contract says of what history the copies are by what they took in: it is read off the
-/// published copy.
+/// No contract says which history the two copies are of once they have taken in a slot: that is
+/// read off the published copy.
 impl<K: TokenId> Absorb<EntrySlot<K>> for BoardCopy<K> {
     type State = ();
 

@@ -20,7 +20,8 @@ const SELDOM_IN: u64 = 256;
 /// Of `SELDOM_IN` drawn rows this many are from `LONG`, on average.
 const LONG_IN: u64 = 4;
 
-/// A caller at a gate, with the handles that it knows, its draws and all replies that it got.
+/// A caller at a gate, with the sets of handles that it knows, its random numbers and all replies
+/// that it got.
 #[derive(Drop)]
 struct DrawingCaller<'a, 'c, K: TokenId, G, R> {
     rt: &'a R,

@@ -163,8 +163,8 @@ fn extend<K: TokenId, G: JournaledToken, W: Wait>(
     unreachable!()
 }
 
-/// Shows that the history is no shorter than another front of it. What runs finds it so at the
-/// first look.
+/// Shows that the history is no shorter than another front of it. When the program runs, the first
+/// look finds it so.
 fn show_front<K: TokenId, W: Wait>(rt: &W, other: &Front<K>, front: &Front<K>)
     ensures { IsFront other.now front.now }
 {
@@ -251,8 +251,8 @@ impl<K: TokenId, G: JournaledToken, R: Wait + Drop> Locked<K, G, R> {
         Some((work, self.known.front().duplicate()))
     }
 
-    /// Shows that the history has all entries of a front of it. What runs finds it so at the first
-    /// look.
+    /// Shows that the history has all entries of a front of it. When the program runs, the first
+    /// look finds it so.
     pub(crate) fn show_front<W: Wait>(&self, rt: &W, front: &Front<K>)
         ensures { IsFront front.now self.now.history }
     {
