@@ -79,7 +79,7 @@ bool reserve_entry(size_t length) {
         || buffer_reserve(&library.journal.text, length + 1 + label);
 }
 
-/* Adds what was reserved. */
+/* The line and its end fit into the room that was reserved; the reply may need more. */
 void add_entry(const uint8_t *line, size_t length) {
     struct buffer *text = &library.journal.text;
     if (!library.journal.is_kept)
@@ -108,7 +108,7 @@ static bool truncate_file(const struct journal *journal) {
     return status.st_size == journal->length || ftruncate(journal->file, journal->length) == 0;
 }
 
-/* What was written in part is taken back, since it is in no answer. */
+/* What was written in part is taken back, since the application gets no answer to it. */
 bool write_journal(void) {
     struct journal *journal = &library.journal;
     size_t length = journal->text.length;

@@ -48,7 +48,7 @@ CK_RV C_GenerateKey(CK_SESSION_HANDLE session, CK_MECHANISM_PTR mechanism,
     return code == CKR_OK ? leave(generate_key(call, key)) : code;
 }
 
-/* Whether a function may go on that is only about bytes and a session. */
+/* Checks the arguments of a function that is given only a session and bytes. */
 static CK_RV check_session(CK_SESSION_HANDLE session, const CK_BYTE *bytes, CK_ULONG length) {
     const struct call call = {.name = GET_SESSION_INFO, .session = session};
     if (bytes == NULL && length > 0)

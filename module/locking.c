@@ -11,7 +11,7 @@
 #include <sched.h>
 #include <unistd.h>
 
-/* Zeros where the own mutex is the lock. */
+/* Zeros where the module's own mutex is the lock. */
 struct application_lock {
     CK_VOID_PTR mutex;
     CK_DESTROYMUTEX destroy;

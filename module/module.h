@@ -92,7 +92,8 @@ CK_RV leave(CK_RV code);
 void take_own_mutex(void);
 void release_own_mutex(void);
 
-/* Makes the lock that these arguments of C_Initialize ask for; NULL asks for the own mutex. */
+/* Makes the lock that these arguments of C_Initialize ask for; NULL asks for the module's own
+ * mutex. */
 CK_RV open_lock(const CK_C_INITIALIZE_ARGS *arguments);
 
 /* Gives a lock back that isn't held. */
@@ -168,7 +169,7 @@ struct room {
 
 struct work;
 
-/* A call with its arguments; those that the call hasn't are zeros. */
+/* A call with its arguments; those that the call doesn't have are zeros. */
 struct call {
     enum call_name name;
     CK_ULONG session;

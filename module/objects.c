@@ -31,7 +31,7 @@ CK_RV C_DestroyObject(CK_SESSION_HANDLE session, CK_OBJECT_HANDLE object) {
     return answer(&call);
 }
 
-/* No size is known; the call shows that there are such a session and such an object. */
+/* No size is told; the call is made to check the handles of the session and of the object. */
 static CK_RV get_object_size(const struct call *call, CK_ULONG *size) {
     if (size == NULL)
         return CKR_ARGUMENTS_BAD;

@@ -116,8 +116,8 @@ static bool answer_text(struct source *source, const uint8_t *line, size_t lengt
     return is_good;
 }
 
-/* A journal's last line lacks its end where the process was killed while it was written. In a file
- * that nothing shows to be a journal, it is left alone. */
+/* A journal's last line lacks its end where the process was killed while it was written. A file
+ * that nothing shows to be a journal is left as it is. */
 static bool drop_line(const struct source *source) {
     if (!source->has_begun)
         return report_line(source, "this is no journal");

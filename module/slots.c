@@ -5,7 +5,7 @@
 
 #include <string.h>
 
-/* The sizes of keys in bytes. */
+/* Key sizes are in bytes. */
 static const CK_MECHANISM_INFO digest = {.flags = CKF_DIGEST};
 static const CK_MECHANISM_INFO hmac = {1, LONGEST_KEY, CKF_SIGN | CKF_VERIFY};
 static const CK_MECHANISM_INFO generation = {1, LONGEST_KEY, CKF_GENERATE};
@@ -70,7 +70,8 @@ CK_RV C_GetSlotInfo(CK_SLOT_ID slot, CK_SLOT_INFO_PTR info) {
     return leave(CKR_OK);
 }
 
-/* What doesn't depend on the token's calls. */
+/* What the token's reply doesn't have: the label, which the library keeps, and what never
+ * changes. */
 static void describe_token(CK_TOKEN_INFO *info) {
     memcpy(info->label, library.label, sizeof info->label);
     copy_padded(info->manufacturerID, sizeof info->manufacturerID, MANUFACTURER);

@@ -3,7 +3,9 @@
  * contract in that crate, which says what it does; what a caller in C owes is said at it.
  *
  * - A `struct token` is used by one thread at a time.
- * - A pointer is never NULL, also where no element stands behind it.
+ * - A pointer is never NULL, not even that of a list without elements.
+ * - Lengths, and the rooms for values and texts, are in bytes; the room of a list is a number of
+ *   elements.
  * - What a function that makes a call answers is one of `enum step`. The reply to the last call
  *   that was answered stays in the token until the next one is, and is read by the functions that
  *   stand last here, which make no call.
@@ -33,7 +35,7 @@ enum step {
 size_t ospreyrack_size(void);
 
 /* Makes a new token of the largest limits in room of that many bytes, whose address is a multiple
- * of 16. It takes no memory beside. */
+ * of 16. It takes no other memory. */
 void ospreyrack_make(void *at);
 
 /* Makes the token a new one, and gives back all memory that it has taken. */
@@ -56,14 +58,16 @@ uint64_t ospreyrack_entries(struct token *token);
 /* Makes the call of a line of the script language, which stands here without its line end. */
 uint32_t ospreyrack_line(struct token *token, const uint8_t *line, size_t length);
 
-/* Makes the text of the reply, without a line end: ANSWERED, or NO_MEMORY. */
+/* Makes the text of the reply, without a line end: ANSWERED. Or NO_MEMORY, and then nothing is said
+ * of the text. */
 uint32_t ospreyrack_write_text(struct token *token);
 
 /* The length of the text that was last made. Its bytes, or as many of them as there is room for,
  * are copied to `out`. */
 size_t ospreyrack_text(struct token *token, uint8_t *out, size_t room);
 
-/* ---- Calls by their arguments. `caller` is the number of who calls. */
+/* ---- Calls by their arguments, each with the name of the standard's function, except
+ * ospreyrack_set_key_state. `caller` is the number that the call's entry has in the journal. */
 
 /* An attribute of a template: its type, and the length of its value. The values stand one after the
  * other in a list of bytes beside. */
@@ -147,7 +151,7 @@ struct long_call {
 size_t ospreyrack_long_size(void);
 
 /* Makes the place of a call in room of that many bytes, whose address is a multiple of 16. There is
- * no call yet. It takes no memory beside. */
+ * no call yet. It takes no other memory. */
 void ospreyrack_long_make(void *at);
 
 /* Takes the call away, and gives back all memory that it has taken. */

@@ -1,6 +1,6 @@
 /*
- * The standard's functions that the token hasn't, and those that it keeps for applications of old
- * versions (PKCS #11 Base 3.0, Parallel function management functions).
+ * The standard's functions that the token doesn't have, and those that the standard keeps for
+ * applications of old versions (PKCS #11 Base 3.0, Parallel function management functions).
  */
 #include "module.h"
 

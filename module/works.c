@@ -19,7 +19,7 @@ struct work {
 };
 
 /* Whether the message is long enough to be taken in before the call. Where only the length of
- * a digest or a signature is asked for, they aren't needed. */
+ * a digest or a signature is asked for, the message isn't needed. */
 static bool is_long(const struct call *call) {
     bool has_output = call->name == DIGEST || call->name == SIGN;
     return call->bytes.length >= SHORTEST_LONG_MESSAGE && (!has_output || call->room.has_room)

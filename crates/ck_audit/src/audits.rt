@@ -36,7 +36,7 @@ pub fn audit<G: JournaledToken>(
     replay(alloc, token, journal)
 }
 
-/// Audits the journal of a token, which is legal: every token keeps that.
+/// Audits the journal of a token as one of the token's own limits. It is legal.
 pub fn audit_token<G: JournaledToken>(alloc: Global, token: &G) -> Result<Verdict, NoMemory>
     ensures { IfOk result (λ found. found ≡ verdict.Legal) }
 {

@@ -1,11 +1,15 @@
-//! Measures calls of a token. A script is read from standard input; a line `#measure NAME` begins a
-//! section of it, and for each section it is written how many calls it has and how many of them
-//! were refused. With the argument `alone` the calls are made of a token that isn't shared, whose
-//! journal is audited then, with `locked` by the one caller of a shared token; what they take is
-//! written too, in processor time. With `threads` and a number nothing is read: callers of a shared
-//! token ask this often without the lock, and others change the token, each in a thread of its own,
-//! and what the slowest takes is written, by the clock. All of these are done several times. With
-//! no argument each is done once, the last with few asks, and no times are written.
+//! Measures calls of a token. A script is read from standard input, and a line `#measure NAME`
+//! begins a section of it. For each section it is written how many calls it has and how many of
+//! them were refused. The argument says what is done, several times:
+//!
+//! - `alone`: a token that isn't shared answers the calls, and then its journal is audited. The
+//!   processor time is written too.
+//! - `locked`: a shared token answers them to its one caller. The processor time is written too.
+//! - `threads` and a number: nothing is read. Callers of a shared token, each in a thread of its
+//!   own, ask this many times without the lock, change the token, digest, or wait for the lock.
+//!   What the slowest takes by the clock is written.
+//!
+//! With no argument each is done once, the last with few asks, and no times are written.
 #![tactic(auto)]
 
 mod measures;
@@ -24,11 +28,11 @@ use std::time::{Clock, CpuClock};
 use std::{env, io};
 use threads::measure_together;
 
-/// How often callers ask where no number is given.
+/// How many times callers ask where no number is given.
 const FEW_ASKS: u64 = 300;
 
-/// How often what is timed is done. The first time takes new pages of the system for its memory,
-/// the others hardly any.
+/// How many times what is timed is done. The first time takes new pages of the system for its
+/// memory, the others hardly any.
 const TRIES: u32 = 7;
 
 /// What the program is asked to do.

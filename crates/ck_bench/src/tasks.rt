@@ -59,7 +59,7 @@ pub(crate) struct Tasks<'a> {
     is_done: AtomicBool,
 }
 
-/// A caller of the shared token, with what its calls want.
+/// A caller of the shared token, with what its calls need.
 #[derive(Drop)]
 struct Client<'a, K: TokenId, G: Gate<K>, R: Wait + Clock> {
     rt: &'a R,

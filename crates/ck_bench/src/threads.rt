@@ -61,11 +61,15 @@ fn measure_tasks<R: Clock + Print + Runtime>(
     Ok(())
 }
 
-/// Writes what callers take, by the clock where that is asked for: one asks `asks` times, all of
-/// four do, one asks beside another that changes the token; four change it a hundredth as often,
-/// and one as often as all four, so that both journals grow alike; one and four digest a long
-/// message. Beside another that does, one waits for the lock, and one only reads the clock: what
-/// that is interrupted for is the system's.
+/// Writes what callers take, by the clock where that is asked for.
+///
+/// - Asks: one caller asks `asks` times, each of four does, and one does beside another that
+///   changes the token.
+/// - Changes: each of four makes a hundredth of `asks`, and one makes as many as these together, so
+///   that both journals grow alike.
+/// - Digests of a long message, by one caller and by each of four.
+/// - Beside another that digests, one waits for the lock, and one only reads the clock: for what
+///   that takes the system has interrupted it.
 pub(crate) fn measure_together<R: Clock + Print + Runtime>(
     rt: R,
     alloc: Global,

@@ -41,7 +41,7 @@ abbrev pub new_accounts : ℕ → List AccountState
 new_accounts zero = []
 new_accounts (suc n) = new_accounts n ++ new_account (suc n) ∷ []
 
--- the account of this caller is the next where it is one of so many
+-- the account of this caller is the next where its number is at most `most`
 abbrev pub with_account : ℕ → ℕ → List AccountState → List AccountState
 with_account most number accounts =
     if nat_le number most then accounts ++ new_account number ∷ [] else accounts

@@ -37,7 +37,7 @@ module _ {K : Type 0} where
   parts_of (share.Seven s) = s.parts
   parts_of (share.Eight s) = s.parts
 
-  -- it is that of this caller, one of so many, and counts so many calls
+  -- it is that of this caller, whose number is at most `most`, and counts `calls` calls
   pub record IsShareOf (most caller calls : ℕ) (s : CallerShare K) : Type 0 where
     pub number : caller ≡ caller_of s
     pub known : caller ≤ most

@@ -53,7 +53,7 @@ replies_of [] = []
 replies_of (answered.Reply reply n ∷ answers) = reply ∷ replies_of answers
 replies_of (answered.Status status n ∷ answers) = replies_of answers
 
--- the front of a history that has so many entries
+-- the front of a history that has n entries
 abbrev pub front_at : History → ℕ → History
 front_at (start b) n = start b
 front_at (e ◁ h) n = if n == suc (entry_count h) then e ◁ h else front_at h n
@@ -73,8 +73,8 @@ AreAnswersIn limits caller h [] (a ∷ answers) = ⊥
 AreAnswersIn limits caller h (s ∷ steps) (a ∷ answers) =
     IsAnswerIn limits caller h s a × AreAnswersIn limits caller h steps answers
 
--- from one number to another: each reply rises, a status doesn't fall, and the number stays where
--- there is none
+-- the numbers of the answers go from the first number to the last: that of a reply is larger than
+-- the one before, that of a status no smaller, and where there is no status it is the same
 abbrev pub Rises : ℕ → List Answered → ℕ → Type 0
 Rises n [] last = n ≡ last
 Rises n (answered.Reply reply m ∷ answers) last = (n < m) × Rises m answers last

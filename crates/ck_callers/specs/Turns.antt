@@ -3,7 +3,8 @@ use Rattle.std.specs.Prelude.{◌≡◌, List, [], ◌∷◌, Result, Ok, Err}
 use Rattle.ck_types.specs.declared.memory.NoMemory.{NoMemory}
 use Rattle.ck_callers.specs.Callers.{CallerState}
 
--- what is left when it ends: nothing, or first one that may find no memory and found none
+-- what is left when it ends: nothing, or the turns from the one on that found no memory, which is
+-- one that may find none
 abbrev pub EndsAt : {S : Type 0} → (S → Type 0) → List S → Result (Unit {0}) NoMemory → Type 0
 EndsAt MayFail left (Ok done) = left ≡ []
 EndsAt MayFail [] (Err none) = ⊥

@@ -8,7 +8,7 @@ ghost use Rattle.ck_callers.specs.Asks.{call_of, reply_of};
 use ck_journal::{Reply, TokenBoard};
 use ck_types::{MECHANISM_COUNT, mechanism_types};
 
-/// What reads the state of a token without a call.
+/// A question about the state of a token, which is answered without a call and has no entry.
 #[derive(Clone, Copy, Debug, PartialEq, Eq)]
 pub enum Ask {
     /// What C_GetSessionInfo gives of the session of this handle.
@@ -19,8 +19,8 @@ pub enum Ask {
     Mechanisms,
 }
 
-/// What is answered to an ask: the reply of the call of the same name, or the types of all
-/// mechanisms, rising.
+/// What is answered to an ask: the reply that the call would get, or the types of all mechanisms
+/// (CK_MECHANISM_TYPE) in rising order.
 #[derive(Drop)]
 pub enum Status {
     Reply(Reply),

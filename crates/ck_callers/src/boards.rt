@@ -77,8 +77,8 @@ impl<K: TokenId> BoardCopy<K> {
     }
 }
 
-/// That the two copies are of one history is not known from what they took in: it is read off what
-/// was published.
+/// No contract says which history the two copies are of once they have taken in a slot: that is
+/// read off the published copy.
 impl<K: TokenId> Absorb<EntrySlot<K>> for BoardCopy<K> {
     type State = ();
 

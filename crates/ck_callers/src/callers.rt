@@ -96,7 +96,7 @@ impl<K: TokenId> Caller<K> {
         self.seen.front().len()
     }
 
-    /// Its number and its count, as the books know them.
+    /// Its number, and its count, which the books have too.
     pub fn account(&self) -> &Account<K>
         ensures number { result.now.number ≡ self.now.number }
         ensures count { result.now.count ≡ self.now.count }
@@ -151,8 +151,8 @@ impl<K: TokenId> Caller<K> {
         self.seen = known.duplicate();
     }
 
-    /// Shows that a history which goes on from what the caller knows has no entries of it except
-    /// those of its calls. The books are those of that history. Nothing changes.
+    /// Shows that a history which goes on from what the caller knows has no entries of the caller
+    /// except those of its calls. The books are those of that history. Nothing changes.
     pub fn compare(&mut self, books: &mut CallBooks<K>)
         ensures settled { (h : History) → books.old ≡ call_counts h
             → IsFront self.old.seen h → IsSettled h self.old }
@@ -181,6 +181,7 @@ fn look<K: TokenId>(
 {
     let board = reader.enter()?;
     let newest = seen.newest(board.known())?;
+    // The counts are the same, since only this caller makes its calls; the prover is shown it.
     if newest.calls(account.number()) != account.count() {
         return None;
     }

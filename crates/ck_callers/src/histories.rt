@@ -82,8 +82,8 @@ pub struct Head<K: HistoryId> {
     ghost head_is: { head ≡ head_of K.book },
 }
 
-/// A front of the one history, of which what runs has only the length. Of two fronts the shorter
-/// is a front of the longer.
+/// A front of the one history. Only its length is there when the program runs, its entries are in
+/// the proofs. Of two fronts the shorter is a front of the longer.
 #[derive(Drop)]
 pub struct Front<K: HistoryId> {
     count: u64,

@@ -111,7 +111,8 @@ impl<K: TokenId> KnownHistory<K> {
         None
     }
 
-    /// Goes on with the one entry more that a front has, which is that of a call of this caller.
+    /// Goes on to a front with one entry more, which is that of a call of this caller. Where
+    /// `leaves` is set the call leaves the board as it is.
     pub fn follow(&mut self, front: &Front<K>, caller: u32, leaves: bool)
         requires { HasNext caller leaves self.old.history front.now }
         ensures history { self.new.history ≡ front.now }

@@ -92,7 +92,7 @@ enum CallerShare<K: TokenId> {
     Eight(Share<CallerLedger<K, 8>>),
 }
 
-/// A caller's number, and how many of its calls were answered, which the books know as well.
+/// A caller's number, and how many of its calls were answered. The books have the same count.
 #[derive(Drop)]
 pub struct Account<K: TokenId> {
     number: u32,
@@ -153,8 +153,8 @@ impl NewLedgers {
     ghost use Rattle.std.specs.Prelude.{◌≡◌, ◌≤◌, ℕ, IfOk};
     ghost use Rattle.ck_callers.specs.Accounts.{name_of, no_calls, new_accounts};
 
-    /// Ledgers without calls. No clause says which names they have; that each is whole is so of
-    /// every value of the type.
+    /// Ledgers without calls. No clause says which names they have; that each has its one part is
+    /// an invariant of the type.
     pub fn new() -> NewLedgers {
         NewLedgers {
             one: Blank::new(1),

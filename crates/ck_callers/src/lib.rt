@@ -1,6 +1,9 @@
 //! The callers of a token that threads share: one history for all of them, of which each knows a
-//! front, how many calls of each were answered, the board that callers read without the lock, and
+//! front; how many calls of each were answered; the board that callers read without the lock; and
 //! runs of callers through a gate, each in a thread of its own.
+//!
+//! `Front`, `Head`, `KnownHistory`, `CallBooks`, `EntrySlot`, `Opened` and `Account` are public
+//! only for ck_shared, which has what lies under the lock.
 #![tactic(auto)]
 
 mod asks;

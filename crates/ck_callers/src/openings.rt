@@ -26,7 +26,7 @@ where
     BoardCopy<K>: Absorb<EntrySlot<K>>,
 {
     pub books: CallBooks<K>,
-    /// Only the base.
+    /// What is known of the history: only the base.
     pub known: KnownHistory<K>,
     /// The length of the one history.
     pub head: Head<K>,

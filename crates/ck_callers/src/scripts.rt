@@ -6,8 +6,8 @@ use ck_journal::{Call, Reply};
 use ck_types::NoMemory;
 use std::alloc::Global;
 
-/// What a caller is to do, step by step, with room for the replies: only calls, where no other
-/// types are named.
+/// What a caller is to do, step by step, with room for the replies. The steps are calls, unless
+/// other types are named.
 #[derive(Drop)]
 pub struct Script<K: TokenId, S: Drop = Call, A: Drop = Reply> {
     pub caller: Caller<K>,

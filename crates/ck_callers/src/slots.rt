@@ -9,9 +9,9 @@ use ck_types::NoMemory;
 use std::alloc::Global;
 use std::sync::{Arc, Mutex};
 
-/// A place for the board after a call, which is made before the call is answered and filled once it
-/// is. It has two handles: one is appended to the board's operations. Only who holds the token's
-/// lock uses a handle, so nobody waits for the lock of the place.
+/// A place for the board after a call. It is made before the call is answered, and filled
+/// afterwards. It has two handles: one is appended to the board's operations. Only the thread that
+/// holds the token's lock uses them, so nobody waits for the lock of the place.
 #[derive(Drop)]
 pub struct EntrySlot<K: TokenId> {
     pub(crate) place: Arc<Mutex<Option<BoardCopy<K>>>>,

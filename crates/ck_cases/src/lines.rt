@@ -5,7 +5,7 @@
 //!
 //! - `1 OpenSession 6 -> 0 1`: a line of a script and its reply.
 //! - `1 OpenSession E -> bad script: ..`: a line that is none of a script's, and why.
-//! - `cut -> entries 2`: the token's journal is cut, and so many entries are taken out.
+//! - `cut -> entries 2`: the token's journal is cut, and this many entries are taken out.
 //! - `cut -> a session is open`: it isn't cut, and why.
 //! - `audit 1 9 9 9 -> entry 3 is wrong`: the journal is audited as one of a token of these limits,
 //!   and its first reply that isn't such a token's is that of this entry; or `-> legal`.

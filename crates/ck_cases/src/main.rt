@@ -1,7 +1,6 @@
 //! Plays files of recorded calls, compares the replies that come with those that are recorded, and
 //! audits the journals. A line is written for each line that differs or is bad, and one that counts
-//! the lines of the file. What finds no memory is done again, and the count says how often that
-//! was.
+//! the lines of the file. What finds no memory is done again, and the count says how many times.
 #![tactic(auto)]
 
 mod arguments;

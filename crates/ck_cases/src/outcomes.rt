@@ -10,7 +10,7 @@ use std::alloc::Global;
 #[derive(Drop)]
 pub(crate) enum Outcome {
     Replied(Reply),
-    /// So many entries are taken out of the journal.
+    /// This many entries are taken out of the journal.
     Cut(u64),
     /// The journal isn't cut, since a session is open.
     Uncut,

@@ -3,8 +3,8 @@ use crate::findings::Finding;
 use std::alloc::{AllocError, Global};
 use std::fmt;
 
-/// How many lines of a file were what, and how often something was done again that had found no
-/// memory.
+/// How many lines of each kind a file has, and how many times something was done again that had
+/// found no memory.
 #[derive(Clone, Copy)]
 struct Counts {
     passed: u64,

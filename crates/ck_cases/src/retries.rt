@@ -6,8 +6,8 @@ use ck_token::{Token, Uncut};
 use ck_types::Limits;
 use std::alloc::Global;
 
-/// A token, and how often it found no memory: what found none must have left the journal as long as
-/// it was.
+/// A token, and how many times it found no memory. What found none must have left the journal as
+/// long as it was.
 #[derive(Drop)]
 pub(crate) struct RetryingToken {
     token: Token,
@@ -31,12 +31,12 @@ impl RetryingToken {
         self.token = Token::new(alloc, limits);
     }
 
-    /// How often something found no memory and was made again.
+    /// How many times something found no memory and was made again.
     pub(crate) fn retries(&self) -> u64 {
         self.retries
     }
 
-    /// Counts a retry. The journal must have so many entries.
+    /// Counts a retry. The journal must have this many entries.
     fn retry(&mut self, entries: u64) -> Result<(), CaseError> {
         let came = self.token.journal().len();
         if came != entries {

@@ -2,7 +2,7 @@
 use ck_types::Rv;
 use std::fmt;
 
-/// So many characters are shown of a text.
+/// The most characters that are shown of a text.
 const MOST_SHOWN: usize = 80;
 
 /// The front of a text, and two dots where more follows.

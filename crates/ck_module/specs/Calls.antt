@@ -36,7 +36,7 @@ IsLine bytes step.NoCall old new =
     ((meaning bytes ≡ None) ⊎ (meaning bytes ≡ Some line.Skipped)) × (new ≡ old)
 IsLine bytes step.NoMemory old new = IsSame old new
 
--- the text of the reply was made, or there was no memory for it
+-- the text of the reply was made; or there was no memory for it, and nothing is said of the text
 abbrev pub IsText : Step → Module → Module → Type 0
 IsText step.Answered old new =
     (new.token ≡ old.token) × (new.reply ≡ old.reply) × (new.text.items ≡ reply_line new.reply)

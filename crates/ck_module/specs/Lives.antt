@@ -17,7 +17,7 @@ pub record IsNew (m : Module) : Type 0 where
   pub reply : m.reply ≡ record { rv = rv.Ok; body = body.Empty }
   pub text : m.text.items ≡ []
 
--- the reply and the text stay, and the token's journal is taken out, or not, as a token's is
+-- the reply and the text stay, and the token's journal is cut or not, as `Token::cut` says
 abbrev pub IsCut : Result (Unit {0}) Uncut → Module → Module → Type 0
 IsCut (Ok done) old new =
     ((journal : JournalState) × IsTokenCut old.token new.token (Ok journal))

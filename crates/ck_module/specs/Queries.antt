@@ -3,7 +3,7 @@ use Rattle.std.specs.Prelude.{ℕ, Bool, Option, Some, None, if◌then◌else◌
 use Rattle.ck_journal.specs.declared.calls.AttributeQuery.{AttributeQuery}
 use Rattle.ck_module.specs.declared.queries.Query.{Query}
 
--- the room for bytes, or none where their length alone is asked for
+-- the room for bytes, or none where only their length is asked for
 abbrev pub room_of : Bool → ℕ → Option ℕ
 room_of has_room room = if has_room then Some room else None
 

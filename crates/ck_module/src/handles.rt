@@ -38,7 +38,7 @@ impl Handle {
     }
 }
 
-// C may pass a handle from one thread to another, since the token may go.
+// A handle may go to another thread, as the token that lies there may.
 unsafe impl Send for Handle {}
 
 /// What C holds of a call with a long message: where it lies. Contracts see the call that lies
@@ -71,5 +71,5 @@ impl LongHandle {
     }
 }
 
-// C may pass a handle from one thread to another, since the call may go.
+// A handle may go to another thread, as the call that lies there may.
 unsafe impl Send for LongHandle {}

@@ -21,7 +21,7 @@ pub extern "C" fn ospreyrack_size() -> usize
     size_of::<Module>()
 }
 
-/// Makes a new token in the room that C gives. It takes no memory beside.
+/// Makes a new token in the room that C gives. It takes no other memory.
 #[unsafe(no_mangle)]
 pub unsafe extern "C" fn ospreyrack_make(alloc: Global, at: *mut u8)
     requires* { sem 𝓛 (room_at the_row at) }

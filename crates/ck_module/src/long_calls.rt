@@ -19,6 +19,7 @@ use std::mem;
 pub enum LongCall {
     /// There is no call.
     Empty,
+    /// No work has begun, or there is none to be done before the call.
     Given(Call),
     /// The token has begun the work.
     Begun(Call, Work),

@@ -56,7 +56,8 @@ pub extern "C" fn ospreyrack_get_attribute_value(
     handle.as_mut().call(alloc, caller, call).number()
 }
 
-/// Takes a key to another state, which no function of the standard does.
+/// Takes a key to another state (SP 800-57 Part 1, Key States and Transitions), which no function
+/// of PKCS #11 does.
 #[unsafe(no_mangle)]
 pub extern "C" fn ospreyrack_set_key_state(
     alloc: Global,

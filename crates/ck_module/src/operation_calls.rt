@@ -9,7 +9,7 @@ use ck_journal::Call;
 use ck_types::{Bytes, Mechanism};
 use std::alloc::Global;
 
-/// C_DigestInit (PKCS #11 Base 3.0, Message digesting functions). No bytes are no parameter.
+/// C_DigestInit (PKCS #11 Base 3.0, Message digesting functions). An empty parameter is none.
 #[unsafe(no_mangle)]
 pub extern "C" fn ospreyrack_digest_init(
     alloc: Global,
@@ -97,7 +97,7 @@ pub extern "C" fn ospreyrack_digest_final(
     handle.as_mut().call(alloc, caller, call).number()
 }
 
-/// C_SignInit (PKCS #11 Base 3.0, Signing and MACing functions). No bytes are no parameter.
+/// C_SignInit (PKCS #11 Base 3.0, Signing and MACing functions). An empty parameter is none.
 #[unsafe(no_mangle)]
 pub extern "C" fn ospreyrack_sign_init(
     alloc: Global,
@@ -187,8 +187,8 @@ pub extern "C" fn ospreyrack_sign_final(
     handle.as_mut().call(alloc, caller, call).number()
 }
 
-/// C_VerifyInit (PKCS #11 Base 3.0, Functions for verifying signatures and MACs). No bytes are no
-/// parameter.
+/// C_VerifyInit (PKCS #11 Base 3.0, Functions for verifying signatures and MACs). An empty
+/// parameter is none.
 #[unsafe(no_mangle)]
 pub extern "C" fn ospreyrack_verify_init(
     alloc: Global,

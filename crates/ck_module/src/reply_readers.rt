@@ -10,7 +10,7 @@ use crate::copies::copy_front;
 use crate::handles::Handle;
 use ck_journal::{Answer, Body};
 
-/// A session's state and the flags that it was opened with.
+/// A session's state (CK_STATE) and flags, as CK_SESSION_INFO has them.
 #[repr(C)]
 #[derive(Clone, Copy)]
 pub struct SessionView {
@@ -18,8 +18,8 @@ pub struct SessionView {
     pub flags: u64,
 }
 
-/// The token's flags; how many sessions may be open at once; how many are open, and how many of
-/// these are read/write sessions.
+/// The token's flags, as CK_TOKEN_INFO has them; how many sessions may be open at once; how many
+/// are open, and how many of these are read/write sessions.
 #[repr(C)]
 #[derive(Clone, Copy)]
 pub struct TokenView {
@@ -29,8 +29,8 @@ pub struct TokenView {
     pub rw_sessions: u64,
 }
 
-/// The answer to a query: 0, unavailable; 1, the value's length; 2, the value, which has this
-/// length.
+/// The answer to a query. Its kind is 0: unavailable; 1: the value's length in bytes; 2: the value,
+/// which has this length.
 #[repr(C)]
 #[derive(Clone, Copy)]
 pub struct AnswerView {
@@ -38,7 +38,7 @@ pub struct AnswerView {
     pub length: u64,
 }
 
-/// The return code.
+/// The return code (CK_RV).
 #[unsafe(no_mangle)]
 pub extern "C" fn ospreyrack_code(handle: &mut Handle) -> u64
     ensures code { result ≡ number_of handle.old.value.reply.rv }

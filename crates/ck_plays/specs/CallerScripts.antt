@@ -1,4 +1,4 @@
--- Scripts that are read whole, for so many callers
+-- Scripts that are read whole, for the callers 1 to `callers`
 use Rattle.std.specs.Prelude.{◌≡◌, ◌&&◌, ℕ, suc, Bool, true, false, not, nat_le, List, [], ◌∷◌}
 use Rattle.std.specs.Prelude.{◌++◌, Option, Some, None, Ok, length}
 use Rattle.ck_journal.specs.declared.calls.Call.{Call}
@@ -11,9 +11,9 @@ use Rattle.ck_plays.specs.Readings.{IsReadWhole, IsUnread}
 use Rattle.ck_plays.specs.declared.faults.PlayFault.{PlayFault}
 use Rattle.ck_plays.specs.declared.faults.PlayFault.TheVariants as fault
 
--- ---- the lines of so many callers
+-- ---- the lines of the callers
 
--- a line is bad where it means nothing, or its caller is none of 1 to so many
+-- a line is bad where it means nothing, or its caller is none of 1 to `callers`
 abbrev pub is_bad_for : ℕ → Option Line → Bool
 is_bad_for callers None = true
 is_bad_for callers (Some line.Skipped) = false

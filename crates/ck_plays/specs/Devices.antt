@@ -61,7 +61,7 @@ read_on r bytes = record {
   failures = r.failures;
 }
 
--- the same and one more read, which put so many bytes into the front of the buffer
+-- the same and one more read, which put this many bytes into the front of the buffer
 abbrev pub after_read : {E : Type 0} → Reading → Result ℕ E → List ℕ → Reading
 after_read r (Ok count) buffer =
     if is_end count buffer then end_read r else read_on r (take count buffer)
@@ -83,7 +83,7 @@ wrote w bytes = record {
   failures = w.failures;
 }
 
--- the same and one more write, which took so many bytes of the front
+-- the same and one more write, which took this many bytes of the front
 abbrev pub after_write : {E : Type 0} → Writing → Result ℕ E → List ℕ → Writing
 after_write w (Ok count) bytes = if count == 0 then failed_write w else wrote w (take count bytes)
 after_write w (Err error) bytes = failed_write w
@@ -101,7 +101,7 @@ IsRest None bytes ends left = Unit {0}
 IsRest (Some script) bytes ends None = ⊥
 IsRest (Some script) bytes ends (Some rest) = (script ≡ bytes ++ rest) × IsLeft ends rest
 
--- so many reads were made, found the end, and failed
+-- the counts of the reads that were made, found the end, and failed
 pub record AreCounts (c : ReadCounts) (r : Reading) : Type 0 where
   pub reads : IsCount c.reads r.reads
   pub ends : IsCount c.ends r.ends

@@ -73,7 +73,7 @@ IsOfLine fault.Write = Unit {0}
 IsOfLine fault.Memory = Unit {0}
 IsOfLine fault.Turns = ⊥
 
--- playing has ended with a fault of a line, of which so many earlier ones at least are answered
+-- playing has ended with a fault of a line; at least the first `earlier` lines are answered
 pub record IsStopped (limits : Ranges) (written : Writing) (lines : List (List ℕ)) (ended : Bool)
     (earlier : ℕ) (is_written : Writing → Type 0) (f : PlayFault) : Type 0 where
   pub of_line : IsOfLine f
@@ -91,7 +91,7 @@ onto open_line [] = open_line ∷ []
 onto open_line (l ∷ lines) = (open_line ++ l) ∷ lines
 
 -- of all lines these come later, of which the first goes on with the open line; those before are
--- answered, so many earlier ones at least
+-- answered, and are at least `earlier` lines
 pub record IsAnsweredSoFar (limits : Ranges) (written : Writing) (lines later : List (List ℕ))
     (earlier : ℕ) (player : PlayerState) (is_written : Writing → Type 0) : Type 0 where
   pub before : List (List ℕ)
@@ -99,7 +99,7 @@ pub record IsAnsweredSoFar (limits : Ranges) (written : Writing) (lines later : 
   pub on_time : earlier ≤ length before
   pub answered : HasAnswered limits written before player.token player.number is_written
 
--- what a reader gave in so many reads is answered as far as its lines are over
+-- what a reader gave in this many reads is answered as far as its lines are over
 pub record IsReading (limits : Ranges) (read : Reading) (written : Writing) (reads : ℕ)
     (player : PlayerState) (is_read : Reading → Type 0) (is_written : Writing → Type 0)
     : Type 0 where

@@ -169,7 +169,8 @@ abbrev pub earlier_bytes : Reading → ℕ → List ℕ → List ℕ
 earlier_bytes r zero earlier = r.earlier
 earlier_bytes r (suc reads) earlier = r.bytes ++ earlier
 
--- what was read after so many reads that gave these bytes, those before the last read the earlier
+-- what was read after this many more reads, which gave these bytes; those before the last of them
+-- gave the earlier ones
 abbrev pub after_reads : Reading → List ℕ → List ℕ → ℕ → ℕ → ℕ → Reading
 after_reads r script earlier reads ends failures = record {
   script = r.script;
@@ -180,8 +181,8 @@ after_reads r script earlier reads ends failures = record {
   failures = failures;
 }
 
--- what was read and written by a call that began where so much had been, and what it answered: when
--- it read last, all lines that had their ends were answered
+-- what was read and written by a call that began after this reading and this writing, and what it
+-- answered: when it read last, all lines that had their ends were answered
 pub record IsPlayed (limits : Ranges) (most : ℕ) (read : Reading) (written : Writing)
     (is_read : Reading → Type 0) (is_written : Writing → Type 0)
     (result : Result (Unit {0}) PlayFault) : Type 0 where

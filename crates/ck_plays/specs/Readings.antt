@@ -13,7 +13,7 @@ HasReadTo ended script bytes (Err fault.Memory) = ended ≡ false
 HasReadTo ended script bytes (Err fault.Turns) = ended ≡ false
 HasReadTo ended script bytes other = ⊥
 
--- a script is read to its end, in at most so many reads, or up to a fault
+-- a script is read to its end, in at most `most` reads, or up to a fault
 pub record IsReadWhole (most : ℕ) (read : Reading) (is_read : Reading → Type 0) (bytes : List ℕ)
     (result : Result (Unit {0}) PlayFault) : Type 0 where
   pub script : List ℕ
@@ -30,7 +30,7 @@ abbrev pub IsUnread : ℕ → Reading → (Reading → Type 0) → PlayFault →
 IsUnread most read is_read fault =
     (bytes : List ℕ) × IsReadWhole most read is_read bytes (Err fault)
 
--- so many reads were made, and gave these bytes
+-- this many reads were made, and gave these bytes
 pub record HasReadSoFar (read : Reading) (is_read : Reading → Type 0) (bytes : List ℕ) (reads : ℕ)
     : Type 0 where
   pub earlier : List ℕ

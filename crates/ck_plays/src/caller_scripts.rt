@@ -80,8 +80,8 @@ fn calls_of(alloc: Global, script: &[u8], callers: u32) -> Result<Vec<(u32, Call
     Ok(calls)
 }
 
-/// Reads a script whole, in at most `most` reads, and gives the calls of its lines,
-/// each with its caller, which is one of 1 to `callers`.
+/// Reads a script whole, in at most `most` reads, and gives the calls of its lines, each with its
+/// caller, which is one of 1 to `callers`.
 pub fn read_calls<R: Source>(
     alloc: Global,
     reader: &mut R,

@@ -1,8 +1,8 @@
 use crate::counts::{ReadCounts, failures_after};
 use std::io;
 
-/// Where a script comes from. It is read as std's `Read` is, and contracts see what was read of it
-/// as far as it says.
+/// Where a script comes from. It is read as std's `Read` is. Contracts see what was read of it, as
+/// far as `is_read` tells.
 pub trait Source {
     ghost use Rattle.std.specs.Prelude.{IfOk, ◌≤◌, length};
     ghost use Rattle.ck_plays.specs.Devices.{Reading, after_read};
@@ -17,8 +17,8 @@ pub trait Source {
             → is_read self.new (after_read r result buffer.new) };
 }
 
-/// Where replies go. It is written as std's `Write` is, and contracts see what was written to it as
-/// far as it says.
+/// Where replies go. It is written as std's `Write` is. Contracts see what was written to it, as
+/// far as `is_written` tells.
 pub trait Sink {
     ghost use Rattle.std.specs.Prelude.{IfOk, ◌<◌, ◌≤◌, length};
     ghost use Rattle.ck_plays.specs.Devices.{Writing, after_write};

@@ -115,6 +115,7 @@ pub struct MemorySink {
     fails_at: u64,
     stops_at: u64,
     writes: u64,
+    // Only contracts read it: how many writes failed or took no byte.
     failures: u64,
 }
 

@@ -41,7 +41,7 @@ AreRefused words = (k : ErrorKind) × IsAmong k (fault_of program words) × (k �
 abbrev pub callers_text : List Text → Option Text
 callers_text words = first_of (codes "callers") (matches_of program words)
 
--- without a value the script is played line by line, with a number of callers by so many in
+-- without a value the script is played line by line, with a number of callers by these callers in
 -- threads, and any other value is bad
 abbrev pub IsChosenBy : Option Text → Result Options ArgumentFault → Type 0
 IsChosenBy None (Ok option.InTurn) = ⊤

@@ -1,4 +1,4 @@
--- Scripts of so many callers that are played in threads
+-- Scripts of the callers 1 to `callers` that are played in threads
 use Rattle.std.specs.Prelude.{◌≡◌, ◌≤◌, ◌++◌, ℕ, List, Result, Ok, Err, codes, decimal}
 use Rattle.ck_types.specs.TokenLimits.{Ranges}
 use Rattle.ck_journal.specs.Answers.{IsLegal}
@@ -16,12 +16,12 @@ use Rattle.ck_program.specs.CallerCalls.{HasEntriesOf}
 use Rattle.ck_program.specs.declared.faults.ProgramFault.{ProgramFault}
 use Rattle.ck_program.specs.declared.faults.ProgramFault.TheVariants as fault
 
--- the text of a journal of so many entries, and of an audit that finds it legal
+-- the text of the number of a journal's entries, and of an audit that finds it legal
 abbrev pub summary_text : ℕ → List ℕ
 summary_text entries = codes "entries " ++ (decimal entries ++ codes "\naudit ok\n")
 
--- this is the text of the legal journal of a new token, in which each of so many callers has made
--- its calls
+-- this is the text of the legal journal of a new token, in which each of the callers 1 to `callers`
+-- has made its calls
 pub record IsSummary (limits : Ranges) (callers : ℕ) (calls : List (ℕ × Call)) (text : List ℕ)
     : Type 0 where
   pub history : History

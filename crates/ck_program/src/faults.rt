@@ -72,7 +72,7 @@ impl From<ThreadFault> for ProgramFault {
 }
 
 impl ProgramFault {
-    /// The status with which the program ends after the fault.
+    /// The status with which the program ends after the fault: 1 for a bad line, else 3.
     pub fn status(&self) -> u8
         ensures { result ≡ status_of self.now }
     {

@@ -20,10 +20,10 @@ use ck_types::{Limits, NoMemory, Pin, Rv, UserType, mechanism_types};
 use std::alloc::Global;
 use std::mem;
 
-/// How often each of two callers asks for the state of the session while one logs in.
+/// How many times each of two callers asks for the state of the session while one logs in.
 const ASKS: u32 = 1_000;
 
-/// How often a caller asks until it must have seen the call of another.
+/// How many times a caller asks until it must have seen the call of another.
 const MOST_ASKS: u32 = 1_000_000;
 
 /// How many entries the first calls have.
@@ -33,7 +33,7 @@ const WITH_LOGIN: u64 = 8;
 /// How many there are in the end: with a logout, a call of the second caller and another login.
 const ALL: u64 = 11;
 
-/// How often all of it is run, on each of three tokens.
+/// How many times all of it is run, on each of three tokens.
 pub(crate) const RUNS: u32 = 100;
 
 type AskingScript<K> = Script<K, Step, Answered>;

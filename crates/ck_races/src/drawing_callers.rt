@@ -14,13 +14,14 @@ use std::sync::atomic::Ordering;
 /// How many calls each caller makes.
 const CALLS: usize = 5_000;
 
-/// One row in this many is one of those that are drawn seldom, and some have long messages.
+/// Of this many drawn rows one is from `SELDOM`, on average.
 const SELDOM_IN: u64 = 256;
 
-/// As many rows have long messages.
+/// Of `SELDOM_IN` drawn rows this many are from `LONG`, on average.
 const LONG_IN: u64 = 4;
 
-/// A caller at a gate, with the handles that it knows, its draws and all replies that it got.
+/// A caller at a gate, with the sets of handles that it knows, its random numbers and all replies
+/// that it got.
 #[derive(Drop)]
 struct DrawingCaller<'a, 'c, K: TokenId, G, R> {
     rt: &'a R,

@@ -7,7 +7,7 @@ use std::alloc::{AllocError, Global};
 use std::fs;
 use std::fs::Files;
 
-/// Plays a race, and says how often a call was made again that had found no memory.
+/// Plays a race, and says how many calls were made again since they had found no memory.
 fn play_race<R: Runtime>(rt: R, alloc: Global, race: &Race, is_alone: bool) -> anyhow::Result<u64> {
     if is_alone {
         return retry_race(rt, alloc, race);

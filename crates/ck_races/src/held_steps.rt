@@ -17,10 +17,10 @@ use ck_types::{NoMemory, Rv};
 use std::alloc::Global;
 use std::mem;
 
-/// How often a caller asks behind its call.
+/// How many times a caller asks after its call.
 const ASKS: u32 = 100;
 
-/// How often it is run with each of both callers as the first one.
+/// How many times it is run with each of the two callers as the first one.
 pub(crate) const RUNS: u32 = 100;
 
 type OpeningScript<K> = Script<K, Step, Answered>;
@@ -116,7 +116,7 @@ fn check_after<K: TokenId, G: Gate<K>, R: Runtime>(
     expect(caller.count() == 2)
 }
 
-/// Two callers open a session each, in this order of which the first caller is known, and ask.
+/// Each of two callers opens a session, this one first, and then asks.
 pub(crate) fn open_sessions<K: TokenId + Send + Sync, R: Runtime>(
     rt: &R,
     alloc: Global,

@@ -94,7 +94,7 @@ fn texts_of(alloc: Global, entries: &[Entry]) -> Result<Vec<String>, NoMemory> {
     Ok(texts)
 }
 
-/// The texts of replies are those of the lines: each as often.
+/// The texts of replies are those of the lines, each as many times.
 fn check_texts(lines: &[RaceLine], texts: &[String]) -> anyhow::Result<()> {
     for line in lines {
         let came = texts.iter().filter(|text| text.as_str() == line.reply);

@@ -5,10 +5,10 @@
 //! calls of their scripts and drawn calls at once. What is written is the same in every order of
 //! the calls.
 //!
-//! Behind the word `alone` only the calls of each race are made, one after the other, on a shared
-//! token, by `run` and by `run_scripts`, again where there was no memory. The line of a file then
-//! says how often that was. The word `reserved` only makes calls for which places in the journal
-//! are reserved, and `reserve` only reserves them.
+//! With the word `alone` before the files only the calls of each race are made, one after the
+//! other: on a shared token, by `run` and by `run_scripts`. Where there was no memory they are made
+//! again, and the line of a file says how many times that was. The word `reserved` only makes calls
+//! for which places in the journal are reserved, and `reserve` only reserves them.
 #![tactic(auto)]
 
 mod asks;

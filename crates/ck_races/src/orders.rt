@@ -9,10 +9,11 @@ use std::sync::Wait;
 use std::sync::atomic::{AtomicU64, Ordering};
 use std::time::Duration;
 
-/// How often a held call looks whether it is the next one. It looks when another call has come to
-/// the gate or was made, and after so many milliseconds at the latest.
+/// How many times a held call looks whether it is the next one. It looks when another call has come
+/// to the gate or was made, and after `LONGEST_SLEEP` at the latest.
 const MOST_LOOKS: u32 = 2_000;
 
+/// In milliseconds.
 const LONGEST_SLEEP: u64 = 10;
 
 /// A place behind all places of an order.
@@ -26,7 +27,7 @@ pub(crate) struct CallOrder<'a> {
     come: AtomicU64,
     /// How many were made.
     made: AtomicU64,
-    /// How often a call has come or was made.
+    /// How many times a call has come or was made.
     moves: AtomicU64,
 }
 

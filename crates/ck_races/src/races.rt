@@ -39,7 +39,7 @@ pub(crate) struct Race<'a> {
     pub(crate) earlier: Vec<RaceLine<'a>>,
     /// The first calls, and behind them those that are made together.
     pub(crate) lines: Vec<RaceLine<'a>>,
-    /// How many the first calls are.
+    /// How many first calls there are.
     pub(crate) first: usize,
     pub(crate) is_in_any_order: bool,
     pub(crate) afterwards: Vec<RaceLine<'a>>,

@@ -18,8 +18,8 @@ fn calls_of(alloc: Global, lines: &[RaceLine]) -> Result<Vec<(u32, Call)>, NoMem
     Ok(calls)
 }
 
-/// Runs the calls of lines, and says how often it stopped: the journal then has an entry for each
-/// call that was answered.
+/// Runs the calls of lines, and says how many times it stopped: the journal then has an entry for
+/// each call that was answered.
 fn run_calls(alloc: Global, token: &mut Token, lines: &[RaceLine]) -> anyhow::Result<u64> {
     let Err(Stopped { answered }) = run(token, alloc, calls_of(alloc, lines)?) else {
         return Ok(0);
@@ -33,7 +33,7 @@ fn run_calls(alloc: Global, token: &mut Token, lines: &[RaceLine]) -> anyhow::Re
     Ok(1)
 }
 
-/// Runs the calls of a race, and says how often it stopped.
+/// Runs the calls of a race, and says how many times it stopped.
 pub(crate) fn retry_run(alloc: Global, race: &Race) -> anyhow::Result<u64> {
     let mut token = prepared_token(alloc, race)?;
     let stops = run_calls(alloc, &mut token, &race.lines)?;

@@ -34,7 +34,7 @@ fn make_calls<K: TokenId + Send + Sync, R: Runtime>(
     Ok((caller, replies.len()))
 }
 
-/// A caller makes the calls of a race by scripts. Says how often one ended without memory.
+/// A caller makes the calls of a race by scripts. Says how many of them ended without memory.
 pub(crate) fn make_by_scripts<K: TokenId + Send + Sync, R: Runtime>(
     rt: &R,
     alloc: Global,
@@ -61,7 +61,7 @@ pub(crate) fn make_by_scripts<K: TokenId + Send + Sync, R: Runtime>(
     Ok(1)
 }
 
-/// Makes the calls of a race by scripts of one caller, and says how often one ended early.
+/// Makes the calls of a race by scripts of one caller, and says how many of them ended early.
 pub(crate) fn retry_script<R: Runtime>(rt: R, alloc: Global, race: &Race) -> anyhow::Result<u64> {
     let token = prepared_token(alloc, race)?;
     let work = SharedWork::CallsByScripts(race);

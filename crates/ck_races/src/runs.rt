@@ -16,7 +16,7 @@ use rand_xoshiro::Xoshiro256PlusPlus;
 use std::alloc::Global;
 use std::sync::Wait;
 
-/// How often a race is run with all its calls in order, and how often with only the first ones.
+/// How many times a race is run with all its calls in order, and as many with only the first ones.
 const RUNS: u64 = 100;
 
 /// Calls, the first of which are made in an order of their callers.

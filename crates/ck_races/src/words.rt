@@ -1,8 +1,8 @@
 //! Words of lines, as they stand in files of races and in rows of drawn calls.
 use std::alloc::{AllocError, Global};
 
-/// Adds a word. One of bytes with an asterisk and a count, as `61*5000`, stands for the bytes as
-/// often.
+/// Adds a word. One of bytes with an asterisk and a count, as `61*5000`, stands for the bytes that
+/// many times.
 pub(crate) fn push_word(line: &mut String, word: &str) -> Result<(), AllocError> {
     let (bytes, count) = word.split_once('*').unwrap_or((word, "1"));
     for _ in 0..count.parse().unwrap_or(1u32) {

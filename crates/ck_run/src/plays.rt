@@ -63,7 +63,8 @@ fn scripts_are_played(rt: HostRuntime) {
 }
 
 /// How many bytes `a` a piece of a message has, and the replies where it is the whole message: the
-/// digest of a million (FIPS 180-2, appendix B.3), and of the most that a piece may have.
+/// digest of a million (FIPS 180-2, appendix B.3), of the most that a piece may have, and the
+/// refusal of one byte more.
 const MESSAGES: [(usize, &str); 3] = [
     (
         1_000_000,

@@ -18,6 +18,7 @@ impl<K: TokenId, G: JournaledToken, R: Wait + Drop> Gate<K> for SharedToken<K, G
     }
 
     fn status(&self, caller: &mut Caller<K>, ask: Ask) -> Option<Status> {
+        // No token is needed: the caller has its own reader of the board.
         caller.status(ask)
     }
 }

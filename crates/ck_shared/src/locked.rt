@@ -117,7 +117,7 @@ fn show_by<K: TokenId, G: JournaledToken, R: Wait + Drop, W: Wait>(
     }
 }
 
-/// What the token answers to a call of this caller, by work that is done where there is any.
+/// What the token answers to a call of this caller: by the work on its message, where this is done.
 #[inline(always)]
 fn answer<G: JournaledToken>(
     token: &mut G,
@@ -163,8 +163,8 @@ fn extend<K: TokenId, G: JournaledToken, W: Wait>(
     unreachable!()
 }
 
-/// Shows that the history is no shorter than another front of it. What runs finds it so at the
-/// first look.
+/// Shows that the history is no shorter than another front of it. When the program runs, the first
+/// look finds it so.
 fn show_front<K: TokenId, W: Wait>(rt: &W, other: &Front<K>, front: &Front<K>)
     ensures { IsFront other.now front.now }
 {
@@ -223,7 +223,7 @@ impl<K: TokenId, G: JournaledToken, R: Wait + Drop> Locked<K, G, R> {
         show_front(rt, caller.known().front(), self.known.front());
     }
 
-    /// The token without its lock. It waits for those who still read the board.
+    /// The token without its lock. It may wait for those who still read the board.
     pub(crate) fn into_token(self) -> G
         ensures token { G.state result ≡ self }
         ensures limits { (G.state result).limits ≡ K.limits }
@@ -251,8 +251,8 @@ impl<K: TokenId, G: JournaledToken, R: Wait + Drop> Locked<K, G, R> {
         Some((work, self.known.front().duplicate()))
     }
 
-    /// Shows that the history has all entries of a front of it. What runs finds it so at the first
-    /// look.
+    /// Shows that the history has all entries of a front of it. When the program runs, the first
+    /// look finds it so.
     pub(crate) fn show_front<W: Wait>(&self, rt: &W, front: &Front<K>)
         ensures { IsFront front.now self.now.history }
     {
@@ -279,7 +279,7 @@ impl<K: TokenId, G: JournaledToken, R: Wait + Drop> Locked<K, G, R> {
         self.step_after(rt, alloc, caller, call, None)
     }
 
-    /// As `step`, by work on the message of the call that is done, where there is any.
+    /// As `step`, by the work on the message of the call, where this is done.
     pub(crate) fn step_after<W: Wait>(
         &mut self,
         rt: &W,

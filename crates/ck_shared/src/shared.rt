@@ -31,13 +31,13 @@ pub struct TakenMessage<K: TokenId> {
     pub(crate) front: Front<K>,
 }
 
-/// How often a thread looks whether the lock is free before it sleeps. The first looks follow one
-/// another within about a microsecond.
+/// How many times a thread looks whether the lock is free before it sleeps.
 const LOOKS: u32 = 24;
 
+/// How many of these looks follow one another at once, all within about a microsecond.
 const QUICK_LOOKS: u32 = 5;
 
-/// How often a thread lets others run between two of the later looks.
+/// How many times a thread lets others run between two of the later looks.
 const YIELDS: u32 = 160;
 
 /// Lets other threads run for some 50 microseconds.
@@ -152,8 +152,8 @@ impl<K: TokenId, G: JournaledToken, R: Wait + Drop> SharedToken<K, G, R> {
         self.call_with(rt, alloc, caller, call, message)
     }
 
-    /// Takes in the bytes of a long message that the call brings: the lock is taken shortly, to
-    /// begin the work on it. `None` where this saves nothing (`JournaledToken::work`).
+    /// Takes in the bytes of a long message that the call brings. The lock is held only while the
+    /// work on it is begun. `None` where this saves nothing (`JournaledToken::work`).
     #[inline(never)]
     pub fn take_in<W: Wait>(&self, rt: &W, call: &Call) -> Option<TakenMessage<K>>
         ensures { IfSome result (λ message. IsDone message.front call.now message.work) }
@@ -187,9 +187,9 @@ impl<K: TokenId, G: JournaledToken, R: Wait + Drop> SharedToken<K, G, R> {
         locked.step_after(rt, alloc, caller, call, Some(&work))
     }
 
-    /// Takes the token back, where all of its callers are given back, of which each then knew a
-    /// front of its journal. Else nothing has changed. It may wait for those who still read the
-    /// board.
+    /// Takes the token back, where all of its callers are given back: what each of them knew is a
+    /// front of the journal. Else nothing has changed, and the token and the callers come back. It
+    /// may wait for those who still read the board.
     pub fn close<W: Wait>(
         self,
         rt: &W,
@@ -214,8 +214,8 @@ impl<K: TokenId, G: JournaledToken, R: Wait + Drop> SharedToken<K, G, R> {
         Ok(locked.into_token())
     }
 
-    /// Takes the token back, whatever has come of its callers: those that are left make no more
-    /// calls. It may wait for those who still read the board.
+    /// Takes the token back without its callers, which make no more calls. It may wait for those
+    /// who still read the board.
     pub fn into_token(self) -> G
         ensures limits { (G.state result).limits ≡ K.limits }
         ensures callers { AreCallers K.callers (G.state result).history }
