@@ -5,10 +5,11 @@
 
 #include <string.h>
 
-/* Key sizes are in bytes. */
+/* Key sizes are in bytes, except those that are generated: in bits (PKCS #11 Current Mechanisms 3.0,
+ * Generic secret key generation). */
 static const CK_MECHANISM_INFO digest = {.flags = CKF_DIGEST};
 static const CK_MECHANISM_INFO hmac = {1, LONGEST_KEY, CKF_SIGN | CKF_VERIFY};
-static const CK_MECHANISM_INFO generation = {1, LONGEST_KEY, CKF_GENERATE};
+static const CK_MECHANISM_INFO generation = {8, 8 * LONGEST_KEY, CKF_GENERATE};
 
 static const struct mechanism {
     CK_MECHANISM_TYPE type;

@@ -844,7 +844,9 @@ static void test_mechanisms(void) {
             : is_digest ? CKF_DIGEST : CKF_SIGN | CKF_VERIFY;
         EXPECT(CKR_OK, p11->C_GetMechanismInfo(0, types[i], &info));
         CHECK(info.flags == flags);
-        CHECK(is_digest || (info.ulMinKeySize == 1 && info.ulMaxKeySize == 4096));
+        /* Of the generation of keys they are in bits, else in bytes. */
+        CK_ULONG unit = types[i] == CKM_GENERIC_SECRET_KEY_GEN ? 8 : 1;
+        CHECK(is_digest || (info.ulMinKeySize == unit && info.ulMaxKeySize == 4096 * unit));
     }
     EXPECT(CKR_MECHANISM_INVALID, p11->C_GetMechanismInfo(0, CKM_RSA_PKCS, &info));
     end_token();

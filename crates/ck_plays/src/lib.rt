@@ -18,4 +18,3 @@ pub use faults::PlayFault;
 pub use memory_devices::{MemorySink, MemorySource};
 pub use players::write_all;
 pub use plays::{MOST_READS, play, play_with};
-pub use readings::read_script;

@@ -61,7 +61,7 @@ fn read_to_end<R: Source>(
 }
 
 /// Reads a script whole, in at most `most` reads.
-pub fn read_script<R: Source>(
+pub(crate) fn read_script<R: Source>(
     alloc: Global,
     reader: &mut R,
     most: u64,

@@ -94,11 +94,6 @@ fn return_codes_have_their_names(rt: HostRuntime) -> Result<(), Fail> {
     check_codes(&rt, rt.alloc(), &CODES)
 }
 
-#[test]
-fn other_numbers_are_no_codes(rt: HostRuntime) {
-    assert!(rt; Rv::of(0x1).is_none() && Rv::of(0x5).is_none() && Rv::of(0x151).is_none());
-}
-
 fn check_faults(
     rt: &impl Abort,
     alloc: Global,

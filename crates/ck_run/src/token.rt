@@ -25,6 +25,7 @@ fn check_run(rt: &impl Abort, alloc: Global, token: &mut Token) -> Result<(), Fa
     Ok(())
 }
 
+/// `run` and `reserve` do what they say: bodies that always find no memory would be proved too.
 #[test]
 fn a_run_enters_its_calls(rt: HostRuntime) -> Result<(), Fail> {
     let mut token = Token::new(rt.alloc(), Limits::largest());
