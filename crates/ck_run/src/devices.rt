@@ -81,3 +81,14 @@ pub(crate) fn check_play(
         "{script:?}: {ended}"
     );
 }
+
+/// Plays a script that is a text: these replies are written, and playing ends so.
+pub(crate) fn check_script(
+    rt: &impl Abort,
+    alloc: Global,
+    devices: Devices,
+    (script, replies, end): (&str, &str, &str),
+) {
+    let (script, replies) = (script.as_bytes(), replies.as_bytes());
+    check_play(rt, alloc, script, devices, replies, end);
+}

@@ -1,5 +1,5 @@
 //! Lines of the greatest length and longer, and templates of many items.
-use crate::devices::{Devices, check_play};
+use crate::devices::{Devices, check_play, check_script};
 use ck_script::LONGEST_LINE;
 use std::alloc::Global;
 use std::process::Abort;
@@ -44,14 +44,12 @@ fn check_template(rt: &impl Abort, alloc: Global, last: &str, reply: &str) -> Re
         1 CreateObject 1 0=0000000000000000{labels}{last}\n"
     )?;
     let replies = format!(in alloc; "0\n0 1\n{reply}\n")?;
-    let (script, replies) = (script.as_bytes(), replies.as_bytes());
-    check_play(
+    let devices = Devices::of(LONGEST_LINE);
+    check_script(
         rt,
         alloc,
-        script,
-        Devices::of(LONGEST_LINE),
-        replies,
-        "played",
+        devices,
+        (script.as_str(), replies.as_str(), "played"),
     );
     Ok(())
 }

@@ -1,5 +1,5 @@
 //! Scripts, the replies to them, and how playing ends.
-use crate::devices::{Devices, check_play};
+use crate::devices::{Devices, check_script};
 use ck_plays::{PlayFault, play_with};
 use ck_script::{BadLine, LONGEST_LINE};
 use ck_token::Token;
@@ -43,15 +43,8 @@ const PLAYS: [Play; 27] = [
 ];
 
 fn check_plays(rt: &impl Abort, alloc: Global, plays: &[Play], devices: Devices) {
-    for (script, replies, end) in plays {
-        check_play(
-            rt,
-            alloc,
-            script.as_bytes(),
-            devices,
-            replies.as_bytes(),
-            end,
-        );
+    for play in plays {
+        check_script(rt, alloc, devices, *play);
     }
 }
 
@@ -90,14 +83,7 @@ fn check_messages(rt: &impl Abort, alloc: Global, rows: &[(usize, &str)]) -> Res
     for (count, replies) in rows {
         let script = digest_script(alloc, *count)?;
         let devices = Devices::of(LONGEST_LINE);
-        check_play(
-            rt,
-            alloc,
-            script.as_bytes(),
-            devices,
-            replies.as_bytes(),
-            "played",
-        );
+        check_script(rt, alloc, devices, (script.as_str(), replies, "played"));
     }
     Ok(())
 }
