@@ -38,9 +38,9 @@ const LOOKS: u32 = 24;
 const QUICK_LOOKS: u32 = 5;
 
 /// How many times a thread lets others run between two of the later looks.
-const YIELDS: u32 = 160;
+const YIELDS: u32 = 480;
 
-/// Lets other threads run for some 50 microseconds.
+/// Lets other threads run for some 150 microseconds.
 fn let_others_run() {
     for _ in 0..YIELDS {
         thread::yield_now();
