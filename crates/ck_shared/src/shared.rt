@@ -32,17 +32,18 @@ pub struct TakenMessage<K: TokenId> {
 }
 
 /// How many times a thread looks whether the lock is free before it sleeps.
-const LOOKS: u32 = 24;
+const LOOKS: u32 = 11;
 
 /// How many of these looks follow one another at once, all within about a microsecond.
 const QUICK_LOOKS: u32 = 5;
 
-/// How many times a thread lets others run between two of the later looks.
-const YIELDS: u32 = 480;
+/// How many times a thread lets others run before the first of the later looks, which takes some 20
+/// microseconds. Before each of the next looks it lets them run twice as long.
+const YIELDS: u32 = 64;
 
-/// Lets other threads run for some 150 microseconds.
-fn let_others_run() {
-    for _ in 0..YIELDS {
+/// Lets other threads run this many times.
+fn let_others_run(times: u32) {
+    for _ in 0..times {
         thread::yield_now();
     }
 }
@@ -116,6 +117,7 @@ impl<K: TokenId, G: JournaledToken, R: Wait + Drop> SharedToken<K, G, R> {
     /// and reads the token by `Locked::token`. The board answers without the lock meanwhile.
     pub fn lock<W: Wait>(&self, rt: &W) -> MutexGuard<'_, Locked<K, G, R>> {
         let backoff = Backoff::new();
+        let mut yields = YIELDS;
         for look in 0..LOOKS {
             if let Some(locked) = self.lock.try_lock() {
                 return locked;
@@ -126,7 +128,8 @@ impl<K: TokenId, G: JournaledToken, R: Wait + Drop> SharedToken<K, G, R> {
             if look < QUICK_LOOKS {
                 backoff.spin();
             } else {
-                let_others_run();
+                let_others_run(yields);
+                yields = yields.saturating_mul(2);
             }
         }
         self.lock.lock(rt)
