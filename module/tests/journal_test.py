@@ -93,8 +93,10 @@ class Worker:
     def kill(self):
         """Answers the replies that were written before it was killed."""
         self.process.send_signal(signal.SIGKILL)
-        out, _ = self.process.communicate(timeout=60)
-        return [line for line in out.split("\n")[:-1]]
+        # `communicate` would pass over what was read from the pipe before and isn't used yet.
+        out = self.process.stdout.read()
+        self.process.communicate(timeout=60)
+        return out.split("\n")[:-1]
 
 
 def limit_files(limit):
