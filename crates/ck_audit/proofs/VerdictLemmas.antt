@@ -1,16 +1,12 @@
 -- At most one verdict is so, and how the entries of a log lead to one
-use Rattle.std.proofs.Common.{◌≡◌, ◌≢◌, ◌⊎◌, inl, inr, ℕ, suc, ◌+◌, ◌<◌, List, [], ◌∷◌, ◌++◌}
-use Rattle.std.proofs.Common.{length}
-use Rattle.std.proofs.Common.{take, drop, get_or, refl, sym, ap, ◌∙◌, subst, arith}
+use Rattle.std.proofs.Common.{◌≡◌, ◌≢◌, ◌⊎◌, inl, inr, ℕ, suc, ◌+◌, List, [], ◌∷◌}
+use Rattle.std.proofs.Common.{refl, sym, ap, ◌∙◌, subst, arith}
 use Rattle.std.specs.Prelude.{reverse}
-use Rattle.std.proofs.lemmas.List.{take_more, take-append-drop, length-take-le}
 use Rattle.ck_types.specs.TokenLimits.{Ranges}
-use Rattle.ck_journal.specs.declared.bases.Base.{Base}
 use Rattle.ck_journal.specs.declared.calls.Entry.{Entry}
 use Rattle.ck_journal.specs.Answers.{answer, IsLegal}
-use Rattle.ck_journal.specs.Fronts.{extended_by, history_of}
+use Rattle.ck_journal.specs.Fronts.{extended_by}
 use Rattle.ck_journal.specs.Histories.{History, start, ◌◁◌, followed_by, entry_count}
-use Rattle.ck_journal.proofs.FrontLemmas.{entry_count-log, history_of-next, extended_by-append}
 use Rattle.ck_journal.proofs.FrontLemmas.{extended_by-reverse}
 use Rattle.ck_audit.specs.Verdicts.{IsFirstWrong, IsVerdict}
 use Rattle.ck_audit.specs.declared.audits.Verdict.{Verdict}
@@ -89,37 +85,16 @@ module _ (limits : Ranges) where
     (λ wrong. ap verdict.Wrong (first_wrong h m n so wrong)),
   )
 
--- the entry that comes next in a log
-module _ (b : Base) (log : List Entry) (i : ℕ) (e : Entry) (h : History) (within : i < length log)
-    (is : e ≡ get_or log i e) (before : h ≡ history_of b (take i log)) where
-  pub entered-next : e ◁ h ≡ history_of b (take (i + 1) log)
-  entered-next =
-      ap (λ g. e ◁ g) before
-      ∙ sym (history_of-next b (take i log) e)
-      ∙ ap (λ x. history_of b (take i log ++ x ∷ [])) is
-      ∙ ap (history_of b) (sym (take_more log i e within))
-
-  parts-next : history_of b log ≡ followed_by (e ◁ h) (reverse (drop (i + 1) log))
-  parts-next =
-      ap (history_of b) (sym (take-append-drop (i + 1) log))
-      ∙ extended_by-append (start b) (take (i + 1) log) (drop (i + 1) log)
-      ∙ ap (λ g. extended_by g (drop (i + 1) log)) (sym entered-next)
-      ∙ extended_by-reverse (e ◁ h) (drop (i + 1) log)
-
-  count-next : i + 1 ≡ entry_count (e ◁ h)
-  count-next =
-      let count : entry_count h ≡ i =
-      ap entry_count before ∙ entry_count-log b (take i log) ∙ length-take-le i log (omega arith) in
-      omega arith
-
-  pub wrong-next : (limits : Ranges) → IsLegal limits h → (e.reply ≢ answer limits h e.call)
-      → IsFirstWrong limits (history_of b log) (i + 1)
-  wrong-next limits legal wrong = record {
-    front = h;
-    entry = e;
-    later = reverse (drop (i + 1) log);
-    parts = parts-next;
-    is_number = count-next;
-    legal = legal;
-    wrong = wrong;
-  }
+-- an entry whose reply is wrong, between a legal history and the later entries of a log
+pub wrong-next : (limits : Ranges) (h : History) (e : Entry) (later : List Entry)
+    → IsLegal limits h → (e.reply ≢ answer limits h e.call)
+    → IsFirstWrong limits (extended_by h (e ∷ later)) (entry_count h + 1)
+wrong-next limits h e later legal wrong = record {
+  front = h;
+  entry = e;
+  later = reverse later;
+  parts = extended_by-reverse (e ◁ h) later;
+  is_number = omega arith;
+  legal = legal;
+  wrong = wrong;
+}

@@ -1,6 +1,6 @@
-ghost use Rattle.std.specs.Prelude.{◌≡◌, ◌↔◌, ℕ, IsTrue, IfOk, OnOk};
+ghost use Rattle.std.specs.Prelude.{◌≡◌, ◌+◌, ◌↔◌, ℕ, IsTrue, IfOk, OnOk};
 ghost use Rattle.ck_journal.specs.Answers.{answer, IsLegal};
-ghost use Rattle.ck_journal.specs.Histories.{◌◁◌, start, start_of};
+ghost use Rattle.ck_journal.specs.Histories.{◌◁◌, start, start_of, entry_count};
 ghost use Rattle.ck_audit.specs.Verdicts.{IsFirstWrong, IsVerdict};
 ghost use Rattle.ck_audit.specs.declared.audits.Verdict.TheVariants as verdict;
 
@@ -54,6 +54,8 @@ fn repeat_call<G: JournaledToken>(
         ≡ answer (G.state token.old).limits (G.state token.old).history entry.now.call)) }
     ensures entered { IfOk result (λ same. IsTrue same
         → (G.state token.new).history ≡ entry.now ◁ (G.state token.old).history) }
+    ensures count { OnOk result (entry_count (G.state token.new).history
+        ≡ entry_count (G.state token.old).history + 1) }
     ensures limits { OnOk result ((G.state token.new).limits ≡ (G.state token.old).limits) }
     ensures legal { OnOk result
         (IsLegal (G.state token.new).limits (G.state token.new).history) }
@@ -74,10 +76,9 @@ fn replay<G: JournaledToken>(
     ensures { IfOk result (λ found.
         IsVerdict (G.state token).limits journal.now.history found) }
 {
-    let entries = journal.entries();
-    for (index, entry) in entries.iter().enumerate() {
+    for entry in journal.iter() {
         if !repeat_call(&mut token, alloc, entry)? {
-            return Ok(Verdict::Wrong(index as u64 + 1));
+            return Ok(Verdict::Wrong(token.journal().len()));
         }
     }
     Ok(Verdict::Legal)

@@ -2,7 +2,7 @@ ghost use Rattle.std.specs.Prelude.{◌≡◌, ◌↔◌, List, ◌∷◌, IsTru
 ghost use Rattle.ck_journal.specs.declared.calls.Entry.{Entry};
 ghost use Rattle.ck_audit.specs.Replies.{replies_to};
 
-use ck_journal::{Answer, Body, Entry, Reply};
+use ck_journal::{Answer, Body, Entries, Entry, Reply};
 
 /// The replies that are left for later entries, where the entry is another caller's or its reply
 /// is the first of them.
@@ -23,8 +23,8 @@ fn replies_left<'a>(caller: u32, entry: &Entry, replies: &'a [Reply]) -> Option<
 }
 
 /// Whether these are the replies to the caller's calls among the entries, in their order.
-pub fn are_replies_of(caller: u32, entries: &[Entry], replies: &[Reply]) -> bool
-    ensures { IsTrue result ↔ (replies.now ≡ replies_to caller entries.now) }
+pub fn are_replies_of(caller: u32, entries: Entries<'_>, replies: &[Reply]) -> bool
+    ensures { IsTrue result ↔ (replies.now ≡ replies_to caller entries.entry) }
 {
     let mut left = replies;
     for entry in entries {

@@ -126,7 +126,7 @@ struct AllSections<'a> {
     is_timed: bool,
 }
 
-impl<'a, R: Wait + CpuClock + Print> CallerWork<R> for AllSections<'a> {
+impl<'a, R: Wait + CpuClock + Print + AllocGlobal> CallerWork<R> for AllSections<'a> {
     ghost use Rattle.std.specs.Prelude.{⊤};
 
     type Output = anyhow::Result<()>;
@@ -136,12 +136,11 @@ impl<'a, R: Wait + CpuClock + Print> CallerWork<R> for AllSections<'a> {
     fn act<K: TokenId, G: Gate<K>>(
         &self,
         rt: &R,
-        alloc: Global,
         gate: &G,
         caller: &mut Caller<K>,
-    ) -> anyhow::Result<()> {
+    ) -> Self::Output {
         let mut target = CallerTarget { rt, gate, caller };
-        measure_all(rt, alloc, &mut target, self.sections, self.is_timed)
+        measure_all(rt, rt.alloc(), &mut target, self.sections, self.is_timed)
     }
 }
 

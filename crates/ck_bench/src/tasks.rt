@@ -212,7 +212,7 @@ impl<'a> Tasks<'a> {
     }
 }
 
-impl<'a, R: Wait + Clock> CallerWork<R> for Tasks<'a> {
+impl<'a, R: Wait + Clock + AllocGlobal> CallerWork<R> for Tasks<'a> {
     ghost use Rattle.std.specs.Prelude.{⊤};
 
     /// The nanoseconds of the caller's task.
@@ -224,17 +224,16 @@ impl<'a, R: Wait + Clock> CallerWork<R> for Tasks<'a> {
     fn act<K: TokenId, G: Gate<K>>(
         &self,
         rt: &R,
-        alloc: Global,
         gate: &G,
         caller: &mut Caller<K>,
-    ) -> anyhow::Result<u128> {
+    ) -> Self::Output {
         let index = (caller.number() as usize).saturating_sub(1);
         let Some(task) = self.tasks.get(index) else {
             bail!("a caller has no task");
         };
         let mut client = Client {
             rt,
-            alloc,
+            alloc: rt.alloc(),
             gate,
             caller,
         };

@@ -22,19 +22,12 @@ fn initialize(alloc: Global, token: &mut Token) -> anyhow::Result<()>
     Ok(())
 }
 
-/// Callers do these tasks, each in a thread, on a new token whose journal has room for this many
-/// entries. Gives the nanoseconds of the slowest.
-fn time_of<R: Clock + Runtime>(
-    rt: R,
-    alloc: Global,
-    tasks: &[Task],
-    room: u64,
-) -> anyhow::Result<u128>
+/// Callers do these tasks, each in a thread, on a new token. Gives the nanoseconds of the slowest.
+fn time_of<R: Clock + Runtime>(rt: R, alloc: Global, tasks: &[Task]) -> anyhow::Result<u128>
     requires { (1 ≤ length tasks.now) × (length tasks.now ≤ 8) }
 {
     let mut token = Token::new(alloc, Limits::largest());
     initialize(alloc, &mut token)?;
-    token.reserve(room)?;
     let mut slowest = 0;
     for time in share(
         rt,
@@ -55,12 +48,11 @@ fn measure_tasks<R: Clock + Print + Runtime>(
     alloc: Global,
     name: &str,
     tasks: &[Task],
-    room: u64,
     is_timed: bool,
 ) -> anyhow::Result<()>
     requires { (1 ≤ length tasks.now) × (length tasks.now ≤ 8) }
 {
-    let time = time_of(rt, alloc, tasks, room)?;
+    let time = time_of(rt, alloc, tasks)?;
     if is_timed {
         println!(rt; "{name}: {time} ns")?;
     } else {
@@ -85,43 +77,21 @@ pub(crate) fn measure_together<R: Clock + Print + Runtime>(
     is_timed: bool,
 ) -> anyhow::Result<()> {
     let ask = Task::new(Round::Ask, asks);
-    measure_tasks(rt, alloc, "asks of one caller", &[ask], 0, is_timed)?;
-    measure_tasks(rt, alloc, "asks of four callers", &[ask; 4], 0, is_timed)?;
+    measure_tasks(rt, alloc, "asks of one caller", &[ask], is_timed)?;
+    measure_tasks(rt, alloc, "asks of four callers", &[ask; 4], is_timed)?;
     let beside = [ask, Task::beside(Round::Change)];
-    measure_tasks(rt, alloc, "asks beside changes", &beside, 0, is_timed)?;
+    measure_tasks(rt, alloc, "asks beside changes", &beside, is_timed)?;
     let all_changes = Task::new(Round::Change, asks / 25);
-    measure_tasks(
-        rt,
-        alloc,
-        "changes of one caller",
-        &[all_changes],
-        0,
-        is_timed,
-    )?;
+    measure_tasks(rt, alloc, "changes of one caller", &[all_changes], is_timed)?;
     let change = Task::new(Round::Change, asks / 100);
-    measure_tasks(
-        rt,
-        alloc,
-        "changes of four callers",
-        &[change; 4],
-        0,
-        is_timed,
-    )?;
+    measure_tasks(rt, alloc, "changes of four callers", &[change; 4], is_timed)?;
     let digest = Task::new(Round::Digest, asks / 100_000 + 1);
-    measure_tasks(rt, alloc, "digests of one caller", &[digest], 0, is_timed)?;
-    measure_tasks(
-        rt,
-        alloc,
-        "digests of four callers",
-        &[digest; 4],
-        0,
-        is_timed,
-    )?;
+    measure_tasks(rt, alloc, "digests of one caller", &[digest], is_timed)?;
+    measure_tasks(rt, alloc, "digests of four callers", &[digest; 4], is_timed)?;
     let wait = Task::new(Round::Wait, asks / 40);
     let beside = [wait, Task::beside(Round::Digest)];
-    let room = asks / 20;
-    measure_tasks(rt, alloc, "wait beside digests", &beside, room, is_timed)?;
+    measure_tasks(rt, alloc, "wait beside digests", &beside, is_timed)?;
     let pause = Task::new(Round::Pause, asks / 20);
     let beside = [pause, Task::beside(Round::Digest)];
-    measure_tasks(rt, alloc, "pause beside digests", &beside, 0, is_timed)
+    measure_tasks(rt, alloc, "pause beside digests", &beside, is_timed)
 }

@@ -35,7 +35,7 @@ use Rattle.ck_journal.specs.Searches.{number_of_handle, returned_handles}
 use Rattle.ck_journal.specs.Sessions.{numbers, opens, openings, closes, is_open, opening_flags}
 use Rattle.ck_journal.specs.Sessions.{flags_of, open_sessions, login, login_after, logs_user_in}
 use Rattle.ck_journal.proofs.CutReadings.{Alike, AlikeActive, view-alike, state-alike}
-use Rattle.ck_journal.proofs.CutReadings.{attributes_named-alike, named_attributes-alike}
+use Rattle.ck_journal.proofs.CutReadings.{attributes_named-alike, attributes_or_empty-alike}
 use Rattle.ck_journal.proofs.CutReadings.{number_named-alike, matching-alike}
 use Rattle.ck_journal.proofs.LegalLemmas.{by-done, session-open, wrong_answer, token_stays}
 
@@ -83,9 +83,9 @@ module _ (h g : History) (a : Alike h g) where
 
   computation-alike : (d : Option Call) → started_computation g d ≡ started_computation h d
   computation-alike (Some (call.SignInit session mechanism key)) =
-      ap (λ items. hmac_with mechanism (key_value items)) (named_attributes-alike h g a key)
+      ap (λ items. hmac_with mechanism (key_value items)) (attributes_or_empty-alike h g a key)
   computation-alike (Some (call.VerifyInit session mechanism key)) =
-      ap (λ items. hmac_with mechanism (key_value items)) (named_attributes-alike h g a key)
+      ap (λ items. hmac_with mechanism (key_value items)) (attributes_or_empty-alike h g a key)
   computation-alike other = refl
 
   ends-alike : (d : Option Call) (n : ℕ) (o : Option (List Item)) → object_at h n ≡ o

@@ -41,7 +41,7 @@ use Rattle.ck_journal.specs.Answers.{key_state_error, message_error, update_erro
 use Rattle.ck_journal.specs.Answers.{verify_error, verify_final_error, tag_in, hmac_init_error}
 use Rattle.ck_journal.specs.Histories.{History}
 use Rattle.ck_journal.specs.Objects.{creations, object_at, view_of, is_session_object, session_of}
-use Rattle.ck_journal.specs.Objects.{object_named, attributes_named, key_named, named_attributes}
+use Rattle.ck_journal.specs.Objects.{object_named, attributes_named, key_named, attributes_or_empty}
 use Rattle.ck_journal.specs.Objects.{attributes_among, number_among, is_some_with, is_visible}
 use Rattle.ck_journal.specs.Objects.{is_visible_with, handle_of, handle_with}
 use Rattle.ck_journal.specs.Operations.{is_active, computation_in, key_in, pieces_in, is_updated}
@@ -126,8 +126,8 @@ allowed-after (Some code) a b same = refl
 module _ (h g : History) (a : Alike h g) where
   pub view-alike : view_of g ≡ view_of h
   view-alike =
-      ap (λ u. record { user = is_user user.User u; logins = user_logins g }) a.who
-      ∙ ap (λ n. record { user = is_user user.User (login h); logins = n }) a.logged_in
+      ap (λ u. record { logged_in = is_user user.User u; logins = user_logins g }) a.who
+      ∙ ap (λ n. record { logged_in = is_user user.User (login h); logins = n }) a.logged_in
 
   pub open_sessions-alike : open_sessions g ≡ open_sessions h
   open_sessions-alike =
@@ -246,8 +246,9 @@ module _ (h g : History) (a : Alike h g) where
       o)
       (named-alike handle)
 
-  pub named_attributes-alike : (handle : ℕ) → named_attributes g handle ≡ named_attributes h handle
-  named_attributes-alike handle = ap (λ o. unwrap_or o []) (named-alike handle)
+  pub attributes_or_empty-alike : (handle : ℕ)
+      → attributes_or_empty g handle ≡ attributes_or_empty h handle
+  attributes_or_empty-alike handle = ap (λ o. unwrap_or o []) (named-alike handle)
 
   present_key-alike : (k : OperationKind) (n : Option ℕ)
       → present_key_error k g n ≡ present_key_error k h n
@@ -522,11 +523,11 @@ module _ (h g : History) (a : Alike h g) where
         ap (λ n. ok (body.Handle n)) (new_handle-alike (generated_items template.items random))
     allowed-alike limits (call.CopyObject session object template) e =
         ap (λ attributes. ok (body.Handle (new_handle g (with_given template.items attributes))))
-        (named_attributes-alike object)
+        (attributes_or_empty-alike object)
         ∙ ap (λ n. ok (body.Handle n))
-        (new_handle-alike (with_given template.items (named_attributes h object)))
+        (new_handle-alike (with_given template.items (attributes_or_empty h object)))
     allowed-alike limits (call.GetAttributeValue session object queries) e =
-        rw (named_attributes-alike object) refl
+        rw (attributes_or_empty-alike object) refl
     allowed-alike limits (call.FindObjects session max) e =
         rw (search_rest-alike session (search-active session e), handles-alike) refl
     allowed-alike limits (call.Digest session bytes room) e =

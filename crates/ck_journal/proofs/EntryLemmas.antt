@@ -59,16 +59,9 @@ module _ (b : Base) where
       ∙ slice_get-reverse (reverse es) i
 
 -- a history without entries is its start
-pub no_entries : (b : Base) (es : List Entry) → length es ≡ 0
-    → followed_by (start b) (reverse es) ≡ start (start_of (followed_by (start b) (reverse es)))
-no_entries b [] none = refl
-no_entries b (e ∷ es) none = absurd (omega arith)
-
-pub only_start : (b : Base) (es : List Entry)
-    → followed_by (start b) (reverse es) ≡ start (start_of (followed_by (start b) (reverse es)))
-    → length es ≡ 0
-only_start b es e =
-    sym (length-reverse es) ∙ sym (entry_count-followed_by b (reverse es)) ∙ ap entry_count e
+pub no_entries : (h : History) → entry_count h ≡ 0 → h ≡ start (start_of h)
+no_entries (start b) none = refl
+no_entries (e ◁ h) none = absurd (omega arith)
 
 pub ruleset entries =
     (start_of-followed_by, entry_count-followed_by, length-reverse, entry_at-zero, entry_at-item)

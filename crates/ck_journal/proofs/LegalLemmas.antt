@@ -48,7 +48,7 @@ use Rattle.ck_journal.specs.Bases.{base_tries, IsSound}
 use Rattle.ck_journal.specs.Histories.{History, start, ◌◁◌, start_of, done, wrong_try, is_ok}
 use Rattle.ck_journal.specs.Histories.{is_wrong_pin}
 use Rattle.ck_journal.specs.Objects.{creates, creations, object_at, object_after, attributes_named}
-use Rattle.ck_journal.specs.Objects.{named_attributes, session_of, view_of, names_with, in_state}
+use Rattle.ck_journal.specs.Objects.{attributes_or_empty, session_of, view_of, names_with, in_state}
 use Rattle.ck_journal.specs.Operations.{message_in}
 use Rattle.ck_journal.specs.Pins.{about, is_about, is_user, is_locked, is_initialized, is_pin}
 use Rattle.ck_journal.specs.Pins.{pin_owner, present_pin, resets, tries}
@@ -387,9 +387,9 @@ bytes-other (Some room) bytes = cases (nat_lt room (length bytes))
 allowed-other : (limits : Ranges) (h : History) (c : Call)
     → is_wrong_pin (allowed_reply limits h c).rv ≡ false
 allowed-other limits h (call.GetAttributeValue session object queries) =
-    queries-other (list_any (asks_hidden (named_attributes h object)) queries)
-    (list_any (is_missing (named_attributes h object)) queries)
-    (list_any (lacks_room (named_attributes h object)) queries)
+    queries-other (list_any (asks_hidden (attributes_or_empty h object)) queries)
+    (list_any (is_missing (attributes_or_empty h object)) queries)
+    (list_any (lacks_room (attributes_or_empty h object)) queries)
 allowed-other limits h (call.Digest session bytes room) =
     bytes-other room (tag_in kind.Digest h session bytes)
 allowed-other limits h (call.DigestFinal session room) =

@@ -25,6 +25,7 @@ pub mod ProtectionLemmas
 pub mod ReturnedHandleLemmas
 pub mod RisingLemmas
 pub mod SearchMoves
+pub mod SegmentLemmas
 pub mod Selections
 pub mod SessionMoves
 pub mod SessionObjectLemmas

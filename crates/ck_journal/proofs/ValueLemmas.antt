@@ -17,7 +17,7 @@ use Rattle.ck_journal.specs.declared.replies.Body.TheVariants as body
 use Rattle.ck_journal.specs.declared.replies.Reply.{Reply}
 use Rattle.ck_journal.specs.Answers.{answer, unless, get_attribute_value_error}
 use Rattle.ck_journal.specs.KeyLaws.{HiddenValuesAreNotGiven}
-use Rattle.ck_journal.specs.Objects.{named_attributes}
+use Rattle.ck_journal.specs.Objects.{attributes_or_empty}
 use Rattle.ck_journal.specs.Queries.{value_answer, query_answer, queries_reply}
 use Rattle.std.specs.Prelude.{unwrap_or}
 
@@ -63,11 +63,11 @@ pub hidden-not_given : HiddenValuesAreNotGiven
 hidden-not_given limits e h good handle attributes bytes named gives =
     let reply = good.legal.0 ∙ ap (answer limits h) gives.asks in
     let same : (unless (get_attribute_value_error h gives.session handle)
-    (queries_reply (named_attributes h handle) gives.queries)).body
+    (queries_reply (attributes_or_empty h handle) gives.queries)).body
     ≡ body.Attributes gives.answers =
     sym (ap (λ (r : Reply). r.body) reply) ∙ gives.returns in
     let answers = unrefused (get_attribute_value_error h gives.session handle)
-    (named_attributes h handle) gives.queries gives.answers same in
+    (attributes_or_empty h handle) gives.queries gives.answers same in
     let listed = ap (λ items. map (query_answer items) gives.queries)
     (ap (λ o. unwrap_or o []) named) in
     let placed = sym (slice_get-map (query_answer attributes) gives.queries gives.place)

@@ -42,7 +42,7 @@ use Rattle.ck_journal.specs.declared.replies.Body.TheVariants as body
 use Rattle.ck_journal.specs.declared.replies.Reply.{Reply}
 use Rattle.ck_journal.specs.Histories.{History, start, ◌◁◌}
 use Rattle.ck_journal.specs.Objects.{creations, view_of, is_user_in, handle_with, handle_of}
-use Rattle.ck_journal.specs.Objects.{object_at, attributes_named, named_attributes, key_named}
+use Rattle.ck_journal.specs.Objects.{object_at, attributes_named, attributes_or_empty, key_named}
 use Rattle.ck_journal.specs.Operations.{is_active, is_updated, is_long_piece, key_in}
 use Rattle.ck_journal.specs.Operations.{computation_in, message_in}
 use Rattle.ck_journal.specs.Pins.{is_initialized, is_pin, pin_owner, present_pin, user_pin}
@@ -502,9 +502,9 @@ allowed_reply limits h (call.CreateObject session template) =
 allowed_reply limits h (call.GenerateKey session mechanism template random) =
     ok (body.Handle (new_handle h (generated_items template.items random)))
 allowed_reply limits h (call.CopyObject session object template) =
-    ok (body.Handle (new_handle h (with_given template.items (named_attributes h object))))
+    ok (body.Handle (new_handle h (with_given template.items (attributes_or_empty h object))))
 allowed_reply limits h (call.GetAttributeValue session object queries) =
-    queries_reply (named_attributes h object) queries
+    queries_reply (attributes_or_empty h object) queries
 allowed_reply limits h (call.SetAttributeValue session object template) = ok body.Empty
 allowed_reply limits h (call.SetKeyState session key number) = ok body.Empty
 allowed_reply limits h (call.DestroyObject session object) = ok body.Empty

@@ -21,6 +21,7 @@ pub mod Pins
 pub mod Queries
 pub mod Replies
 pub mod Searches
+pub mod Segments
 pub mod Sessions
 pub mod TokenStates
 pub mod Works

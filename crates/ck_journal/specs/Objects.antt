@@ -51,11 +51,11 @@ abbrev pub is_user_in : History → Bool
 is_user_in h = is_user user.User (login h)
 
 abbrev pub view_of : History → View
-view_of h = record { user = is_user_in h; logins = user_logins h }
+view_of h = record { logged_in = is_user_in h; logins = user_logins h }
 
 -- an object with these attributes is visible where it is public or the normal user is logged in
 abbrev pub is_visible_with : View → List Item → Bool
-is_visible_with view attributes = not (is_set attributes attribute.Private) || view.user
+is_visible_with view attributes = not (is_set attributes attribute.Private) || view.logged_in
 
 -- the handle of a public object is its number, that of a private one its number and 2^32 for each
 -- login of the user so far
@@ -152,8 +152,8 @@ abbrev pub attributes_named : History → ℕ → Option (List Item)
 attributes_named h handle = attributes_among (view_of h) (object_at h) (creations h) handle
 
 -- its attributes; none where the handle names no object
-abbrev pub named_attributes : History → ℕ → List Item
-named_attributes h handle = unwrap_or (attributes_named h handle) []
+abbrev pub attributes_or_empty : History → ℕ → List Item
+attributes_or_empty h handle = unwrap_or (attributes_named h handle) []
 
 -- its attributes, where the handle names a key
 abbrev pub key_named : History → ℕ → Option (List Item)

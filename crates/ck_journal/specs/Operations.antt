@@ -21,7 +21,7 @@ use Rattle.ck_journal.specs.declared.replies.Body.{Body}
 use Rattle.ck_journal.specs.declared.replies.Body.TheVariants as body
 use Rattle.ck_journal.specs.declared.replies.Reply.{Reply}
 use Rattle.ck_journal.specs.Histories.{History, start, ◌◁◌, done}
-use Rattle.ck_journal.specs.Objects.{object_named, named_attributes}
+use Rattle.ck_journal.specs.Objects.{object_named, attributes_or_empty}
 use Rattle.ck_journal.specs.OperationCalls.{Step, initialize, take_whole, add_piece, finish}
 use Rattle.ck_journal.specs.OperationCalls.{step_of, piece_in}
 use Rattle.ck_journal.specs.Sessions.{ends_operations}
@@ -104,9 +104,9 @@ abbrev pub started_computation : History → Option Call → Option Computation
 started_computation h (Some (call.DigestInit session mechanism)) =
     option_map digest_by (digest_hash mechanism.kind)
 started_computation h (Some (call.SignInit session mechanism key)) =
-    hmac_with mechanism (key_value (named_attributes h key))
+    hmac_with mechanism (key_value (attributes_or_empty h key))
 started_computation h (Some (call.VerifyInit session mechanism key)) =
-    hmac_with mechanism (key_value (named_attributes h key))
+    hmac_with mechanism (key_value (attributes_or_empty h key))
 started_computation h other = None
 
 -- what the session's last operation of the kind computes; no call changes the value of a key, so it

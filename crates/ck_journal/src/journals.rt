@@ -1,23 +1,22 @@
-ghost use Rattle.std.specs.Prelude.{◌≡◌, slice_get};
+ghost use Rattle.std.specs.Prelude.{◌≡◌};
 ghost use Rattle.std.specs.Option.{option_copied};
 
 use crate::bases::Base;
 use crate::calls::Entry;
+use crate::entry_lists::{Entries, EntryList};
 use ck_types::NoMemory;
 use std::alloc::Global;
 use std::marker::Model;
-use std::slice;
 
 /// The answered calls since a base, numbered from 1 in the order of their answers.
 #[derive(Drop)]
 pub struct Journal {
     base: Base,
-    /// The oldest first.
-    entries: Vec<Entry>,
+    entries: EntryList,
 }
 
 impl Model for Journal {
-    ghost use Rattle.std.specs.Prelude.{reverse, vec_len, vec_capacity, ◌-◌};
+    ghost use Rattle.std.specs.Prelude.{reverse};
     ghost use Rattle.std.specs.Coded.{codes};
     ghost use Rattle.ck_journal.specs.Bases.{IsSound};
     ghost use Rattle.ck_journal.specs.Histories.{JournalState, start, followed_by};
@@ -29,7 +28,7 @@ impl Model for Journal {
 
     ghost view = { λ j. record {
       history = followed_by (start j.base) (reverse j.entries.items);
-      spare = vec_capacity j.entries - vec_len j.entries;
+      spare = j.entries.spare;
     } };
 
     ghost invariant = { λ j. IsSound j.base };
@@ -39,7 +38,6 @@ impl Journal {
     ghost use Rattle.std.specs.Prelude.{◌+◌, ◌<◌, ◌≤◌, ◌↔◌, IsTrue, IsOk, OnOk};
     ghost use Rattle.ck_journal.specs.Bases.{empty_base, IsSound};
     ghost use Rattle.ck_journal.specs.Histories.{start, ◌◁◌, start_of, entry_at, entry_count};
-    ghost use Rattle.std.specs.Slice.Iter.{iter_rest};
     ghost use Rattle.ck_journal.specs.Fronts.{history_of, newest_entry};
 
     /// The journal of a new token, which has no entries and takes no memory.
@@ -56,7 +54,7 @@ impl Journal {
     {
         Journal {
             base,
-            entries: Vec::new(alloc),
+            entries: EntryList::new(alloc),
         }
     }
 
@@ -76,15 +74,14 @@ impl Journal {
         ensures spare { self.old.spare ≤ self.new.spare }
         ensures succeeds { count ≤ self.old.spare → IsOk result }
     {
-        self.entries.reserve(count as usize)?;
-        Ok(())
+        self.entries.reserve(count as usize)
     }
 
     /// For how many more entries there is room.
     pub fn spare(&self) -> u64
         ensures { result ≡ self.now.spare }
     {
-        (self.entries.capacity() - self.entries.len()) as u64
+        self.entries.spare() as u64
     }
 
     /// Adds an entry where there is room for it, and takes no memory.
@@ -104,22 +101,14 @@ impl Journal {
         if number == 0 {
             return None;
         }
-        item_at(&self.entries, (number - 1) as usize)
-    }
-
-    /// The entries, the oldest first.
-    pub fn entries(&self) -> &[Entry]
-        ensures { self.now.history ≡ history_of (start_of self.now.history) result.now }
-    {
-        &self.entries
+        self.entries.get((number - 1) as usize)
     }
 
     /// The entries one by one, the oldest first.
-    pub fn iter(&self) -> slice::Iter<'_, Entry>
-        ensures { self.now.history
-            ≡ history_of (start_of self.now.history) (iter_rest result) }
+    pub fn iter(&self) -> Entries<'_>
+        ensures { self.now.history ≡ history_of (start_of self.now.history) result }
     {
-        self.entries().iter()
+        self.entries.iter()
     }
 
     /// The newest entry.
@@ -141,12 +130,6 @@ impl Journal {
     pub fn is_empty(&self) -> bool
         ensures { IsTrue result ↔ (self.now.history ≡ start (start_of self.now.history)) }
     {
-        self.entries.is_empty()
+        self.len() == 0
     }
-}
-
-fn item_at(entries: &[Entry], index: usize) -> Option<&Entry>
-    ensures { option_copied result ≡ slice_get entries.now index }
-{
-    entries.get(index)
 }

@@ -18,7 +18,7 @@ pub fn number_of_handle(handle: u64) -> u64
 /// many times the user has logged in so far.
 #[derive(Clone, Copy, Debug, PartialEq, Eq)]
 pub struct View {
-    pub user: bool,
+    pub logged_in: bool,
     pub logins: u64,
 }
 

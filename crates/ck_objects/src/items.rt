@@ -139,7 +139,7 @@ pub(crate) fn flag_or(items: &[Item], attribute: Attribute, other: bool) -> bool
     }
 }
 
-/// Copies of the items.
+/// Copies of the items, whose values then move into the attributes of an object.
 pub(crate) fn copied_items(alloc: Global, items: &[Item]) -> Result<Vec<Item>, NoMemory>
     ensures { IfOk result (λ copies. copies.items ≡ items.now) }
 {

@@ -24,7 +24,7 @@ use Rattle.ck_journal.specs.declared.operations.OperationKind.{OperationKind}
 use Rattle.ck_journal.specs.declared.replies.Body.{Body}
 use Rattle.ck_journal.specs.Histories.{History, done, is_ok}
 use Rattle.ck_journal.specs.Objects.{creates, creation_session, creation_attributes}
-use Rattle.ck_journal.specs.Objects.{attributes_named, object_named, named_attributes}
+use Rattle.ck_journal.specs.Objects.{attributes_named, object_named, attributes_or_empty}
 use Rattle.ck_journal.specs.Pins.{pin_owner, about}
 use Rattle.ck_journal.specs.Searches.{last_number, last_or, number_of_handle, handles_in}
 use Rattle.ck_journal.specs.Sessions.{state_of}
@@ -89,7 +89,7 @@ pub record IsHmacInit (limits : Ranges) (h : History) (c : Call) (k : OperationK
   pub step : operation_step c ≡ Some (record { kind = k; session = session; step = initialize })
   pub error : call_error limits h c ≡ hmac_init_error k h session mechanism handle
   pub computation : started_computation h (Some c) ≡ hmac_with mechanism
-      (key_value (named_attributes h handle))
+      (key_value (attributes_or_empty h handle))
   pub key : init_key (Some c) ≡ Some handle
 
 -- what is so of a call whose change this is

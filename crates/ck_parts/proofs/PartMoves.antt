@@ -38,7 +38,7 @@ use Rattle.ck_journal.specs.Answers.{read_only_session_error, prohibited_error, 
 use Rattle.ck_journal.specs.Answers.{transition_error, hmac_init_error}
 use Rattle.ck_journal.specs.Histories.{History, ◌◁◌, done, wrong_try, is_ok, is_wrong_pin}
 use Rattle.ck_journal.specs.Effects.{effects_of}
-use Rattle.ck_journal.specs.Objects.{creates, named_attributes, object_named, object_at}
+use Rattle.ck_journal.specs.Objects.{creates, attributes_or_empty, object_named, object_at}
 use Rattle.ck_journal.specs.Pins.{about, is_about, is_user}
 use Rattle.ck_journal.specs.Sessions.{is_open}
 use Rattle.ck_journal.proofs.LegalLemmas.{later-passes, session-open}
@@ -236,7 +236,7 @@ object_case (Some n) object checks e = (refl, named (object n) e)
 pub object-passed : (h : History) (session object : ℕ) (checks : List Item → Option RvError)
     → first_of (session_error h session ∷ object_error h object checks ∷ []) ≡ None
     → (object_named h object ≡ Some (unwrap_or (object_named h object) 0))
-    × (checks (named_attributes h object) ≡ None)
+    × (checks (attributes_or_empty h object) ≡ None)
 object-passed h session object checks e =
     object_case (object_named h object) (object_at h) checks
     (or_else-none (object_error h object checks) None
@@ -246,12 +246,12 @@ object-passed h session object checks e =
 pub change-passed : (limits : Ranges) (h : History) (session object : ℕ) (template : Template)
     → call_error limits h (call.SetAttributeValue session object template) ≡ None
     → (object_named h object ≡ Some (unwrap_or (object_named h object) 0))
-    × (changed_error (class_of (named_attributes h object))
-    (protections_of (named_attributes h object))
+    × (changed_error (class_of (attributes_or_empty h object))
+    (protections_of (attributes_or_empty h object))
     template.items ≡ None)
 change-passed limits h session object template e =
     let p = object-passed h session object _ e in
-    let a = named_attributes h object in (
+    let a = attributes_or_empty h object in (
       p.0,
       (or_else-none (changed_error (class_of a) (protections_of a) template.items) None
           (later-passes (prohibited_error attribute.Modifiable a) _
@@ -289,7 +289,7 @@ key_case (Some n) object checks e = (refl, named (object n) e)
 key-passed : (h : History) (key : ℕ) (checks : List Item → Option RvError)
     → or_else (key_error h key checks) None ≡ None
     → (object_named h key ≡ Some (unwrap_or (object_named h key) 0))
-    × (checks (named_attributes h key) ≡ None)
+    × (checks (attributes_or_empty h key) ≡ None)
 key-passed h key checks e =
     key_case (object_named h key) (object_at h) checks
     (or_else-none (key_error h key checks) None e).0
@@ -306,7 +306,7 @@ pub state-passed : (limits : Ranges) (h : History) (session key number : ℕ)
     × (state_of_number number ≡ Some (unwrap_or (state_of_number number) state.Active))
 state-passed limits h session key number e =
     let p = key-passed h key _ (later-passes (session_error h session) _ e) in
-    let a = named_attributes h key in (
+    let a = attributes_or_empty h key in (
       p.0,
       state-known (state_in a) (state_of_number number)
           (later-passes (read_only_session_error h session (placement_of a)) _ p.1),

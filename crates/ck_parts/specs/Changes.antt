@@ -23,7 +23,7 @@ use Rattle.ck_journal.specs.declared.replies.Body.{Body}
 use Rattle.ck_journal.specs.declared.replies.Body.TheVariants as body
 use Rattle.ck_journal.specs.declared.replies.Reply.{Reply}
 use Rattle.ck_journal.specs.Histories.{History}
-use Rattle.ck_journal.specs.Objects.{object_named, named_attributes}
+use Rattle.ck_journal.specs.Objects.{object_named, attributes_or_empty}
 use Rattle.ck_journal.specs.OperationCalls.{Step, initialize, add_piece, OperationStep}
 use Rattle.ck_journal.specs.OperationCalls.{operation_step}
 use Rattle.ck_journal.specs.Operations.{leaves_active}
@@ -60,7 +60,7 @@ change_of h (call.CreateObject session template) body =
 change_of h (call.GenerateKey session mechanism template random) body =
     change.CreateObject session (generated_items template.items random)
 change_of h (call.CopyObject session object template) body =
-    change.CreateObject session (with_given template.items (named_attributes h object))
+    change.CreateObject session (with_given template.items (attributes_or_empty h object))
 change_of h (call.SetKeyState session key number) body =
     change.SetKeyState (unwrap_or (object_named h key) 0)
     (unwrap_or (state_of_number number) state.Active)

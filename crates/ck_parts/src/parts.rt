@@ -67,7 +67,8 @@ impl Parts {
         }
     }
 
-    /// Carries out the change of an answered call, and takes no memory. `ready`, where it is given,
+    /// Carries out the change of an answered call, and takes no memory. The bytes that a call adds to
+    /// a message are read off the call, so the change has no copy of them. `ready`, where it is given,
     /// is the running tag of the call's operation that has taken in the bytes of the call already;
     /// `entries` is how many entries the journal has before this one.
     pub fn apply(&mut self, change: Change, call: &Call, ready: Option<&RunningTag>, entries: u64)

@@ -79,12 +79,18 @@ pub fn run<G: JournaledToken + Send, R: Source, W: Sink, RT: Eprint + Runtime>(
     writer: &mut W,
 ) -> u8
     ensures status { (result ≡ 0) ⊎ (result ≡ 1) ⊎ (result ≡ 2) ⊎ (result ≡ 3) }
+
+    // Arguments that aren't the program's: nothing is read or written.
     ensures bad_arguments { result ≡ 2
         ↔ (reason : BadArguments) × (options ≡ Err (ArgumentFault.Bad reason)) }
     ensures untouched { result ≡ 2
         → (reader.new ≡ reader.old) × (writer.new ≡ writer.old) }
+
+    // No memory to read the arguments.
     ensures without_memory { options ≡ Err ArgumentFault.Memory
         → (result ≡ 3) × (reader.new ≡ reader.old) × (writer.new ≡ writer.old) }
+
+    // What they ask for: it is done, or stopped by a fault.
     ensures played { (chosen : Options) → options ≡ Ok chosen → result ≡ 0
         → (read : Reading) (written : Writing)
         → R.is_read reader.old read → W.is_written writer.old written

@@ -105,11 +105,11 @@ fn check_before<K: TokenId>(
 /// A caller makes a call, which is answered CKR_OK.
 fn make_call<K: TokenId, R: Runtime>(
     rt: &R,
-    alloc: Global,
     token: &SharedToken<K, Token, R>,
     caller: &mut Caller<K>,
     call: Call,
 ) -> anyhow::Result<()> {
+    let alloc = rt.alloc();
     let reply = token.call(rt, alloc, caller, call)?;
     expect(reply.rv == Rv::Ok)
 }
@@ -117,14 +117,14 @@ fn make_call<K: TokenId, R: Runtime>(
 /// A caller initializes the token and opens session 1, which it then sees.
 fn open_session<K: TokenId, R: Runtime>(
     rt: &R,
-    alloc: Global,
     token: &SharedToken<K, Token, R>,
     caller: &mut Caller<K>,
 ) -> anyhow::Result<()> {
+    let alloc = rt.alloc();
     let pin = Pin::of(b"1234");
     let flags = READ_WRITE;
-    make_call(rt, alloc, token, caller, Call::InitToken { pin })?;
-    make_call(rt, alloc, token, caller, Call::OpenSession { flags })?;
+    make_call(rt, token, caller, Call::InitToken { pin })?;
+    make_call(rt, token, caller, Call::OpenSession { flags })?;
     check_ask(alloc, caller, Ask::Session(1), "0 2 6")?;
     check_ask(alloc, caller, Ask::Token, "0 404 64 1 1")
 }
@@ -138,18 +138,18 @@ fn user_login() -> Call {
 /// PIN.
 fn make_first_calls<K: TokenId, R: Runtime>(
     rt: &R,
-    alloc: Global,
     token: &SharedToken<K, Token, R>,
     caller: &mut Caller<K>,
 ) -> anyhow::Result<()> {
+    let alloc = rt.alloc();
     let (so, pin, session) = (Pin::of(b"1234"), Pin::of(b"user"), 1);
-    open_session(rt, alloc, token, caller)?;
+    open_session(rt, token, caller)?;
     let login = Call::login(session, UserType::So, so);
-    make_call(rt, alloc, token, caller, login)?;
-    make_call(rt, alloc, token, caller, Call::InitPin { session, pin })?;
-    make_call(rt, alloc, token, caller, Call::Logout { session })?;
-    make_call(rt, alloc, token, caller, user_login())?;
-    make_call(rt, alloc, token, caller, Call::Logout { session })?;
+    make_call(rt, token, caller, login)?;
+    make_call(rt, token, caller, Call::InitPin { session, pin })?;
+    make_call(rt, token, caller, Call::Logout { session })?;
+    make_call(rt, token, caller, user_login())?;
+    make_call(rt, token, caller, Call::Logout { session })?;
     expect(caller.seen() == FIRST && caller.count() == FIRST)?;
     check_ask(alloc, caller, Ask::Token, "0 40c 64 1 1")
 }
@@ -209,13 +209,13 @@ fn check_learning<K: TokenId>(
 /// second learns.
 fn prepare<K: TokenId, R: Runtime>(
     rt: &R,
-    alloc: Global,
     token: &SharedToken<K, Token, R>,
     callers: &mut [Caller<K>],
     state: &str,
 ) -> anyhow::Result<()> {
+    let alloc = rt.alloc();
     check_before(alloc, caller_at(callers, 2)?, state)?;
-    make_first_calls(rt, alloc, token, caller_at(callers, 0)?)?;
+    make_first_calls(rt, token, caller_at(callers, 0)?)?;
     check_learning(alloc, callers, FIRST)
 }
 
@@ -267,18 +267,18 @@ fn check_after<K: TokenId>(
 /// is answered without the lock as before. Then it sees a login of the first by asking only.
 fn check_own_call<K: TokenId, R: Runtime>(
     rt: &R,
-    alloc: Global,
     token: &SharedToken<K, Token, R>,
     callers: &mut [Caller<K>],
 ) -> anyhow::Result<()> {
+    let alloc = rt.alloc();
     let (session, ask) = (1, Ask::Session(1));
     let (public, user) = (state_after(FIRST), state_after(WITH_LOGIN));
     let logout = Call::Logout { session };
-    make_call(rt, alloc, token, caller_at(callers, 0)?, logout)?;
+    make_call(rt, token, caller_at(callers, 0)?, logout)?;
     let second = caller_at(callers, 1)?;
-    make_call(rt, alloc, token, second, Call::GetTokenInfo)?;
+    make_call(rt, token, second, Call::GetTokenInfo)?;
     check_ask(alloc, second, ask, public)?;
-    make_call(rt, alloc, token, caller_at(callers, 0)?, user_login())?;
+    make_call(rt, token, caller_at(callers, 0)?, user_login())?;
     let second = caller_at(callers, 1)?;
     await_status(alloc, second, ask, public, user)?;
     expect(second.seen() == ALL && second.count() == 1)
@@ -325,26 +325,27 @@ fn check_scripts<K: TokenId>(
 /// One caller logs in while another asks. Before the first call this is answered about the token.
 pub(crate) fn log_in_and_ask<K: TokenId + Send + Sync, R: Runtime>(
     rt: &R,
-    alloc: Global,
     token: &SharedToken<K, Token, R>,
     callers: &mut Vec<Caller<K>>,
     state: &str,
 ) -> anyhow::Result<()> {
-    prepare(rt, alloc, token, callers, state)?;
+    let alloc = rt.alloc();
+    prepare(rt, token, callers, state)?;
     let older = caller_at(callers, 0)?.news();
     let scripts = scripts_of(alloc, mem::replace(callers, Vec::new(alloc)))?;
     let scripts = run_steps(rt, alloc, token, scripts);
     check_scripts(alloc, scripts, callers)?;
     check_after(alloc, callers, &older)?;
-    check_own_call(rt, alloc, token, callers)
+    check_own_call(rt, token, callers)
 }
 
 /// Three callers call and ask. In the end the journal has an entry for each call.
-fn run_once<R: Runtime>(rt: R, alloc: Global, token: Token, state: &str) -> anyhow::Result<()>
+fn run_once<R: Runtime>(rt: R, token: Token, state: &str) -> anyhow::Result<()>
     requires { token.history ≡ start (start_of token.history) }
 {
+    let alloc = rt.alloc();
     let work = SharedWork::LoginAndAsks(state);
-    let (token, _outcome) = share_with(rt, alloc, token, 3, &work)?;
+    let (token, _outcome) = share_with(rt, token, 3, &work)?;
     expect(token.journal().len() == ALL)?;
     check_audit(alloc, &token)?;
     Ok(())
@@ -352,12 +353,13 @@ fn run_once<R: Runtime>(rt: R, alloc: Global, token: Token, state: &str) -> anyh
 
 /// All of it again and again, on new tokens, on new ones whose journal was cut and on initialized
 /// ones whose journal was cut.
-pub(crate) fn run_asks<R: Runtime>(rt: R, alloc: Global) -> anyhow::Result<()> {
+pub(crate) fn run_asks<R: Runtime>(rt: R) -> anyhow::Result<()> {
+    let alloc = rt.alloc();
     for _ in 0..RUNS {
         let token = Token::new(alloc, Limits::largest());
-        run_once(rt, alloc, token, "0 4 64 0 0")?;
-        run_once(rt, alloc, cut_token(alloc, &[])?, "0 4 64 0 0")?;
-        run_once(rt, alloc, initialized_token(alloc)?, "0 404 64 0 0")?;
+        run_once(rt, token, "0 4 64 0 0")?;
+        run_once(rt, cut_token(alloc, &[])?, "0 4 64 0 0")?;
+        run_once(rt, initialized_token(alloc)?, "0 404 64 0 0")?;
     }
     Ok(())
 }

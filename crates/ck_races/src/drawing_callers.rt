@@ -104,7 +104,7 @@ impl<'a, 'c, K: TokenId, G: Gate<K>, R: Wait> DrawingCaller<'a, 'c, K, G, R> {
 #[derive(Drop)]
 pub(crate) struct DrawnCalls(pub(crate) [Handles; SETS]);
 
-impl<R: Wait> CallerWork<R> for DrawnCalls {
+impl<R: Wait + AllocGlobal> CallerWork<R> for DrawnCalls {
     ghost use Rattle.std.specs.Prelude.{⊤};
 
     type Output = anyhow::Result<CallerReplies>;
@@ -115,10 +115,10 @@ impl<R: Wait> CallerWork<R> for DrawnCalls {
     fn act<K: TokenId, G: Gate<K>>(
         &self,
         rt: &R,
-        alloc: Global,
         gate: &G,
         caller: &mut Caller<K>,
-    ) -> anyhow::Result<CallerReplies> {
+    ) -> Self::Output {
+        let alloc = rt.alloc();
         let number = caller.number();
         let mut drawing_caller = DrawingCaller {
             rt,

@@ -6,7 +6,7 @@ use crate::journals::{CallerReplies, check_audit, check_replies, in_order_of_cal
 use crate::mix::Handles;
 use crate::tokens::cut_token;
 use anyhow::ensure;
-use ck_journal::Entry;
+use ck_journal::Journal;
 use ck_shared::{Runtime, share};
 use ck_token::Token;
 use ck_types::Rv;
@@ -22,10 +22,10 @@ const FIRST_CALLS: [&str; 5] = [
 ];
 
 /// At least a tenth of the calls were answered CKR_OK.
-fn check_codes(entries: &[Entry]) -> anyhow::Result<()> {
-    let done = entries.iter().filter(|entry| entry.reply.rv == Rv::Ok);
+fn check_codes(journal: &Journal) -> anyhow::Result<()> {
+    let done = journal.iter().filter(|entry| entry.reply.rv == Rv::Ok);
     ensure!(
-        done.count() >= entries.len() / 10,
+        done.count() as u64 >= journal.len() / 10,
         "over nine of ten drawn calls are refused"
     );
     Ok(())
@@ -38,15 +38,16 @@ fn check_drawn(
     token: &Token,
     all: Vec<anyhow::Result<CallerReplies>>,
 ) -> anyhow::Result<u64> {
-    let entries = token.journal().entries();
-    check_replies(entries, in_order_of_callers(alloc, all)?)?;
-    check_codes(entries)?;
+    let journal = token.journal();
+    check_replies(journal, in_order_of_callers(alloc, all)?)?;
+    check_codes(journal)?;
     check_audit(alloc, token)
 }
 
 /// Makes the drawn calls of eight callers on a new token, and checks its journal. Says how many
 /// they are.
-pub(crate) fn make_drawn_calls<R: Runtime>(rt: R, alloc: Global) -> anyhow::Result<u64> {
+pub(crate) fn make_drawn_calls<R: Runtime>(rt: R) -> anyhow::Result<u64> {
+    let alloc = rt.alloc();
     let mut token = cut_token(alloc, &FIRST_CALLS)?;
     let work = DrawnCalls([
         Handles::new(),

@@ -17,7 +17,7 @@ use std::sync::atomic::Ordering;
 const CALLERS: u32 = 8;
 
 /// One entry for each call of a script, and one for the first call.
-const ENTRIES: usize = 8 * 20 + 1;
+const ENTRIES: u64 = 8 * 20 + 1;
 
 /// The calls of each caller. Session `$session` is that of the caller's number, whoever opens it.
 const SCRIPT: [&str; 20] = [
@@ -70,27 +70,30 @@ fn scripts_of<K: TokenId>(
 /// Gives the replies to each.
 pub(crate) fn run_eight<K: TokenId + Send + Sync, R: Runtime>(
     rt: &R,
-    alloc: Global,
     token: &SharedToken<K, Token, R>,
     callers: &mut Vec<Caller<K>>,
 ) -> anyhow::Result<Vec<CallerReplies>> {
+    let alloc = rt.alloc();
     let first = callers.first_mut().context("a caller is missing")?;
     let pin = Pin::of(b"1234");
-    token.call(rt, alloc, first, Call::InitToken { pin })?;
+    let reply = token.call(rt, alloc, first, Call::InitToken { pin })?;
     let owned = mem::replace(callers, Vec::new(alloc));
     let scripts = run_scripts(rt, alloc, token, scripts_of(alloc, owned)?);
     let mut all = Vec::new(alloc);
     finish(scripts, callers, &mut all)?;
+    let (_, replies) = all.first_mut().context("a caller is missing")?;
+    replies.insert(0, reply)?;
     Ok(all)
 }
 
 /// Makes the calls of all scripts on a new token, and compares the replies with its journal, whose
 /// first entry is of the first call. Says how many calls there are.
-pub(crate) fn run_eight_scripts<R: Runtime>(rt: R, alloc: Global) -> anyhow::Result<u64> {
+pub(crate) fn run_eight_scripts<R: Runtime>(rt: R) -> anyhow::Result<u64> {
+    let alloc = rt.alloc();
     let token = Token::new(alloc, Limits::largest());
-    let (token, outcome) = share_with(rt, alloc, token, CALLERS, &SharedWork::EightScripts)?;
-    let entries = token.journal().entries();
-    check_replies(entries.get(1..).unwrap_or(&[]), outcome.replies)?;
-    ensure!(entries.len() == ENTRIES, "not an entry for each call");
+    let (token, outcome) = share_with(rt, token, CALLERS, &SharedWork::EightScripts)?;
+    check_replies(token.journal(), outcome.replies)?;
+    let is_kept = token.journal().len() == ENTRIES;
+    ensure!(is_kept, "not an entry for each call");
     check_audit(alloc, &token)
 }

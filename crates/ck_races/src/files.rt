@@ -8,11 +8,11 @@ use std::fs;
 use std::fs::Files;
 
 /// Plays a race, and says how many calls were made again since they had found no memory.
-fn play_race<R: Runtime>(rt: R, alloc: Global, race: &Race, is_alone: bool) -> anyhow::Result<u64> {
+fn play_race<R: Runtime>(rt: R, race: &Race, is_alone: bool) -> anyhow::Result<u64> {
     if is_alone {
-        return retry_race(rt, alloc, race);
+        return retry_race(rt, race);
     }
-    run_race(rt, alloc, race)?;
+    run_race(rt, race)?;
     Ok(0)
 }
 
@@ -32,7 +32,7 @@ fn add_passed(
 
 /// Plays the races of the file of this name: in threads, or the calls of each one after the other.
 /// Adds a line where they pass.
-pub(crate) fn play_file<R: Files + AllocGlobal + Runtime>(
+pub(crate) fn play_file<R: Files + Runtime>(
     rt: R,
     text: &mut String,
     name: &str,
@@ -42,7 +42,7 @@ pub(crate) fn play_file<R: Files + AllocGlobal + Runtime>(
     let races = races_in(rt.alloc(), lines.as_str())?;
     let mut retries = 0u64;
     for race in &races {
-        retries = retries.saturating_add(play_race(rt, rt.alloc(), race, is_alone)?);
+        retries = retries.saturating_add(play_race(rt, race, is_alone)?);
     }
     add_passed(text, name, races.len(), retries)?;
     Ok(())

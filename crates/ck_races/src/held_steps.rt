@@ -103,10 +103,10 @@ fn check_scripts<K: TokenId>(
 /// leaves sessions, logins and PINs as they are, and is answered without the lock as before.
 fn check_after<K: TokenId, G: Gate<K>, R: Runtime>(
     rt: &R,
-    alloc: Global,
     gate: &G,
     caller: &mut Caller<K>,
 ) -> anyhow::Result<()> {
+    let alloc = rt.alloc();
     let before = caller.seen();
     if before == 1 {
         await_status(alloc, caller, Ask::Token, info_after(1), info_after(2))?;
@@ -119,40 +119,41 @@ fn check_after<K: TokenId, G: Gate<K>, R: Runtime>(
 /// Each of two callers opens a session, this one first, and then asks.
 pub(crate) fn open_sessions<K: TokenId + Send + Sync, R: Runtime>(
     rt: &R,
-    alloc: Global,
     token: &SharedToken<K, Token, R>,
     callers: &mut Vec<Caller<K>>,
     first: u32,
     order: &CallOrder,
 ) -> anyhow::Result<()> {
+    let alloc = rt.alloc();
     let scripts = scripts_of(alloc, mem::replace(callers, Vec::new(alloc)))?;
     let scripts = run_steps(rt, alloc, &HeldGate::new(token, order), scripts);
     check_scripts(alloc, scripts, callers, u64::from(first))?;
     for caller in callers {
-        check_after(rt, alloc, token, caller)?;
+        check_after(rt, token, caller)?;
     }
     Ok(())
 }
 
 /// Runs it once, with this caller as the first one.
-fn run_once<R: Runtime>(rt: R, alloc: Global, first: u32) -> anyhow::Result<()> {
+fn run_once<R: Runtime>(rt: R, first: u32) -> anyhow::Result<()> {
+    let alloc = rt.alloc();
     let callers = if first == 1 { [1, 2] } else { [2, 1] };
     let order = CallOrder::new(&callers);
     let work = SharedWork::Openings {
         first,
         order: &order,
     };
-    let (token, _outcome) = share_with(rt, alloc, initialized_token(alloc)?, 2, &work)?;
+    let (token, _outcome) = share_with(rt, initialized_token(alloc)?, 2, &work)?;
     ensure!(!order.is_late(), "a step wasn't the next one in time");
     check_audit(alloc, &token)?;
     Ok(())
 }
 
 /// Runs it again and again, both ways.
-pub(crate) fn run_held_steps<R: Runtime>(rt: R, alloc: Global) -> anyhow::Result<()> {
+pub(crate) fn run_held_steps<R: Runtime>(rt: R) -> anyhow::Result<()> {
     for _ in 0..RUNS {
-        run_once(rt, alloc, 1)?;
-        run_once(rt, alloc, 2)?;
+        run_once(rt, 1)?;
+        run_once(rt, 2)?;
     }
     Ok(())
 }

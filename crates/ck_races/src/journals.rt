@@ -3,7 +3,7 @@ use crate::races::{Race, RaceLine, compare};
 use crate::tokens::make_calls;
 use anyhow::{bail, ensure};
 use ck_audit::{Verdict, are_replies_of, audit_token};
-use ck_journal::{Entry, Reply};
+use ck_journal::{Journal, Reply};
 use ck_script::reply_line;
 use ck_token::Token;
 use ck_types::NoMemory;
@@ -30,10 +30,10 @@ pub(crate) fn in_order_of_callers(
 }
 
 /// Each caller got the replies of its entries, in their order.
-pub(crate) fn check_replies(entries: &[Entry], all: Vec<CallerReplies>) -> anyhow::Result<()> {
+pub(crate) fn check_replies(journal: &Journal, all: Vec<CallerReplies>) -> anyhow::Result<()> {
     for (number, replies) in all {
         ensure!(
-            are_replies_of(number, entries, &replies),
+            are_replies_of(number, journal.iter(), &replies),
             "the replies to caller {number} are not those of its entries"
         );
     }
@@ -49,9 +49,9 @@ pub(crate) fn check_audit(alloc: Global, token: &Token) -> anyhow::Result<u64> {
 }
 
 /// Each call has an entry, and the first were made in this order of their callers.
-fn check_order(entries: &[Entry], lines: &[RaceLine], callers: &[u32]) -> anyhow::Result<()> {
-    let is_kept = entries.len() == lines.len()
-        && entries
+fn check_order(journal: &Journal, lines: &[RaceLine], callers: &[u32]) -> anyhow::Result<()> {
+    let is_kept = journal.len() == lines.len() as u64
+        && journal
             .iter()
             .zip(callers)
             .all(|(entry, caller)| entry.caller == *caller);
@@ -61,9 +61,9 @@ fn check_order(entries: &[Entry], lines: &[RaceLine], callers: &[u32]) -> anyhow
 
 /// Compares the replies with those of the lines, up to the first entry of another caller. Says
 /// whether there is no such entry.
-fn check_in_order(alloc: Global, lines: &[RaceLine], entries: &[Entry]) -> anyhow::Result<bool> {
+fn check_in_order(alloc: Global, lines: &[RaceLine], journal: &Journal) -> anyhow::Result<bool> {
     let mut is_in_order = true;
-    for (entry, line) in entries.iter().zip(lines) {
+    for (entry, line) in journal.iter().zip(lines) {
         is_in_order = is_in_order && entry.caller == line.caller;
         if is_in_order {
             compare(alloc, line, &entry.reply)?;
@@ -76,19 +76,20 @@ fn check_in_order(alloc: Global, lines: &[RaceLine], entries: &[Entry]) -> anyho
 pub(crate) fn check_entries(
     alloc: Global,
     lines: &[RaceLine],
-    entries: &[Entry],
+    journal: &Journal,
 ) -> anyhow::Result<()> {
-    ensure!(entries.len() == lines.len(), "not an entry for each call");
-    for (entry, line) in entries.iter().zip(lines) {
+    let is_kept = journal.len() == lines.len() as u64;
+    ensure!(is_kept, "not an entry for each call");
+    for (entry, line) in journal.iter().zip(lines) {
         compare(alloc, line, &entry.reply)?;
     }
     Ok(())
 }
 
 /// The texts of the entries' replies.
-fn texts_of(alloc: Global, entries: &[Entry]) -> Result<Vec<String>, NoMemory> {
+fn texts_of(alloc: Global, journal: &Journal) -> Result<Vec<String>, NoMemory> {
     let mut texts = Vec::new(alloc);
-    for entry in entries {
+    for entry in journal.iter() {
         texts.push(reply_line(alloc, &entry.reply)?)?;
     }
     Ok(texts)
@@ -108,8 +109,8 @@ fn check_texts(lines: &[RaceLine], texts: &[String]) -> anyhow::Result<()> {
 }
 
 /// The replies are those of the lines, to whichever callers.
-fn check_in_any(alloc: Global, lines: &[RaceLine], entries: &[Entry]) -> anyhow::Result<()> {
-    let texts = texts_of(alloc, entries)?;
+fn check_in_any(alloc: Global, lines: &[RaceLine], journal: &Journal) -> anyhow::Result<()> {
+    let texts = texts_of(alloc, journal)?;
     check_texts(lines, &texts)
 }
 
@@ -121,11 +122,11 @@ pub(crate) fn check_token(
     race: &Race,
     callers: &[u32],
 ) -> anyhow::Result<()> {
-    let (entries, lines) = (token.journal().entries(), race.lines.as_slice());
-    check_order(entries, lines, callers)?;
-    let is_in_order = check_in_order(alloc, lines, entries)?;
+    let (journal, lines) = (token.journal(), race.lines.as_slice());
+    check_order(journal, lines, callers)?;
+    let is_in_order = check_in_order(alloc, lines, journal)?;
     if race.is_in_any_order {
-        check_in_any(alloc, lines, entries)?;
+        check_in_any(alloc, lines, journal)?;
     }
     if is_in_order || race.is_in_any_order {
         make_calls(alloc, token, &race.afterwards)?;

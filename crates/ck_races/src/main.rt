@@ -43,24 +43,21 @@ use std::env::Env;
 use std::fs::Files;
 
 /// What callers do at once, besides races. Adds a line for each that passes.
-fn play_together<R: AllocGlobal + Runtime>(rt: R, text: &mut String) -> anyhow::Result<()> {
-    asks::run_asks(rt, rt.alloc())?;
+fn play_together<R: Runtime>(rt: R, text: &mut String) -> anyhow::Result<()> {
+    asks::run_asks(rt)?;
     write!(text, "asks: {} passed\n", asks::RUNS)?;
-    run_held_steps(rt, rt.alloc())?;
+    run_held_steps(rt)?;
     write!(text, "held steps: {} passed\n", held_steps::RUNS)?;
-    let calls = run_eight_scripts(rt, rt.alloc())?;
+    let calls = run_eight_scripts(rt)?;
     write!(text, "scripts of eight callers: {calls}, audit ok\n")?;
-    let calls = make_drawn_calls(rt, rt.alloc())?;
+    let calls = make_drawn_calls(rt)?;
     write!(text, "drawn calls: {calls}, audit ok\n")?;
     Ok(())
 }
 
 /// Plays the files that the arguments name and, where no word says otherwise, what callers do
 /// besides. Adds a line for each that passes.
-fn play_all<R: Env + Files + AllocGlobal + Runtime>(
-    rt: R,
-    text: &mut String,
-) -> anyhow::Result<()> {
+fn play_all<R: Env + Files + Runtime>(rt: R, text: &mut String) -> anyhow::Result<()> {
     let mut is_alone = false;
     for word in env::args(&rt)?.skip(1) {
         match word.as_str() {

@@ -37,6 +37,6 @@ fn run_calls(alloc: Global, token: &mut Token, lines: &[RaceLine]) -> anyhow::Re
 pub(crate) fn retry_run(alloc: Global, race: &Race) -> anyhow::Result<u64> {
     let mut token = prepared_token(alloc, race)?;
     let stops = run_calls(alloc, &mut token, &race.lines)?;
-    check_entries(alloc, &race.lines, token.journal().entries())?;
+    check_entries(alloc, &race.lines, token.journal())?;
     Ok(stops)
 }

@@ -15,11 +15,11 @@ use std::alloc::Global;
 /// were, the next one found no memory, or there was none for a thread.
 fn make_calls<K: TokenId + Send + Sync, R: Runtime>(
     rt: &R,
-    alloc: Global,
     token: &SharedToken<K, Token, R>,
     caller: Caller<K>,
     lines: &[RaceLine],
 ) -> anyhow::Result<(Caller<K>, usize)> {
+    let alloc = rt.alloc();
     let mut scripts = Vec::new(alloc);
     add_script(alloc, caller, calls_of(alloc, lines)?, &mut scripts)?;
     let script = run_scripts(rt, alloc, token, scripts)
@@ -37,13 +37,12 @@ fn make_calls<K: TokenId + Send + Sync, R: Runtime>(
 /// A caller makes the calls of a race by scripts. Says how many of them ended without memory.
 pub(crate) fn make_by_scripts<K: TokenId + Send + Sync, R: Runtime>(
     rt: &R,
-    alloc: Global,
     token: &SharedToken<K, Token, R>,
     callers: &mut Vec<Caller<K>>,
     race: &Race,
 ) -> anyhow::Result<u64> {
     let caller = callers.pop().context("a caller is missing")?;
-    let (caller, answered) = make_calls(rt, alloc, token, caller, &race.lines)?;
+    let (caller, answered) = make_calls(rt, token, caller, &race.lines)?;
     ensure!(
         caller.count() == answered as u64 && caller.seen() == answered as u64,
         "a script that ended early has other entries than calls"
@@ -53,7 +52,7 @@ pub(crate) fn make_by_scripts<K: TokenId + Send + Sync, R: Runtime>(
         callers.push(caller)?;
         return Ok(0);
     }
-    let (caller, answered) = make_calls(rt, alloc, token, caller, left)?;
+    let (caller, answered) = make_calls(rt, token, caller, left)?;
     callers.push(caller)?;
     if answered < left.len() {
         return Err(NoMemory.into());
@@ -62,10 +61,11 @@ pub(crate) fn make_by_scripts<K: TokenId + Send + Sync, R: Runtime>(
 }
 
 /// Makes the calls of a race by scripts of one caller, and says how many of them ended early.
-pub(crate) fn retry_script<R: Runtime>(rt: R, alloc: Global, race: &Race) -> anyhow::Result<u64> {
+pub(crate) fn retry_script<R: Runtime>(rt: R, race: &Race) -> anyhow::Result<u64> {
+    let alloc = rt.alloc();
     let token = prepared_token(alloc, race)?;
     let work = SharedWork::CallsByScripts(race);
-    let (token, outcome) = share_with(rt, alloc, token, 1, &work)?;
-    check_entries(alloc, &race.lines, token.journal().entries())?;
+    let (token, outcome) = share_with(rt, token, 1, &work)?;
+    check_entries(alloc, &race.lines, token.journal())?;
     Ok(outcome.retries)
 }

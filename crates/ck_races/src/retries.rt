@@ -59,11 +59,11 @@ fn check_unchanged<K: TokenId>(caller: &mut Caller<K>, before: &Knowledge) -> an
 /// Makes a call, and says whether there was memory for it.
 fn make_once<K: TokenId, G: Gate<K>, R: Runtime>(
     rt: &R,
-    alloc: Global,
     gate: &G,
     caller: &mut Caller<K>,
     line: &RaceLine,
 ) -> anyhow::Result<bool> {
+    let alloc = rt.alloc();
     let call = line.call.clone()?;
     let Ok(reply) = gate.call(rt, alloc, caller, call) else {
         return Ok(false);
@@ -76,18 +76,17 @@ fn make_once<K: TokenId, G: Gate<K>, R: Runtime>(
 /// what it knew, and the other one makes the call. This is then the next entry.
 fn make<K: TokenId, G: Gate<K>, R: Runtime>(
     rt: &R,
-    alloc: Global,
     gate: &G,
     (caller, other): (&mut Caller<K>, &mut Caller<K>),
     entries: u64,
     line: &RaceLine,
 ) -> anyhow::Result<bool> {
     let before = knowledge_of(caller)?;
-    if make_once(rt, alloc, gate, caller, line)? {
+    if make_once(rt, gate, caller, line)? {
         return Ok(false);
     }
     check_unchanged(caller, &before)?;
-    if !make_once(rt, alloc, gate, other, line)? {
+    if !make_once(rt, gate, other, line)? {
         return Err(NoMemory.into());
     }
     ensure!(
@@ -102,7 +101,6 @@ fn make<K: TokenId, G: Gate<K>, R: Runtime>(
 /// how many were made again.
 fn make_all<K: TokenId, G: Gate<K>, R: Runtime>(
     rt: &R,
-    alloc: Global,
     gate: &G,
     (one, other): (&mut Caller<K>, &mut Caller<K>),
     first: usize,
@@ -112,9 +110,9 @@ fn make_all<K: TokenId, G: Gate<K>, R: Runtime>(
     let mut entries = first as u64;
     for line in lines {
         let is_again = if entries % 2 == 0 {
-            make(rt, alloc, gate, (&mut *one, &mut *other), entries, line)?
+            make(rt, gate, (&mut *one, &mut *other), entries, line)?
         } else {
-            make(rt, alloc, gate, (&mut *other, &mut *one), entries, line)?
+            make(rt, gate, (&mut *other, &mut *one), entries, line)?
         };
         retries = retries.saturating_add(u64::from(is_again));
         entries = entries.saturating_add(1);
@@ -125,7 +123,6 @@ fn make_all<K: TokenId, G: Gate<K>, R: Runtime>(
 /// Two callers make all calls of a race. Says how many were made again.
 pub(crate) fn make_race<K: TokenId + Send + Sync, R: Runtime>(
     rt: &R,
-    alloc: Global,
     token: &SharedToken<K, Token, R>,
     callers: &mut Vec<Caller<K>>,
     race: &Race,
@@ -138,16 +135,17 @@ pub(crate) fn make_race<K: TokenId + Send + Sync, R: Runtime>(
         afterwards,
         ..
     } = race;
-    let first = make_all(rt, alloc, token, (&mut *one, &mut *other), 0, lines)?;
+    let first = make_all(rt, token, (&mut *one, &mut *other), 0, lines)?;
     let count = lines.len();
-    let after = make_all(rt, alloc, token, (one, other), count, afterwards)?;
+    let after = make_all(rt, token, (one, other), count, afterwards)?;
     Ok(first.saturating_add(after))
 }
 
 /// Two callers make the calls of a race. Says how many were made again.
-fn retry_calls<R: Runtime>(rt: R, alloc: Global, race: &Race) -> anyhow::Result<u64> {
+fn retry_calls<R: Runtime>(rt: R, race: &Race) -> anyhow::Result<u64> {
+    let alloc = rt.alloc();
     let token = prepared_token(alloc, race)?;
-    let (token, outcome) = share_with(rt, alloc, token, 2, &SharedWork::AllCalls(race))?;
+    let (token, outcome) = share_with(rt, token, 2, &SharedWork::AllCalls(race))?;
     let calls = race.lines.len().saturating_add(race.afterwards.len());
     ensure!(
         token.journal().len() == calls as u64,
@@ -158,9 +156,10 @@ fn retry_calls<R: Runtime>(rt: R, alloc: Global, race: &Race) -> anyhow::Result<
 
 /// Makes the calls of a race by two callers, by `run` and by `run_scripts`. Says how many were made
 /// again.
-pub(crate) fn retry_race<R: Runtime>(rt: R, alloc: Global, race: &Race) -> anyhow::Result<u64> {
-    let called = retry_calls(rt, alloc, race)?;
+pub(crate) fn retry_race<R: Runtime>(rt: R, race: &Race) -> anyhow::Result<u64> {
+    let alloc = rt.alloc();
+    let called = retry_calls(rt, race)?;
     let run = retry_run(alloc, race)?;
-    let scripted = retry_script(rt, alloc, race)?;
+    let scripted = retry_script(rt, race)?;
     Ok(called.saturating_add(run).saturating_add(scripted))
 }

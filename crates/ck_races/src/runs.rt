@@ -28,14 +28,14 @@ struct OrderedCalls<'a> {
 
 impl<'a> OrderedCalls<'a> {
     /// Makes the calls of a caller, and adds their replies.
-    fn make_own<K: TokenId, G: Gate<K>, R: Wait>(
+    fn make_own<K: TokenId, G: Gate<K>, R: Wait + AllocGlobal>(
         &self,
         rt: &R,
-        alloc: Global,
         gate: &G,
         caller: &mut Caller<K>,
         replies: &mut Vec<Reply>,
     ) -> Result<(), NoMemory> {
+        let alloc = rt.alloc();
         for line in self.lines {
             if line.caller == caller.number() {
                 replies.push(gate.call(rt, alloc, caller, line.call.clone()?)?)?;
@@ -45,7 +45,7 @@ impl<'a> OrderedCalls<'a> {
     }
 }
 
-impl<'a, R: Wait> CallerWork<R> for OrderedCalls<'a> {
+impl<'a, R: Wait + AllocGlobal> CallerWork<R> for OrderedCalls<'a> {
     ghost use Rattle.std.specs.Prelude.{⊤};
 
     /// The caller's number and its replies.
@@ -57,13 +57,13 @@ impl<'a, R: Wait> CallerWork<R> for OrderedCalls<'a> {
     fn act<K: TokenId, G: Gate<K>>(
         &self,
         rt: &R,
-        alloc: Global,
         gate: &G,
         caller: &mut Caller<K>,
-    ) -> anyhow::Result<CallerReplies> {
+    ) -> Self::Output {
+        let alloc = rt.alloc();
         let mut replies = Vec::new(alloc);
         let held = HeldGate::new(gate, self.order);
-        self.make_own(rt, alloc, &held, caller, &mut replies)?;
+        self.make_own(rt, &held, caller, &mut replies)?;
         Ok((caller.number(), replies))
     }
 }
@@ -78,7 +78,7 @@ fn check_run(
     all: Vec<CallerReplies>,
 ) -> anyhow::Result<()> {
     ensure!(!order.is_late(), "a call wasn't the next one in time");
-    check_replies(token.journal().entries(), all)?;
+    check_replies(token.journal(), all)?;
     check_token(alloc, token, race, order.callers())?;
     check_audit(alloc, token)?;
     Ok(())
@@ -86,12 +86,8 @@ fn check_run(
 
 /// Eight callers make the calls of a race on a new token by `share`, the first ones in this order
 /// of their callers.
-fn run_shared<R: Runtime>(
-    rt: R,
-    alloc: Global,
-    race: &Race,
-    callers: &[u32],
-) -> anyhow::Result<()> {
+fn run_shared<R: Runtime>(rt: R, race: &Race, callers: &[u32]) -> anyhow::Result<()> {
+    let alloc = rt.alloc();
     let mut token = prepared_token(alloc, race)?;
     let order = CallOrder::new(callers);
     let calls = OrderedCalls {
@@ -105,19 +101,15 @@ fn run_shared<R: Runtime>(
 
 /// The same by `run_scripts`, where the bytes of each long message are taken in before the call is
 /// held.
-fn run_scripted<R: Runtime>(
-    rt: R,
-    alloc: Global,
-    race: &Race,
-    callers: &[u32],
-) -> anyhow::Result<()> {
+fn run_scripted<R: Runtime>(rt: R, race: &Race, callers: &[u32]) -> anyhow::Result<()> {
+    let alloc = rt.alloc();
     let order = CallOrder::new(callers);
     let work = SharedWork::HeldScripts {
         race: &*race,
         order: &order,
     };
     let token = prepared_token(alloc, race)?;
-    let (mut token, outcome) = share_with(rt, alloc, token, 8, &work)?;
+    let (mut token, outcome) = share_with(rt, token, 8, &work)?;
     check_run(alloc, &mut token, race, &order, outcome.replies)
 }
 
@@ -130,17 +122,12 @@ fn make_in_order(alloc: Global, race: &Race) -> anyhow::Result<()> {
 
 /// Runs a race again and again: with all calls in an order of their callers, first this one and
 /// then drawn, and with only the first calls in order.
-fn run_in_orders<R: Runtime>(
-    rt: R,
-    alloc: Global,
-    race: &Race,
-    callers: &mut [u32],
-) -> anyhow::Result<()> {
+fn run_in_orders<R: Runtime>(rt: R, race: &Race, callers: &mut [u32]) -> anyhow::Result<()> {
     let mut draws = Xoshiro256PlusPlus::seed_from_u64(race.number);
     for _ in 0..RUNS {
-        run_shared(rt, alloc, race, callers)?;
-        run_scripted(rt, alloc, race, callers)?;
-        run_shared(rt, alloc, race, callers.get(..race.first).unwrap_or(&[]))?;
+        run_shared(rt, race, callers)?;
+        run_scripted(rt, race, callers)?;
+        run_shared(rt, race, callers.get(..race.first).unwrap_or(&[]))?;
         if let Some(together) = callers.get_mut(race.first..) {
             reorder(&mut draws, together);
         }
@@ -150,9 +137,10 @@ fn run_in_orders<R: Runtime>(
 
 /// Runs a race on a token that isn't shared, and in orders of the callers of its calls, beginning
 /// with that in which they stand.
-pub(crate) fn run_race<R: Runtime>(rt: R, alloc: Global, race: &Race) -> anyhow::Result<()> {
+pub(crate) fn run_race<R: Runtime>(rt: R, race: &Race) -> anyhow::Result<()> {
+    let alloc = rt.alloc();
     make_in_order(alloc, race)?;
     let callers = race.lines.iter().map(|line| line.caller);
     let mut callers: Vec<u32> = callers.collect(alloc)?;
-    run_in_orders(rt, alloc, race, &mut callers)
+    run_in_orders(rt, race, &mut callers)
 }

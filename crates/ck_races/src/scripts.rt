@@ -85,12 +85,12 @@ pub(crate) fn finish<K: TokenId>(
 /// then each call is held until it is the next one. Gives the replies to each.
 pub(crate) fn run_held<K: TokenId + Send + Sync, R: Runtime>(
     rt: &R,
-    alloc: Global,
     token: &SharedToken<K, Token, R>,
     callers: &mut Vec<Caller<K>>,
     race: &Race,
     order: &CallOrder,
 ) -> anyhow::Result<Vec<CallerReplies>> {
+    let alloc = rt.alloc();
     let owned = mem::replace(callers, Vec::new(alloc));
     let scripts = scripts_of(alloc, owned, &race.lines)?;
     let scripts = run_scripts(rt, alloc, &TakingGate::new(token, order), scripts);

@@ -90,26 +90,26 @@ fn close<K: TokenId, R: Runtime>(
 /// Does the work. All callers stay among these.
 fn act<K: TokenId + Send + Sync, R: Runtime>(
     rt: &R,
-    alloc: Global,
     token: &SharedToken<K, Token, R>,
     callers: &mut Vec<Caller<K>>,
     work: &SharedWork,
 ) -> anyhow::Result<Outcome> {
+    let alloc = rt.alloc();
     let mut replies = Vec::new(alloc);
     let mut retries = 0;
     match work {
-        SharedWork::LoginAndAsks(state) => log_in_and_ask(rt, alloc, token, callers, state)?,
+        SharedWork::LoginAndAsks(state) => log_in_and_ask(rt, token, callers, state)?,
         SharedWork::Openings { first, order } => {
-            open_sessions(rt, alloc, token, callers, *first, order)?;
+            open_sessions(rt, token, callers, *first, order)?;
         }
-        SharedWork::AllCalls(race) => retries = make_race(rt, alloc, token, callers, race)?,
+        SharedWork::AllCalls(race) => retries = make_race(rt, token, callers, race)?,
         SharedWork::CallsByScripts(race) => {
-            retries = make_by_scripts(rt, alloc, token, callers, race)?;
+            retries = make_by_scripts(rt, token, callers, race)?;
         }
         SharedWork::HeldScripts { race, order } => {
-            replies = run_held(rt, alloc, token, callers, race, order)?;
+            replies = run_held(rt, token, callers, race, order)?;
         }
-        SharedWork::EightScripts => replies = run_eight(rt, alloc, token, callers)?,
+        SharedWork::EightScripts => replies = run_eight(rt, token, callers)?,
     }
     Ok(Outcome { replies, retries })
 }
@@ -117,19 +117,17 @@ fn act<K: TokenId + Send + Sync, R: Runtime>(
 /// Does the work, and takes the token back.
 fn act_and_close<K: TokenId + Send + Sync, R: Runtime>(
     rt: &R,
-    alloc: Global,
     token: SharedToken<K, Token, R>,
     mut callers: Vec<Caller<K>>,
     work: &SharedWork,
 ) -> anyhow::Result<Returned> {
-    let outcome = act(rt, alloc, &token, &mut callers, work)?;
+    let outcome = act(rt, &token, &mut callers, work)?;
     Ok((close(rt, token, callers)?, outcome))
 }
 
 /// As `share_once`, where `K` stands for the token's history.
 fn share_as<K: TokenId + Send + Sync, R: Runtime>(
     rt: R,
-    alloc: Global,
     token: Token,
     callers: u32,
     identity: NewIdentity,
@@ -142,8 +140,9 @@ fn share_as<K: TokenId + Send + Sync, R: Runtime>(
     requires ledgers { (n : ℕ) → K.ledger n ≡ name_of identity.ledgers n }
     ensures { IfErr result (λ back. back ≡ token) }
 {
+    let alloc = rt.alloc();
     match SharedToken::<K, Token, R>::adopt(rt, alloc, token, callers, identity) {
-        Ok(Ends { token, callers }) => Ok(act_and_close(&rt, alloc, token, callers, work)),
+        Ok(Ends { token, callers }) => Ok(act_and_close(&rt, token, callers, work)),
         Err((token, NoMemory)) => Err(token),
     }
 }
@@ -151,7 +150,6 @@ fn share_as<K: TokenId + Send + Sync, R: Runtime>(
 /// As `share_with`. Where there is no memory to share the token, it comes back.
 fn share_once<R: Runtime>(
     rt: R,
-    alloc: Global,
     token: Token,
     callers: u32,
     work: &SharedWork,
@@ -160,14 +158,13 @@ fn share_once<R: Runtime>(
     requires callers { (1 ≤ callers) × (callers ≤ 8) }
     ensures { IfErr result (λ back. back ≡ token) }
 {
-    share_as::<Brand, R>(rt, alloc, token, callers, NewIdentity::new(), work)
+    share_as::<Brand, R>(rt, token, callers, NewIdentity::new(), work)
 }
 
 /// Shares a token whose journal has no entries among callers, does the work and takes the token
 /// back. Where there is no memory to share it, it is tried once more: the token is as it was.
 pub(crate) fn share_with<R: Runtime>(
     rt: R,
-    alloc: Global,
     token: Token,
     callers: u32,
     work: &SharedWork,
@@ -175,9 +172,9 @@ pub(crate) fn share_with<R: Runtime>(
     requires history { token.history ≡ start (start_of token.history) }
     requires callers { (1 ≤ callers) × (callers ≤ 8) }
 {
-    match share_once(rt, alloc, token, callers, work) {
+    match share_once(rt, token, callers, work) {
         Ok(done) => done,
-        Err(token) => match share_once(rt, alloc, token, callers, work) {
+        Err(token) => match share_once(rt, token, callers, work) {
             Ok(done) => done,
             Err(_) => Err(NoMemory.into()),
         },

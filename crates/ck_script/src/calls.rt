@@ -14,7 +14,8 @@ use crate::splits::Split;
 use ck_journal::Call;
 use std::alloc::Global;
 
-/// The arguments of a call in a line.
+/// The arguments of a call in a line. A method takes as many as a call has and makes the call of
+/// them, so `call_of` has one line for each call.
 #[derive(Drop)]
 struct Arguments<'a> {
     alloc: Global,

@@ -12,7 +12,7 @@ use ck_journal::{Call, MOST_CALLERS};
 use std::alloc::Global;
 
 /// The byte that ends a line.
-pub const LINE_END: u8 = b'\n';
+pub(crate) const LINE_END: u8 = b'\n';
 
 /// The byte between two words of a line.
 pub(crate) const SPACE: u8 = b' ';

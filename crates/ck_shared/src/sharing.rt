@@ -33,13 +33,7 @@ pub trait CallerWork<R> {
     ghost holds: { Self → CallerState → CallerState → Self.Output → Type 0 };
 
     /// What this caller does at the gate, which is the shared token.
-    fn act<K: TokenId, G: Gate<K>>(
-        &self,
-        rt: &R,
-        alloc: Global,
-        gate: &G,
-        caller: &mut Caller<K>,
-    ) -> Self::Output
+    fn act<K: TokenId, G: Gate<K>>(&self, rt: &R, gate: &G, caller: &mut Caller<K>) -> Self::Output
         ensures { holds self.now caller.old caller.new result };
 }
 
@@ -68,7 +62,7 @@ fn act_together<
             ensures { S.holds work.entry.now caller result.1 result.0 }
         {
             let mut caller = caller;
-            let output = work.act(rt, alloc, gate, &mut caller);
+            let output = work.act(rt, gate, &mut caller);
             (output, caller)
         },
     );

@@ -21,7 +21,7 @@ use Rattle.ck_journal.specs.Objects.{creates, creations, creation_session, sessi
 use Rattle.ck_journal.specs.Objects.{creation_attributes, object_at, object_after, view_of}
 use Rattle.ck_journal.specs.Objects.{in_state}
 use Rattle.ck_journal.specs.Objects.{is_session_object, object_named, attributes_named}
-use Rattle.ck_journal.specs.Objects.{named_attributes}
+use Rattle.ck_journal.specs.Objects.{attributes_or_empty}
 use Rattle.ck_journal.proofs.ObjectMoves.{object_rows, creations-created, object_rows-created}
 use Rattle.ck_journal.proofs.ObjectMoves.{creations-same, object_rows-later, creations-left}
 use Rattle.ck_journal.proofs.ObjectMoves.{object_rows-left}
@@ -30,7 +30,7 @@ use Rattle.ck_store.specs.Agreement.{StoreState, StoreAgrees}
 use Rattle.ck_store.specs.Rows.{ObjectRow, object_row, owning_session, has_number, is_of_session}
 use Rattle.ck_store.specs.Rows.{is_session_row, is_private_session_row, with_attributes}
 use Rattle.ck_store.specs.Rows.{with_key_state}
-use Rattle.ck_store.proofs.Readings.{names-number, named_attributes-number}
+use Rattle.ck_store.proofs.Readings.{names-number, attributes_or_empty-number}
 
 -- a test of a row that reads its owner, where that is the session or none
 by_owner : (test : ObjectRow → Bool) (ends : Bool → Bool) (k creator : ℕ) (attributes : List Item)
@@ -165,16 +165,17 @@ module _ (h : History) (old : StoreState) (agree : StoreAgrees h old) (e : Entry
             (names-number h old agree object small number named k attributes is)) rows
 
         module _ (template : Template) (given : List Item)
-            (is_given : given ≡ with_given template.items (named_attributes h object))
-            (passes : changed_error (class_of (named_attributes h object))
-            (protections_of (named_attributes h object)) template.items ≡ None) where
+            (is_given : given ≡ with_given template.items (attributes_or_empty h object))
+            (passes : changed_error (class_of (attributes_or_empty h object))
+            (protections_of (attributes_or_empty h object)) template.items ≡ None) where
           -- it stays a token object or a session object
-          token : is_set given attribute.Token ≡ is_set (named_attributes h object) attribute.Token
+          token : is_set given attribute.Token
+              ≡ is_set (attributes_or_empty h object) attribute.Token
           token =
               ap (λ a. is_set a attribute.Token) is_given
-              ∙ token-kept (class_of (named_attributes h object))
-              (protections_of (named_attributes h object)) template.items
-              (named_attributes h object) passes
+              ∙ token-kept (class_of (attributes_or_empty h object))
+              (protections_of (attributes_or_empty h object)) template.items
+              (attributes_or_empty h object) passes
 
           given_case : (k : ℕ) (attributes : List Item) (t : Bool) → object_at h k ≡ Some attributes
               → k == number ≡ t
@@ -185,7 +186,7 @@ module _ (h : History) (old : StoreState) (agree : StoreAgrees h old) (e : Entry
           given_case k attributes false is same = refl
           given_case k attributes true is same =
               let own =
-              named_attributes-number h old agree object small number named k attributes is
+              attributes_or_empty-number h old agree object small number named k attributes is
               (eqb-true k number same) in
               let here : with_given template.items attributes ≡ given =
               ap (with_given template.items) (sym own) ∙ sym is_given in

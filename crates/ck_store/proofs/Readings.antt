@@ -11,7 +11,7 @@ use Rattle.ck_journal.specs.declared.views.View.{View}
 use Rattle.ck_journal.specs.Histories.{History}
 use Rattle.ck_journal.specs.Objects.{creations, session_of, object_at, view_of, is_visible_with}
 use Rattle.ck_journal.specs.Objects.{handle_with, names_with, is_some_with, object_named}
-use Rattle.ck_journal.specs.Objects.{attributes_named, named_attributes}
+use Rattle.ck_journal.specs.Objects.{attributes_named, attributes_or_empty}
 use Rattle.ck_journal.specs.Searches.{matching_objects, number_of_handle, is_match_with}
 use Rattle.ck_journal.specs.Sessions.{numbers}
 use Rattle.ck_journal.proofs.NameLemmas.{names_with-number}
@@ -239,17 +239,17 @@ module _ (h : History) (old : StoreState) (agree : StoreAgrees h old) (handle : 
     names-number k attributes is_there =
         names_case k attributes (names k attributes) (k == number) is_there refl refl
 
-    pub named_attributes-number : (k : ℕ) (attributes : List Item) → object_at h k ≡ Some attributes
-        → k ≡ number → named_attributes h handle ≡ attributes
-    named_attributes-number k attributes is_there same =
+    pub attributes_or_empty-number : (k : ℕ) (attributes : List Item)
+        → object_at h k ≡ Some attributes → k ≡ number → attributes_or_empty h handle ≡ attributes
+    attributes_or_empty-number k attributes is_there same =
         ap (λ o. unwrap_or (option_and_then (object_at h) o) []) is
         ∙ ap (λ j. unwrap_or (object_at h j) []) (sym same)
         ∙ ap (λ o. unwrap_or o []) is_there
 
     -- its attributes are those of the row of its number
     pub named-row : (row : ObjectRow) → find (has_number number) old.rows ≡ Some row
-        → named_attributes h handle ≡ row.attributes
+        → attributes_or_empty h handle ≡ row.attributes
     named-row row found =
-        named_attributes-number number row.attributes
+        attributes_or_empty-number number row.attributes
         (sym (row_at-attributes h number) ∙ ap (option_map (λ (r : ObjectRow). r.attributes))
         (sym (find-numbered h old agree number) ∙ found)) refl

@@ -21,7 +21,8 @@ pub struct Store {
     /// object has ended: until the places are more than twice as many as the objects, and one.
     index: Vec<Place>,
     lists: Vec<SessionList>,
-    /// The newest object, until its session's list takes it.
+    /// The newest object, until its session's list takes it, which is before the next object is
+    /// added: a list may find no memory, and adding an object where there is room never does.
     unlisted: Option<Place>,
     creations: u64,
     /// The marks of the objects' labels, by the objects' keys in the slab; 0 where one is missing.
@@ -69,7 +70,7 @@ impl Store {
     ghost use Rattle.ck_journal.specs.Histories.{History, start, ◌◁◌, done};
     ghost use Rattle.ck_journal.specs.Objects.{creates, creation_session, creation_attributes};
     ghost use Rattle.ck_journal.specs.Objects.{creations, object_at, view_of};
-    ghost use Rattle.ck_journal.specs.Objects.{attributes_named, named_attributes, object_named};
+    ghost use Rattle.ck_journal.specs.Objects.{attributes_named, attributes_or_empty, object_named};
     ghost use Rattle.ck_journal.specs.Searches.{matching_objects};
     ghost use Rattle.ck_journal.specs.declared.calls.Call.{Call};
     ghost use Rattle.ck_journal.specs.declared.calls.Call.TheVariants as call;
@@ -250,8 +251,8 @@ impl Store {
         ensures agree { (h : History) (e : Entry) (session object : ℕ)
             → done e ≡ Some (call.SetAttributeValue session object values)
             → object_named h object ≡ Some number
-            → changed_error (class_of (named_attributes h object))
-            (protections_of (named_attributes h object)) values.items ≡ None
+            → changed_error (class_of (attributes_or_empty h object))
+            (protections_of (attributes_or_empty h object)) values.items ≡ None
             → StoreAgrees h self.old → StoreAgrees (e ◁ h) self.new }
     {
         let Some(key) = key_of(&self.objects, &self.index, number) else {

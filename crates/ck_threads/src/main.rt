@@ -17,7 +17,7 @@ use std::sync::Wait;
 #[derive(Drop)]
 struct ThreeSessions;
 
-impl<R: Wait> CallerWork<R> for ThreeSessions {
+impl<R: Wait + AllocGlobal> CallerWork<R> for ThreeSessions {
     ghost use Rattle.std.specs.Prelude.{◌≡◌};
 
     /// How many calls of the caller were answered.
@@ -25,16 +25,10 @@ impl<R: Wait> CallerWork<R> for ThreeSessions {
 
     ghost holds = { λ work before after count. count ≡ after.count };
 
-    fn act<K: TokenId, G: Gate<K>>(
-        &self,
-        rt: &R,
-        alloc: Global,
-        gate: &G,
-        caller: &mut Caller<K>,
-    ) -> u64 {
+    fn act<K: TokenId, G: Gate<K>>(&self, rt: &R, gate: &G, caller: &mut Caller<K>) -> u64 {
         for _ in 0..3u32 {
             let call = Call::OpenSession { flags: READ_WRITE };
-            let _reply = gate.call(rt, alloc, caller, call);
+            let _reply = gate.call(rt, rt.alloc(), caller, call);
         }
         caller.count()
     }
@@ -60,9 +54,9 @@ fn main(rt: HostRuntime) -> anyhow::Result<()> {
     let calls = counts
         .iter()
         .fold(0u64, |sum, count| sum.saturating_add(*count));
-    let entries = token.journal().entries();
-    let opened = entries.iter().filter(|entry| entry.reply.rv == Rv::Ok);
+    let journal = token.journal();
+    let opened = journal.iter().filter(|entry| entry.reply.rv == Rv::Ok);
     println!(rt; "{} sessions were opened by {calls} calls", opened.count())?;
-    println!(rt; "the journal has {} entries", entries.len())?;
+    println!(rt; "the journal has {} entries", journal.len())?;
     Ok(())
 }

@@ -37,7 +37,7 @@ use Rattle.ck_journal.specs.Queries.{asks_hidden, is_missing, lacks_room, query_
 use Rattle.ck_journal.specs.Replies.{has_items}
 use Rattle.ck_journal.specs.Searches.{search_rest}
 use Rattle.ck_journal.specs.Histories.{History}
-use Rattle.ck_journal.specs.Objects.{attributes_named, named_attributes, object_at, handle_of}
+use Rattle.ck_journal.specs.Objects.{attributes_named, attributes_or_empty, object_at, handle_of}
 use Rattle.ck_journal.specs.Pins.{about}
 use Rattle.ck_journal.specs.Sessions.{is_open}
 use Rattle.ck_parts.specs.Agreement.{adds}
@@ -130,9 +130,9 @@ by_room h c k session of stays (Some room) bytes = cases (nat_lt room (length by
 pub allowed-effect : (limits : Ranges) (h : History) (c : Call)
     → change_of h c (allowed_reply limits h c).body ≡ effect h c (allowed_reply limits h c)
 allowed-effect limits h (call.GetAttributeValue session object queries) =
-    by_code (list_any (asks_hidden (named_attributes h object)) queries)
-    (list_any (is_missing (named_attributes h object)) queries)
-    (list_any (lacks_room (named_attributes h object)) queries) _
+    by_code (list_any (asks_hidden (attributes_or_empty h object)) queries)
+    (list_any (is_missing (attributes_or_empty h object)) queries)
+    (list_any (lacks_room (attributes_or_empty h object)) queries) _
   where
     by_code : (hidden missing longer : Bool) (body : Body)
         → change.Nothing ≡ effect_by h (call.GetAttributeValue session object queries)
@@ -184,7 +184,7 @@ no_list limits h c r answered free =
         by_call : (c : Call) → may_take_memory h c ≡ false
             → has_items (allowed_reply limits h c).body ≡ false
         by_call (call.GetAttributeValue session object queries) free =
-            ap not (same-empty (query_answer (named_attributes h object)) queries) ∙ free
+            ap not (same-empty (query_answer (attributes_or_empty h object)) queries) ∙ free
         by_call (call.FindObjects session max) free =
             ap not (same-empty (handle_of h) (take max (search_rest h session))) ∙ free
         by_call (call.Digest session bytes None) free = refl

@@ -46,6 +46,7 @@ impl Token {
             return Err(Refused::from(RvError::OperationNotInitialized));
         };
         let handles = self.visible_handles(alloc, numbers, max)?;
+        // The number is read off the last handle, so that the numbers need no list of their own.
         let number = match handles.last() {
             Some(handle) => number_of_handle(*handle),
             None => row.last_found(),

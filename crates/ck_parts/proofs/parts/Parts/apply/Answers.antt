@@ -4,7 +4,7 @@ use Rattle.std.proofs.lemmas.Option.{cond_some}
 use Rattle.ck_objects.specs.Records.{key_value}
 use Rattle.ck_mac.specs.Computations.{digest_by}
 use Rattle.ck_journal.specs.Histories.{is_ok}
-use Rattle.ck_journal.specs.Objects.{object_named, object_at, named_attributes}
+use Rattle.ck_journal.specs.Objects.{object_named, object_at, attributes_or_empty}
 use Rattle.ck_journal.specs.OperationCalls.{initialize, add_piece, operation_step}
 use Rattle.ck_journal.specs.Works.{taken_bytes}
 use Rattle.ck_journal.specs.Operations.{started_computation, init_key}
@@ -269,7 +269,7 @@ returns-in-StartHmac c = record {
       let same = started-injected k session hash number len _ _ _ of.2 in
       let named : object_named h of.1 ≡ Some number = passed.3 ∙ ap Some (sym same.1) in
       let key = key_value (unwrap_or (object_at h number) []) in
-      let value : key ≡ key_value (named_attributes h of.1) =
+      let value : key ≡ key_value (attributes_or_empty h of.1) =
       ap (λ o. key_value (unwrap_or (option_and_then (object_at h) o) [])) (sym named) in
       step-only h e _ starts.step _ agree _
       (c.start_hmac.ensures h e now agree.objects

@@ -1,6 +1,6 @@
 use Rattle.std.proofs.Common.{◌∙◌, Some, refl, sym, arith}
 use Rattle.ck_objects.specs.Records.{with_given}
-use Rattle.ck_journal.specs.Objects.{named_attributes}
+use Rattle.ck_journal.specs.Objects.{attributes_or_empty}
 use Rattle.ck_store.specs.Rows.{with_attributes}
 use Rattle.ck_store.proofs.BoundLemmas.{changed-count}
 use Rattle.ck_store.proofs.LabelLemmas.{IsChanged-none, with_attributes-other, IsMarked-changed}
@@ -16,7 +16,7 @@ returns-in_default c = record {
       let here = rw (← c.self.view_is) at agree in
       let is_key = (rw c.deref.ensures.value at c.in_default.ensures) c.self.invariant.0.indexed in
       let values = c.args.values.items in
-      let given = with_given values (named_attributes h object) in
+      let given = with_given values (attributes_or_empty h object) in
       rw (← c.self.view_is)
       (StoreAgrees-changed h _ here e _ refl session object c.args.number named c.self.invariant.1
       c.args.values given refl passes d
