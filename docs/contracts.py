@@ -20,7 +20,7 @@ is its trait's isn't named here.
 
 FUNCTION = re.compile(r'^( *)pub (?:const )?(?:unsafe )?(?:extern "C" )?fn (\w+)')
 TRAIT_FUNCTION = re.compile(r"^(    )fn (\w+)")
-OWNER = re.compile(r"^(pub )?(?:unsafe )?(impl|trait) (.*?)\s*\{?$")
+OWNER = re.compile(r"^(pub )?(?:unsafe )?(impl|trait)\b(.*?)\s*\{?$")
 
 
 def crates():
@@ -34,22 +34,30 @@ def owner_of(line):
     found = OWNER.match(line)
     if not found:
         return None
-    name = re.sub(r"^<.*?> ", "", found[3]).split(" where ")[0].split(":")[0]
-    name = name.split(" for ")[-1]
-    return re.sub(r"<.*", "", name).strip()
+    name = found[3].strip()
+    if name.startswith("<"):
+        ends = [at for at in range(len(name)) if name[:at].count("<") == name[:at].count(">") > 0]
+        name = name[ends[0]:].strip() if ends else name
+    name = name.split(" where ")[0].split(" for ")[-1]
+    return re.split(r"[<:]", name)[0].strip()
 
 
 def clauses_after(lines, start, indent):
     """The clauses of the function whose name stands in this line."""
     clauses = []
     for line in lines[start + 1:]:
-        if line.startswith(indent + "{") or line.rstrip().endswith(";"):
+        if line.startswith((indent + "{", indent + "}")):
             break
-        if line.startswith(indent + "}"):
+        text = line[len(indent) + 4:].rstrip()
+        begins = re.match(r"(requires|ensures|ghost)\b", text)
+        if (clauses or begins) and not text.startswith("//"):
+            clauses.append(text)
+        joined = "\n".join(clauses)
+        # A method of a trait ends with a semicolon, and so does a line of a record in a clause.
+        if text.endswith(";") and joined.count("{") == joined.count("}"):
+            clauses = joined.rstrip(";").split("\n") if clauses else []
             break
-        if clauses or re.match(indent + r"    (requires|ensures|ghost)\b", line):
-            clauses.append(line[len(indent) + 4:].rstrip())
-    return clauses
+    return [clause for clause in clauses if clause]
 
 
 def first_sentence(lines, start):
@@ -59,7 +67,7 @@ def first_sentence(lines, start):
         text = line.strip()
         if text.startswith("///"):
             comment.insert(0, text[3:].strip())
-        elif not text.startswith("#["):
+        elif not text.startswith(("#[", "// ")):
             break
     return re.split(r"(?<=\.)\s", " ".join(comment) + " ")[0]
 

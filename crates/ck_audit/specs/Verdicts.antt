@@ -18,7 +18,7 @@ pub record IsFirstWrong (limits : Ranges) (h : History) (number : ℕ) : Type 0 
   pub legal : IsLegal limits front
   pub wrong : entry.reply ≢ answer limits front entry.call
 
--- the verdict is so
+-- the verdict is right for this history
 abbrev pub IsVerdict : Ranges → History → Verdict → Type 0
 IsVerdict limits h verdict.Legal = IsLegal limits h
 IsVerdict limits h (verdict.Wrong number) = IsFirstWrong limits h number

@@ -14,7 +14,8 @@ use std::alloc::Global;
 pub enum Verdict {
     /// Every reply is what the definitions answer to its call after the calls before it.
     Legal,
-    /// The reply of the entry of this number, from 1, is another, and those before it are not.
+    /// The entry of this number, counted from 1, is the first whose reply isn't the one that the
+    /// definitions answer.
     Wrong(u64),
 }
 
@@ -36,7 +37,7 @@ pub fn audit<G: JournaledToken>(
     replay(alloc, token, journal)
 }
 
-/// Audits the journal of a token as one of the token's own limits. It is legal.
+/// Audits a token's journal under the token's own limits. It is always found legal.
 pub fn audit_token<G: JournaledToken>(alloc: Global, token: &G) -> Result<Verdict, NoMemory>
     ensures { IfOk result (λ found. found ≡ verdict.Legal) }
 {

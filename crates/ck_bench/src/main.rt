@@ -28,7 +28,7 @@ use std::time::{Clock, CpuClock};
 use std::{env, io};
 use threads::measure_together;
 
-/// How many times callers ask where no number is given.
+/// How many questions callers ask where no number is given.
 const FEW_ASKS: u64 = 300;
 
 /// How many times what is timed is done. The first time takes new pages of the system for its
@@ -64,7 +64,7 @@ fn request_of<R: Env + AllocGlobal>(rt: &R) -> anyhow::Result<Request> {
         ("locked", None, None) => Ok(Request::Locked),
         ("threads", Some(number), None) => match number.as_str().parse() {
             Ok(asks) => Ok(Request::Threads(asks)),
-            Err(_) => bail!("{number} is no number of asks"),
+            Err(_) => bail!("{number} is no number of questions"),
         },
         _ => bail!("the arguments are `locked`, `alone` or `threads` and a number"),
     }

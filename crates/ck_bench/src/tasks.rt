@@ -1,7 +1,7 @@
 //! What a caller of a shared token does while it is measured.
 use anyhow::{Context, bail, ensure};
 use ck_journal::{AttributeQuery, Body, Call, READ_WRITE, Reply};
-use ck_objects::{Attribute, AttributeValue, Item, Template};
+use ck_objects::{Attribute, DATA, Template};
 use ck_shared::{Ask, Caller, CallerWork, Gate, Status, TokenId};
 use ck_types::{Bytes, Mechanism, NoMemory, Rv, SHA256, Sequence};
 use std::alloc::Global;
@@ -83,20 +83,11 @@ fn is_open(status: Option<Status>) -> bool {
     }
 }
 
-fn item(alloc: Global, attribute: Attribute, value: &[u8]) -> Result<Item, NoMemory> {
-    let value = AttributeValue::from_slice(alloc, value)?;
-    let kind = attribute.number();
-    Ok(Item { kind, value })
-}
-
 /// The creation of a data object with a label of 8 bytes.
 fn creation(alloc: Global, session: u64) -> Result<Call, NoMemory> {
-    let items = vec![in alloc;
-        item(alloc, Attribute::Class, [0; 8].as_slice())?,
-        item(alloc, Attribute::Label, b"a label ")?,
-    ]?;
-    let items = Sequence::from_vec(items);
-    let template = Template { items };
+    let template = Template::new(alloc)
+        .number(Attribute::Class, DATA)?
+        .bytes(Attribute::Label, b"a label ")?;
     Ok(Call::CreateObject { session, template })
 }
 

@@ -3,11 +3,10 @@ ghost use Rattle.std.specs.Prelude.{◌≡◌, ◌≤◌, OnOk, length};
 ghost use Rattle.ck_journal.specs.Histories.{start, start_of};
 
 use crate::tasks::{Round, Task, Tasks};
-use anyhow::ensure;
 use ck_journal::Call;
 use ck_shared::{Runtime, share};
 use ck_token::Token;
-use ck_types::{Limits, Pin, Rv};
+use ck_types::{Limits, Pin};
 use std::alloc::Global;
 use std::time::Clock;
 
@@ -16,8 +15,7 @@ fn initialize(alloc: Global, token: &mut Token) -> anyhow::Result<()>
     ensures { OnOk result (token.new.history ≡ start (start_of token.new.history)) }
 {
     let pin = Pin::of(b"1234");
-    let reply = token.call(alloc, 1, Call::InitToken { pin })?;
-    ensure!(reply.rv == Rv::Ok, "InitToken is answered {}", reply.rv);
+    token.try_call(alloc, 1, Call::InitToken { pin })?;
     token.cut(alloc)?;
     Ok(())
 }

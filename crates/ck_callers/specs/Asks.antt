@@ -1,4 +1,4 @@
--- Asks for the state of a token, and the calls that give the same
+-- Questions about the state of a token, and the calls that give the same
 use Rattle.ck_types.specs.declared.return_codes.Rv.TheVariants as rv
 use Rattle.ck_journal.specs.declared.calls.Call.{Call}
 use Rattle.ck_journal.specs.declared.calls.Call.TheVariants as call

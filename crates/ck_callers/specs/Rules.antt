@@ -11,7 +11,7 @@ IsKept cells log = cells ≡ (length log, true) ∷ (0, true) ∷ []
 abbrev pub head_of : Book → Named
 head_of b = record { tracked = true; key = 0; book = b }
 
--- where the length that was expected was found, it was that of all that had been seen, and the
+-- where the word had the expected length, that was the length of all that had been seen, and the
 -- entry was added
 abbrev pub Adds : Step Entry → View Entry ℕ → ℕ → View Entry ℕ → Type 0
 Adds s v found w =

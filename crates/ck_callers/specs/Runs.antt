@@ -15,7 +15,7 @@ use Rattle.ck_callers.specs.declared.steps.Step.{Step}
 abbrev pub IsLeft : {K S A : Type 0} → Script K S A → Script K S A → Type 0
 IsLeft old new =
     (new.caller ≡ old.caller) × (vec_items new.steps ≡ vec_items old.steps)
-    × (vec_items new.replies ≡ [])
+    × (vec_items new.replies ≡ []) × (new.outcome ≡ old.outcome)
 
 -- the caller of the script has made its calls in a thread, and none are left
 abbrev pub IsPlayed : {K : Type 0} → Script K Call Reply → Script K Call Reply → Type 0

@@ -19,7 +19,7 @@ pub enum Ask {
     Mechanisms,
 }
 
-/// What is answered to an ask: the reply that the call would get, or the types of all mechanisms
+/// What is answered to a question: the reply that the call would get, or the types of all mechanisms
 /// (CK_MECHANISM_TYPE) in rising order.
 #[derive(Drop)]
 pub enum Status {

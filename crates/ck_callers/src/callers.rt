@@ -197,8 +197,8 @@ impl<K: TokenId> Caller<K> {
     ghost use Rattle.ck_journal.specs.Fronts.{IsFront};
     ghost use Rattle.ck_callers.specs.Asks.{call_of, reply_of};
 
-    /// What the token's state was when it had answered the calls that the caller then knows. It
-    /// takes neither the lock nor memory and waits for nobody. `None` where the board can't be
+    /// Answers a question as the token would have answered it after all calls that the caller knows
+    /// of afterwards. It takes neither the lock nor memory and waits for nobody. `None` where the board can't be
     /// read, or lacks an entry that the caller knows and that may have changed it.
     pub fn status(&mut self, ask: Ask) -> Option<Status>
         ensures answer { IfSome result (λ status.

@@ -28,8 +28,8 @@ pub trait Gate<K: TokenId> {
             HasCalled K.limits caller.old call reply caller.new) }
         ensures caller { OnErr result (caller.new ≡ caller.old) };
 
-    /// What the token's state was when it had answered the calls that the caller then knows. `None`
-    /// where that can't be seen: then the caller knows what it knew.
+    /// Answers a question as the token would have answered it after all calls that the caller knows
+    /// of afterwards. `None` where that can't be seen: then the caller knows what it knew.
     fn status(&self, caller: &mut Caller<K>, ask: Ask) -> Option<Status>
         ensures answer { IfSome result (λ status.
             reply_of status ≡ answer K.limits caller.new.seen (call_of ask)) }

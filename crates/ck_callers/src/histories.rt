@@ -9,8 +9,8 @@ use ck_journal::Entry;
 use logbook::{Offer, Seen, Start, Word};
 use std::marker::{Brand, Model, PhantomData};
 
-/// Which history it is, what it starts from, and the limits of its token. A type stands for them:
-/// what has one such type is of one history.
+/// A type that stands for one history: its book, the base that it starts from, and the limits of its
+/// token. Two fronts of one such type are fronts of one history.
 pub trait HistoryId {
     ghost use Rattle.logbook.specs.Pages.{Book};
     ghost use Rattle.ck_types.specs.TokenLimits.{Ranges};
@@ -82,7 +82,7 @@ pub struct Head<K: HistoryId> {
     ghost head_is: { head ≡ head_of K.book },
 }
 
-/// A front of the one history. Only its length is there when the program runs, its entries are in
+/// A front of the one history. When the program runs there is only its length; its entries are in
 /// the proofs. Of two fronts the shorter is a front of the longer.
 #[derive(Drop)]
 pub struct Front<K: HistoryId> {

@@ -2,8 +2,8 @@ use crate::histories::{HistoryId, NewHistory};
 use crate::ledgers::NewLedgers;
 use std::marker::Brand;
 
-/// Which shared token it is: its one history, how many callers it has, and the ledger of each
-/// caller's calls. All that has one such type is of one token.
+/// A type that stands for one shared token: its history, how many callers it has, and the ledger of
+/// each caller's calls.
 pub trait TokenId: HistoryId {
     ghost use Rattle.std.specs.Prelude.{ℕ};
 
@@ -29,8 +29,8 @@ impl NewIdentity {
     ghost use Rattle.std.specs.Prelude.{◌≡◌, []};
     ghost use Rattle.ck_callers.specs.Rules.{head_of};
 
-    /// An identity that no other has: which names its book and its ledgers get is left open, so
-    /// that a type may take them over.
+    /// A new identity. No clause says which names its book and its ledgers get, so a type can be
+    /// chosen that stands for them.
     pub fn new() -> NewIdentity
         ensures entries { result.history.seen.log ≡ [] }
         ensures head { result.history.head ≡ head_of result.history.seen.book }

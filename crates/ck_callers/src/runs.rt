@@ -81,7 +81,7 @@ fn run_script<K: TokenId, S: Turn<K, A>, A: Drop, G: Gate<K>, W: Wait>(
     script
 }
 
-/// That a script comes back as it is after a run of this one.
+/// Promises that what a thread gives back is this script after its run.
 #[derive(Drop)]
 struct RunOf<K: TokenId, S: Drop, A: Drop>(Snapshot<Script<K, S, A>>);
 
@@ -138,8 +138,8 @@ fn run_all<
 }
 
 /// Runs all scripts of calls, each in a thread of its own. They come back in their order. One for
-/// which no thread can be made comes back as it was (`Script::started`). It takes no memory except
-/// what the calls and the threads take.
+/// which no thread can be made comes back with its caller, its steps and no replies
+/// (`Script::started`). It takes no memory except what the calls and the threads take.
 pub fn run_scripts<K: TokenId + Send + Sync, G: Gate<K> + Sync, R: Threads + Wait + Sync>(
     rt: &R,
     alloc: Global,

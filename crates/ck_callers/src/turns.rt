@@ -7,7 +7,7 @@ use ck_types::NoMemory;
 use std::alloc::Global;
 use std::sync::Wait;
 
-/// What a caller does in one turn at a gate. What is answered to it is an `A`.
+/// What a caller does at a gate: a call, or a call or a question. `A` is what is answered.
 pub trait Turn<K: TokenId, A: Drop>: Drop {
     ghost use Rattle.ck_callers.specs.Callers.{CallerState};
 

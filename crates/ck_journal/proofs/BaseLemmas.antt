@@ -14,7 +14,7 @@ use Rattle.ck_journal.specs.Cuts.{kept_object, kept_objects, base_of}
 use Rattle.ck_journal.specs.Histories.{start}
 use Rattle.ck_journal.specs.Sessions.{numbers}
 
--- so many numbers above another
+-- the next n numbers above another
 abbrev above : ℕ → ℕ → List ℕ
 above low zero = []
 above low (suc n) = suc low ∷ above (suc low) n

@@ -75,7 +75,7 @@ module _ {X : Type 0} (test : X → Bool) (change : X → X) where
         absurd (false≢true (sym (list_any-none passes row n
         (λ k below. below_fails n k (test (row k)) refl unique e below)) ∙ any))
 
-    -- where at most one row passes, and the new rows are the old ones but for that one
+    -- where at most one row passes, and the new rows are the old ones except that one
     pub selected-replaced : (n : ℕ)
         → ((j k : ℕ) → j ≤ n → k ≤ n → test (row j) ≡ true → test (row k) ≡ true → j ≡ k)
         → ((k : ℕ) → k ≤ n → passes k ≡ true → test (row k) ≡ true → row' k ≡ change (row k))

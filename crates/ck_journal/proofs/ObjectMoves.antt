@@ -160,7 +160,7 @@ module _ (e : Entry) (h : History) where
     change_step row after change None changed = refl
     change_step row after change (Some attributes) changed = changed attributes refl
 
-    -- it changes or ends each row alone
+    -- it changes or ends each row by itself
     pub object_rows-later : {X : Type 0} (row : ℕ → ℕ → List Item → X) (change : X → Option X)
         → ((k : ℕ) (attributes : List Item) → object_at h k ≡ Some attributes
         → option_map (row k (session_of h k)) (object_after (done e) (view_of h) k (session_of h k)

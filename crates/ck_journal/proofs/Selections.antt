@@ -302,7 +302,7 @@ module _ {X : Type 0} where
   then_step change None xs = refl
   then_step change (Some x) xs = refl
 
-  -- a change or an end of each row alone
+  -- a change or an end of each row by itself
   pub filter_map-then : (change : X → Option X) (row : ℕ → Option X) (ks : List ℕ)
       → filter_map change (filter_map row ks) ≡ filter_map (λ k. option_and_then change (row k)) ks
   filter_map-then change row [] = refl

@@ -164,7 +164,7 @@ some-open h s t =
     some-passes (is_open h) (λ k. k == s) (numbers (openings h))
     (list_any-at (is_open h) s (openings h) (is_open-within h s) ∙ t)
 
--- ---- handles alone
+-- ---- only handles
 
 -- the handles in the rows are the open sessions
 pub open_sessions-rows : (h : History) → session_rows (λ h s. s) h ≡ open_sessions h

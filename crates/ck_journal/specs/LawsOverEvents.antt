@@ -80,7 +80,8 @@ SessionHandlesAreGivenOnce = AreGivenOnce GivesSession
 
 -- ---- what protects keys
 
--- so of an object's attributes at a front and those at every later one where it is there
+-- holds of an object's attributes at a front and of its attributes at every later front where it is
+-- there
 abbrev pub BetweenFronts : (List Item → List Item → Type 0) → Type 0
 BetweenFronts Holds =
     (limits : Ranges) (h : History) (later : List Event) → AreSoundEvents limits h later

@@ -239,7 +239,7 @@ impl Clone for Call {
     }
 }
 
-/// From how many bytes on a message is long.
+/// The fewest bytes of a long message.
 const LONG_MESSAGE: usize = 4096;
 
 impl Call {

@@ -10,8 +10,8 @@ use std::ops::Range;
 /// How many entries a segment has room for.
 const SEGMENT: usize = 512;
 
-/// Entries, the oldest first, in segments of one length. A new entry never moves those before it,
-/// so adding one takes as long where there are many as where there are few.
+/// Entries, the oldest first, in segments of one length. A new entry never moves those before it:
+/// what grows is the list of segments, by 24 bytes for each.
 #[derive(Drop)]
 pub(crate) struct EntryList {
     /// Each is full before the next one gets an entry.

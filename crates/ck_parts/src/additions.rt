@@ -52,8 +52,9 @@ pub(crate) fn start_digest(operations: &mut Operations, session: u64, hash: Hash
     operations.start(OperationKind::Digest, session, running, None, entries);
 }
 
-/// The bytes of the key of this number; none where there is no such object. The key is looked up
-/// once more, since a change can't borrow it from the store that it is about to be made in.
+/// The bytes of the key of this number; none where there is no such object. The decision has looked
+/// the key up already. Its change holds only the number, since it can't borrow from the store that
+/// `apply` changes.
 fn key_value(objects: &Store, number: u64) -> &[u8]
     ensures { (h : History) → StoreAgrees h objects.now
         → result.now ≡ key_value (unwrap_or (object_at h number) []) }

@@ -67,10 +67,10 @@ impl Parts {
         }
     }
 
-    /// Carries out the change of an answered call, and takes no memory. The bytes that a call adds to
-    /// a message are read off the call, so the change has no copy of them. `ready`, where it is given,
-    /// is the running tag of the call's operation that has taken in the bytes of the call already;
-    /// `entries` is how many entries the journal has before this one.
+    /// Carries out the change of an answered call, and takes no memory. The bytes that a call adds
+    /// to a message are read off the call. `ready`, where it is given, is the running tag of the
+    /// call's operation that has taken in those bytes already; `entries` is how many entries the
+    /// journal has before this one.
     pub fn apply(&mut self, change: Change, call: &Call, ready: Option<&RunningTag>, entries: u64)
         requires room { HasRoom self.old change }
         requires counted { IsCounted self.old change }

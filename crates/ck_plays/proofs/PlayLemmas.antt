@@ -22,7 +22,7 @@ use Rattle.ck_plays.proofs.LineLemmas.{lines_in-read_on}
 use Rattle.ck_plays.proofs.ReadingLemmas.{nothing_read, further, after_failed, at_end}
 use Rattle.ck_plays.proofs.WriteLemmas.{nothing_written}
 
--- so many lines have their ends where the last has none
+-- where the last line has no end, all lines before it have theirs
 ended_lines-push : (before : List (List ℕ)) (l : List ℕ)
     → ended_lines (before ++ l ∷ []) ≡ length before
 ended_lines-push [] l = refl

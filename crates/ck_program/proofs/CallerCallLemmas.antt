@@ -134,7 +134,7 @@ module _ (calls : List (ℕ × Call)) (h : History) where
       let no : true ≡ false = sym (eq-eqb number (suc most) e) ∙ same in cc no in
       earlier (omega (arith, differ))
 
-  -- so each of so many has made its calls
+  -- so each of the callers 1 to n has made its calls
   pub of_each : (most : ℕ) (callers : List CallerState) → are_all most callers ≡ true
       → All (IsSettled h) callers → All (HasMadeAll calls) callers
       → (number : ℕ) → 1 ≤ number → number ≤ most → HasEntriesOf calls number h

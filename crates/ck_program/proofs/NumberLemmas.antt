@@ -48,7 +48,7 @@ same_numbers (s ∷ old) [] each = absurd each
 same_numbers (s ∷ old) (t ∷ new) each =
     ap₂ ◌∷◌ (same_number s t t.started each.0) (same_numbers old new each.1)
 
--- ---- whether all are given back is a matter of the numbers alone
+-- ---- whether all are given back depends only on the numbers
 
 same_any : (number : ℕ) (old new : List CallerState) → numbers new ≡ numbers old
     → list_any (λ c. c.number == number) new ≡ list_any (λ c. c.number == number) old

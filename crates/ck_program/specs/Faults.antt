@@ -17,7 +17,7 @@ abbrev pub of_threads : ThreadFault → ProgramFault
 of_threads threads.Memory = fault.Play play.Memory
 of_threads threads.NotStarted = fault.Thread
 
--- it ends as what needs no threads may end, of which this is so
+-- it ends well or with a fault of playing, of which P is so, and not for want of a thread
 abbrev pub EndsWithoutThreads : (Result (Unit {0}) PlayFault → Type 0)
     → Result (Unit {0}) ProgramFault → Type 0
 EndsWithoutThreads P (Ok u) = P (Ok u)

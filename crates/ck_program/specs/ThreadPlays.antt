@@ -31,7 +31,7 @@ pub record IsSummary (limits : Ranges) (callers : ℕ) (calls : List (ℕ × Cal
   pub all : (number : ℕ) → 1 ≤ number → number ≤ callers → HasEntriesOf calls number history
   pub is_text : text ≡ summary_text (entry_count history)
 
--- the whole script was read, and its calls were made, of which this is the text
+-- the whole script was read, and its calls were made; this text sums them up
 pub record WasPlayed (limits : Ranges) (callers most : ℕ) (read : Reading)
     (is_read : Reading → Type 0) (text : List ℕ) : Type 0 where
   pub calls : List (ℕ × Call)

@@ -24,10 +24,10 @@ pub enum Options {
     Help(String),
 }
 
-/// Why the arguments aren't the program's.
+/// Why the arguments are bad.
 #[derive(Debug, Drop, Error)]
 pub enum BadArguments {
-    /// What the reader of command lines says of them.
+    /// What `clap` says of them.
     #[error("{0}")]
     Refused(String),
     /// The value of `--callers` is no number of callers.

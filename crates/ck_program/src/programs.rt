@@ -19,7 +19,7 @@ use ck_types::Limits;
 use std::alloc::Global;
 use std::io;
 
-/// The status of arguments that aren't the program's.
+/// The status after bad arguments.
 const BAD_ARGUMENTS: u8 = 2;
 
 /// Reads a script whole in at most `most` reads, plays the lines of these callers on a new token,
@@ -69,8 +69,8 @@ fn play_options<G: JournaledToken + Send, R: Source, W: Sink, RT: Runtime>(
 }
 
 /// Does what the options say with the largest limits, and says with which status the program ends:
-/// 0 where it was done, 1 at a bad line, 3 after another fault, and 2 where the arguments aren't
-/// the program's. What went wrong is said on standard error.
+/// 0 where it was done, 1 at a bad line, 3 after another fault, and 2 where the arguments are bad.
+/// What went wrong is said on standard error.
 pub fn run<G: JournaledToken + Send, R: Source, W: Sink, RT: Eprint + Runtime>(
     rt: RT,
     alloc: Global,
@@ -80,7 +80,7 @@ pub fn run<G: JournaledToken + Send, R: Source, W: Sink, RT: Eprint + Runtime>(
 ) -> u8
     ensures status { (result ≡ 0) ⊎ (result ≡ 1) ⊎ (result ≡ 2) ⊎ (result ≡ 3) }
 
-    // Arguments that aren't the program's: nothing is read or written.
+    // Bad arguments: nothing is read or written.
     ensures bad_arguments { result ≡ 2
         ↔ (reason : BadArguments) × (options ≡ Err (ArgumentFault.Bad reason)) }
     ensures untouched { result ≡ 2

@@ -108,7 +108,7 @@ bytes_in text =
 abbrev pub pin_in : List ℕ → Option Pin
 pin_in text = option_map pin_of (bytes_in text)
 
--- `?` asks for the length alone
+-- `?` asks only for the length
 abbrev pub room_in : List ℕ → Option (Option ℕ)
 room_in text = if same_bytes text (codes "?") then Some None else option_map Some (number_in text)
 

@@ -86,8 +86,8 @@ fn show<K: TokenId, G: JournaledToken, R: Wait + Drop, W: Wait>(
     ensures board { Covers known.now (published writer.new) }
     ensures pending { pending writer.new ≡ [] }
 {
-    // It turns once: what was published is read off the board, since no contract of the writer
-    // says what its copies took in.
+    // The first pass returns. The loop is for the prover: no contract of the writer says what its
+    // copies took in, so it is read off the published board.
     for _ in rt.forever() {
         slot.fill(token.board(), known);
         if writer.publish().is_ok() && known.covers(writer.published().known()) {
@@ -117,7 +117,7 @@ fn show_by<K: TokenId, G: JournaledToken, R: Wait + Drop, W: Wait>(
     }
 }
 
-/// What the token answers to a call of this caller: by the work on its message, where this is done.
+/// Makes a call of this caller, with the work on its message where there is some.
 #[inline(always)]
 fn answer<G: JournaledToken>(
     token: &mut G,
@@ -151,8 +151,8 @@ fn extend<K: TokenId, G: JournaledToken, W: Wait>(
     requires next { (e : Entry) × ((G.state token.now).history ≡ e ◁ front.old) }
     ensures { (front.new ≡ (G.state token.now).history) × IsFront other.now front.old }
 {
-    // It turns once: only who holds the lock adds entries, which no contract says of the threads'
-    // common log.
+    // The first pass returns: only who holds the lock adds entries. No contract of the common log
+    // says so.
     for _ in rt.forever() {
         if let Some(entry) = token.journal().newest()
             && front.add_after(head, other, entry)
@@ -168,8 +168,8 @@ fn extend<K: TokenId, G: JournaledToken, W: Wait>(
 fn show_front<K: TokenId, W: Wait>(rt: &W, other: &Front<K>, front: &Front<K>)
     ensures { IsFront other.now front.now }
 {
-    // It turns once: the history under the lock has all entries, which no contract says of the
-    // front that another thread has.
+    // The first pass returns: the history under the lock has all entries. No contract says so of
+    // another thread's front.
     for _ in rt.forever() {
         if other.begins(front) {
             return;
@@ -279,7 +279,7 @@ impl<K: TokenId, G: JournaledToken, R: Wait + Drop> Locked<K, G, R> {
         self.step_after(rt, alloc, caller, call, None)
     }
 
-    /// As `step`, by the work on the message of the call, where this is done.
+    /// As `step`, with the work on the call's message where there is some.
     pub(crate) fn step_after<W: Wait>(
         &mut self,
         rt: &W,
@@ -297,6 +297,7 @@ impl<K: TokenId, G: JournaledToken, R: Wait + Drop> Locked<K, G, R> {
         ensures unchanged { OnErr result (IsUnchanged self.old self.new) }
         ensures caller { OnErr result (caller.new ≡ caller.old) }
     {
+        // By the account, whose contract says that the number is one of the token's callers.
         let number = caller.account().number();
         let leaves = call.leaves_board();
         let slot = add_slot(alloc, &mut self.writer, leaves)?;

@@ -21,8 +21,8 @@ use std::sync::Wait;
 use std::thread::Threads;
 use std::{mem, thread};
 
-/// The work of each caller of a shared token. It knows nothing of the type that stands for the
-/// token's history.
+/// The work of each caller of a shared token. Its method is over any `K`, so who implements it needs
+/// no proof file for `K`.
 pub trait CallerWork<R> {
     ghost use Rattle.ck_callers.specs.Callers.{CallerState};
 
@@ -172,7 +172,8 @@ fn share_as<
 
 /// Shares a token whose journal has no entries among the callers 1 to `callers`, at most eight,
 /// until each has done its work in a thread of its own. Gives their outputs in the order of the
-/// callers. Where memory runs out, some callers may have done nothing.
+/// callers. Where no thread can be made, the works run one after the other. Where memory runs out,
+/// some callers may have done nothing.
 pub fn share<G: JournaledToken + Send, S: CallerWork<R> + Sync, R: Runtime>(
     rt: R,
     alloc: Global,

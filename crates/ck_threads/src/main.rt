@@ -5,11 +5,8 @@
 ghost use Rattle.std.specs.Prelude.{◌≡◌, IfOk};
 ghost use Rattle.ck_journal.specs.Histories.{start, start_of};
 
-use anyhow::ensure;
-use ck_journal::{Call, READ_WRITE};
 use ck_shared::{Caller, CallerWork, Gate, TokenId, share};
-use ck_token::Token;
-use ck_types::{Limits, Pin, Rv};
+use ck_token::{Call, Limits, Pin, READ_WRITE, Rv, Token};
 use std::alloc::Global;
 use std::sync::Wait;
 
@@ -40,8 +37,7 @@ fn initialized_token(alloc: Global) -> anyhow::Result<Token>
 {
     let mut token = Token::new(alloc, Limits::largest());
     let pin = Pin::of(b"1234");
-    let reply = token.call(alloc, 1, Call::InitToken { pin })?;
-    ensure!(reply.rv == Rv::Ok, "InitToken: {}", reply.rv);
+    token.try_call(alloc, 1, Call::InitToken { pin })?;
     token.cut(alloc)?;
     Ok(token)
 }

@@ -60,8 +60,8 @@ may_take_memory h c = takes_memory c && not (gives_nothing h c)
 abbrev pub may_run_out : Ranges → History → Call → Bool
 may_run_out limits h c = is_none (call_error limits h c) && may_take_memory h c
 
--- a check of a call that is about this user: it finds no error, or this one with what the refusal
--- changes
+-- a check of a call about this user: it passes, or it fails with this error and with what the
+-- refusal changes
 abbrev pub IsCheckAbout :
     {T : Type 0} → Option UserType → Option RvError → Result T Refused → Type 0
 IsCheckAbout who error (Ok found) = error ≡ None

@@ -8,18 +8,19 @@ use std::alloc::AllocError;
 /// The reply to a call, and what the call changes. The code and the body stand here apart: a
 /// `Reply` of both has padding, which would be moved with it, so it is made once, at the end.
 #[derive(Drop)]
-pub struct Decision {
-    pub rv: Rv,
-    pub body: Body,
-    pub change: Change,
+pub(crate) struct Decision {
+    pub(crate) rv: Rv,
+    pub(crate) body: Body,
+    pub(crate) change: Change,
 }
 
 /// Why a call isn't carried out.
 #[derive(Drop)]
-pub enum Refused {
+pub(crate) enum Refused {
     /// A check fails. The refusal changes nothing, except that it may count a wrong PIN or end an
     /// operation.
     Error { error: RvError, change: Change },
+    /// There is no memory for the call.
     Memory,
 }
 
@@ -67,7 +68,7 @@ impl Decision {
 
     /// A call that is answered CKR_OK with no body, and changes this.
     #[inline(always)]
-    pub fn of_change(change: Change) -> Decision
+    pub(crate) fn of_change(change: Change) -> Decision
         ensures { result ≡ record { rv = rv.Ok; body = body.Empty; change = change } }
     {
         Decision {
@@ -79,7 +80,7 @@ impl Decision {
 
     /// A call that is answered CKR_OK with this body, and changes nothing.
     #[inline(always)]
-    pub fn of_body(body: Body) -> Decision
+    pub(crate) fn of_body(body: Body) -> Decision
         ensures { result ≡ record { rv = rv.Ok; body = body; change = change.Nothing } }
     {
         Decision {

@@ -39,8 +39,8 @@ pub use tries::CallError;
 
 // What users of a token need of the crates below.
 pub use ck_journal::{
-    Answer, AttributeQuery, Base, Body, Call, Entry, Journal, JournaledToken, KeptObject,
-    READ_WRITE, RW_SESSION, Reply, SERIAL_SESSION, TokenBoard,
+    Answer, AttributeQuery, Base, Body, Call, Entries, Entry, Journal, JournaledToken, KeptObject,
+    READ_WRITE, RW_SESSION, Reply, SERIAL_SESSION, TokenBoard, Work,
 };
 pub use ck_objects::{
     Attribute, AttributeValue, Class, DATA, Field, GENERIC_SECRET, Item, KeyState, Placement,

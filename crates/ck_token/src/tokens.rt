@@ -51,8 +51,8 @@ impl Model for Token {
     ghost invariant = { λ t. TokenAgrees t.limits t.journal.history t.parts };
 }
 
-/// Drops what is left of a call that finds no memory. `drop_apart` is a function of its own, since
-/// a compiled function clears the room of all that it may drop each time it begins.
+/// Drops what is left of a call that finds no memory, in a function that is never inlined: a
+/// compiled function clears, where it begins, the stack room of all that it may drop.
 #[inline(always)]
 fn out_of_memory<T: Drop>(left: T) -> NoMemory {
     drop_apart(left);
@@ -148,8 +148,8 @@ impl Token {
         &self.journal
     }
 
-    /// What C_GetSessionInfo and C_GetTokenInfo read of the token. It takes no memory beside the
-    /// board's own.
+    /// What C_GetSessionInfo and C_GetTokenInfo read of the token. It asks for no
+    /// memory: a board has a fixed size.
     pub fn board(&self) -> TokenBoard
         ensures { result ≡ board_of self.now.limits self.now.history }
     {
@@ -182,7 +182,7 @@ impl Token {
     }
 
     /// Takes the journal out; the token goes on with a new one, which starts from what is left of
-    /// the calls so far and has no entry. It may have no room. Where a session is open, which is
+    /// the calls so far and has no entry. It may have no room for entries. Where a session is open, which is
     /// looked at first, or there is no memory, nothing has changed. All later calls are answered as
     /// they would have been.
     pub fn cut(&mut self, alloc: Global) -> Result<Journal, Uncut>
@@ -205,8 +205,8 @@ impl Token {
 
     /// Answers a call and enters it in the journal. Where there is no memory for it, nothing has
     /// changed and the call isn't in the journal. Where the journal has room, only a call that
-    /// passes its checks can run out of memory, and only one that opens a session, creates or
-    /// copies an object, sets or reads attributes, finds or returns objects, reads the list of
+    /// passes its checks can run out of memory, and only one that opens a session, creates,
+    /// generates or copies an object, sets or reads attributes, finds or returns objects, reads the list of
     /// mechanisms, starts an operation, or gives a digest or a signature.
     pub fn call(&mut self, alloc: Global, caller: u32, call: Call) -> Result<Reply, NoMemory>
         ensures answered { IfOk result (λ reply. IsAnswered self.old self.new caller call reply) }

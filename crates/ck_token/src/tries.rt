@@ -1,5 +1,6 @@
-ghost use Rattle.std.specs.Prelude.{◌≡◌};
+ghost use Rattle.std.specs.Prelude.{◌≡◌, ◌≢◌, ◌<◌, false};
 ghost use Rattle.ck_journal.specs.Answers.{IsLegal};
+ghost use Rattle.ck_token.specs.Decisions.{may_run_out};
 ghost use Rattle.ck_token.specs.Tries.{IsTried};
 ghost use Rattle.ck_token.specs.declared.tries.CallError.TheVariants as call_error;
 
@@ -42,6 +43,9 @@ impl Token {
     pub fn try_call(&mut self, alloc: Global, caller: u32, call: Call) -> Result<Body, CallError>
         ensures tried { IsTried self.old self.new caller call result }
         ensures legal { IsLegal self.new.limits self.new.history }
+        ensures succeeds { 0 < self.old.spare
+            → may_run_out self.old.limits self.old.history call ≡ false
+            → result ≢ Err call_error.Memory }
     {
         Ok(self.call(alloc, caller, call)?.ok()?)
     }

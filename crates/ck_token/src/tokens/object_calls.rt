@@ -101,9 +101,7 @@ impl Token {
     {
         self.check_placement(row, placement)?;
         let creations = self.creations();
-        if self.limits.creations() <= creations {
-            return Err(RvError::DeviceMemory);
-        }
+        error_if(self.limits.creations() <= creations, RvError::DeviceMemory)?;
         Ok(creations + 1)
     }
 

@@ -162,9 +162,7 @@ impl Token {
         self.session(session)?;
         let is_active = self.operation(OperationKind::Digest, session).is_ok();
         error_if(is_active, RvError::OperationActive)?;
-        let Some(hash) = digest_of(mechanism.kind) else {
-            return Err(Refused::from(RvError::MechanismInvalid));
-        };
+        let hash = digest_of(mechanism.kind).ok_or(RvError::MechanismInvalid)?;
         check_no_parameter(mechanism)?;
         Ok(Decision::of_change(Change::StartDigest { session, hash }))
     }
@@ -202,12 +200,10 @@ impl Token {
         self.session(session)?;
         let is_active = self.operation(kind, session).is_ok();
         error_if(is_active, RvError::OperationActive)?;
-        let Some(hash) = mac_of(mechanism.kind) else {
-            return Err(Refused::from(RvError::MechanismInvalid));
-        };
-        let Some(len) = mechanism.tag_length() else {
-            return Err(Refused::from(RvError::MechanismParamInvalid));
-        };
+        let hash = mac_of(mechanism.kind).ok_or(RvError::MechanismInvalid)?;
+        let len = mechanism
+            .tag_length()
+            .ok_or(RvError::MechanismParamInvalid)?;
         let key = self.usable_key(kind, key)?;
         Ok(Decision::of_change(Change::StartHmac {
             kind,

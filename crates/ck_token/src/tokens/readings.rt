@@ -16,7 +16,7 @@ fn is_user_in(login: Option<UserType>) -> bool
     matches!(login, Some(UserType::User))
 }
 
-/// What the calls read of the token's parts; contracts say it of the history.
+/// Readings of the token's parts. Their contracts say what they are in the history.
 impl Token {
     ghost use Rattle.std.specs.Prelude.{◌<◌, ◌^◌, ℕ, true, false, not, Some, None, IfOk};
     ghost use Rattle.std.specs.Prelude.{IfErr, length};
