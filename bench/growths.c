@@ -2,6 +2,7 @@
  * whose number, from 1, stands in REFUSED_GROWTH, and all from the one on whose number stands in
  * REFUSED_FROM. At the end it writes to the file descriptor 3 how many growths there were. */
 #include <errno.h>
+#include <stdatomic.h>
 #include <stdio.h>
 #include <stdlib.h>
 #include <sys/syscall.h>
@@ -12,7 +13,7 @@ void *__libc_realloc(void *block, size_t size);
 
 static long refused;
 static long refused_from;
-static long growths;
+static atomic_long growths;
 
 static long number_in(const char *name) {
     const char *text = getenv(name);
@@ -26,7 +27,7 @@ __attribute__((constructor)) static void start(void) {
 }
 
 __attribute__((destructor)) static void end(void) {
-    dprintf(3, "%ld", growths);
+    dprintf(3, "%ld", (long)growths);
 }
 
 /* A program that may start threads ends by this, and no destructor is called. */
@@ -37,8 +38,8 @@ void _exit(int status) {
 }
 
 static int is_refused(void) {
-    growths++;
-    if (growths != refused && (refused_from == 0 || growths < refused_from))
+    long number = ++growths;
+    if (number != refused && (refused_from == 0 || number < refused_from))
         return 0;
     errno = ENOMEM;
     return 1;

@@ -7,8 +7,10 @@ growths, or of the files that are named, is played once for each growth of memor
 What finds no memory, a call, a cut or an audit, the program of cases makes again after a look at
 the journal: so the case passes, or the program itself is out of memory. The calls of a case are
 also played as a script: all replies are written, or whole lines at their front, and then the
-program says that it is out of memory. Where anything else comes, it is printed, and the status is
-1. Bad lines are left out: they make no call, and without memory one may have another reason.
+program says that it is out of memory. The same script is played in threads, with `--callers 8`: it
+is summed up, or nothing is written, since there was no memory or no thread. Where anything else
+comes, it is printed, and the status is 1. Bad lines are left out: they make no call, and without
+memory one may have another reason.
 
 The calls of each race in crates/ck_races/data are made one after the other, in three ways. By two
 callers of a shared token in turn: where one finds no memory, it knows what it did before and is
@@ -45,6 +47,8 @@ DATA = os.path.join(CRATES, "ck_cases", "data", "*.cases")
 LONG = os.path.join(CRATES, "ck_cases", "data", "many_objects.cases")
 LARGEST = "limits largest"
 BAD_LINE = " -> bad script: "
+# A thread that gets no memory isn't started.
+THREAD_ERRORS = (b"ck_run: out of memory\n", b"ck_run: thread not started\n")
 MEMORY_ERRORS = (
     b"Error: out of memory\n",
     b"Error: memory allocation failed\n",
@@ -176,6 +180,29 @@ def check_script(library, name, lines, step):
     return len(numbers), 0, faults
 
 
+def is_summary_right(ended, plain):
+    """The calls are summed up, or nothing is written."""
+    if ended.output == plain.output:
+        return ended.status == 0
+    return (ended.status, ended.output) == (3, b"") and ended.errors in THREAD_ERRORS
+
+
+def check_threads(library, name, lines, step):
+    """The same of the calls of the case, those of each caller in a thread of its own."""
+    words = [SCRIPTS, "--callers", "8"]
+    text = "".join(call + "\n" for call, _ in calls_in(lines)).encode()
+    plain = play(library, words, text, 0)
+    if plain.status != 0:
+        return 0, 0, [f"{name} in threads: {plain}"]
+    faults = []
+    numbers = range(1, plain.growths + 1, step)
+    for growth in numbers:
+        ended = play(library, words, text, growth)
+        if not is_summary_right(ended, plain):
+            faults.append(f"{name} in threads, growth {growth}: {ended}")
+    return len(numbers), 0, faults
+
+
 def check_reserved(library):
     """Calls with reserved places take no memory, and are answered where every growth is refused."""
     reserving = play(library, [RACES, "reserve"], b"", 0)
@@ -200,6 +227,7 @@ def main(paths, races, is_short=False):
                 checks.append(pool.submit(check_case, *case))
                 if lines[0] == LARGEST:
                     checks.append(pool.submit(check_script, library, name, lines, case_step))
+                    checks.append(pool.submit(check_threads, library, name, lines, case_step))
         for number, lines in races:
             name = f"{os.path.basename(RACES_DATA)}, line {number}"
             race = (library, [RACES, "alone"], name, lines, 1, race_step)

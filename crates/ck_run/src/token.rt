@@ -1,9 +1,9 @@
-//! What the cases of ck_cases don't show: of a token an empty journal, room for entries and a run,
-//! and that a long template is checked in time.
-use ck_journal::Call;
+//! What the cases of ck_cases don't show: of a token an empty journal, room for entries, runs, and
+//! that a long template is checked in time.
+use ck_journal::{Call, READ_WRITE};
 use ck_objects::{Attribute, AttributeValue, Item, Template};
 use ck_token::{Token, run};
-use ck_types::{Limits, NoMemory, RvError, Sequence};
+use ck_types::{Bytes, Limits, Mechanism, NoMemory, Pin, Rv, RvError, SHA256, Sequence};
 use std::alloc::Global;
 use std::process::Abort;
 use std::test::Fail;
@@ -30,6 +30,48 @@ fn check_run(rt: &impl Abort, alloc: Global, token: &mut Token) -> Result<(), Fa
 fn a_run_enters_its_calls(rt: HostRuntime) -> Result<(), Fail> {
     let mut token = Token::new(rt.alloc(), Limits::largest());
     check_run(&rt, rt.alloc(), &mut token)
+}
+
+/// The calls that digest this many bytes in one update, in session 1.
+fn digest_calls(alloc: Global, count: usize) -> Result<Vec<(u32, Call)>, NoMemory> {
+    let session = 1;
+    let pin = Pin::of(b"1234");
+    let flags = READ_WRITE;
+    let mechanism = Mechanism::new(alloc, SHA256);
+    let bytes = Bytes::from_vec(vec![in alloc; b'a'; count]?);
+    let room = Some(32);
+    Ok(vec![in alloc;
+        (1, Call::InitToken { pin }),
+        (1, Call::OpenSession { flags }),
+        (1, Call::DigestInit { session, mechanism }),
+        (1, Call::DigestUpdate { session, bytes }),
+        (1, Call::DigestFinal { session, room }),
+    ]?)
+}
+
+/// The codes that a run answers to an update with this many bytes and to the final call.
+fn digest_codes(alloc: Global, count: usize) -> Result<Vec<Rv>, Fail> {
+    let mut token = Token::new(alloc, Limits::largest());
+    run(&mut token, alloc, digest_calls(alloc, count)?)?;
+    let mut codes = Vec::new(alloc);
+    for entry in token.journal().iter().skip(3) {
+        codes.push(entry.reply.rv)?;
+    }
+    Ok(codes)
+}
+
+/// An update with 2^20 bytes is answered; one with a byte more is refused and ends the digest.
+#[test]
+fn the_longest_piece(rt: HostRuntime) -> Result<(), Fail> {
+    let codes = digest_codes(rt.alloc(), 0x10_0000)?;
+    assert!(rt; codes.as_slice() == [Rv::Ok, Rv::Ok].as_slice());
+    let codes = digest_codes(rt.alloc(), 0x10_0001)?;
+    let refused = [
+        Rv::Error(RvError::DataLenRange),
+        Rv::Error(RvError::OperationNotInitialized),
+    ];
+    assert!(rt; codes.as_slice() == refused.as_slice());
+    Ok(())
 }
 
 /// Adds 300,000 items of this attribute, without values.
