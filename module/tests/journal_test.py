@@ -7,6 +7,7 @@ Called with the module's file and the program ck_cases. With the first argument 
 import _ctypes
 import contextlib
 import ctypes
+import gc
 import os
 import random
 import resource
@@ -57,6 +58,7 @@ class MemoryInfo(ctypes.Structure):
 
 def memory_in_use():
     """How many bytes of memory this process has taken by malloc and not given back."""
+    gc.collect()
     read_info = ctypes.CDLL(None).mallinfo2
     read_info.restype = MemoryInfo
     info = read_info()
@@ -484,6 +486,19 @@ class Tests:
             grown = self.run_memory(kind, "no")
             self.checks.check(grown > 4 << 20, f"with no, {kind} grows by {grown} bytes")
 
+    def test_long_template(self):
+        """What a long template took is given back with the journal that has it."""
+        self.begin()
+        value = "00" * (4 << 20)
+        before = memory_in_use()
+        self.checks.equal(self.module.say(f"1 FindObjectsInit 1 3={value}"), "b3", "the call")
+        held = memory_in_use() - before
+        self.checks.check(held > 4 << 20, f"the journal has the template: {held} bytes")
+        self.say_all(["1 GetTokenInfo"] * 2000)
+        held = memory_in_use() - before
+        self.checks.check(held < 1 << 20, f"{held} bytes are held")
+        self.end()
+
     def test_cut(self):
         """No reply differs by OSPREYRACK_CUT."""
         lines = list(LOG_IN)
@@ -514,7 +529,7 @@ class Tests:
 TESTS = [Tests.test_file, Tests.test_going_on, Tests.test_new_label, Tests.test_script,
          Tests.test_cut_off, Tests.test_changed, Tests.test_lacking_reply, Tests.test_two_processes,
          Tests.test_unload, Tests.test_kills, Tests.test_full, Tests.test_filling, Tests.test_seed,
-         Tests.test_cut, Tests.test_memory]
+         Tests.test_long_template, Tests.test_cut, Tests.test_memory]
 
 
 def main():
