@@ -34,8 +34,8 @@ static void pause_for(int count) {
         __builtin_ia32_pause();
 }
 
-/* Lets other threads run for some 10 us. A yield alone takes from less than one to many of them,
- * by how many threads want the processor, so it is the time that counts. */
+/* Lets other threads run for some 10 us. A yield takes less than one where no other thread wants
+ * the processor, and long where many do, so the time counts and not the yields. */
 static void let_others_run(void) {
     enum { TICKS = 25000 };
     uint64_t begin = __builtin_ia32_rdtsc();
@@ -57,7 +57,7 @@ static bool take_quickly(void) {
 
 /* What lies under the mutex moves to another processor each time that another thread takes it,
  * which takes longer than a call. So the later looks are further apart, and whoever has the mutex
- * makes several calls in a row. Where the processors have much else to do, it ends early. */
+ * makes several calls in a row. Where yields take long, there are fewer looks. */
 static bool take_slowly(void) {
     enum { LOOKS = 19, MOST_TICKS = 1000000 };
     uint64_t begin = __builtin_ia32_rdtsc();
@@ -157,9 +157,10 @@ static void begin_in_child(void) {
     pthread_mutex_init(&own_mutex, NULL);
 }
 
-/* Where the library is unloaded without C_Finalize, the file is another's to open. At the end of
- * the process other threads may still call: one that is in a call keeps the file. Under the
- * application's lock that isn't known, so the file stays open. */
+/* Where the library is unloaded without C_Finalize, nobody else would close the file, and its lock
+ * would stay. This also runs at the end of the process, where other threads may still call: one
+ * that is in a call keeps the file. Under the application's lock that isn't known, so the file
+ * stays open. */
 __attribute__((destructor)) static void close_at_unload(void) {
     if (pthread_mutex_trylock(&own_mutex) != 0)
         return;

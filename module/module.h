@@ -160,11 +160,11 @@ enum {
     LONGEST_LINE = 4194304,
 };
 
-/* No process has as much memory. */
+/* No process has as many bytes of memory. */
 #define LONGEST_MEMORY ((CK_ULONG)1 << 47)
 
 struct bytes {
-    const uint8_t *at; /* NULL only where the application gave NULL with a length */
+    const uint8_t *at; /* NULL only where bytes are missing */
     size_t length;
 };
 
@@ -195,12 +195,15 @@ struct call {
 };
 
 /* The bytes that the application gave. Of what is longer than `longest` one byte more than that is
- * handed on, so that it stays too long. */
+ * handed on, so that it stays too long. Bytes at NULL, and those of a length that no memory has, are
+ * missing ones. */
 struct bytes bytes_of(const void *at, CK_ULONG length, size_t longest);
 
 /* The same of a PIN. A NULL one is for a PIN that is entered at the token itself, which has no way
  * for that, so it is missing whatever its length is. */
 struct bytes pin_of(const CK_UTF8CHAR *at, CK_ULONG length);
+
+/* A mechanism's parameter. */
 struct bytes parameter_of(const CK_MECHANISM *mechanism);
 
 /* What is wrong with the pointers and lengths of a call's arguments. */
