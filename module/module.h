@@ -195,8 +195,8 @@ struct call {
 };
 
 /* The bytes that the application gave. Of what is longer than `longest` one byte more than that is
- * handed on, so that it stays too long. Bytes at NULL are missing, and so are those of a length that
- * no memory has. */
+ * handed on, so that it stays too long. Those at NULL are missing, and so are those of a length
+ * that no memory has; no bytes are never missing. */
 struct bytes bytes_of(const void *at, CK_ULONG length, size_t longest);
 
 /* The same of a PIN. A NULL one is for a PIN that is entered at the token itself, which has no way
