@@ -22,7 +22,13 @@ struct bytes bytes_of(const void *at, CK_ULONG length, size_t longest) {
     static const uint8_t none[1];
     if (at == NULL && length == 0)
         return (struct bytes){none, 0};
+    if (length >= LONGEST_MEMORY)
+        return (struct bytes){NULL, 1};
     return (struct bytes){at, length > longest ? longest + 1 : length};
+}
+
+struct bytes pin_of(const CK_UTF8CHAR *at, CK_ULONG length) {
+    return bytes_of(at, at == NULL ? 1 : length, LONGEST_PIN);
 }
 
 struct bytes parameter_of(const CK_MECHANISM *mechanism) {
@@ -260,6 +266,17 @@ void cut_journal(void) {
         journals_begun++;
 }
 
+/* What a long template took isn't kept for short ones. */
+static void drop_long_lists(void) {
+    enum { MOST_KEPT = 1 << 20 };
+    if (library.items.room > MOST_KEPT)
+        buffer_free(&library.items);
+    if (library.values.room > MOST_KEPT)
+        buffer_free(&library.values);
+}
+
+/* The journal can be cut only where no session is open: after a call that needs none, or that was
+ * refused since its session isn't open, or that has closed the last one. */
 CK_RV make_call(const struct call *call) {
     if (library.journal.has_failed)
         return CKR_DEVICE_ERROR;
@@ -267,12 +284,25 @@ CK_RV make_call(const struct call *call) {
     if (code != CKR_OK)
         return code;
     uint32_t step = library.journal.is_kept ? call_by_line(call) : call_by_arguments(call);
+    drop_long_lists();
     if (step != ANSWERED)
         return CKR_HOST_MEMORY;
     if (library.journal.has_failed)
         return CKR_DEVICE_ERROR;
     code = ospreyrack_code(&library.token);
-    if (call->name == CLOSE_SESSION || call->name == CLOSE_ALL_SESSIONS)
+    if (call->session == 0 || call->name == CLOSE_SESSION || code == CKR_SESSION_HANDLE_INVALID)
+        cut_journal();
+    return code;
+}
+
+CK_RV ask_for_session(CK_ULONG session) {
+    const struct call call = {.name = GET_SESSION_INFO, .session = session};
+    if (library.journal.is_kept)
+        return make_call(&call);
+    if (ospreyrack_get_session_info(&library.token, caller_number(), session) != ANSWERED)
+        return CKR_HOST_MEMORY;
+    CK_RV code = ospreyrack_code(&library.token);
+    if (code == CKR_SESSION_HANDLE_INVALID)
         cut_journal();
     return code;
 }

@@ -123,7 +123,7 @@ static bool open_token(const char *path, bool *is_new) {
 static bool answer_files(const char *script, const char *journal, const char *token) {
     bool is_new = true;
     if (journal != NULL && token != NULL)
-        return report(journal_word, "the file of OSPREYRACK_TOKEN is a journal already");
+        return report(journal_word, "OSPREYRACK_TOKEN is a journal: set only one of the two");
     if (journal != NULL && !open_expanded_journal(journal))
         return false;
     if (token != NULL && !open_token(token, &is_new))

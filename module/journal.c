@@ -29,7 +29,9 @@ static bool lock_file(struct journal *journal, const char *path) {
     if (fstat(journal->file, &status) != 0 || !S_ISREG(status.st_mode))
         return report(journal->word, "%s: this is no regular file", path);
     if (flock(journal->file, LOCK_EX | LOCK_NB) != 0)
-        return report(journal->word, "%s: another process has locked the file", path);
+        return report(journal->word, "%s: %s", path,
+                      errno == EWOULDBLOCK ? "another process has locked the file"
+                                           : strerror(errno));
     if (fstat(journal->file, &status) != 0)
         return report(journal->word, "%s: %s", path, strerror(errno));
     journal->length = status.st_size;
@@ -109,12 +111,7 @@ static bool truncate_file(const struct journal *journal) {
 }
 
 /* What was written in part is taken back, since the application gets no answer to it. */
-bool write_journal(void) {
-    struct journal *journal = &library.journal;
-    size_t length = journal->text.length;
-    journal->text.length = 0;
-    if (length == 0)
-        return true;
+static bool write_text(struct journal *journal, size_t length) {
     ssize_t written = write(journal->file, journal->text.bytes, length);
     if (written == (ssize_t)length) {
         journal->length += written;
@@ -126,6 +123,18 @@ bool write_journal(void) {
     return report(journal->word, "a call can't be written: %s%s", reason, rest);
 }
 
+bool write_journal(void) {
+    struct journal *journal = &library.journal;
+    size_t length = journal->text.length;
+    journal->text.length = 0;
+    if (length == 0)
+        return true;
+    int cancel = forbid_cancel();
+    bool is_written = write_text(journal, length);
+    allow_cancel(cancel);
+    return is_written;
+}
+
 bool write_first_journal(void) {
     const struct journal *journal = &library.journal;
     if (journal->is_open && !truncate_file(journal))
@@ -133,8 +142,22 @@ bool write_first_journal(void) {
     return write_journal();
 }
 
+/* A fork in another thread may come in between, and its child closes the file that is open. */
+static void close_file(struct journal *journal) {
+    bool was_open = journal->is_open;
+    journal->is_open = false;
+    if (was_open)
+        close(journal->file);
+}
+
 void close_journal(void) {
-    if (library.journal.is_open)
-        close(library.journal.file);
+    close_file(&library.journal);
     buffer_free(&library.journal.text);
+}
+
+void abandon_journal(void) {
+    if (!library.journal.is_open)
+        return;
+    library.journal.has_failed = true;
+    close_file(&library.journal);
 }

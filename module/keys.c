@@ -30,9 +30,10 @@ static CK_RV generate_key(struct call call, CK_OBJECT_HANDLE *key) {
     if (code != CKR_OK)
         return code;
     call.bytes = (struct bytes){bytes, key_length(call.attributes, call.count)};
-    if (!random_bytes(bytes, call.bytes.length))
-        return CKR_DEVICE_ERROR;
-    return make_call_for_handle(&call, key);
+    int cancel = forbid_cancel();
+    bool is_random = random_bytes(bytes, call.bytes.length);
+    allow_cancel(cancel);
+    return is_random ? make_call_for_handle(&call, key) : CKR_DEVICE_ERROR;
 }
 
 CK_RV C_GenerateKey(CK_SESSION_HANDLE session, CK_MECHANISM_PTR mechanism,
@@ -51,19 +52,24 @@ CK_RV C_GenerateKey(CK_SESSION_HANDLE session, CK_MECHANISM_PTR mechanism,
 /* Checks the arguments of a function that is given only a session and bytes. */
 static CK_RV check_session(CK_SESSION_HANDLE session, const CK_BYTE *bytes, CK_ULONG length) {
     const struct call call = {.name = GET_SESSION_INFO, .session = session};
-    if (bytes == NULL && length > 0)
+    if ((bytes == NULL && length > 0) || length >= LONGEST_MEMORY)
         return CKR_ARGUMENTS_BAD;
     return make_call(&call);
 }
 
+/* The system may be long about its bytes, which need no lock. */
 CK_RV C_GenerateRandom(CK_SESSION_HANDLE session, CK_BYTE_PTR out, CK_ULONG length) {
     CK_RV code = enter();
     if (code != CKR_OK)
         return code;
     code = check_session(session, out, length);
-    if (code == CKR_OK && !random_bytes(out, length))
-        code = CKR_DEVICE_ERROR;
-    return leave(code);
+    bool has_seed = library.has_seed;
+    if (code == CKR_OK && has_seed)
+        random_bytes(out, length);
+    leave(code);
+    if (code != CKR_OK || has_seed)
+        return code;
+    return system_bytes(out, length) ? CKR_OK : CKR_DEVICE_ERROR;
 }
 
 CK_RV C_SeedRandom(CK_SESSION_HANDLE session, CK_BYTE_PTR seed, CK_ULONG length) {

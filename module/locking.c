@@ -9,6 +9,7 @@
 
 #include <pthread.h>
 #include <sched.h>
+#include <sys/single_threaded.h>
 #include <unistd.h>
 
 /* Zeros where the module's own mutex is the lock. */
@@ -33,28 +34,46 @@ static void pause_for(int count) {
         __builtin_ia32_pause();
 }
 
-/* Lets other threads run for some 10 us. */
+/* Lets other threads run for some 10 us. A yield takes less than one where no other thread wants
+ * the processor, and long where many do, so the time counts and not the yields. */
 static void let_others_run(void) {
-    enum { YIELDS = 40 };
-    for (int i = 0; i < YIELDS; i++)
+    enum { TICKS = 25000 };
+    uint64_t begin = __builtin_ia32_rdtsc();
+    do
         sched_yield();
+    while (__builtin_ia32_rdtsc() - begin < TICKS);
 }
 
-/* Most calls are short, so a thread that finds the mutex taken looks again a few times at once.
- * What lies under the mutex moves to another processor each time that another thread takes it,
- * which takes longer than a call. So the later looks are further apart, and whoever has the mutex
- * makes several calls in a row. After the last look the thread sleeps. */
-void take_own_mutex(void) {
-    enum { LOOKS = 24, QUICK_LOOKS = 5 };
+/* Most calls are short, so a thread that finds the mutex taken looks again a few times at once. */
+static bool take_quickly(void) {
+    enum { LOOKS = 5 };
     for (int look = 0; look < LOOKS; look++) {
         if (pthread_mutex_trylock(&own_mutex) == 0)
-            return;
-        if (look < QUICK_LOOKS)
-            pause_for(1 << look);
-        else
-            let_others_run();
+            return true;
+        pause_for(1 << look);
     }
-    pthread_mutex_lock(&own_mutex);
+    return false;
+}
+
+/* What lies under the mutex moves to another processor each time that another thread takes it,
+ * which takes longer than a call. So the later looks are further apart, and whoever has the mutex
+ * makes several calls in a row. Where yields take long, there are fewer looks. */
+static bool take_slowly(void) {
+    enum { LOOKS = 19, MOST_TICKS = 1000000 };
+    uint64_t begin = __builtin_ia32_rdtsc();
+    for (int look = 0; look < LOOKS && __builtin_ia32_rdtsc() - begin < MOST_TICKS; look++) {
+        if (pthread_mutex_trylock(&own_mutex) == 0)
+            return true;
+        let_others_run();
+    }
+    return false;
+}
+
+/* A process with one thread has nobody to wait for, and the C library then takes a mutex without
+ * the instructions that other processors see. After the last look a thread sleeps. */
+void take_own_mutex(void) {
+    if (__libc_single_threaded || (!take_quickly() && !take_slowly()))
+        pthread_mutex_lock(&own_mutex);
 }
 
 CK_RV enter(void) {
@@ -80,6 +99,17 @@ CK_RV leave(CK_RV code) {
 
 void release_own_mutex(void) {
     pthread_mutex_unlock(&own_mutex);
+}
+
+int forbid_cancel(void) {
+    int before;
+    pthread_setcancelstate(PTHREAD_CANCEL_DISABLE, &before);
+    return before;
+}
+
+void allow_cancel(int before) {
+    int forbidden;
+    pthread_setcancelstate(before, &forbidden);
 }
 
 CK_RV open_lock(const CK_C_INITIALIZE_ARGS *arguments) {
@@ -125,6 +155,18 @@ static void begin_in_child(void) {
     library = (struct library){0};
     application_lock = (struct application_lock){0};
     pthread_mutex_init(&own_mutex, NULL);
+}
+
+/* Where the library is unloaded without C_Finalize, nobody else would close the file, and its lock
+ * would stay. This also runs at the end of the process, where other threads may still call: one
+ * that is in a call keeps the file. Under the application's lock that isn't known, so the file
+ * stays open. */
+__attribute__((destructor)) static void close_at_unload(void) {
+    if (pthread_mutex_trylock(&own_mutex) != 0)
+        return;
+    if (application_lock.lock == NULL)
+        abandon_journal();
+    pthread_mutex_unlock(&own_mutex);
 }
 
 bool watch_forks(void) {

@@ -92,6 +92,10 @@ CK_RV leave(CK_RV code);
 void take_own_mutex(void);
 void release_own_mutex(void);
 
+/* Between these two the thread isn't cancelled: under the lock it would never release it. */
+int forbid_cancel(void);
+void allow_cancel(int before);
+
 /* Makes the lock that these arguments of C_Initialize ask for; NULL asks for the module's own
  * mutex. */
 CK_RV open_lock(const CK_C_INITIALIZE_ARGS *arguments);
@@ -156,8 +160,11 @@ enum {
     LONGEST_LINE = 4194304,
 };
 
+/* No process has as many bytes of memory. */
+#define LONGEST_MEMORY ((CK_ULONG)1 << 47)
+
 struct bytes {
-    const uint8_t *at; /* NULL only where the application gave NULL with a length */
+    const uint8_t *at; /* NULL only where bytes are missing */
     size_t length;
 };
 
@@ -188,8 +195,15 @@ struct call {
 };
 
 /* The bytes that the application gave. Of what is longer than `longest` one byte more than that is
- * handed on, so that it stays too long. */
+ * handed on, so that it stays too long. Those at NULL are missing, and so are those of a length
+ * that no memory has; no bytes are never missing. */
 struct bytes bytes_of(const void *at, CK_ULONG length, size_t longest);
+
+/* The same of a PIN. A NULL one is for a PIN that is entered at the token itself, which has no way
+ * for that, so it is missing whatever its length is. */
+struct bytes pin_of(const CK_UTF8CHAR *at, CK_ULONG length);
+
+/* A mechanism's parameter. */
 struct bytes parameter_of(const CK_MECHANISM *mechanism);
 
 /* What is wrong with the pointers and lengths of a call's arguments. */
@@ -199,6 +213,9 @@ CK_RV check_call(const struct call *call);
  * there is no memory for it, and nothing has changed; CKR_DEVICE_ERROR where the journal file can't
  * be written; or the reply's code. */
 CK_RV make_call(const struct call *call);
+
+/* The same of C_GetSessionInfo, by a shorter way where no journal file is kept. */
+CK_RV ask_for_session(CK_ULONG session);
 
 /* The same, of a call that is answered a handle. */
 CK_RV make_call_for_handle(const struct call *call, CK_ULONG *handle);
@@ -284,6 +301,9 @@ bool write_journal(void);
 bool write_first_journal(void);
 void close_journal(void);
 
+/* Closes the file, and lets no later call be answered that would have to be written. */
+void abandon_journal(void);
+
 /* ---- Scripts: scripts.c */
 
 /* Answers the lines of a script, or those of the journal file that is open. */
@@ -304,6 +324,9 @@ bool report(const char *word, const char *format, ...) __attribute__((format(pri
 /* ---- Random bytes: random.c */
 
 bool random_bytes(uint8_t *out, size_t length);
+
+/* Those of the system, which need no lock. */
+bool system_bytes(uint8_t *out, size_t length);
 
 /* ---- What the module says of itself: general.c */
 

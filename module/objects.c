@@ -52,7 +52,7 @@ static void read_answer(size_t index, CK_ATTRIBUTE *attribute) {
     struct answer answer;
     ospreyrack_answer(&library.token, index, &answer);
     if (answer.kind == VALUE)
-        ospreyrack_value(&library.token, index, attribute->pValue, attribute->ulValueLen);
+        ospreyrack_value(&library.token, index, attribute->pValue, answer.length);
     attribute->ulValueLen = answer.kind == UNAVAILABLE ? CK_UNAVAILABLE_INFORMATION : answer.length;
 }
 

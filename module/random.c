@@ -26,7 +26,7 @@ static void seeded_bytes(uint8_t *out, size_t length) {
     }
 }
 
-static bool system_bytes(uint8_t *out, size_t length) {
+bool system_bytes(uint8_t *out, size_t length) {
     while (length > 0) {
         ssize_t count = getrandom(out, length, 0);
         if (count < 0 && errno != EINTR)

@@ -15,7 +15,7 @@ struct source {
     const char *word; /* the word of the environment that names it */
     const char *path;
     bool is_journal;  /* a reply may be missing in it, and the end of the last line */
-    bool has_begun;   /* it has a line that isn't a comment */
+    bool is_case;     /* it has limits or a reply, as every journal has */
     bool has_calls;
     size_t number;    /* of the line that was last read */
     off_t length;     /* of all lines with their ends */
@@ -100,27 +100,47 @@ static bool answer_call(struct source *source, const uint8_t *line, size_t lengt
     source->has_calls = true;
     if (at == NULL)
         return check_reply(source, NULL, 0);
+    source->is_case = true;
     at += strlen(arrow);
     return check_reply(source, at, length - (size_t)(at - line));
 }
 
+static bool is_limits(const uint8_t *line, size_t length) {
+    static const char start[] = "limits ";
+    return length >= strlen(start) && memcmp(line, start, strlen(start)) == 0;
+}
+
 /* A journal begins with the limits of its token. A new token has no others. */
+static bool answer_limits(struct source *source, const uint8_t *line, size_t length) {
+    if (!is_text(line, length, "limits largest"))
+        return report_line(source, "the module's token has the largest limits, and no others");
+    if (source->has_calls)
+        return report_line(source, "limits stand in front of all calls");
+    source->is_case = true;
+    return true;
+}
+
 static bool answer_text(struct source *source, const uint8_t *line, size_t length) {
     if (is_comment(line, length))
         return answer_comment(source, line, length);
-    source->has_begun = true;
-    if (!source->has_calls && is_text(line, length, "limits largest"))
-        return true;
+    if (is_limits(line, length))
+        return answer_limits(source, line, length);
     bool is_good = answer_call(source, line, length);
     cut_journal();
     return is_good;
 }
 
-/* A journal's last line lacks its end where the process was killed while it was written. A file
- * that nothing shows to be a journal is left as it is. */
+/* A file that nothing shows to be a journal is left as it is. It may be a script. */
+static bool check_case(const struct source *source) {
+    return source->is_case
+        || report(source->word, "%s: this is no journal: it has neither limits nor a reply",
+                  source->path);
+}
+
+/* A journal's last line lacks its end where the process was killed while it was written. */
 static bool drop_line(const struct source *source) {
-    if (!source->has_begun)
-        return report_line(source, "this is no journal");
+    if (!check_case(source))
+        return false;
     report_line(source, "the line has no end, so it wasn't answered, and is dropped");
     return true;
 }
@@ -167,7 +187,7 @@ bool answer_script(const char *word, const char *path) {
 
 /* The journal file by a descriptor of its own, which can be closed. */
 static FILE *copy_of_journal(void) {
-    int file = fcntl(library.journal.file, F_DUPFD_CLOEXEC, 0);
+    int file = fcntl(library.journal.file, F_DUPFD_CLOEXEC, STDERR_FILENO + 1);
     FILE *copy = file < 0 ? NULL : fdopen(file, "r");
     if (copy == NULL && file >= 0)
         close(file);
@@ -177,7 +197,7 @@ static FILE *copy_of_journal(void) {
 /* The journal goes on behind the last line that has its end. */
 bool answer_journal(const char *path) {
     struct source source = {.word = library.journal.word, .path = path, .is_journal = true};
-    if (!answer_file(&source, copy_of_journal()))
+    if (!answer_file(&source, copy_of_journal()) || !check_case(&source))
         return false;
     library.journal.length = source.length;
     library.journal.is_kept = true;

@@ -25,11 +25,10 @@ CK_RV C_CloseAllSessions(CK_SLOT_ID slot) {
 }
 
 static CK_RV get_session_info(CK_SESSION_HANDLE session, CK_SESSION_INFO *info) {
-    const struct call call = {.name = GET_SESSION_INFO, .session = session};
     struct session answer;
     if (info == NULL)
         return CKR_ARGUMENTS_BAD;
-    CK_RV code = make_call(&call);
+    CK_RV code = ask_for_session(session);
     if (code != CKR_OK)
         return code;
     ospreyrack_session(&library.token, &answer);
@@ -52,7 +51,7 @@ CK_RV C_Login(CK_SESSION_HANDLE session, CK_USER_TYPE user, CK_UTF8CHAR_PTR pin,
         .name = LOGIN,
         .session = session,
         .number = user,
-        .pin = bytes_of(pin, length, LONGEST_PIN),
+        .pin = pin_of(pin, length),
     };
     return answer(&call);
 }
@@ -66,7 +65,7 @@ CK_RV C_InitPIN(CK_SESSION_HANDLE session, CK_UTF8CHAR_PTR pin, CK_ULONG length)
     const struct call call = {
         .name = INIT_PIN,
         .session = session,
-        .pin = bytes_of(pin, length, LONGEST_PIN),
+        .pin = pin_of(pin, length),
     };
     return answer(&call);
 }
@@ -76,8 +75,8 @@ CK_RV C_SetPIN(CK_SESSION_HANDLE session, CK_UTF8CHAR_PTR pin, CK_ULONG length,
     const struct call call = {
         .name = SET_PIN,
         .session = session,
-        .pin = bytes_of(pin, length, LONGEST_PIN),
-        .new_pin = bytes_of(new_pin, new_length, LONGEST_PIN),
+        .pin = pin_of(pin, length),
+        .new_pin = pin_of(new_pin, new_length),
     };
     return answer(&call);
 }

@@ -5,8 +5,8 @@
 
 #include <string.h>
 
-/* Key sizes are in bytes, except those that are generated: in bits (PKCS #11 Current Mechanisms 3.0,
- * Generic secret key generation). */
+/* Key sizes are in bytes, except those that are generated: in bits (PKCS #11 Current Mechanisms
+ * 3.0, Generic secret key generation). */
 static const CK_MECHANISM_INFO digest = {.flags = CKF_DIGEST};
 static const CK_MECHANISM_INFO hmac = {1, LONGEST_KEY, CKF_SIGN | CKF_VERIFY};
 static const CK_MECHANISM_INFO generation = {8, 8 * LONGEST_KEY, CKF_GENERATE};
@@ -124,7 +124,7 @@ static CK_RV get_mechanism_list(CK_MECHANISM_TYPE *list, CK_ULONG *count) {
     if (list != NULL && *count < length)
         code = CKR_BUFFER_TOO_SMALL;
     else if (list != NULL)
-        ospreyrack_mechanisms(&library.token, list, *count);
+        ospreyrack_mechanisms(&library.token, list, length);
     *count = length;
     return code;
 }
@@ -162,7 +162,7 @@ CK_RV C_WaitForSlotEvent(CK_FLAGS flags, CK_SLOT_ID_PTR slot, CK_VOID_PTR reserv
 CK_RV C_InitToken(CK_SLOT_ID slot, CK_UTF8CHAR_PTR pin, CK_ULONG length, CK_UTF8CHAR_PTR label) {
     const struct call call = {
         .name = INIT_TOKEN,
-        .pin = bytes_of(pin, length, LONGEST_PIN),
+        .pin = pin_of(pin, length),
         .label = label,
     };
     CK_RV code = enter_slot(slot);

@@ -6,6 +6,7 @@
  */
 #include "support.h"
 
+#include <pthread.h>
 #include <sanitizer/lsan_interface.h>
 #include <stdio.h>
 #include <stdlib.h>
@@ -187,6 +188,11 @@ static void test_unsupported(void) {
 
 static int mutexes, locks, unlocks, destroyed, created_code, locked_code, depth;
 
+/* At the last of so many locks the application's function makes this change, as another thread
+ * would that has the lock before. */
+static int locks_until_change;
+static void (*change)(void);
+
 static CK_RV create_mutex(CK_VOID_PTR_PTR mutex) {
     if (created_code != CKR_OK)
         return (CK_RV)created_code;
@@ -205,6 +211,8 @@ static CK_RV lock_mutex(CK_VOID_PTR mutex) {
     if (locked_code != CKR_OK)
         return (CK_RV)locked_code;
     check(mutex == &mutexes && depth == 0, "LockMutex is given the mutex, unlocked");
+    if (locks_until_change > 0 && --locks_until_change == 0)
+        change();
     depth++;
     locks++;
     return CKR_OK;
@@ -312,6 +320,7 @@ static void test_null_general(void) {
     EXPECT(CKR_ARGUMENTS_BAD, p11->C_WaitForSlotEvent(CKF_DONT_BLOCK, &length, bytes));
     EXPECT(CKR_OK, p11->C_CloseAllSessions(0));
     EXPECT(CKR_ARGUMENTS_BAD, p11->C_InitToken(0, NULL, 4, token_label));
+    EXPECT(CKR_ARGUMENTS_BAD, p11->C_InitToken(0, NULL, 0, token_label));
     EXPECT(CKR_ARGUMENTS_BAD, p11->C_InitToken(0, so_pin, 4, NULL));
     EXPECT(CKR_ARGUMENTS_BAD, p11->C_OpenSession(0, read_write, NULL, NULL, NULL));
     CK_TOKEN_INFO info;
@@ -320,18 +329,33 @@ static void test_null_general(void) {
     end_token();
 }
 
+/* A NULL PIN is no wrong try, whatever its length is. */
+static void test_null_pins(void) {
+    CK_SESSION_HANDLE session = begin_token();
+    CK_TOKEN_INFO info;
+    for (CK_ULONG given = 0; given <= 4; given += 4) {
+        EXPECT(CKR_ARGUMENTS_BAD, p11->C_SetPIN(session, NULL, given, user_pin, 4));
+        EXPECT(CKR_ARGUMENTS_BAD, p11->C_SetPIN(session, user_pin, 4, NULL, given));
+        EXPECT(CKR_OK, p11->C_Logout(session));
+        EXPECT(CKR_ARGUMENTS_BAD, p11->C_Login(session, CKU_USER, NULL, given));
+        EXPECT(CKR_ARGUMENTS_BAD, p11->C_Login(session, CKU_SO, NULL, given));
+        EXPECT(CKR_OK, p11->C_Login(session, CKU_SO, so_pin, 4));
+        EXPECT(CKR_ARGUMENTS_BAD, p11->C_InitPIN(session, NULL, given));
+        EXPECT(CKR_OK, p11->C_Logout(session));
+        EXPECT(CKR_OK, p11->C_GetTokenInfo(0, &info));
+        CHECK((info.flags & (CKF_USER_PIN_COUNT_LOW | CKF_SO_PIN_COUNT_LOW)) == 0);
+        EXPECT(CKR_OK, p11->C_Login(session, CKU_USER, user_pin, 4));
+    }
+    EXPECT(CKR_OK, p11->C_Logout(session));
+    EXPECT(CKR_PIN_INCORRECT, p11->C_Login(session, CKU_USER, user_pin, 0));
+    EXPECT(CKR_OK, p11->C_GetTokenInfo(0, &info));
+    CHECK((info.flags & CKF_USER_PIN_COUNT_LOW) != 0);
+    end_token();
+}
+
 static void test_null_sessions(void) {
     CK_SESSION_HANDLE session = begin_token();
     EXPECT(CKR_ARGUMENTS_BAD, p11->C_GetSessionInfo(session, NULL));
-    EXPECT(CKR_ARGUMENTS_BAD, p11->C_SetPIN(session, NULL, 4, user_pin, 4));
-    EXPECT(CKR_ARGUMENTS_BAD, p11->C_SetPIN(session, user_pin, 4, NULL, 4));
-    EXPECT(CKR_ARGUMENTS_BAD, p11->C_Login(session, CKU_SO, NULL, 4));
-    EXPECT(CKR_OK, p11->C_Logout(session));
-    EXPECT(CKR_ARGUMENTS_BAD, p11->C_Login(session, CKU_USER, NULL, 4));
-    EXPECT(CKR_PIN_INCORRECT, p11->C_Login(session, CKU_USER, NULL, 0));
-    EXPECT(CKR_OK, p11->C_Login(session, CKU_SO, so_pin, 4));
-    EXPECT(CKR_ARGUMENTS_BAD, p11->C_InitPIN(session, NULL, 4));
-    EXPECT(CKR_PIN_LEN_RANGE, p11->C_InitPIN(session, NULL, 0));
     EXPECT(CKR_ARGUMENTS_BAD, p11->C_GenerateRandom(session, NULL, 1));
     EXPECT(CKR_ARGUMENTS_BAD, p11->C_SeedRandom(session, NULL, 1));
     EXPECT(CKR_OK, p11->C_GenerateRandom(session, NULL, 0));
@@ -423,6 +447,43 @@ static void test_bad_lengths(void) {
         CHECK(p11->C_GetAttributeValue(session, object, template, lengths[i]) == CKR_ARGUMENTS_BAD);
     }
     CHECK(handle == 0);
+    end_token();
+}
+
+/* A length that no memory has is refused also where the pointer is good, and nothing behind that is
+ * read or written. */
+static void check_length_of_no_memory(CK_SESSION_HANDLE session, CK_ULONG given) {
+    CK_MECHANISM sha256 = mechanism_of(CKM_SHA256), hmac = mechanism_of(CKM_SHA256_HMAC);
+    CK_MECHANISM bad_parameter = {CKM_SHA256_HMAC_GENERAL, bytes, given};
+    CK_OBJECT_HANDLE key = create_key(session, "Jefe");
+    CK_BYTE out[64];
+    length = sizeof out;
+    EXPECT(CKR_ARGUMENTS_BAD, p11->C_GenerateRandom(session, bytes, given));
+    EXPECT(CKR_ARGUMENTS_BAD, p11->C_SeedRandom(session, bytes, given));
+    EXPECT(CKR_ARGUMENTS_BAD, p11->C_SetPIN(session, user_pin, given, user_pin, 4));
+    EXPECT(CKR_ARGUMENTS_BAD, p11->C_SetPIN(session, user_pin, 4, user_pin, given));
+    EXPECT(CKR_MECHANISM_PARAM_INVALID, p11->C_SignInit(session, &bad_parameter, key));
+    EXPECT(CKR_OK, p11->C_DigestInit(session, &sha256));
+    EXPECT(CKR_ARGUMENTS_BAD, p11->C_Digest(session, bytes, given, out, &length));
+    EXPECT(CKR_ARGUMENTS_BAD, p11->C_DigestUpdate(session, bytes, given));
+    EXPECT(CKR_OK, p11->C_Digest(session, bytes, 5, out, &length));
+    EXPECT(CKR_OK, p11->C_SignInit(session, &hmac, key));
+    EXPECT(CKR_ARGUMENTS_BAD, p11->C_Sign(session, bytes, given, out, &length));
+    EXPECT(CKR_ARGUMENTS_BAD, p11->C_SignUpdate(session, bytes, given));
+    EXPECT(CKR_OK, p11->C_Sign(session, bytes, 5, out, &length));
+    EXPECT(CKR_OK, p11->C_VerifyInit(session, &hmac, key));
+    EXPECT(CKR_ARGUMENTS_BAD, p11->C_Verify(session, bytes, given, out, length));
+    EXPECT(CKR_ARGUMENTS_BAD, p11->C_Verify(session, bytes, 5, out, given));
+    EXPECT(CKR_ARGUMENTS_BAD, p11->C_VerifyUpdate(session, bytes, given));
+    EXPECT(CKR_OK, p11->C_Verify(session, bytes, 5, out, length));
+}
+
+static void test_lengths_of_no_memory(void) {
+    CK_SESSION_HANDLE session = begin_token();
+    check_length_of_no_memory(session, (CK_ULONG)1 << 47);
+    check_length_of_no_memory(session, (CK_ULONG)1 << 63);
+    check_length_of_no_memory(session, CK_UNAVAILABLE_INFORMATION);
+    CHECK(memcmp(bytes, "bytes", 6) == 0);
     end_token();
 }
 
@@ -754,6 +815,98 @@ static void test_large_signatures(void) {
     end_token();
 }
 
+/* ---- Work on a long message, while something changes before its call. Of the three times that the
+ * lock is taken for it, the change comes at the last. */
+
+enum { LONG_MESSAGE = 5000, SHORT_PIECE = 4000 };
+
+static void begin_with_mutexes(void) {
+    CK_C_INITIALIZE_ARGS arguments = mutex_arguments();
+    EXPECT(CKR_OK, p11->C_Initialize(&arguments));
+    current_session = log_in();
+}
+
+static void change_at_call(void (*made)(void)) {
+    locks_until_change = 3;
+    change = made;
+}
+
+static void begin_sha(CK_MECHANISM_TYPE type) {
+    CK_MECHANISM sha = mechanism_of(type);
+    EXPECT(CKR_OK, p11->C_DigestInit(current_session, &sha));
+}
+
+/* Digests the long message in pieces that are short. */
+static void digest_in_short_pieces(CK_BYTE *digest) {
+    length = 64;
+    EXPECT(CKR_OK, p11->C_DigestUpdate(current_session, large, SHORT_PIECE));
+    EXPECT(CKR_OK, p11->C_DigestUpdate(current_session, large + SHORT_PIECE,
+                                       LONG_MESSAGE - SHORT_PIECE));
+    EXPECT(CKR_OK, p11->C_DigestFinal(current_session, digest, &length));
+}
+
+/* C_Digest of the long message, whose operation was begun with SHA-512, and by the change anew with
+ * SHA-256. */
+static void check_digest_with(void (*made)(void)) {
+    CK_BYTE digest[64], expected[64];
+    begin_sha(CKM_SHA512);
+    change_at_call(made);
+    length = sizeof digest;
+    EXPECT(CKR_OK, p11->C_Digest(current_session, large, LONG_MESSAGE, digest, &length));
+    CHECK(locks_until_change == 0 && length == 32);
+    begin_sha(CKM_SHA256);
+    digest_in_short_pieces(expected);
+    CHECK(memcmp(digest, expected, 32) == 0);
+}
+
+static void begin_anew(void) {
+    CK_SESSION_HANDLE before = current_session;
+    EXPECT(CKR_OK, p11->C_Finalize(NULL));
+    begin_with_mutexes();
+    check(current_session == before, "the session's handle is that of the first token");
+    begin_sha(CKM_SHA256);
+}
+
+static void test_work_of_another_token(void) {
+    fill_large();
+    begin_with_mutexes();
+    check_digest_with(begin_anew);
+    end_token();
+}
+
+static void begin_operation_anew(void) {
+    EXPECT(CKR_OK, p11->C_SessionCancel(current_session, CKF_DIGEST));
+    begin_sha(CKM_SHA256);
+}
+
+static void test_work_of_another_operation(void) {
+    fill_large();
+    begin_with_mutexes();
+    check_digest_with(begin_operation_anew);
+    end_token();
+}
+
+static void add_piece(void) {
+    EXPECT(CKR_OK, p11->C_DigestUpdate(current_session, bytes, 5));
+}
+
+static void test_piece_in_between(void) {
+    CK_BYTE digest[64], expected[64];
+    fill_large();
+    begin_with_mutexes();
+    begin_sha(CKM_SHA512);
+    change_at_call(add_piece);
+    EXPECT(CKR_OK, p11->C_DigestUpdate(current_session, large, LONG_MESSAGE));
+    CHECK(locks_until_change == 0);
+    length = sizeof digest;
+    EXPECT(CKR_OK, p11->C_DigestFinal(current_session, digest, &length));
+    begin_sha(CKM_SHA512);
+    add_piece();
+    digest_in_short_pieces(expected);
+    CHECK(memcmp(digest, expected, sizeof digest) == 0);
+    end_token();
+}
+
 /* ---- PINs of any length */
 
 static void test_pins(void) {
@@ -876,6 +1029,32 @@ static void test_random(void) {
     EXPECT(CKR_SESSION_HANDLE_INVALID, p11->C_SeedRandom(session + 1, first, 4));
     guarded_free(first);
     guarded_free(second);
+    end_token();
+}
+
+/* ---- A thread that is cancelled */
+
+/* The thread is to end where it next can. It can't under the lock, which would stay taken. */
+static void *generate_and_end(void *ignored) {
+    CK_MECHANISM generation = mechanism_of(CKM_GENERIC_SECRET_KEY_GEN);
+    CK_ULONG key_length = 16;
+    CK_OBJECT_HANDLE key = 0;
+    CK_ATTRIBUTE template = {CKA_VALUE_LEN, &key_length, sizeof key_length};
+    pthread_cancel(pthread_self());
+    EXPECT(CKR_OK, p11->C_GenerateKey(current_session, &generation, &template, 1, &key));
+    CHECK(key != 0);
+    pthread_setcancelstate(PTHREAD_CANCEL_DISABLE, NULL);
+    return ignored;
+}
+
+static void test_cancelled_thread(void) {
+    CK_TOKEN_INFO info;
+    pthread_t thread;
+    void *result = NULL;
+    current_session = begin_token();
+    CHECK(pthread_create(&thread, NULL, generate_and_end, NULL) == 0);
+    CHECK(pthread_join(thread, &result) == 0 && result == NULL);
+    EXPECT(CKR_OK, p11->C_GetTokenInfo(0, &info));
     end_token();
 }
 
@@ -1015,6 +1194,10 @@ static void test_bad_words(void) {
 
 static const char bad_reply[] = "1 InitToken 31323334 -> 0\n1 OpenSession 6 -> 0 2\n";
 static const char no_journal[] = "This is a text.\nIt isn't a journal.\n";
+static const char script[] = "# a script\n1 InitToken 31323334\n1 OpenSession 6\n";
+static const char open_script[] = "# a script\n1 InitToken 31323334\n1 OpenSession 6";
+static const char other_limits[] = "limits 64 9 9 9\n1 InitToken 31323334 -> 0\n";
+static const char late_limits[] = "1 InitToken 31323334 -> 0\nlimits largest\n";
 
 static bool has_length(const char *name, size_t expected) {
     struct stat status;
@@ -1023,6 +1206,23 @@ static bool has_length(const char *name, size_t expected) {
 
 static bool is_there(const char *name) {
     return access(path_of(name), F_OK) == 0;
+}
+
+/* A file that is no journal, or none of this token, is left as it is. */
+static void test_no_journals(void) {
+    static const struct { const char *name, *text, *part; } files[] = {
+        {"no_journal", no_journal, "line 1"},
+        {"bad_reply", bad_reply, "line 2"},
+        {"script", script, "this is no journal: it has neither limits nor a reply"},
+        {"open_script", open_script, "this is no journal: it has neither limits nor a reply"},
+        {"other_limits", other_limits, "line 1: the module's token has the largest limits"},
+        {"late_limits", late_limits, "line 2: limits stand in front of all calls"},
+    };
+    for (size_t i = 0; i < sizeof files / sizeof *files; i++) {
+        write_file(files[i].name, files[i].text);
+        check_file_word("OSPREYRACK_TOKEN", files[i].name, files[i].part);
+        check(has_length(files[i].name, strlen(files[i].text)), files[i].name);
+    }
 }
 
 static void test_bad_files(void) {
@@ -1039,11 +1239,8 @@ static void test_bad_files(void) {
     check_file_word("OSPREYRACK_JOURNAL", "not_there/journal", "not_there/journal");
     check_file_word("OSPREYRACK_JOURNAL", "no_journal", "no_journal");
     check_file_word("OSPREYRACK_JOURNAL", "folder", "folder");
-    check_file_word("OSPREYRACK_TOKEN", "no_journal", "line 1");
     check_file_word("OSPREYRACK_TOKEN", "folder", "folder");
-    check_file_word("OSPREYRACK_TOKEN", "bad_reply", "line 2");
     CHECK(has_length("no_journal", sizeof no_journal - 1));
-    CHECK(has_length("bad_reply", sizeof bad_reply - 1));
     setenv("OSPREYRACK_TOKEN", path_of("unused.cases"), 1);
     check_file_word("OSPREYRACK_JOURNAL", "unused_too.cases", "OSPREYRACK_TOKEN");
     CHECK(!is_there("unused_too.cases"));
@@ -1091,10 +1288,12 @@ static const struct test tests[] = {
      test_mutex_functions},
     {"an application's lock that fails", test_failing_lock},
     {"NULL pointers: the library, slots and tokens", test_null_general},
-    {"NULL pointers: sessions, PINs and random bytes", test_null_sessions},
+    {"NULL pointers: PINs", test_null_pins},
+    {"NULL pointers: sessions and random bytes", test_null_sessions},
     {"NULL pointers: objects, searches and keys", test_null_objects},
     {"NULL pointers: digests, signing and verifying", test_null_operations},
-    {"lengths that no memory can have", test_bad_lengths},
+    {"lengths of attributes that no memory can have", test_bad_lengths},
+    {"lengths of messages, PINs and random bytes that no memory has", test_lengths_of_no_memory},
     {"rooms of lists: asked for, too small, exact, larger", test_lists_of_numbers},
     {"rooms of digests: asked for, too small, exact, larger", test_digest_rooms},
     {"rooms of signatures: asked for, too small, exact, larger", test_sign_rooms},
@@ -1104,6 +1303,10 @@ static const struct test tests[] = {
     {"operations end by C_SessionCancel, and by a NULL mechanism", test_cancel},
     {"digests of messages above 2^20 bytes", test_large_digests},
     {"signatures of messages above 2^20 bytes", test_large_signatures},
+    {"the work on a long message doesn't count for another token", test_work_of_another_token},
+    {"the work on a long message doesn't count for another operation",
+     test_work_of_another_operation},
+    {"a piece is added while a long one is taken in", test_piece_in_between},
     {"PINs of 3 to 200 bytes", test_pins},
     {"slots that aren't there", test_slots},
     {"what is said of the token and of a session", test_token_info},
@@ -1111,10 +1314,12 @@ static const struct test tests[] = {
     {"what is said of the mechanisms", test_mechanisms},
     {"the size of an object", test_object_size},
     {"random bytes", test_random},
+    {"a thread that is cancelled in a call leaves no lock", test_cancelled_thread},
     {"a child of a fork begins anew, and its parent goes on", test_fork},
     {"a child of a fork leaves the parent's file and its lock alone", test_fork_with_file},
     {"bad words of the environment, and then none", test_bad_words},
     {"bad files in words of the environment, and then none", test_bad_files},
+    {"a file that is no journal is left as it is", test_no_journals},
     {"no memory is lost, by C_Finalize or by a C_Initialize that fails", test_leaks},
 };
 

@@ -318,6 +318,23 @@ static CK_RV verify(struct result *result) {
     return p11->C_Verify(session, hmac_message, sizeof hmac_message, signature, sizeof signature);
 }
 
+static CK_BYTE long_signature[32];
+
+/* Signs the long message, and begins to verify that. */
+static CK_RV begin_long_verify(struct result *result) {
+    CK_RV code = sign_init(result);
+    if (code == CKR_OK)
+        code = sign_long(result);
+    memcpy(long_signature, result->bytes, sizeof long_signature);
+    return code == CKR_OK ? verify_init(result) : code;
+}
+
+static CK_RV verify_long(struct result *result) {
+    (void)result;
+    return p11->C_Verify(session, long_text, sizeof long_text, long_signature,
+                         sizeof long_signature);
+}
+
 static CK_RV verify_update(struct result *result) {
     (void)result;
     return p11->C_VerifyUpdate(session, hmac_message, sizeof hmac_message);
@@ -384,6 +401,7 @@ static const struct growth growths[] = {
     {"C_SignFinal", sign_final, {sign_init, sign_update}},
     {"C_VerifyInit", verify_init, {NULL}},
     {"C_Verify", verify, {verify_init}},
+    {"C_Verify of a long message", verify_long, {begin_long_verify}},
     {"C_VerifyUpdate", verify_update, {verify_init}},
     {"C_VerifyUpdate of a long piece", verify_update_long, {verify_init}},
     {"C_VerifyFinal", verify_final, {verify_init, verify_update}},
@@ -659,8 +677,8 @@ static void test_initialize(void) {
 }
 
 static const struct test tests[] = {
-    {"each growth of 40 calls is refused, typed", test_typed},
-    {"each growth of 40 calls is refused, by lines", test_by_lines},
+    {"each growth of 41 calls is refused, typed", test_typed},
+    {"each growth of 41 calls is refused, by lines", test_by_lines},
     {"each growth of C_Initialize is refused, with a script and a file", test_initialize},
     {"an update of three pieces whose later piece is refused ends", test_pieces},
     {"a thread's first call without memory", test_first_call},

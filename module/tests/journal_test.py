@@ -1,10 +1,13 @@
 """Tests of the journal file and of the other words of the environment: kills, cut files, changed
 files, full devices, seeds, and memory over many calls.
 
-Called with the module's file and the program ck_cases. With the first argument `answer` or `memory`
-it is a worker, which this program starts itself.
+Called with the module's file and the program ck_cases. With the first argument `answer`, `memory`,
+`polling` or `unload` it is a worker, which this program starts itself.
 """
+import _ctypes
 import contextlib
+import ctypes
+import gc
 import os
 import random
 import resource
@@ -18,6 +21,7 @@ import tempfile
 import support
 
 GENERAL_ERROR = 5
+NOT_INITIALIZED = 0x190
 DEVICE_ERROR = "30"
 LOG_IN = ["1 InitToken 31323334", "1 OpenSession 6", "1 Login 1 0 31323334",
               "1 InitPIN 1 75736572", "1 Logout 1", "1 Login 1 1 75736572"]
@@ -45,6 +49,22 @@ def resident_memory():
         return int(file.read().split()[1]) * resource.getpagesize()
 
 
+class MemoryInfo(ctypes.Structure):
+    """What mallinfo2(3) answers."""
+    _fields_ = [(name, ctypes.c_size_t)
+                for name in ["arena", "ordblks", "smblks", "hblks", "hblkhd", "usmblks", "fsmblks",
+                             "uordblks", "fordblks", "keepcost"]]
+
+
+def memory_in_use():
+    """How many bytes of memory this process has taken by malloc and not given back."""
+    gc.collect()
+    read_info = ctypes.CDLL(None).mallinfo2
+    read_info.restype = MemoryInfo
+    info = read_info()
+    return info.uordblks + info.hblkhd
+
+
 def measure_memory(path):
     """Writes how much memory 180,000 calls took, after 20,000 before them."""
     module = support.Module(path)
@@ -60,10 +80,32 @@ def measure_memory(path):
     print(resident_memory() - before, reply, flush=True)
 
 
+def measure_polling(path):
+    """The same of calls without a session."""
+    module = support.Module(path)
+    module.call("Initialize", None)
+    for count in range(200000):
+        code, _ = module.token_info()
+        if count == 20000:
+            before = resident_memory()
+    print(resident_memory() - before, code, flush=True)
+
+
 def environment_of(words):
     environment = {word: value for word, value in os.environ.items()
                    if not word.startswith("OSPREYRACK_")}
     return environment | {f"OSPREYRACK_{word}": str(value) for word, value in words.items()}
+
+
+def unload_and_load(path):
+    """Unloads the library in the middle of its work, and begins with it anew."""
+    module = support.Module(path)
+    print(module.call("Initialize", None), module.say("1 InitToken 31323334"),
+          module.say("1 OpenSession 6"))
+    _ctypes.dlclose(module.library._handle)
+    module = support.Module(path)
+    print(module.call("Finalize", None), module.call("Initialize", None),
+          module.say("1 OpenSession 6"), module.finalize())
 
 
 class Worker:
@@ -148,6 +190,16 @@ class Tests:
         with errors_in(self.file("errors")):
             code = self.module.initialize(**words)
         return code, read(self.file("errors")).decode()
+
+    def initialize_without_errors(self, **words):
+        """The code of C_Initialize where descriptor 2 is closed."""
+        sys.stderr.flush()
+        kept = os.dup(2)
+        os.close(2)
+        code = self.module.initialize(**words)
+        os.dup2(kept, 2)
+        os.close(kept)
+        return code
 
     def begin(self, **words):
         code, errors = self.initialize(**words)
@@ -288,6 +340,9 @@ class Tests:
                 start = f"ospreyrack: OSPREYRACK_TOKEN: {path}, line {place + 1}: "
                 self.checks.check(errors.startswith(start) and errors.count("\n") == 1, errors)
                 self.checks.equal(read(path), content, "the file")
+        self.checks.equal(self.initialize_without_errors(TOKEN=path), GENERAL_ERROR,
+                          "C_Initialize without a standard error")
+        self.checks.equal(read(path), content, "the file, by a process without standard error")
         self.begin(TOKEN=self.journal_of_some_calls())
         self.end()
 
@@ -314,6 +369,16 @@ class Tests:
         third = Worker(self.path, TOKEN=path)
         self.checks.equal(third.say("1 OpenSession 6"), "0 2", "a process after it")
         third.end()
+        support.audit(self.checks, self.ck_cases, path)
+
+    def test_unload(self):
+        """A library that is unloaded without C_Finalize leaves no lock on its file."""
+        path = self.file("unloaded.cases")
+        run = subprocess.run([sys.executable, os.path.abspath(__file__), "unload", self.path],
+                             env=environment_of({"TOKEN": path}), capture_output=True, text=True,
+                             timeout=60)
+        self.checks.equal(run.stdout, f"0 0 0 1\n{NOT_INITIALIZED} 0 0 2 0\n", "the replies")
+        self.checks.equal(run.stderr, "", "the errors")
         support.audit(self.checks, self.ck_cases, path)
 
     def kill_once(self, path, draw):
@@ -405,8 +470,8 @@ class Tests:
         self.checks.check(not set(first) & set(other), "another seed makes others")
         self.checks.check(not set(first) & set(largest), "the largest seed makes others")
 
-    def run_memory(self, cut):
-        run = subprocess.run([sys.executable, os.path.abspath(__file__), "memory", self.path],
+    def run_memory(self, kind, cut):
+        run = subprocess.run([sys.executable, os.path.abspath(__file__), kind, self.path],
                              env=environment_of({"CUT": cut}), capture_output=True, text=True,
                              timeout=200)
         grown, reply = run.stdout.split()
@@ -415,28 +480,45 @@ class Tests:
 
     def test_memory(self):
         """OSPREYRACK_CUT=yes keeps memory flat over 200,000 calls, and =no doesn't."""
-        grown = self.run_memory("yes")
-        self.checks.check(grown < 1 << 20, f"with yes memory grows by {grown} bytes")
-        grown = self.run_memory("no")
-        self.checks.check(grown > 4 << 20, f"with no memory grows by {grown} bytes")
+        for kind in ["memory", "polling"]:
+            grown = self.run_memory(kind, "yes")
+            self.checks.check(grown < 1 << 20, f"with yes, {kind} grows by {grown} bytes")
+            grown = self.run_memory(kind, "no")
+            self.checks.check(grown > 4 << 20, f"with no, {kind} grows by {grown} bytes")
+
+    def test_long_template(self):
+        """What a long template took is given back with the journal that has it."""
+        self.begin()
+        value = "00" * (4 << 20)
+        before = memory_in_use()
+        self.checks.equal(self.module.say(f"1 FindObjectsInit 1 3={value}"), "b3", "the call")
+        held = memory_in_use() - before
+        self.checks.check(held > 4 << 20, f"the journal has the template: {held} bytes")
+        self.say_all(["1 GetTokenInfo"] * 2000)
+        held = memory_in_use() - before
+        self.checks.check(held < 1 << 20, f"{held} bytes are held")
+        self.end()
 
     def test_cut(self):
         """No reply differs by OSPREYRACK_CUT."""
         lines = list(LOG_IN)
         for count in range(1, 800):
-            lines += [f"1 OpenSession {4 + 2 * (count % 2)}", f"1 CloseSession {count}",
+            lines += [f"1 CloseSession {count}", f"1 OpenSession {4 + 2 * (count % 2)}",
                       f"1 GetSessionInfo {count}", "1 GetTokenInfo",
                       f"1 CreateObject {count + 1} 0=0000000000000000,1=01,2=00",
                       f"1 Login {count + 1} 1 7573657{count % 3}"]
-        replies = []
+        replies, held = [], []
         for words in [{}, {"CUT": "yes"}, {"CUT": "no"},
                       {"CUT": "yes", "JOURNAL": self.file("cut_yes.cases")},
                       {"CUT": "no", "JOURNAL": self.file("cut_no.cases")}]:
             self.begin(**words)
             replies.append(self.say_all(lines))
+            before = memory_in_use()
             self.end()
+            held.append(before - memory_in_use())
         for made in replies[1:]:
             self.checks.equal(made, replies[0], "the replies")
+        self.checks.check(max(held[0], held[1]) < held[2] / 2, f"the journal is cut: {held}")
         self.checks.equal(read(self.file("cut_yes.cases")), read(self.file("cut_no.cases")),
                           "the files")
         support.audit(self.checks, self.ck_cases, self.file("cut_yes.cases"))
@@ -446,15 +528,19 @@ class Tests:
 
 TESTS = [Tests.test_file, Tests.test_going_on, Tests.test_new_label, Tests.test_script,
          Tests.test_cut_off, Tests.test_changed, Tests.test_lacking_reply, Tests.test_two_processes,
-         Tests.test_kills, Tests.test_full, Tests.test_filling, Tests.test_seed, Tests.test_cut,
-         Tests.test_memory]
+         Tests.test_unload, Tests.test_kills, Tests.test_full, Tests.test_filling, Tests.test_seed,
+         Tests.test_long_template, Tests.test_cut, Tests.test_memory]
 
 
 def main():
     if sys.argv[1] == "answer":
         return answer_input(sys.argv[2])
+    if sys.argv[1] == "unload":
+        return unload_and_load(sys.argv[2])
     if sys.argv[1] == "memory":
         return measure_memory(sys.argv[2])
+    if sys.argv[1] == "polling":
+        return measure_polling(sys.argv[2])
     checks = support.Checks("journal")
     for test in TESTS:
         with tempfile.TemporaryDirectory() as folder:

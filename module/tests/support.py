@@ -131,6 +131,12 @@ def bytes_arguments(text):
     return in_buffer(value), c_ulong(len(value))
 
 
+def pin_arguments(text):
+    """The same, but an empty PIN isn't a NULL one, which the module refuses."""
+    value = bytes_of(text)
+    return in_buffer(value or bytes(1)), c_ulong(len(value))
+
+
 def items_of(text):
     """The items of a template, or queries: pairs of texts."""
     return [] if text == "-" else [re.split("[=:]", item) for item in text.split(",")]
@@ -169,10 +175,10 @@ def room_of(text):
 
 # How the arguments of a call are given to its function. A room and what is answered aren't here.
 ARGUMENTS = {
-    "InitPIN": [number, bytes_arguments],
-    "SetPIN": [number, bytes_arguments, bytes_arguments],
+    "InitPIN": [number, pin_arguments],
+    "SetPIN": [number, pin_arguments, pin_arguments],
     "CloseSession": [number],
-    "Login": [number, number, bytes_arguments],
+    "Login": [number, number, pin_arguments],
     "Logout": [number],
     "GetSessionInfo": [number],
     "SessionCancel": [number, code_number],
@@ -267,7 +273,7 @@ class Module:
 
     def init_token(self, pin):
         label = in_buffer(self.label)
-        return f"{self.call('InitToken', c_ulong(0), *bytes_arguments(pin), label):x}"
+        return f"{self.call('InitToken', c_ulong(0), *pin_arguments(pin), label):x}"
 
     def open_session(self, flags):
         handle = c_ulong(0)

@@ -289,7 +289,10 @@ static bool is_one_of(CK_RV code, const CK_RV *codes, size_t count) {
     return false;
 }
 
-/* Signs where the operation, the session or the key may end at any time. */
+static atomic_int signed_messages, disturbers;
+
+/* Signs where the operation, the session or the key may end at any time. Once nobody disturbs any
+ * more, a message is signed. */
 static void *sign_long_messages(void *argument) {
     static const CK_RV refusals[] = {
         CKR_OPERATION_ACTIVE,           CKR_OPERATION_NOT_INITIALIZED,
@@ -297,13 +300,14 @@ static void *sign_long_messages(void *argument) {
     };
     CK_MECHANISM hmac = mechanism_of(CKM_SHA256_HMAC);
     CK_BYTE out[32];
-    for (int round = 0; round < 4 * long_rounds(); round++) {
+    for (int round = 0; round < 4 * long_rounds() || signed_messages == 0; round++) {
         int i = (*(int *)argument + round) % number_of_lengths();
         CK_ULONG room = sizeof out;
         CK_SESSION_HANDLE session = moving_session;
         CK_RV code = p11->C_SignInit(session, &hmac, shared_key);
         if (code == CKR_OK || code == CKR_OPERATION_ACTIVE)
             code = p11->C_Sign(session, long_message, lengths[i], out, &room);
+        signed_messages += code == CKR_OK;
         if (code == CKR_OK)
             CHECK(memcmp(out, signatures[i], sizeof out) == 0);
         else
@@ -335,6 +339,8 @@ static void *disturb(void *argument) {
             moving_session = opened;
         }
     }
+    if (--disturbers == 0)
+        vendor->C_SetKeyState(shared[0], shared_key, ACTIVE);
     return NULL;
 }
 
@@ -463,7 +469,9 @@ static void test_disturbed_signing(void) {
     CK_SESSION_HANDLE session = 0;
     EXPECT(CKR_OK, p11->C_OpenSession(0, read_write, NULL, NULL, &session));
     moving_session = session;
+    disturbers = threads - threads / 2;
     run_threads(sign_long_messages, disturb);
+    CHECK(signed_messages > 0 && disturbers == 0);
     EXPECT(CKR_OK, p11->C_CloseSession(moving_session));
 }
 
