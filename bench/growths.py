@@ -22,8 +22,8 @@ for each call. Where there is no memory to share a token, it is shared then. Wit
 
 Calls for which places in the journal are reserved are made while every growth is refused.
 
-With the argument `short` every fourth growth of a case and of a script is refused, and every second
-one of a race, so that it takes less time.
+With the argument `short` every fourth growth of a case and of a script is refused, except of
+long_journal.cases, and every second one of a race, so that it takes less time.
 
 The programs are crates/ck_cases/out/ck_cases, crates/ck_run/out/ck_run and
 crates/ck_races/out/ck_races, built by `rt run` in their folders. This needs Linux with the GNU C
@@ -45,6 +45,8 @@ RACES = os.path.join(CRATES, "ck_races", "out", "ck_races")
 RACES_DATA = os.path.join(CRATES, "ck_races", "data", "callers.races")
 DATA = os.path.join(CRATES, "ck_cases", "data", "*.cases")
 LONG = os.path.join(CRATES, "ck_cases", "data", "many_objects.cases")
+# A call of it makes the journal grow that has entries already. All of its growths are refused.
+GROWING = os.path.join(CRATES, "ck_cases", "data", "long_journal.cases")
 LARGEST = "limits largest"
 BAD_LINE = " -> bad script: "
 # A thread that gets no memory isn't started.
@@ -221,13 +223,14 @@ def main(paths, races, is_short=False):
         library = build(folder)
         checks = []
         for path in paths:
+            step = 1 if path == GROWING else case_step
             for number, lines in cases_in(path):
                 name = f"{os.path.basename(path)}, line {number}"
-                case = (library, [CASES], name, lines, len(lines) - 1, case_step)
+                case = (library, [CASES], name, lines, len(lines) - 1, step)
                 checks.append(pool.submit(check_case, *case))
                 if lines[0] == LARGEST:
-                    checks.append(pool.submit(check_script, library, name, lines, case_step))
-                    checks.append(pool.submit(check_threads, library, name, lines, case_step))
+                    checks.append(pool.submit(check_script, library, name, lines, step))
+                    checks.append(pool.submit(check_threads, library, name, lines, step))
         for number, lines in races:
             name = f"{os.path.basename(RACES_DATA)}, line {number}"
             race = (library, [RACES, "alone"], name, lines, 1, race_step)
