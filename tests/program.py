@@ -99,8 +99,9 @@ BAD_LINES = [
 class Tests:
     """The tests of one program. A test ends with its line."""
 
-    def __init__(self, program):
-        self.program = program
+    def __init__(self, program, name="program"):
+        self.program = os.path.abspath(program)
+        self.name = name
         self.failed = 0
         self.faults = []
 
@@ -125,7 +126,7 @@ class Tests:
         for fault in self.faults:
             print(f"  {fault}", file=sys.stderr)
         self.failed += bool(self.faults)
-        print(f"{'FAILED' if self.faults else 'passed'} program: {name}", flush=True)
+        print(f"{'FAILED' if self.faults else 'passed'} {self.name}: {name}", flush=True)
         self.faults = []
 
 

@@ -9,7 +9,7 @@ use Rattle.ck_journal.specs.declared.calls.Call.{Call}
 use Rattle.ck_journal.specs.declared.replies.Reply.{Reply}
 use Rattle.ck_journal.proofs.FrontLemmas.{front_refl, front_trans}
 use Rattle.ck_callers.specs.Callers.{CallerState, HasCalled, entry_by}
-use Rattle.ck_callers.specs.Scripts.{answered, HasPlayed}
+use Rattle.ck_callers.specs.Scripts.{entries_after, HasPlayed}
 use Rattle.ck_callers.specs.Turns.{EndsAt, HasMade}
 
 none_made : (MayFail : Call → Type 0) (calls : List Call) (outcome : Result (Unit {0}) NoMemory)
@@ -57,9 +57,9 @@ module _ (limits : Ranges) (old : CallerState) (call : Call) (reply : Reply) (no
     number = rest.number ∙ does.number;
     count = omega (arith, rest.count, does.count);
     front = front_trans old.seen now.seen new.seen front_called rest.front;
-    own = subst (λ n. entries_by n new.last ≡ answered n calls replies (entries_by n now.last))
+    own = subst (λ n. entries_by n new.last ≡ entries_after n calls replies (entries_by n now.last))
         does.number rest.own
-        ∙ ap (answered old.number calls replies) own_one;
+        ∙ ap (entries_after old.number calls replies) own_one;
     made = one_more_made outcome (length replies) (length calls) rest.made;
   }
 

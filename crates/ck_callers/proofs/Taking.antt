@@ -15,7 +15,7 @@ use Rattle.ck_callers.specs.Asks.{call_of, reply_of}
 use Rattle.ck_callers.specs.Callers.{CallerState, HasCalled, entry_by}
 use Rattle.ck_callers.specs.declared.asks.Ask.{Ask}
 use Rattle.ck_callers.specs.declared.asks.Status.{Status}
-use Rattle.ck_callers.specs.Scripts.{answered, HasPlayed}
+use Rattle.ck_callers.specs.Scripts.{entries_after, HasPlayed}
 use Rattle.ck_callers.specs.Steps.{HasAsked, HasStepped, HasTaken, IsCall, Rises, AreAnswersIn}
 use Rattle.ck_callers.specs.Steps.{calls_of, replies_of, front_at}
 use Rattle.ck_callers.specs.Turns.{EndsAt, HasMade}
@@ -97,9 +97,9 @@ module _ (limits : Ranges) (old : CallerState) (now : CallerState) (n : ℕ)
           count = omega (arith, rest.calls.count);
           front = front_trans old.seen now.seen new.seen does.front rest.calls.front;
           own = subst (λ k. entries_by k new.last
-              ≡ answered k (calls_of steps) (replies_of answers) (entries_by k now.last))
+              ≡ entries_after k (calls_of steps) (replies_of answers) (entries_by k now.last))
               same_number rest.calls.own
-              ∙ ap (λ h. answered old.number (calls_of steps) (replies_of answers)
+              ∙ ap (λ h. entries_after old.number (calls_of steps) (replies_of answers)
               (entries_by old.number h))
               (ap (λ c. c.last) does.same);
           made = rest.calls.made;

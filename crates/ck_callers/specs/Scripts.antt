@@ -9,11 +9,11 @@ use Rattle.ck_journal.specs.declared.replies.Reply.{Reply}
 use Rattle.ck_callers.specs.Callers.{CallerState, entry_by}
 
 -- a caller's entries, the newest first, after these replies to the first of these calls
-abbrev pub answered : ℕ → List Call → List Reply → List Entry → List Entry
-answered number calls [] before = before
-answered number [] (reply ∷ replies) before = before
-answered number (call ∷ calls) (reply ∷ replies) before =
-    answered number calls replies (entry_by number call reply ∷ before)
+abbrev pub entries_after : ℕ → List Call → List Reply → List Entry → List Entry
+entries_after number calls [] before = before
+entries_after number [] (reply ∷ replies) before = before
+entries_after number (call ∷ calls) (reply ∷ replies) before =
+    entries_after number calls replies (entry_by number call reply ∷ before)
 
 -- the caller has made the calls in their order, all of them or those before the first that found no
 -- memory: it goes on from all that it knew, and has one entry more for each reply
@@ -23,6 +23,6 @@ pub record HasPlayed (old : CallerState) (calls : List Call) (replies : List Rep
   pub count : new.count ≡ old.count + length replies
   pub front : IsFront old.seen new.seen
   pub own : entries_by old.number new.last
-      ≡ answered old.number calls replies (entries_by old.number old.last)
+      ≡ entries_after old.number calls replies (entries_by old.number old.last)
   pub made : MatchResult outcome (λ done. length replies ≡ length calls)
       (λ none. length replies < length calls)

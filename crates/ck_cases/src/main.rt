@@ -15,8 +15,6 @@ mod reports;
 mod retries;
 mod shown;
 mod statuses;
-#[cfg(test)]
-mod tests;
 
 use arguments::{ArgumentError, Request, request_of};
 use cases::{Output, PlayOptions, play_text};

@@ -17,7 +17,7 @@ same_kind other another = false
 -- it, adds a piece to a multiple-part message, or finishes such a message
 pub data Step : Type 0 where
   initialize : Step
-  take_whole : List ℕ → Step
+  single_part : List ℕ → Step
   add_piece : List ℕ → Step
   finish : Step
 
@@ -33,18 +33,18 @@ on_operation k session step = Some (record { kind = k; session = session; step =
 abbrev pub operation_step : Call → Option OperationStep
 operation_step (call.DigestInit session mechanism) = on_operation kind.Digest session initialize
 operation_step (call.Digest session bytes room) =
-    on_operation kind.Digest session (take_whole bytes)
+    on_operation kind.Digest session (single_part bytes)
 operation_step (call.DigestUpdate session bytes) =
     on_operation kind.Digest session (add_piece bytes)
 operation_step (call.DigestFinal session room) = on_operation kind.Digest session finish
 operation_step (call.SignInit session mechanism key) = on_operation kind.Sign session initialize
-operation_step (call.Sign session bytes room) = on_operation kind.Sign session (take_whole bytes)
+operation_step (call.Sign session bytes room) = on_operation kind.Sign session (single_part bytes)
 operation_step (call.SignUpdate session bytes) = on_operation kind.Sign session (add_piece bytes)
 operation_step (call.SignFinal session room) = on_operation kind.Sign session finish
 operation_step (call.VerifyInit session mechanism key) =
     on_operation kind.Verify session initialize
 operation_step (call.Verify session bytes signature) =
-    on_operation kind.Verify session (take_whole bytes)
+    on_operation kind.Verify session (single_part bytes)
 operation_step (call.VerifyUpdate session bytes) =
     on_operation kind.Verify session (add_piece bytes)
 operation_step (call.VerifyFinal session signature) = on_operation kind.Verify session finish

@@ -22,7 +22,7 @@ use Rattle.ck_journal.specs.declared.replies.Body.TheVariants as body
 use Rattle.ck_journal.specs.declared.replies.Reply.{Reply}
 use Rattle.ck_journal.specs.Histories.{History, start, ◌◁◌, done}
 use Rattle.ck_journal.specs.Objects.{object_named, attributes_or_empty}
-use Rattle.ck_journal.specs.OperationCalls.{Step, initialize, take_whole, add_piece, finish}
+use Rattle.ck_journal.specs.OperationCalls.{Step, initialize, single_part, add_piece, finish}
 use Rattle.ck_journal.specs.OperationCalls.{step_of, piece_in}
 use Rattle.ck_journal.specs.Sessions.{ends_operations}
 
@@ -52,7 +52,7 @@ is_data_len_range other = false
 -- multiple-part one does, unless the reply leaves it active, which no reply to a verifying does.
 -- One that adds a piece does where the piece is refused as too long.
 abbrev pub ends_by : Option Step → Reply → Bool
-ends_by (Some (take_whole bytes)) reply = not (leaves_active reply.rv reply.body)
+ends_by (Some (single_part bytes)) reply = not (leaves_active reply.rv reply.body)
 ends_by (Some finish) reply = not (leaves_active reply.rv reply.body)
 ends_by (Some (add_piece bytes)) reply = is_data_len_range reply.rv
 ends_by other reply = false

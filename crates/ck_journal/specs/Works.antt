@@ -10,7 +10,7 @@ use Rattle.ck_journal.specs.declared.operations.OperationKind.{OperationKind}
 use Rattle.ck_journal.specs.declared.works.Work.{Work}
 use Rattle.ck_journal.specs.Fronts.{IsFront}
 use Rattle.ck_journal.specs.Histories.{History, start, ◌◁◌, done, entry_count}
-use Rattle.ck_journal.specs.OperationCalls.{Step, take_whole, add_piece, OperationStep}
+use Rattle.ck_journal.specs.OperationCalls.{Step, single_part, add_piece, OperationStep}
 use Rattle.ck_journal.specs.OperationCalls.{operation_step}
 use Rattle.ck_journal.specs.Operations.{starts, piece_of, computation_in, message_in}
 
@@ -21,7 +21,7 @@ operation_of c = option_map (λ (o : OperationStep). (o.kind, o.session)) (opera
 
 -- the bytes that a step brings: a single-part message, or one piece of a multiple-part one
 abbrev pub bytes_taken : Step → List ℕ
-bytes_taken (take_whole bytes) = bytes
+bytes_taken (single_part bytes) = bytes
 bytes_taken (add_piece bytes) = bytes
 bytes_taken other = []
 

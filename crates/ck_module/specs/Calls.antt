@@ -1,5 +1,5 @@
 -- What a call that C asks for does to the token, to the reply and to the text beside it
-use Rattle.std.specs.Prelude.{◌≡◌, ℕ, ◌⊎◌, List, Option, Some, None}
+use Rattle.std.specs.Prelude.{◌≡◌, ◌≤◌, ℕ, ◌⊎◌, List, Option, Some, None}
 use Rattle.ck_journal.specs.declared.calls.Call.{Call}
 use Rattle.ck_journal.specs.TokenStates.{IsAnswered, IsUnchanged}
 use Rattle.ck_script.specs.Lines.{meaning}
@@ -10,9 +10,10 @@ use Rattle.ck_module.specs.declared.modules.Module.{Module}
 use Rattle.ck_module.specs.declared.steps.Step.{Step}
 use Rattle.ck_module.specs.declared.steps.Step.TheVariants as step
 
--- nothing that C can see has changed
+-- nothing that C can see has changed, and the journal has no less room
 pub record IsSame (old new : Module) : Type 0 where
   pub token : IsUnchanged old.token new.token
+  pub room : old.token.spare ≤ new.token.spare
   pub reply : new.reply ≡ old.reply
   pub text : new.text ≡ old.text
 

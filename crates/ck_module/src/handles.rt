@@ -7,6 +7,8 @@ ghost use Rattle.ck_module.specs.contracts.modules.Module.{the_row as module_row
 
 use crate::long_calls::LongCall;
 use crate::modules::Module;
+use ck_journal::Call;
+use std::alloc::Global;
 use std::marker::Model;
 
 /// What C holds of a token: where it lies. Contracts see the token that lies there.
@@ -25,8 +27,11 @@ impl Model for Handle {
 }
 
 impl Handle {
+    ghost use Rattle.std.specs.Prelude.{◌<◌, false};
     ghost use Rattle.std.specs.Borrow.{Lends};
+    ghost use Rattle.ck_module.specs.Calls.{IsCalledBy};
     ghost use Rattle.ck_module.specs.contracts.handles.Handle.{the_row};
+    ghost use Rattle.ck_token.specs.Decisions.{may_run_out};
 
     /// Lends the token. When the loan ends, what was written is the token that lies there.
     pub(crate) fn as_mut(&mut self) -> &mut Module
@@ -35,6 +40,16 @@ impl Handle {
         ensures value { result.now ≡ self.old.value }
     {
         unsafe { &mut *(self.at as *mut Module) }
+    }
+
+    /// Makes a call, and gives the number of what came of it.
+    pub(crate) fn call(&mut self, alloc: Global, caller: u32, call: Call) -> u32
+        ensures called { IsCalledBy caller call result self.old.value self.new.value }
+        ensures succeeds { 0 < self.old.value.token.spare
+            → may_run_out self.old.value.token.limits self.old.value.token.history call ≡ false
+            → result ≡ 0 }
+    {
+        self.as_mut().call(alloc, caller, call).number()
     }
 }
 

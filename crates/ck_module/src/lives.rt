@@ -1,8 +1,9 @@
-ghost use Rattle.std.specs.Prelude.{◌≡◌, Result};
+ghost use Rattle.std.specs.Prelude.{◌≡◌, ◌≤◌, Result, true};
 ghost use Rattle.std.specs.Borrow.{sem, full_share};
 ghost use Rattle.std.specs.Mem.{type_size};
 ghost use Rattle.std.specs.Ptr.{lies_at, room_at};
 ghost use Rattle.ck_journal.specs.Histories.{entry_count};
+ghost use Rattle.ck_module.specs.Calls.{IsSame};
 ghost use Rattle.ck_module.specs.Lives.{IsNew, IsCut, cut_number};
 ghost use Rattle.ck_module.specs.contracts.modules.Module.{the_row};
 ghost use Rattle.ck_module.specs.declared.modules.Module.{Module};
@@ -50,6 +51,16 @@ pub extern "C" fn ospreyrack_cut(alloc: Global, handle: &mut Handle) -> u32
         Err(Uncut::Session) => 1,
         Err(Uncut::Memory) => 2,
     }
+}
+
+/// Makes room in the token's journal for this many more entries, and says whether there was memory
+/// for it.
+#[unsafe(no_mangle)]
+pub extern "C" fn ospreyrack_reserve(handle: &mut Handle, count: u64) -> bool
+    ensures room { result ≡ true → count ≤ handle.new.value.token.spare }
+    ensures same { IsSame handle.old.value handle.new.value }
+{
+    handle.as_mut().token.reserve(count).is_ok()
 }
 
 /// How many entries the token's journal has.

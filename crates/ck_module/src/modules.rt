@@ -1,7 +1,9 @@
-ghost use Rattle.std.specs.Prelude.{◌≡◌, OnOk};
+ghost use Rattle.std.specs.Prelude.{◌≡◌, ◌<◌, OnOk, false};
 ghost use Rattle.ck_script.specs.Replies.{reply_line};
 ghost use Rattle.ck_module.specs.Calls.{IsCalled, IsLine, IsText};
 ghost use Rattle.ck_module.specs.Lives.{IsNew, IsCut};
+ghost use Rattle.ck_module.specs.declared.steps.Step.TheVariants as step;
+ghost use Rattle.ck_token.specs.Decisions.{may_run_out};
 
 use crate::steps::Step;
 use ck_journal::{Body, Call, Reply};
@@ -45,7 +47,10 @@ impl Module {
 
     /// Makes a call, and keeps its reply.
     pub(crate) fn call(&mut self, alloc: Global, caller: u32, call: Call) -> Step
-        ensures { IsCalled caller call result self.old self.new }
+        ensures called { IsCalled caller call result self.old self.new }
+        ensures succeeds { 0 < self.old.token.spare
+            → may_run_out self.old.token.limits self.old.token.history call ≡ false
+            → result ≡ step.Answered }
     {
         match self.token.call(alloc, caller, call) {
             Ok(reply) => {

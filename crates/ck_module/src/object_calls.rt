@@ -29,7 +29,7 @@ pub extern "C" fn ospreyrack_create_object(
         return Step::NoMemory.number();
     };
     let call = Call::CreateObject { session, template };
-    handle.as_mut().call(alloc, caller, call).number()
+    handle.call(alloc, caller, call)
 }
 
 /// C_GetAttributeValue.
@@ -53,7 +53,7 @@ pub extern "C" fn ospreyrack_get_attribute_value(
         object,
         queries,
     };
-    handle.as_mut().call(alloc, caller, call).number()
+    handle.call(alloc, caller, call)
 }
 
 /// Takes a key to another state (SP 800-57 Part 1, Key States and Transitions), which no function
@@ -75,7 +75,7 @@ pub extern "C" fn ospreyrack_set_key_state(
         key,
         state,
     };
-    handle.as_mut().call(alloc, caller, call).number()
+    handle.call(alloc, caller, call)
 }
 
 /// C_DestroyObject.
@@ -91,5 +91,5 @@ pub extern "C" fn ospreyrack_destroy_object(
         handle.old.value handle.new.value }
 {
     let call = Call::DestroyObject { session, object };
-    handle.as_mut().call(alloc, caller, call).number()
+    handle.call(alloc, caller, call)
 }

@@ -30,7 +30,7 @@ pub extern "C" fn ospreyrack_digest_init(
         session,
         mechanism: Mechanism { kind, parameter },
     };
-    handle.as_mut().call(alloc, caller, call).number()
+    handle.call(alloc, caller, call)
 }
 
 /// C_Digest. Without `has_room` only the length is asked for.
@@ -55,7 +55,7 @@ pub extern "C" fn ospreyrack_digest(
         bytes,
         room: room_of(has_room, room),
     };
-    handle.as_mut().call(alloc, caller, call).number()
+    handle.call(alloc, caller, call)
 }
 
 /// C_DigestUpdate.
@@ -74,7 +74,7 @@ pub extern "C" fn ospreyrack_digest_update(
         return Step::NoMemory.number();
     };
     let call = Call::DigestUpdate { session, bytes };
-    handle.as_mut().call(alloc, caller, call).number()
+    handle.call(alloc, caller, call)
 }
 
 /// C_DigestFinal. Without `has_room` only the length is asked for.
@@ -94,7 +94,7 @@ pub extern "C" fn ospreyrack_digest_final(
         session,
         room: room_of(has_room, room),
     };
-    handle.as_mut().call(alloc, caller, call).number()
+    handle.call(alloc, caller, call)
 }
 
 /// C_SignInit (PKCS #11 Base 3.0, Signing and MACing functions). An empty parameter is none.
@@ -120,7 +120,7 @@ pub extern "C" fn ospreyrack_sign_init(
         mechanism: Mechanism { kind, parameter },
         key,
     };
-    handle.as_mut().call(alloc, caller, call).number()
+    handle.call(alloc, caller, call)
 }
 
 /// C_Sign. Without `has_room` only the length is asked for.
@@ -145,7 +145,7 @@ pub extern "C" fn ospreyrack_sign(
         bytes,
         room: room_of(has_room, room),
     };
-    handle.as_mut().call(alloc, caller, call).number()
+    handle.call(alloc, caller, call)
 }
 
 /// C_SignUpdate.
@@ -164,7 +164,7 @@ pub extern "C" fn ospreyrack_sign_update(
         return Step::NoMemory.number();
     };
     let call = Call::SignUpdate { session, bytes };
-    handle.as_mut().call(alloc, caller, call).number()
+    handle.call(alloc, caller, call)
 }
 
 /// C_SignFinal. Without `has_room` only the length is asked for.
@@ -184,7 +184,7 @@ pub extern "C" fn ospreyrack_sign_final(
         session,
         room: room_of(has_room, room),
     };
-    handle.as_mut().call(alloc, caller, call).number()
+    handle.call(alloc, caller, call)
 }
 
 /// C_VerifyInit (PKCS #11 Base 3.0, Functions for verifying signatures and MACs). An empty
@@ -211,7 +211,7 @@ pub extern "C" fn ospreyrack_verify_init(
         mechanism: Mechanism { kind, parameter },
         key,
     };
-    handle.as_mut().call(alloc, caller, call).number()
+    handle.call(alloc, caller, call)
 }
 
 /// C_Verify.
@@ -238,7 +238,7 @@ pub extern "C" fn ospreyrack_verify(
         bytes,
         signature,
     };
-    handle.as_mut().call(alloc, caller, call).number()
+    handle.call(alloc, caller, call)
 }
 
 /// C_VerifyUpdate.
@@ -257,7 +257,7 @@ pub extern "C" fn ospreyrack_verify_update(
         return Step::NoMemory.number();
     };
     let call = Call::VerifyUpdate { session, bytes };
-    handle.as_mut().call(alloc, caller, call).number()
+    handle.call(alloc, caller, call)
 }
 
 /// C_VerifyFinal.
@@ -276,5 +276,5 @@ pub extern "C" fn ospreyrack_verify_final(
         return Step::NoMemory.number();
     };
     let call = Call::VerifyFinal { session, signature };
-    handle.as_mut().call(alloc, caller, call).number()
+    handle.call(alloc, caller, call)
 }

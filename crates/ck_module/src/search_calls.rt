@@ -26,7 +26,7 @@ pub extern "C" fn ospreyrack_find_objects_init(
         return Step::NoMemory.number();
     };
     let call = Call::FindObjectsInit { session, template };
-    handle.as_mut().call(alloc, caller, call).number()
+    handle.call(alloc, caller, call)
 }
 
 /// C_FindObjects.
@@ -42,7 +42,7 @@ pub extern "C" fn ospreyrack_find_objects(
         handle.old.value handle.new.value }
 {
     let call = Call::FindObjects { session, max };
-    handle.as_mut().call(alloc, caller, call).number()
+    handle.call(alloc, caller, call)
 }
 
 /// C_FindObjectsFinal.
@@ -57,5 +57,5 @@ pub extern "C" fn ospreyrack_find_objects_final(
         handle.old.value handle.new.value }
 {
     let call = Call::FindObjectsFinal { session };
-    handle.as_mut().call(alloc, caller, call).number()
+    handle.call(alloc, caller, call)
 }

@@ -1,3 +1,4 @@
+ghost use Rattle.std.specs.Prelude.{◌≡◌, ◌<◌};
 ghost use Rattle.ck_journal.specs.declared.calls.Call.TheVariants as call;
 ghost use Rattle.ck_module.specs.Calls.{IsCalledBy};
 
@@ -16,7 +17,7 @@ pub extern "C" fn ospreyrack_open_session(
     ensures { IsCalledBy caller (call.OpenSession flags) result handle.old.value handle.new.value }
 {
     let call = Call::OpenSession { flags };
-    handle.as_mut().call(alloc, caller, call).number()
+    handle.call(alloc, caller, call)
 }
 
 /// C_CloseSession.
@@ -31,7 +32,7 @@ pub extern "C" fn ospreyrack_close_session(
         handle.old.value handle.new.value }
 {
     let call = Call::CloseSession { session };
-    handle.as_mut().call(alloc, caller, call).number()
+    handle.call(alloc, caller, call)
 }
 
 /// C_CloseAllSessions.
@@ -43,10 +44,7 @@ pub extern "C" fn ospreyrack_close_all_sessions(
 ) -> u32
     ensures { IsCalledBy caller call.CloseAllSessions result handle.old.value handle.new.value }
 {
-    handle
-        .as_mut()
-        .call(alloc, caller, Call::CloseAllSessions)
-        .number()
+    handle.call(alloc, caller, Call::CloseAllSessions)
 }
 
 /// C_Logout.
@@ -60,7 +58,7 @@ pub extern "C" fn ospreyrack_logout(
     ensures { IsCalledBy caller (call.Logout session) result handle.old.value handle.new.value }
 {
     let call = Call::Logout { session };
-    handle.as_mut().call(alloc, caller, call).number()
+    handle.call(alloc, caller, call)
 }
 
 /// C_GetSessionInfo.
@@ -75,7 +73,7 @@ pub extern "C" fn ospreyrack_get_session_info(
         handle.old.value handle.new.value }
 {
     let call = Call::GetSessionInfo { session };
-    handle.as_mut().call(alloc, caller, call).number()
+    handle.call(alloc, caller, call)
 }
 
 /// C_GetTokenInfo (PKCS #11 Base 3.0, Slot and token management functions).
@@ -83,13 +81,10 @@ pub extern "C" fn ospreyrack_get_session_info(
 pub extern "C" fn ospreyrack_get_token_info(alloc: Global, handle: &mut Handle, caller: u32) -> u32
     ensures { IsCalledBy caller call.GetTokenInfo result handle.old.value handle.new.value }
 {
-    handle
-        .as_mut()
-        .call(alloc, caller, Call::GetTokenInfo)
-        .number()
+    handle.call(alloc, caller, Call::GetTokenInfo)
 }
 
-/// C_SessionCancel.
+/// C_SessionCancel. Where the token's journal has room, the call takes no memory.
 #[unsafe(no_mangle)]
 pub extern "C" fn ospreyrack_session_cancel(
     alloc: Global,
@@ -98,9 +93,10 @@ pub extern "C" fn ospreyrack_session_cancel(
     session: u64,
     flags: u64,
 ) -> u32
-    ensures { IsCalledBy caller (call.SessionCancel session flags) result
+    ensures called { IsCalledBy caller (call.SessionCancel session flags) result
         handle.old.value handle.new.value }
+    ensures succeeds { 0 < handle.old.value.token.spare → result ≡ 0 }
 {
     let call = Call::SessionCancel { session, flags };
-    handle.as_mut().call(alloc, caller, call).number()
+    handle.call(alloc, caller, call)
 }

@@ -29,7 +29,7 @@ use Rattle.ck_journal.specs.Pins.{pin_owner, about}
 use Rattle.ck_journal.specs.Searches.{last_number, last_or, number_of_handle, handles_in}
 use Rattle.ck_journal.specs.Sessions.{state_of}
 use Rattle.ck_journal.specs.Answers.{call_error, hmac_init_error}
-use Rattle.ck_journal.specs.OperationCalls.{Step, initialize, take_whole, add_piece, finish}
+use Rattle.ck_journal.specs.OperationCalls.{Step, initialize, single_part, add_piece, finish}
 use Rattle.ck_journal.specs.OperationCalls.{OperationStep, operation_step}
 use Rattle.ck_journal.specs.Works.{taken_bytes}
 use Rattle.ck_journal.specs.Operations.{started_computation, hmac_with, init_key}
@@ -59,7 +59,7 @@ is_of_call-step : (k : OperationKind) (session : ℕ) (x : Step) (code : RvError
 is_of_call-step k session initialize code = refl
 is_of_call-step k session (add_piece bytes) rv_error.DataLenRange = refl
 is_of_call-step k session (add_piece bytes) other = refl
-is_of_call-step k session (take_whole bytes) code = refl
+is_of_call-step k session (single_part bytes) code = refl
 is_of_call-step k session finish code = refl
 
 is_of_call-refused : (o : Option OperationStep) (code : RvError) (who : Option UserType)

@@ -17,7 +17,7 @@ use Rattle.ck_journal.specs.declared.replies.Body.TheVariants as body
 use Rattle.ck_journal.specs.declared.replies.Reply.{Reply}
 use Rattle.ck_journal.specs.Histories.{History, ◌◁◌, done, is_ok}
 use Rattle.ck_journal.specs.Effects.{effects_of, effects}
-use Rattle.ck_journal.specs.OperationCalls.{on_operation, Step, initialize, take_whole, add_piece}
+use Rattle.ck_journal.specs.OperationCalls.{on_operation, Step, initialize, single_part, add_piece}
 use Rattle.ck_journal.specs.OperationCalls.{finish, OperationStep, operation_step, step_in}
 use Rattle.ck_journal.specs.OperationCalls.{same_kind, piece_in}
 use Rattle.ck_journal.specs.Operations.{starts, ends, finishes, cancels, piece_of, ends_by}
@@ -311,11 +311,11 @@ module _ (h : History) (c : Call) (b : Body) (k : OperationKind) (session : ℕ)
         nowhere = λ k s. refl;
       }
   from-refused code l y (add_piece bytes) e is = cc
-  from-refused code l y (take_whole bytes) e is =
+  from-refused code l y (single_part bytes) e is =
       let i = finish-injected k l session y last _ is in
       record {
-        step = take_whole bytes;
-        is = step-same l y (take_whole bytes) e i.0 i.1;
+        step = single_part bytes;
+        is = step-same l y (single_part bytes) e i.0 i.1;
         ending = ap not (any_body code b body.Empty) ∙ sym i.2;
         none = λ k s. refl;
         nowhere = λ k s. refl;
@@ -342,17 +342,17 @@ pub finished-is : (h : History) (c : Call) (v : Rv) (b : Body) (k : OperationKin
     → change.FinishOperation k session last ≡ effect_by h c v b → IsFinish h k session last c v b
 finished-is h (call.Digest x bytes room) rv.Ok b k session last is =
     from-ok h (call.Digest x bytes room) b k session last kind.Digest x
-    (take_whole bytes) refl refl refl is
+    (single_part bytes) refl refl refl is
 finished-is h (call.DigestFinal x room) rv.Ok b k session last is =
     from-ok h (call.DigestFinal x room) b k session last kind.Digest x finish refl refl refl is
 finished-is h (call.Sign x bytes room) rv.Ok b k session last is =
     from-ok h (call.Sign x bytes room) b k session last kind.Sign x
-    (take_whole bytes) refl refl refl is
+    (single_part bytes) refl refl refl is
 finished-is h (call.SignFinal x room) rv.Ok b k session last is =
     from-ok h (call.SignFinal x room) b k session last kind.Sign x finish refl refl refl is
 finished-is h (call.Verify x bytes signature) rv.Ok b k session last is =
     from-ok h (call.Verify x bytes signature) b k session last kind.Verify x
-    (take_whole bytes) refl refl refl is
+    (single_part bytes) refl refl refl is
 finished-is h (call.VerifyFinal x signature) rv.Ok b k session last is =
     from-ok h (call.VerifyFinal x signature) b k session last kind.Verify x finish refl refl refl is
 finished-is h other rv.Ok b k session last is = cc
@@ -375,7 +375,7 @@ pub step-no_try : (u : UserType) (k : OperationKind) (session : ℕ) (x : Step) 
 step-no_try u k session initialize code is = cc
 step-no_try u k session (add_piece bytes) rv_error.DataLenRange is = cc
 step-no_try u k session (add_piece bytes) code is = cc
-step-no_try u k session (take_whole bytes) code is = cc
+step-no_try u k session (single_part bytes) code is = cc
 step-no_try u k session finish code is = cc
 
 module _ (h : History) (n : ℕ) (c : Call) (b : Body) (code : RvError) where
@@ -394,7 +394,7 @@ module _ (h : History) (n : ℕ) (c : Call) (b : Body) (code : RvError) where
           → is_data_len_range (rv.Error code) ≡ false
       other rv_error.DataLenRange is = cc
       other code is = refl
-  quiet-refused l y (take_whole bytes) e is = cc
+  quiet-refused l y (single_part bytes) e is = cc
   quiet-refused l y finish e is = cc
 
   nothing-refused : (o : Option OperationStep) → operation_step c ≡ o

@@ -18,7 +18,7 @@ use Rattle.ck_journal.proofs.FrontLemmas.{front_trans}
 use Rattle.ck_callers.specs.Accounts.{AccountState}
 use Rattle.ck_callers.specs.Callers.{CallerState, IsSettled, are_all, new_caller}
 use Rattle.ck_callers.specs.Runs.{IsPlayed}
-use Rattle.ck_callers.specs.Scripts.{answered}
+use Rattle.ck_callers.specs.Scripts.{entries_after}
 use Rattle.ck_callers.specs.declared.scripts.Script.{Script}
 use Rattle.ck_program.specs.CallerCalls.{calls_by, IsNewCaller, HasMadeAll, HasEntriesOf}
 use Rattle.ck_program.specs.CallerCalls.{IsUnplayed, IsPlayedAll}
@@ -77,9 +77,9 @@ played_all calls old new unplayed played started done =
       subst (λ n. HasEntriesOf calls n new.caller.last) (sym p.number) (record {
         replies = vec_items new.replies;
         own = p.own
-            ∙ ap (λ own. answered old.caller.number own (vec_items new.replies)
+            ∙ ap (λ own. entries_after old.caller.number own (vec_items new.replies)
             (entries_by old.caller.number old.caller.last)) unplayed.0
-            ∙ ap (answered old.caller.number (calls_by old.caller.number calls)
+            ∙ ap (entries_after old.caller.number (calls_by old.caller.number calls)
             (vec_items new.replies)) unplayed.1.0;
         all = all ∙ ap length unplayed.0;
       }),

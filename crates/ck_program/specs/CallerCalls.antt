@@ -8,7 +8,7 @@ use Rattle.ck_journal.specs.Histories.{History, start}
 use Rattle.ck_journal.specs.declared.calls.Call.{Call}
 use Rattle.ck_journal.specs.declared.replies.Reply.{Reply}
 use Rattle.ck_callers.specs.Callers.{CallerState}
-use Rattle.ck_callers.specs.Scripts.{answered}
+use Rattle.ck_callers.specs.Scripts.{entries_after}
 use Rattle.ck_callers.specs.declared.scripts.Script.{Script}
 
 -- the calls of a caller, in their order
@@ -20,7 +20,7 @@ calls_by number (c ∷ calls) =
 -- the caller's entries in the history are those of its calls: all of them, in their order
 pub record HasEntriesOf (calls : List (ℕ × Call)) (number : ℕ) (h : History) : Type 0 where
   pub replies : List Reply
-  pub own : entries_by number h ≡ answered number (calls_by number calls) replies []
+  pub own : entries_by number h ≡ entries_after number (calls_by number calls) replies []
   pub all : length replies ≡ length (calls_by number calls)
 
 -- the callers' numbers, in their order

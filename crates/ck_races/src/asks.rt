@@ -1,26 +1,24 @@
-//! Of three callers of a token one logs in. Meanwhile another, which has learnt of the calls
+//! Of two or three callers of a token one logs in. Meanwhile another, which has learnt of the calls
 //! before, asks for the state of a session, without the lock, until it sees the login. Then it
-//! makes a call of its own, and sees a second login by asking only. The last makes no call: it asks
-//! before the first call and after the first login.
-ghost use Rattle.std.specs.Prelude.{◌≡◌};
+//! makes a call of its own, and sees a second login by asking only. The last asks before the first
+//! call; a third one makes no call, and asks once more after the first login.
+ghost use Rattle.std.specs.Prelude.{◌≡◌, ◌≤◌};
 ghost use Rattle.ck_journal.specs.Histories.{start, start_of};
 
 use crate::journals::check_audit;
 use crate::scripts::{add_script, check_taken};
-use crate::shared_work::{SharedWork, share_with};
+use crate::shared_work::{Shared, SharedWork, share_with};
 use crate::tokens::{cut_token, initialized_token};
 use anyhow::{Context, bail, ensure};
 use ck_journal::{Call, READ_WRITE};
 use ck_script::reply_line;
-use ck_shared::{
-    Answered, Ask, Caller, News, Runtime, Script, SharedToken, Status, Step, TokenId, run_steps,
-};
+use ck_shared::{Answered, Ask, Caller, News, Runtime, Script, Status, Step, TokenId, run_steps};
 use ck_token::Token;
 use ck_types::{Limits, NoMemory, Pin, Rv, UserType, mechanism_types};
 use std::alloc::Global;
 use std::mem;
 
-/// How many times each of two callers asks for the state of the session while one logs in.
+/// How many times a caller asks for the state of the session while another logs in.
 const ASKS: u32 = 1_000;
 
 /// How many times a caller asks until it must have seen the call of another.
@@ -33,7 +31,7 @@ const WITH_LOGIN: u64 = 8;
 /// How many there are in the end: with a logout, a call of the second caller and another login.
 const ALL: u64 = 11;
 
-/// How many times all of it is run, on each of three tokens.
+/// How many times all of it is run, with two callers and with three, on each of three tokens.
 pub(crate) const RUNS: u32 = 100;
 
 type AskingScript<K> = Script<K, Step, Answered>;
@@ -102,56 +100,9 @@ fn check_before<K: TokenId>(
     check_ask(alloc, caller, Ask::Mechanisms, "")
 }
 
-/// A caller makes a call, which is answered CKR_OK.
-fn make_call<K: TokenId, R: Runtime>(
-    rt: &R,
-    token: &SharedToken<K, Token, R>,
-    caller: &mut Caller<K>,
-    call: Call,
-) -> anyhow::Result<()> {
-    let alloc = rt.alloc();
-    let reply = token.call(rt, alloc, caller, call)?;
-    expect(reply.rv == Rv::Ok)
-}
-
-/// A caller initializes the token and opens session 1, which it then sees.
-fn open_session<K: TokenId, R: Runtime>(
-    rt: &R,
-    token: &SharedToken<K, Token, R>,
-    caller: &mut Caller<K>,
-) -> anyhow::Result<()> {
-    let alloc = rt.alloc();
-    let pin = Pin::of(b"1234");
-    let flags = READ_WRITE;
-    make_call(rt, token, caller, Call::InitToken { pin })?;
-    make_call(rt, token, caller, Call::OpenSession { flags })?;
-    check_ask(alloc, caller, Ask::Session(1), "0 2 6")?;
-    check_ask(alloc, caller, Ask::Token, "0 404 64 1 1")
-}
-
 /// The login of the user.
 fn user_login() -> Call {
     Call::login(1, UserType::User, Pin::of(b"user"))
-}
-
-/// A caller makes the first calls: then session 1 is open, nobody is logged in, and the user has a
-/// PIN.
-fn make_first_calls<K: TokenId, R: Runtime>(
-    rt: &R,
-    token: &SharedToken<K, Token, R>,
-    caller: &mut Caller<K>,
-) -> anyhow::Result<()> {
-    let alloc = rt.alloc();
-    let (so, pin, session) = (Pin::of(b"1234"), Pin::of(b"user"), 1);
-    open_session(rt, token, caller)?;
-    let login = Call::login(session, UserType::So, so);
-    make_call(rt, token, caller, login)?;
-    make_call(rt, token, caller, Call::InitPin { session, pin })?;
-    make_call(rt, token, caller, Call::Logout { session })?;
-    make_call(rt, token, caller, user_login())?;
-    make_call(rt, token, caller, Call::Logout { session })?;
-    expect(caller.seen() == FIRST && caller.count() == FIRST)?;
-    check_ask(alloc, caller, Ask::Token, "0 40c 64 1 1")
 }
 
 /// What is answered of session 1 after this many entries: behind the first calls the user logs in.
@@ -205,20 +156,6 @@ fn check_learning<K: TokenId>(
     check_learnt(alloc, callers, &news, entries)
 }
 
-/// The last caller asks before the first call. Then the first makes the first calls, of which the
-/// second learns.
-fn prepare<K: TokenId, R: Runtime>(
-    rt: &R,
-    token: &SharedToken<K, Token, R>,
-    callers: &mut [Caller<K>],
-    state: &str,
-) -> anyhow::Result<()> {
-    let alloc = rt.alloc();
-    check_before(alloc, caller_at(callers, 2)?, state)?;
-    make_first_calls(rt, token, caller_at(callers, 0)?)?;
-    check_learning(alloc, callers, FIRST)
-}
-
 /// The second caller, which hasn't learnt of the login, sees it by asking only.
 fn await_login<K: TokenId>(alloc: Global, caller: &mut Caller<K>) -> anyhow::Result<()> {
     if caller.seen() == FIRST {
@@ -263,34 +200,21 @@ fn check_after<K: TokenId>(
     Ok(())
 }
 
-/// The second caller makes a call that leaves the sessions, the login and the PINs as they are, and
-/// is answered without the lock as before. Then it sees a login of the first by asking only.
-fn check_own_call<K: TokenId, R: Runtime>(
-    rt: &R,
-    token: &SharedToken<K, Token, R>,
-    callers: &mut [Caller<K>],
-) -> anyhow::Result<()> {
-    let alloc = rt.alloc();
-    let (session, ask) = (1, Ask::Session(1));
-    let (public, user) = (state_after(FIRST), state_after(WITH_LOGIN));
-    let logout = Call::Logout { session };
-    make_call(rt, token, caller_at(callers, 0)?, logout)?;
-    let second = caller_at(callers, 1)?;
-    make_call(rt, token, second, Call::GetTokenInfo)?;
-    check_ask(alloc, second, ask, public)?;
-    make_call(rt, token, caller_at(callers, 0)?, user_login())?;
-    let second = caller_at(callers, 1)?;
-    await_status(alloc, second, ask, public, user)?;
-    expect(second.seen() == ALL && second.count() == 1)
+/// How many times a caller asks in its script. Of two callers the first asks only once.
+fn asks_of(caller: u32, callers: usize) -> u32 {
+    match caller {
+        1 if callers == 2 => 1,
+        1 | 2 => ASKS,
+        _ => 0,
+    }
 }
 
-/// The first caller logs in. It and the second then ask again and again.
-fn steps_of(alloc: Global, caller: u32) -> Result<Vec<Step>, NoMemory> {
+/// The first caller logs in. It and the second then ask.
+fn steps_of(alloc: Global, caller: u32, asks: u32) -> Result<Vec<Step>, NoMemory> {
     let mut steps = Vec::new(alloc);
     if caller == 1 {
         steps.push(Step::Call(user_login()))?;
     }
-    let asks = if caller < 3 { ASKS } else { 0 };
     for _ in 0..asks {
         steps.push(Step::Ask(Ask::Session(1)))?;
     }
@@ -302,8 +226,10 @@ fn scripts_of<K: TokenId>(
     callers: Vec<Caller<K>>,
 ) -> Result<Vec<AskingScript<K>>, NoMemory> {
     let mut scripts = Vec::new(alloc);
+    let count = callers.len();
     for caller in callers {
-        let steps = steps_of(alloc, caller.number())?;
+        let number = caller.number();
+        let steps = steps_of(alloc, number, asks_of(number, count))?;
         add_script(alloc, caller, steps, &mut scripts)?;
     }
     Ok(scripts)
@@ -322,44 +248,116 @@ fn check_scripts<K: TokenId>(
     Ok(())
 }
 
-/// One caller logs in while another asks. Before the first call this is answered about the token.
-pub(crate) fn log_in_and_ask<K: TokenId + Send + Sync, R: Runtime>(
-    rt: &R,
-    token: &SharedToken<K, Token, R>,
-    callers: &mut Vec<Caller<K>>,
-    state: &str,
-) -> anyhow::Result<()> {
-    let alloc = rt.alloc();
-    prepare(rt, token, callers, state)?;
-    let older = caller_at(callers, 0)?.news();
-    let scripts = scripts_of(alloc, mem::replace(callers, Vec::new(alloc)))?;
-    let scripts = run_steps(rt, alloc, token, scripts);
-    check_scripts(alloc, scripts, callers)?;
-    check_after(alloc, callers, &older)?;
-    check_own_call(rt, token, callers)
+impl<'a, K: TokenId, R: Runtime> Shared<'a, K, R> {
+    /// A caller makes a call, which is answered CKR_OK.
+    fn make_call(&self, caller: &mut Caller<K>, call: Call) -> anyhow::Result<()> {
+        let reply = self.call(caller, call)?;
+        expect(reply.rv == Rv::Ok)
+    }
+
+    /// A caller initializes the token and opens session 1, which it then sees.
+    fn open_session(&self, caller: &mut Caller<K>) -> anyhow::Result<()> {
+        let alloc = self.rt.alloc();
+        let pin = Pin::of(b"1234");
+        let flags = READ_WRITE;
+        self.make_call(caller, Call::InitToken { pin })?;
+        self.make_call(caller, Call::OpenSession { flags })?;
+        check_ask(alloc, caller, Ask::Session(1), "0 2 6")?;
+        check_ask(alloc, caller, Ask::Token, "0 404 64 1 1")
+    }
+
+    /// A caller makes the first calls: then session 1 is open, nobody is logged in, and the user
+    /// has a PIN.
+    fn make_first_calls(&self, caller: &mut Caller<K>) -> anyhow::Result<()> {
+        let (so, pin, session) = (Pin::of(b"1234"), Pin::of(b"user"), 1);
+        self.open_session(caller)?;
+        self.make_call(caller, Call::login(session, UserType::So, so))?;
+        self.make_call(caller, Call::InitPin { session, pin })?;
+        self.make_call(caller, Call::Logout { session })?;
+        self.make_call(caller, user_login())?;
+        self.make_call(caller, Call::Logout { session })?;
+        expect(caller.seen() == FIRST && caller.count() == FIRST)?;
+        check_ask(self.rt.alloc(), caller, Ask::Token, "0 40c 64 1 1")
+    }
+
+    /// The last caller asks before the first call. Then the first makes the first calls, of which
+    /// the second learns.
+    fn prepare(&self, callers: &mut [Caller<K>], state: &str) -> anyhow::Result<()> {
+        let alloc = self.rt.alloc();
+        let last = callers.last_mut().context("there are no callers")?;
+        check_before(alloc, last, state)?;
+        self.make_first_calls(caller_at(callers, 0)?)?;
+        check_learning(alloc, callers, FIRST)
+    }
+
+    /// The second caller makes a call that leaves the sessions, the login and the PINs as they are,
+    /// and is answered without the lock as before. Then it sees a login of the first by asking
+    /// only.
+    fn check_own_call(&self, callers: &mut [Caller<K>]) -> anyhow::Result<()> {
+        let alloc = self.rt.alloc();
+        let (session, ask) = (1, Ask::Session(1));
+        let (public, user) = (state_after(FIRST), state_after(WITH_LOGIN));
+        self.make_call(caller_at(callers, 0)?, Call::Logout { session })?;
+        let second = caller_at(callers, 1)?;
+        self.make_call(second, Call::GetTokenInfo)?;
+        check_ask(alloc, second, ask, public)?;
+        self.make_call(caller_at(callers, 0)?, user_login())?;
+        let second = caller_at(callers, 1)?;
+        await_status(alloc, second, ask, public, user)?;
+        expect(second.seen() == ALL && second.count() == 1)
+    }
+
+    /// One caller logs in while another asks. Before the first call this is answered about the
+    /// token.
+    pub(crate) fn log_in_and_ask(
+        &self,
+        callers: &mut Vec<Caller<K>>,
+        state: &str,
+    ) -> anyhow::Result<()>
+    where
+        K: Send + Sync,
+    {
+        let (rt, alloc) = (self.rt, self.rt.alloc());
+        self.prepare(callers, state)?;
+        let older = caller_at(callers, 0)?.news();
+        let scripts = scripts_of(alloc, mem::replace(callers, Vec::new(alloc)))?;
+        let scripts = run_steps(rt, alloc, self.token, scripts);
+        check_scripts(alloc, scripts, callers)?;
+        check_after(alloc, callers, &older)?;
+        self.check_own_call(callers)
+    }
 }
 
-/// Three callers call and ask. In the end the journal has an entry for each call.
-fn run_once<R: Runtime>(rt: R, token: Token, state: &str) -> anyhow::Result<()>
-    requires { token.history ≡ start (start_of token.history) }
+/// Callers call and ask. In the end the journal has an entry for each call.
+fn run_once<R: Runtime>(rt: R, callers: u32, token: Token, state: &str) -> anyhow::Result<()>
+    requires callers { (1 ≤ callers) × (callers ≤ 8) }
+    requires history { token.history ≡ start (start_of token.history) }
 {
     let alloc = rt.alloc();
     let work = SharedWork::LoginAndAsks(state);
-    let (token, _outcome) = share_with(rt, token, 3, &work)?;
+    let (token, _outcome) = share_with(rt, token, callers, &work)?;
     expect(token.journal().len() == ALL)?;
     check_audit(alloc, &token)?;
     Ok(())
 }
 
-/// All of it again and again, on new tokens, on new ones whose journal was cut and on initialized
-/// ones whose journal was cut.
-pub(crate) fn run_asks<R: Runtime>(rt: R) -> anyhow::Result<()> {
+/// All of it on a new token, on a new one whose journal was cut and on an initialized one whose
+/// journal was cut.
+fn run_on_each_token<R: Runtime>(rt: R, callers: u32) -> anyhow::Result<()>
+    requires callers { (1 ≤ callers) × (callers ≤ 8) }
+{
     let alloc = rt.alloc();
+    let token = Token::new(alloc, Limits::largest());
+    run_once(rt, callers, token, "0 4 64 0 0")?;
+    run_once(rt, callers, cut_token(alloc, &[])?, "0 4 64 0 0")?;
+    run_once(rt, callers, initialized_token(alloc)?, "0 404 64 0 0")
+}
+
+/// All of it again and again.
+pub(crate) fn run_asks<R: Runtime>(rt: R) -> anyhow::Result<()> {
     for _ in 0..RUNS {
-        let token = Token::new(alloc, Limits::largest());
-        run_once(rt, token, "0 4 64 0 0")?;
-        run_once(rt, cut_token(alloc, &[])?, "0 4 64 0 0")?;
-        run_once(rt, initialized_token(alloc)?, "0 404 64 0 0")?;
+        run_on_each_token(rt, 2)?;
+        run_on_each_token(rt, 3)?;
     }
     Ok(())
 }

@@ -3,10 +3,10 @@
 use crate::journals::{CallerReplies, check_audit, check_replies};
 use crate::mix::{Handles, call_of};
 use crate::scripts::{add_script, finish};
-use crate::shared_work::{SharedWork, share_with};
+use crate::shared_work::{Shared, SharedWork, share_with};
 use anyhow::{Context, ensure};
 use ck_journal::Call;
-use ck_shared::{Caller, Runtime, Script, SharedToken, TokenId, run_scripts};
+use ck_shared::{Caller, Runtime, Script, TokenId, run_scripts};
 use ck_token::Token;
 use ck_types::{Limits, Pin};
 use std::alloc::Global;
@@ -66,24 +66,25 @@ fn scripts_of<K: TokenId>(
     Ok(scripts)
 }
 
-/// All callers make the calls of their scripts at once, behind the first call of the first one.
-/// Gives the replies to each.
-pub(crate) fn run_eight<K: TokenId + Send + Sync, R: Runtime>(
-    rt: &R,
-    token: &SharedToken<K, Token, R>,
-    callers: &mut Vec<Caller<K>>,
-) -> anyhow::Result<Vec<CallerReplies>> {
-    let alloc = rt.alloc();
-    let first = callers.first_mut().context("a caller is missing")?;
-    let pin = Pin::of(b"1234");
-    let reply = token.call(rt, alloc, first, Call::InitToken { pin })?;
-    let owned = mem::replace(callers, Vec::new(alloc));
-    let scripts = run_scripts(rt, alloc, token, scripts_of(alloc, owned)?);
-    let mut all = Vec::new(alloc);
-    finish(scripts, callers, &mut all)?;
-    let (_, replies) = all.first_mut().context("a caller is missing")?;
-    replies.insert(0, reply)?;
-    Ok(all)
+impl<'a, K: TokenId + Send + Sync, R: Runtime> Shared<'a, K, R> {
+    /// All callers make the calls of their scripts at once, behind the first call of the first one.
+    /// Gives the replies to each.
+    pub(crate) fn run_eight(
+        &self,
+        callers: &mut Vec<Caller<K>>,
+    ) -> anyhow::Result<Vec<CallerReplies>> {
+        let alloc = self.rt.alloc();
+        let first = callers.first_mut().context("a caller is missing")?;
+        let pin = Pin::of(b"1234");
+        let reply = self.call(first, Call::InitToken { pin })?;
+        let owned = mem::replace(callers, Vec::new(alloc));
+        let scripts = run_scripts(self.rt, alloc, self.token, scripts_of(alloc, owned)?);
+        let mut all = Vec::new(alloc);
+        finish(scripts, callers, &mut all)?;
+        let (_, replies) = all.first_mut().context("a caller is missing")?;
+        replies.insert(0, reply)?;
+        Ok(all)
+    }
 }
 
 /// Makes the calls of all scripts on a new token, and compares the replies with its journal, whose

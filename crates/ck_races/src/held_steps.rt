@@ -5,14 +5,11 @@ use crate::asks::{await_status, check_ask, check_status, expect};
 use crate::journals::check_audit;
 use crate::orders::{CallOrder, HeldGate};
 use crate::scripts::{add_script, check_taken};
-use crate::shared_work::{SharedWork, share_with};
+use crate::shared_work::{Shared, SharedWork, share_with};
 use crate::tokens::initialized_token;
 use anyhow::ensure;
 use ck_journal::{Body, Call, READ_WRITE, Reply};
-use ck_shared::{
-    Answered, Ask, Caller, Gate, Runtime, Script, SharedToken, Step, TokenId, run_steps,
-};
-use ck_token::Token;
+use ck_shared::{Answered, Ask, Caller, Runtime, Script, Step, TokenId, run_steps};
 use ck_types::{NoMemory, Rv};
 use std::alloc::Global;
 use std::mem;
@@ -99,39 +96,38 @@ fn check_scripts<K: TokenId>(
     Ok(())
 }
 
-/// A caller that has made a call sees both sessions by asking only. Then it makes a call that
-/// leaves sessions, logins and PINs as they are, and is answered without the lock as before.
-fn check_after<K: TokenId, G: Gate<K>, R: Runtime>(
-    rt: &R,
-    gate: &G,
-    caller: &mut Caller<K>,
-) -> anyhow::Result<()> {
-    let alloc = rt.alloc();
-    let before = caller.seen();
-    if before == 1 {
-        await_status(alloc, caller, Ask::Token, info_after(1), info_after(2))?;
+impl<'a, K: TokenId, R: Runtime> Shared<'a, K, R> {
+    /// A caller that has made a call sees both sessions by asking only. Then it makes a call that
+    /// leaves sessions, logins and PINs as they are, and is answered without the lock as before.
+    fn check_opened(&self, caller: &mut Caller<K>) -> anyhow::Result<()> {
+        let alloc = self.rt.alloc();
+        if caller.seen() == 1 {
+            await_status(alloc, caller, Ask::Token, info_after(1), info_after(2))?;
+        }
+        self.call(caller, Call::GetTokenInfo)?;
+        check_ask(alloc, caller, Ask::Token, info_after(2))?;
+        expect(caller.count() == 2)
     }
-    gate.call(rt, alloc, caller, Call::GetTokenInfo)?;
-    check_ask(alloc, caller, Ask::Token, info_after(2))?;
-    expect(caller.count() == 2)
-}
 
-/// Each of two callers opens a session, this one first, and then asks.
-pub(crate) fn open_sessions<K: TokenId + Send + Sync, R: Runtime>(
-    rt: &R,
-    token: &SharedToken<K, Token, R>,
-    callers: &mut Vec<Caller<K>>,
-    first: u32,
-    order: &CallOrder,
-) -> anyhow::Result<()> {
-    let alloc = rt.alloc();
-    let scripts = scripts_of(alloc, mem::replace(callers, Vec::new(alloc)))?;
-    let scripts = run_steps(rt, alloc, &HeldGate::new(token, order), scripts);
-    check_scripts(alloc, scripts, callers, u64::from(first))?;
-    for caller in callers {
-        check_after(rt, token, caller)?;
+    /// Each of two callers opens a session, this one first, and then asks.
+    pub(crate) fn open_sessions(
+        &self,
+        callers: &mut Vec<Caller<K>>,
+        first: u32,
+        order: &CallOrder,
+    ) -> anyhow::Result<()>
+    where
+        K: Send + Sync,
+    {
+        let (rt, alloc) = (self.rt, self.rt.alloc());
+        let scripts = scripts_of(alloc, mem::replace(callers, Vec::new(alloc)))?;
+        let scripts = run_steps(rt, alloc, &HeldGate::new(self.token, order), scripts);
+        check_scripts(alloc, scripts, callers, u64::from(first))?;
+        for caller in callers {
+            self.check_opened(caller)?;
+        }
+        Ok(())
     }
-    Ok(())
 }
 
 /// Runs it once, with this caller as the first one.

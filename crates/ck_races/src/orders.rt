@@ -11,10 +11,10 @@ use std::time::Duration;
 
 /// How many times a held call looks whether it is the next one. It looks when another call has come
 /// to the gate or was made, and after `LONGEST_SLEEP` at the latest.
-const MOST_LOOKS: u32 = 2_000;
+const MOST_LOOKS: u32 = 1_000_000;
 
-/// In milliseconds.
-const LONGEST_SLEEP: u64 = 10;
+/// In microseconds.
+const LONGEST_SLEEP: u64 = 20;
 
 /// A place behind all places of an order.
 const LATE: u64 = u64::MAX / 2;
@@ -82,7 +82,7 @@ impl<'a> CallOrder<'a> {
     /// Waits until the next call is one of this caller. Where it doesn't come to that, no call is
     /// held any more.
     pub(crate) fn hold<W: Wait>(&self, rt: &W, caller: u32) {
-        let longest = Duration::from_millis(LONGEST_SLEEP);
+        let longest = Duration::from_micros(LONGEST_SLEEP);
         self.come.fetch_add(1, Ordering::SeqCst);
         self.tell();
         for _ in 0..MOST_LOOKS {

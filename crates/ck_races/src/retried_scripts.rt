@@ -3,61 +3,60 @@
 use crate::journals::check_entries;
 use crate::races::{Race, RaceLine};
 use crate::scripts::{add_script, calls_of};
-use crate::shared_work::{SharedWork, share_with};
+use crate::shared_work::{Shared, SharedWork, share_with};
 use crate::tokens::prepared_token;
 use anyhow::{Context, ensure};
-use ck_shared::{Caller, Runtime, SharedToken, TokenId, run_scripts};
-use ck_token::Token;
+use ck_shared::{Caller, Runtime, TokenId, run_scripts};
 use ck_types::NoMemory;
 use std::alloc::Global;
 
-/// A caller makes calls by a script. It comes back with how many were answered: where not all
-/// were, the next one found no memory, or there was none for a thread.
-fn make_calls<K: TokenId + Send + Sync, R: Runtime>(
-    rt: &R,
-    token: &SharedToken<K, Token, R>,
-    caller: Caller<K>,
-    lines: &[RaceLine],
-) -> anyhow::Result<(Caller<K>, usize)> {
-    let alloc = rt.alloc();
-    let mut scripts = Vec::new(alloc);
-    add_script(alloc, caller, calls_of(alloc, lines)?, &mut scripts)?;
-    let script = run_scripts(rt, alloc, token, scripts)
-        .pop()
-        .context("a script is missing")?;
-    let is_done = script.started() && script.outcome().is_ok();
-    let (caller, replies) = script.into_parts();
-    ensure!(
-        is_done == (replies.len() == lines.len()),
-        "a script ended early"
-    );
-    Ok((caller, replies.len()))
-}
+impl<'a, K: TokenId + Send + Sync, R: Runtime> Shared<'a, K, R> {
+    /// A caller makes calls by a script. It comes back with how many were answered: where not all
+    /// were, the next one found no memory, or there was none for a thread.
+    fn make_by_script(
+        &self,
+        caller: Caller<K>,
+        lines: &[RaceLine],
+    ) -> anyhow::Result<(Caller<K>, usize)> {
+        let alloc = self.rt.alloc();
+        let mut scripts = Vec::new(alloc);
+        add_script(alloc, caller, calls_of(alloc, lines)?, &mut scripts)?;
+        let script = run_scripts(self.rt, alloc, self.token, scripts)
+            .pop()
+            .context("a script is missing")?;
+        let is_done = script.started() && script.outcome().is_ok();
+        let (caller, replies) = script.into_parts();
+        ensure!(
+            is_done == (replies.len() == lines.len()),
+            "a script ended early"
+        );
+        Ok((caller, replies.len()))
+    }
 
-/// A caller makes the calls of a race by scripts. Says how many of them ended without memory.
-pub(crate) fn make_by_scripts<K: TokenId + Send + Sync, R: Runtime>(
-    rt: &R,
-    token: &SharedToken<K, Token, R>,
-    callers: &mut Vec<Caller<K>>,
-    race: &Race,
-) -> anyhow::Result<u64> {
-    let caller = callers.pop().context("a caller is missing")?;
-    let (caller, answered) = make_calls(rt, token, caller, &race.lines)?;
-    ensure!(
-        caller.count() == answered as u64 && caller.seen() == answered as u64,
-        "a script that ended early has other entries than calls"
-    );
-    let left = race.lines.get(answered..).unwrap_or(&[]);
-    if left.is_empty() {
+    /// A caller makes the calls of a race by scripts. Says how many of them ended without memory.
+    pub(crate) fn make_by_scripts(
+        &self,
+        callers: &mut Vec<Caller<K>>,
+        race: &Race,
+    ) -> anyhow::Result<u64> {
+        let caller = callers.pop().context("a caller is missing")?;
+        let (caller, answered) = self.make_by_script(caller, &race.lines)?;
+        ensure!(
+            caller.count() == answered as u64 && caller.seen() == answered as u64,
+            "a script that ended early has other entries than calls"
+        );
+        let left = race.lines.get(answered..).unwrap_or(&[]);
+        if left.is_empty() {
+            callers.push(caller)?;
+            return Ok(0);
+        }
+        let (caller, answered) = self.make_by_script(caller, left)?;
         callers.push(caller)?;
-        return Ok(0);
+        if answered < left.len() {
+            return Err(NoMemory.into());
+        }
+        Ok(1)
     }
-    let (caller, answered) = make_calls(rt, token, caller, left)?;
-    callers.push(caller)?;
-    if answered < left.len() {
-        return Err(NoMemory.into());
-    }
-    Ok(1)
 }
 
 /// Makes the calls of a race by scripts of one caller, and says how many of them ended early.

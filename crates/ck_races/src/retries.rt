@@ -3,13 +3,12 @@
 use crate::races::{Race, RaceLine, compare};
 use crate::retried_runs::retry_run;
 use crate::retried_scripts::retry_script;
-use crate::shared_work::{SharedWork, share_with};
+use crate::shared_work::{Shared, SharedWork, share_with};
 use crate::tokens::prepared_token;
 use anyhow::{bail, ensure};
 use ck_audit::are_same_replies;
 use ck_journal::Reply;
-use ck_shared::{Ask, Caller, Gate, Runtime, SharedToken, Status, TokenId};
-use ck_token::Token;
+use ck_shared::{Ask, Caller, Runtime, Status, TokenId};
 use ck_types::NoMemory;
 use std::alloc::Global;
 
@@ -56,89 +55,80 @@ fn check_unchanged<K: TokenId>(caller: &mut Caller<K>, before: &Knowledge) -> an
     Ok(())
 }
 
-/// Makes a call, and says whether there was memory for it.
-fn make_once<K: TokenId, G: Gate<K>, R: Runtime>(
-    rt: &R,
-    gate: &G,
-    caller: &mut Caller<K>,
-    line: &RaceLine,
-) -> anyhow::Result<bool> {
-    let alloc = rt.alloc();
-    let call = line.call.clone()?;
-    let Ok(reply) = gate.call(rt, alloc, caller, call) else {
-        return Ok(false);
-    };
-    compare(alloc, line, &reply)?;
-    Ok(true)
-}
-
-/// Makes a call, and says whether it was made again: where it finds no memory, the caller knows
-/// what it knew, and the other one makes the call. This is then the next entry.
-fn make<K: TokenId, G: Gate<K>, R: Runtime>(
-    rt: &R,
-    gate: &G,
-    (caller, other): (&mut Caller<K>, &mut Caller<K>),
-    entries: u64,
-    line: &RaceLine,
-) -> anyhow::Result<bool> {
-    let before = knowledge_of(caller)?;
-    if make_once(rt, gate, caller, line)? {
-        return Ok(false);
-    }
-    check_unchanged(caller, &before)?;
-    if !make_once(rt, gate, other, line)? {
-        return Err(NoMemory.into());
-    }
-    ensure!(
-        other.seen() == entries.saturating_add(1),
-        "line {} is not one entry more",
-        line.number
-    );
-    Ok(true)
-}
-
-/// Makes calls one after the other, behind this many entries, by each of two callers in turn. Says
-/// how many were made again.
-fn make_all<K: TokenId, G: Gate<K>, R: Runtime>(
-    rt: &R,
-    gate: &G,
-    (one, other): (&mut Caller<K>, &mut Caller<K>),
-    first: usize,
-    lines: &[RaceLine],
-) -> anyhow::Result<u64> {
-    let mut retries = 0u64;
-    let mut entries = first as u64;
-    for line in lines {
-        let is_again = if entries % 2 == 0 {
-            make(rt, gate, (&mut *one, &mut *other), entries, line)?
-        } else {
-            make(rt, gate, (&mut *other, &mut *one), entries, line)?
+impl<'a, K: TokenId, R: Runtime> Shared<'a, K, R> {
+    /// Makes a call, and says whether there was memory for it.
+    fn make_once(&self, caller: &mut Caller<K>, line: &RaceLine) -> anyhow::Result<bool> {
+        let Ok(reply) = self.call(caller, line.call.clone()?) else {
+            return Ok(false);
         };
-        retries = retries.saturating_add(u64::from(is_again));
-        entries = entries.saturating_add(1);
+        compare(self.rt.alloc(), line, &reply)?;
+        Ok(true)
     }
-    Ok(retries)
-}
 
-/// Two callers make all calls of a race. Says how many were made again.
-pub(crate) fn make_race<K: TokenId + Send + Sync, R: Runtime>(
-    rt: &R,
-    token: &SharedToken<K, Token, R>,
-    callers: &mut Vec<Caller<K>>,
-    race: &Race,
-) -> anyhow::Result<u64> {
-    let [one, other] = callers.as_mut_slice() else {
-        bail!("there are not two callers");
-    };
-    let Race {
-        lines,
-        afterwards,
-        ..
-    } = race;
-    let first = make_all(rt, token, (&mut *one, &mut *other), 0, lines)?;
-    let count = lines.len();
-    let after = make_all(rt, token, (one, other), count, afterwards)?;
-    Ok(first.saturating_add(after))
+    /// Makes a call, and says whether it was made again: where it finds no memory, the caller knows
+    /// what it knew, and the other one makes the call. This is then the next entry.
+    fn make(
+        &self,
+        (caller, other): (&mut Caller<K>, &mut Caller<K>),
+        entries: u64,
+        line: &RaceLine,
+    ) -> anyhow::Result<bool> {
+        let before = knowledge_of(caller)?;
+        if self.make_once(caller, line)? {
+            return Ok(false);
+        }
+        check_unchanged(caller, &before)?;
+        if !self.make_once(other, line)? {
+            return Err(NoMemory.into());
+        }
+        ensure!(
+            other.seen() == entries.saturating_add(1),
+            "line {} is not one entry more",
+            line.number
+        );
+        Ok(true)
+    }
+
+    /// Makes calls one after the other, behind this many entries, by each of two callers in turn.
+    /// Says how many were made again.
+    fn make_all(
+        &self,
+        (one, other): (&mut Caller<K>, &mut Caller<K>),
+        first: usize,
+        lines: &[RaceLine],
+    ) -> anyhow::Result<u64> {
+        let mut retries = 0u64;
+        let mut entries = first as u64;
+        for line in lines {
+            let is_again = if entries % 2 == 0 {
+                self.make((&mut *one, &mut *other), entries, line)?
+            } else {
+                self.make((&mut *other, &mut *one), entries, line)?
+            };
+            retries = retries.saturating_add(u64::from(is_again));
+            entries = entries.saturating_add(1);
+        }
+        Ok(retries)
+    }
+
+    /// Two callers make all calls of a race. Says how many were made again.
+    pub(crate) fn make_race(
+        &self,
+        callers: &mut Vec<Caller<K>>,
+        race: &Race,
+    ) -> anyhow::Result<u64> {
+        let [one, other] = callers.as_mut_slice() else {
+            bail!("there are not two callers");
+        };
+        let Race {
+            lines,
+            afterwards,
+            ..
+        } = race;
+        let first = self.make_all((&mut *one, &mut *other), 0, lines)?;
+        let after = self.make_all((one, other), lines.len(), afterwards)?;
+        Ok(first.saturating_add(after))
+    }
 }
 
 /// Two callers make the calls of a race. Says how many were made again.

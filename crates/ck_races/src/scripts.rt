@@ -2,11 +2,11 @@
 use crate::journals::CallerReplies;
 use crate::orders::CallOrder;
 use crate::races::{Race, RaceLine};
+use crate::shared_work::Shared;
 use crate::taken_messages::TakingGate;
 use anyhow::ensure;
 use ck_journal::Call;
-use ck_shared::{Caller, Runtime, Script, SharedToken, TokenId, run_scripts};
-use ck_token::Token;
+use ck_shared::{Caller, Runtime, Script, TokenId, run_scripts};
 use ck_types::NoMemory;
 use std::alloc::Global;
 use std::mem;
@@ -81,20 +81,21 @@ pub(crate) fn finish<K: TokenId>(
     Ok(())
 }
 
-/// The callers make their calls of a race by scripts. The bytes of a long message are taken in, and
-/// then each call is held until it is the next one. Gives the replies to each.
-pub(crate) fn run_held<K: TokenId + Send + Sync, R: Runtime>(
-    rt: &R,
-    token: &SharedToken<K, Token, R>,
-    callers: &mut Vec<Caller<K>>,
-    race: &Race,
-    order: &CallOrder,
-) -> anyhow::Result<Vec<CallerReplies>> {
-    let alloc = rt.alloc();
-    let owned = mem::replace(callers, Vec::new(alloc));
-    let scripts = scripts_of(alloc, owned, &race.lines)?;
-    let scripts = run_scripts(rt, alloc, &TakingGate::new(token, order), scripts);
-    let mut all = Vec::new(alloc);
-    finish(scripts, callers, &mut all)?;
-    Ok(all)
+impl<'a, K: TokenId + Send + Sync, R: Runtime> Shared<'a, K, R> {
+    /// The callers make their calls of a race by scripts. The bytes of a long message are taken in,
+    /// and then each call is held until it is the next one. Gives the replies to each.
+    pub(crate) fn run_held(
+        &self,
+        callers: &mut Vec<Caller<K>>,
+        race: &Race,
+        order: &CallOrder,
+    ) -> anyhow::Result<Vec<CallerReplies>> {
+        let (rt, alloc) = (self.rt, self.rt.alloc());
+        let owned = mem::replace(callers, Vec::new(alloc));
+        let scripts = scripts_of(alloc, owned, &race.lines)?;
+        let scripts = run_scripts(rt, alloc, &TakingGate::new(self.token, order), scripts);
+        let mut all = Vec::new(alloc);
+        finish(scripts, callers, &mut all)?;
+        Ok(all)
+    }
 }

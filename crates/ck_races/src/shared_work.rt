@@ -3,16 +3,11 @@ ghost use Rattle.std.specs.Prelude.{◌≡◌, ◌≤◌, ℕ, IfErr};
 ghost use Rattle.ck_journal.specs.Histories.{start, start_of};
 ghost use Rattle.ck_callers.specs.Accounts.{name_of};
 
-use crate::asks::log_in_and_ask;
-use crate::eight_scripts::run_eight;
-use crate::held_steps::open_sessions;
 use crate::journals::CallerReplies;
 use crate::orders::CallOrder;
 use crate::races::Race;
-use crate::retried_scripts::make_by_scripts;
-use crate::retries::make_race;
-use crate::scripts::run_held;
 use anyhow::{bail, ensure};
+use ck_journal::{Call, Reply};
 use ck_shared::{Caller, Ends, NewIdentity, Runtime, SharedToken, TokenId};
 use ck_token::Token;
 use ck_types::NoMemory;
@@ -40,6 +35,8 @@ pub(crate) enum SharedWork<'a> {
     },
     /// Eight callers make the calls of their scripts.
     EightScripts,
+    /// One caller makes calls under one lock. Then both are lost.
+    CallsUnderLock,
 }
 
 /// What came of it.
@@ -87,31 +84,39 @@ fn close<K: TokenId, R: Runtime>(
     }
 }
 
-/// Does the work. All callers stay among these.
-fn act<K: TokenId + Send + Sync, R: Runtime>(
-    rt: &R,
-    token: &SharedToken<K, Token, R>,
-    callers: &mut Vec<Caller<K>>,
-    work: &SharedWork,
-) -> anyhow::Result<Outcome> {
-    let alloc = rt.alloc();
-    let mut replies = Vec::new(alloc);
-    let mut retries = 0;
-    match work {
-        SharedWork::LoginAndAsks(state) => log_in_and_ask(rt, token, callers, state)?,
-        SharedWork::Openings { first, order } => {
-            open_sessions(rt, token, callers, *first, order)?;
-        }
-        SharedWork::AllCalls(race) => retries = make_race(rt, token, callers, race)?,
-        SharedWork::CallsByScripts(race) => {
-            retries = make_by_scripts(rt, token, callers, race)?;
-        }
-        SharedWork::HeldScripts { race, order } => {
-            replies = run_held(rt, token, callers, race, order)?;
-        }
-        SharedWork::EightScripts => replies = run_eight(rt, token, callers)?,
+/// A shared token, and what its callers run on.
+#[derive(Drop)]
+pub(crate) struct Shared<'a, K: TokenId, R: Runtime> {
+    pub(crate) rt: &'a R,
+    pub(crate) token: &'a SharedToken<K, Token, R>,
+}
+
+impl<'a, K: TokenId, R: Runtime> Shared<'a, K, R> {
+    /// A caller makes a call.
+    pub(crate) fn call(&self, caller: &mut Caller<K>, call: Call) -> Result<Reply, NoMemory> {
+        self.token.call(self.rt, self.rt.alloc(), caller, call)
     }
-    Ok(Outcome { replies, retries })
+
+    /// Does the work. All callers stay among these.
+    fn act(&self, callers: &mut Vec<Caller<K>>, work: &SharedWork) -> anyhow::Result<Outcome>
+    where
+        K: Send + Sync,
+    {
+        let mut replies = Vec::new(self.rt.alloc());
+        let mut retries = 0;
+        match work {
+            SharedWork::LoginAndAsks(state) => self.log_in_and_ask(callers, state)?,
+            SharedWork::Openings { first, order } => self.open_sessions(callers, *first, order)?,
+            SharedWork::AllCalls(race) => retries = self.make_race(callers, race)?,
+            SharedWork::CallsByScripts(race) => retries = self.make_by_scripts(callers, race)?,
+            SharedWork::HeldScripts { race, order } => {
+                replies = self.run_held(callers, race, order)?;
+            }
+            SharedWork::EightScripts => replies = self.run_eight(callers)?,
+            SharedWork::CallsUnderLock => self.call_under_lock(callers)?,
+        }
+        Ok(Outcome { replies, retries })
+    }
 }
 
 /// Does the work, and takes the token back.
@@ -121,7 +126,12 @@ fn act_and_close<K: TokenId + Send + Sync, R: Runtime>(
     mut callers: Vec<Caller<K>>,
     work: &SharedWork,
 ) -> anyhow::Result<Returned> {
-    let outcome = act(rt, &token, &mut callers, work)?;
+    let shared = Shared { rt, token: &token };
+    let outcome = shared.act(&mut callers, work)?;
+    if matches!(work, SharedWork::CallsUnderLock) {
+        drop(callers);
+        return Ok((token.into_token(), outcome));
+    }
     Ok((close(rt, token, callers)?, outcome))
 }
 

@@ -6,7 +6,7 @@ ghost use Rattle.std.specs.Prelude.{◌≡◌, IfOk};
 ghost use Rattle.ck_journal.specs.Histories.{start, start_of};
 
 use ck_shared::{Caller, CallerWork, Gate, TokenId, share};
-use ck_token::{Call, Limits, Pin, READ_WRITE, Rv, Token};
+use ck_token::{Call, Journal, Limits, Pin, READ_WRITE, Rv, Token};
 use std::alloc::Global;
 use std::sync::Wait;
 
@@ -42,17 +42,21 @@ fn initialized_token(alloc: Global) -> anyhow::Result<Token>
     Ok(token)
 }
 
-/// Shares a token between two callers, and writes how many sessions were opened, how many calls of
-/// both were answered, and how many entries the journal has.
+/// Writes how many sessions were opened, by how many answered calls, and how many entries the
+/// journal has.
+fn write_counts<R: Print>(rt: &R, journal: &Journal, calls: u64) -> anyhow::Result<()> {
+    let opened = journal.iter().filter(|entry| entry.reply.rv == Rv::Ok);
+    println!(rt; "{} sessions were opened by {calls} calls", opened.count())?;
+    println!(rt; "the journal has {} entries", journal.len())?;
+    Ok(())
+}
+
+/// Shares a token between two callers, and writes what came of their calls.
 fn main(rt: HostRuntime) -> anyhow::Result<()> {
     let mut token = initialized_token(rt.alloc())?;
     let counts = share(rt, rt.alloc(), &mut token, 2, &ThreeSessions)?;
     let calls = counts
         .iter()
         .fold(0u64, |sum, count| sum.saturating_add(*count));
-    let journal = token.journal();
-    let opened = journal.iter().filter(|entry| entry.reply.rv == Rv::Ok);
-    println!(rt; "{} sessions were opened by {calls} calls", opened.count())?;
-    println!(rt; "the journal has {} entries", journal.len())?;
-    Ok(())
+    write_counts(&rt, token.journal(), calls)
 }

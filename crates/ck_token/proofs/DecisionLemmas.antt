@@ -23,7 +23,7 @@ use Rattle.ck_objects.specs.Records.{state_in}
 use Rattle.ck_journal.specs.declared.operations.OperationKind.{OperationKind}
 use Rattle.ck_journal.specs.declared.operations.OperationKind.TheVariants as kind
 use Rattle.ck_journal.specs.declared.replies.Body.TheVariants as body
-use Rattle.ck_journal.specs.OperationCalls.{Step, initialize, take_whole, add_piece, finish}
+use Rattle.ck_journal.specs.OperationCalls.{Step, initialize, single_part, add_piece, finish}
 use Rattle.ck_journal.specs.OperationCalls.{OperationStep, operation_step}
 use Rattle.ck_journal.specs.Operations.{leaves_active, message_in, is_active, is_updated}
 use Rattle.ck_journal.specs.Operations.{is_long_piece}
@@ -217,7 +217,7 @@ adds_nothing limits h c r made answered is free =
     by_step k session initialize code = refl
     by_step k session (add_piece bytes) rv_error.DataLenRange = refl
     by_step k session (add_piece bytes) other = refl
-    by_step k session (take_whole bytes) code = refl
+    by_step k session (single_part bytes) code = refl
     by_step k session finish code = refl
 
     by_refusal : (o : Option OperationStep) (code : RvError) (who : Option UserType)

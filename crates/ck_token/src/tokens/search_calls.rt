@@ -42,9 +42,9 @@ impl Token {
             (call.FindObjects session max) result }
     {
         let row = self.session(session)?;
-        let Some(numbers) = row.remaining_objects() else {
-            return Err(Refused::from(RvError::OperationNotInitialized));
-        };
+        let numbers = row
+            .remaining_objects()
+            .ok_or(RvError::OperationNotInitialized)?;
         let handles = self.visible_handles(alloc, numbers, max)?;
         // The number is read off the last handle, so that the numbers need no list of their own.
         let number = match handles.last() {

@@ -1,6 +1,6 @@
 use Rattle.std.proofs.Common.{ap}
 use Rattle.std.specs.Option.{option_copied}
-use Rattle.ck_journal.specs.OperationCalls.{take_whole, operation_step}
+use Rattle.ck_journal.specs.OperationCalls.{single_part, operation_step}
 use Rattle.ck_journal.specs.declared.operations.OperationKind.TheVariants as kind
 use Rattle.ck_journal.proofs.WorkLemmas.{ready-for}
 use Rattle.ck_token.proofs.tokens.Token.decision.Goals as goal
@@ -32,16 +32,16 @@ pub finish_single_part-requires : goal.finish_single_part-requires
 finish_single_part-requires c =
     rw c.as_slice-in-Digest.ensures
     (ready-for c.args.self.now.history c.args.call.now kind.Digest c.in-Digest.session
-    (take_whole _) (ap operation_step c.in-Digest.is) (option_copied c.args.ready) c.requires)
+    (single_part _) (ap operation_step c.in-Digest.is) (option_copied c.args.ready) c.requires)
 
 pub finish_single_part-requires-in-Sign : goal.finish_single_part-requires-in-Sign
 finish_single_part-requires-in-Sign c =
     rw c.as_slice-in-Sign.ensures
     (ready-for c.args.self.now.history c.args.call.now kind.Sign c.in-Sign.session
-    (take_whole _) (ap operation_step c.in-Sign.is) (option_copied c.args.ready) c.requires)
+    (single_part _) (ap operation_step c.in-Sign.is) (option_copied c.args.ready) c.requires)
 
 pub verify-requires : goal.verify-requires
 verify-requires c =
     rw c.as_slice-in-Verify.ensures
     (ready-for c.args.self.now.history c.args.call.now kind.Verify c.in-Verify.session
-    (take_whole _) (ap operation_step c.in-Verify.is) (option_copied c.args.ready) c.requires)
+    (single_part _) (ap operation_step c.in-Verify.is) (option_copied c.args.ready) c.requires)

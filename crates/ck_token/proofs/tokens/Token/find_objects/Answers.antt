@@ -1,5 +1,6 @@
 use Rattle.std.proofs.Common.{◌≡◌, List, ℕ, not, sym, ap, ◌∙◌}
 use Rattle.std.specs.Prelude.{map, take, filter}
+use Rattle.std.specs.Option.{option_copied}
 use Rattle.std.proofs.lemmas.Option.{cond_some}
 use Rattle.ck_types.specs.Checks.{error_if}
 use Rattle.ck_types.specs.declared.errors.RvError.TheVariants as rv_error
@@ -11,25 +12,26 @@ use Rattle.ck_journal.specs.declared.replies.Body.TheVariants as body
 use Rattle.ck_parts.specs.declared.changes.Change.TheVariants as change
 use Rattle.ck_token.proofs.DecisionLemmas.{session-passes, skip}
 use Rattle.ck_token.proofs.SearchLemmas.{last_or-some, last_or-none}
-use Rattle.ck_token.proofs.tokens.Token.find_objects.Goals.{in-Some-last, in-None}
+use Rattle.ck_token.proofs.tokens.Token.find_objects.Goals.{in-Some, in-None}
 use Rattle.ck_token.proofs.tokens.Token.find_objects.Goals as goal
 
 pub returns : goal.returns
 returns c =
     let h = c.args.self.now.history in
     let s = c.args.session in
-    let rest = cond_some (is_searching h s) (remaining_objects h s) c.in-Some.numbers.now
-    (sym (c.in-Some.ensures h s c.in_ok-row.ensures.row)) in
+    let rest = cond_some (is_searching h s) (remaining_objects h s) c.in_ok-numbers.numbers.now
+    (sym (c.remaining_objects.ensures h s c.in_ok-row.ensures.row)
+        ∙ ap option_copied c.in_ok-numbers.ensures.ok_part) in
     let items = c.in_ok-handles.handles.items in
     let given = c.in_ok-handles.ensures.handles
     ∙ ap (λ (numbers : List ℕ). map (handle_of h) (take c.args.max (filter (is_visible h) numbers)))
     (sym rest.1) in
     let number : c.match-last.number ≡ last_or (last_number h s) (map number_of_handle items) =
     elim c.match-last.branch [
-      | in-Some-last w ↦
+      | in-Some w ↦
           w.number-is ∙ w.number_of_handle-number.ensures
-          ∙ sym (last_or-some items w.in-Some-last.handle.now (last_number h s)
-          (rw c.deref.ensures.value at w.in-Some-last.ensures.value))
+          ∙ sym (last_or-some items w.in-Some.handle.now (last_number h s)
+          (rw c.deref.ensures.value at w.in-Some.ensures.value))
       | in-None w ↦
           w.number-is ∙ w.last_found-number.ensures.last h s c.in_ok-row.ensures.row rest.0
           ∙ sym (last_or-none items (last_number h s)

@@ -1,0 +1,61 @@
+//! A caller makes calls under one lock, with no others between them. Meanwhile another is answered
+//! without the lock. Then its callers are lost, and the token is taken back without them.
+use crate::asks::{check_ask, expect};
+use crate::journals::check_audit;
+use crate::shared_work::{Shared, SharedWork, share_with};
+use anyhow::Context;
+use ck_journal::{Call, READ_WRITE};
+use ck_shared::{Ask, Caller, Runtime, TokenId};
+use ck_token::Token;
+use ck_types::{Limits, Pin};
+
+/// How many calls are made under one lock.
+const LOCKED: u64 = 3;
+
+/// How many entries there are in the end: the other caller makes a call, too.
+const ALL: u64 = 4;
+
+impl<'a, K: TokenId, R: Runtime> Shared<'a, K, R> {
+    /// A caller initializes the token, and opens two sessions, under one lock. Meanwhile another
+    /// sees them without the lock.
+    fn open_under_lock(&self, caller: &mut Caller<K>, other: &mut Caller<K>) -> anyhow::Result<()> {
+        let (rt, alloc) = (self.rt, self.rt.alloc());
+        let pin = Pin::of(b"1234");
+        let flags = READ_WRITE;
+        let mut locked = self.token.lock(rt);
+        locked.step(rt, alloc, caller, Call::InitToken { pin })?;
+        locked.step(rt, alloc, caller, Call::OpenSession { flags })?;
+        locked.step(rt, alloc, caller, Call::OpenSession { flags })?;
+        expect(locked.token().journal().len() == LOCKED)?;
+        check_ask(alloc, other, Ask::Token, "0 404 64 2 2")
+    }
+
+    /// A caller makes calls under one lock. When it is free, another makes one.
+    pub(crate) fn call_under_lock(&self, callers: &mut Vec<Caller<K>>) -> anyhow::Result<()> {
+        let mut other = callers.pop().context("a caller is missing")?;
+        let caller = callers.first_mut().context("a caller is missing")?;
+        self.open_under_lock(caller, &mut other)?;
+        self.call(&mut other, Call::CloseAllSessions)?;
+        expect(caller.count() == LOCKED && other.count() == 1 && other.seen() == ALL)?;
+        callers.push(other)?;
+        Ok(())
+    }
+}
+
+/// Makes the calls on a new token. Its journal has an entry for each of them, also where its
+/// callers are lost.
+pub(crate) fn run_locked_calls<R: Runtime>(rt: R) -> anyhow::Result<()> {
+    let alloc = rt.alloc();
+    let token = Token::new(alloc, Limits::largest());
+    let (token, _outcome) = share_with(rt, token, 2, &SharedWork::CallsUnderLock)?;
+    expect(token.journal().len() == ALL)?;
+    expect(
+        token
+            .journal()
+            .iter()
+            .map(|entry| entry.caller)
+            .eq([1, 1, 1, 2]),
+    )?;
+    check_audit(alloc, &token)?;
+    Ok(())
+}

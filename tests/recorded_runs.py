@@ -1,0 +1,209 @@
+#!/usr/bin/env python3
+"""Runs the program ck_cases from outside, as its users do: its arguments, files of recorded calls,
+what it writes to standard output and standard error, and its status.
+
+The program is crates/ck_cases/out/ck_cases, which `rt ci` leaves and `rt run` in its folder builds,
+or the one that is named. For each test a line is printed that begins with passed or FAILED, and the
+status is 1 where one failed.
+"""
+import os
+import sys
+import tempfile
+
+from program import HERE, Tests
+
+PROGRAM = os.path.join(HERE, "..", "crates", "ck_cases", "out", "ck_cases")
+
+BAD_LIMITS = b"""\
+limits are the word largest, or four numbers: 1 to 64 sessions open at once, \
+1 to 4294967295 openings of sessions, 1 to 4294967295 creations of objects and \
+1 to 2147483647 logins of the user"""
+
+HELP = b"""\
+Plays recorded PKCS #11 calls on a new token, and compares the replies
+
+Usage: ck_cases [OPTIONS] <FILE>...
+
+Arguments:
+  <FILE>...  Files of calls and their replies
+
+Options:
+      --limits <LIMITS>  Play with the limits SESSIONS,OPENINGS,CREATIONS,LOGINS, or 'largest', in all cases
+      --most <N>         Name at most N lines of a file that differ or are bad; the others only count [default: 100]
+      --replies          Write the file with the replies that came, and nothing else
+  -h, --help             Print help
+
+Example: a file token.cases with a recorded run
+
+  # Comments and empty lines are skipped.
+  limits largest
+  1 InitToken 31323334 -> 0
+  1 OpenSession 6 -> 0 1
+  1 Login 1 1 393939 -> 0
+
+A line 'limits' begins a new token: 'limits largest', or four numbers as in
+'limits 64 1000 1000 1000'. Each other line is a caller, a call and its arguments,
+and behind the arrow the recorded reply, if there is one. 'ck_cases token.cases'
+makes the calls on a new token and writes
+
+  token.cases: line 5: 1 Login 1 1 393939: came 102 CKR_USER_PIN_NOT_INITIALIZED, and not 0 CKR_OK
+  token.cases: 2 passed, 1 differ
+
+To play the run with other limits, and to keep it with the replies that come:
+
+  ck_cases --limits 2,1000,1000,1000 token.cases
+  ck_cases --replies token.cases > kept.cases
+
+The status is 0 where all is as recorded, 1 where a line differs or is bad, and 2
+where the arguments are bad or a file can't be read.
+"""
+
+# The file of the help's example, and what the help says of it.
+EXAMPLE = HELP[HELP.index(b"  # Comments"):HELP.index(b"A line 'limits'")]
+EXAMPLE_REPORT = HELP[HELP.index(b"  token.cases: line 5"):HELP.index(b"To play the run")]
+
+# A file `t`, the report on it that names at most two lines, and the status.
+REPORTS = [
+    (b"# A comment.\n1 InitToken 31323334 -> 0\n1 OpenSession 6 -> 0 1\n",
+     b"t: 2 passed\n", 0),
+    # another code, and another body
+    (b"1 OpenSession 6 -> 0 1\n1 InitToken 31323334 -> 0\n1 OpenSession 6 -> 0 2\n",
+     b"t: line 1: 1 OpenSession 6: came e1 CKR_TOKEN_NOT_RECOGNIZED, and not 0 CKR_OK 1\n"
+     b"t: line 3: 1 OpenSession 6: came 0 CKR_OK 1, and not 0 CKR_OK 2\n"
+     b"t: 1 passed, 2 differ\n", 1),
+    # a call without a reply, and a code that no call answers
+    (b"1 InitToken 31323334\n1 GetMechanismList -> 54\n",
+     b"t: line 2: 1 GetMechanismList: came 0 CKR_OK "
+     b"250,251,252,255,256,257,260,261,262,270,271,272,350, and not 54\n"
+     b"t: 0 passed, 1 differ, 1 without a reply\n", 1),
+    # an audit of other limits
+    (b"limits 2 9 9 9\n1 InitToken 31323334 -> 0\n1 OpenSession 6 -> 0 1\n"
+     b"1 OpenSession 6 -> 0 2\naudit 1 9 9 9 -> legal\n",
+     b"t: line 5: audit 1 9 9 9: came entry 3 is wrong, and not legal\n"
+     b"t: 3 passed, 1 differ\n", 1),
+    # lines that are bad, and one of which that is recorded
+    (b"1 Logn 1 1 39 -> 0\nfoo\n1 Digest 1 -> bad script: Digest takes 3 arguments\n",
+     b"t: line 1: 1 Logn 1 1 39: no call has this name, the nearest is Login\n"
+     b"t: line 2: foo: a line is a caller, a call and its arguments\n"
+     b"t: 1 passed, 2 bad\n", 1),
+    (b"limits 65 1 1 1\ncut -> entries 0\n",
+     b"t: line 1: limits 65 1 1 1: " + BAD_LIMITS + b"\nt: 1 passed, 1 bad\n", 1),
+    # more lines than are named
+    (b"1 Logout 1 -> 0\n1 Logout 1 -> 0\n1 Logout 1 -> 0\ncut -> legal\n",
+     b"t: line 1: 1 Logout 1: came b3 CKR_SESSION_HANDLE_INVALID, and not 0 CKR_OK\n"
+     b"t: line 2: 1 Logout 1: came b3 CKR_SESSION_HANDLE_INVALID, and not 0 CKR_OK\n"
+     b"t: only counted: 2 more\nt: 0 passed, 4 differ\n", 1),
+]
+
+# A run of a token whose limits allow two sessions.
+TWO_SESSIONS = b"""\
+# Two sessions.
+limits 2 9 9 9
+1 InitToken 31323334
+1 OpenSession 6 -> 0 1
+1 OpenSession 6 -> 0 2
+foo
+"""
+
+# The same with the replies of a token that allows one.
+ONE_SESSION = b"""\
+# Two sessions.
+limits 1 9 9 9
+1 InitToken 31323334 -> 0
+1 OpenSession 6 -> 0 1
+1 OpenSession 6 -> b1
+foo
+"""
+
+USAGE = b"\n\nUsage: ck_cases [OPTIONS] <FILE>..."
+MORE = b"\n\nFor more information, try '--help'.\n"
+
+# Bad arguments, and what is written of them.
+BAD_ARGUMENTS = [
+    ([], b"error: the following required arguments were not provided:\n  <FILE>..."
+     b"\n\nUsage: ck_cases <FILE>..." + MORE),
+    (["--most", "x", "t"],
+     b"error: invalid value 'x' for '--most <N>': invalid digit found in string" + MORE),
+    (["--nothing", "t"], b"error: unexpected argument '--nothing' found"
+     b"\n\n  tip: to pass '--nothing' as a value, use '-- --nothing'" + USAGE + MORE),
+    (["--limits", "65,1,1,1", "t"], b"error: invalid value for '--limits': " + BAD_LIMITS
+     + b", with commas between the numbers\n"),
+    (["--limits", "2 3 4 5", "t"], b"error: invalid value for '--limits': " + BAD_LIMITS
+     + b", with commas between the numbers\n"),
+    (["--replies", "t", "t"], b"error: '--replies' takes one file\n"),
+]
+
+# A file that isn't read, and why.
+BAD_FILES = [
+    (b"a\n\xff", b"line 2 isn't text in UTF-8"),
+    (b"1 Logout 1\r\n",
+     b"line 1 ends with a carriage return (CR LF), and lines end with a line feed only"),
+]
+
+
+class Files(Tests):
+    """Tests of a program that is run in a folder with a file `t`."""
+
+    def check_file(self, text, words, output, errors, status):
+        with tempfile.TemporaryDirectory() as folder:
+            with open(os.path.join(folder, "t"), "wb") as file:
+                file.write(text)
+            self.check(words, None, output, errors, status, cwd=folder)
+
+
+def plain(block):
+    """The lines of a block of the help, without their indentation and empty lines."""
+    return b"".join(line.strip() + b"\n" for line in block.split(b"\n") if line.strip())
+
+
+def reports(tests):
+    for text, report, status in REPORTS:
+        tests.check_file(text, ["--most", "2", "t"], report, b"", status)
+    text, report, _ = REPORTS[0]
+    tests.check_file(text, ["t", "t"], report + report, b"", 0)
+    tests.check_file(b"a\nb", ["t"], b"t: line 1: a: a line is a caller, a call and its arguments\n"
+                     b"t: line 2: b: a line is a caller, a call and its arguments\n"
+                     b"t: 0 passed, 2 bad\n", b"", 1)
+    report = plain(EXAMPLE_REPORT).replace(b"token.cases", b"t")
+    tests.check_file(plain(EXAMPLE), ["t"], report, b"", 1)
+    tests.end("reports on files")
+
+
+def limits(tests):
+    report = (b"t: line 5: 1 OpenSession 6: came b1 CKR_SESSION_COUNT, and not 0 CKR_OK 2\n"
+              b"t: only counted: 1 more\nt: 1 passed, 1 differ, 1 bad, 1 without a reply\n")
+    tests.check_file(TWO_SESSIONS, ["--limits", "1,9,9,9", "--most", "1", "t"], report, b"", 1)
+    errors = b"t: line 6: foo: a line is a caller, a call and its arguments\n"
+    tests.check_file(TWO_SESSIONS, ["--limits", "1,9,9,9", "--replies", "t"], ONE_SESSION, errors,
+                     1)
+    tests.end("other limits, and replies that are written")
+
+
+def arguments(tests):
+    for words in (["--help"], ["-h"], ["t", "--help"]):
+        tests.check_file(b"foo", words, HELP, b"", 0)
+    for words, errors in BAD_ARGUMENTS:
+        tests.check_file(b"foo", words, b"", errors, 2)
+    tests.end("arguments")
+
+
+def bad_files(tests):
+    for text, reason in BAD_FILES:
+        tests.check_file(text, ["t"], b"", b"ck_cases: t: " + reason + b"\n", 2)
+    text, report, _ = REPORTS[0]
+    tests.check_file(text, ["none", "t"], report, b"ck_cases: none: No such file or directory"
+                     b" (os error 2)\n", 2)
+    tests.end("files that aren't read")
+
+
+def main(program):
+    tests = Files(program, "recorded runs")
+    reports(tests)
+    limits(tests)
+    arguments(tests)
+    bad_files(tests)
+    return 1 if tests.failed else 0
+
+
+if __name__ == "__main__":
+    sys.exit(main(sys.argv[1] if len(sys.argv) > 1 else PROGRAM))
