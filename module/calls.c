@@ -1,9 +1,11 @@
 /*
- * Calls of the token: by lines where a journal file is kept, and else by their arguments where the
- * token has a function for that. What is replied is read by the caller of `make_call`.
+ * Calls of the token: by lines where a journal file is kept, except cancels, and else by their
+ * arguments where the token has a function for that. What is replied is read by the caller of
+ * `make_call`.
  */
 #include "module.h"
 
+#include <stdatomic.h>
 #include <string.h>
 
 /* Bounds beyond which an application's number is taken for a mistake. With them the lengths of a
@@ -15,6 +17,9 @@ static const CK_ULONG longest_value = 1 << 30;
 static const uint64_t cut_from = 1000;
 
 uint64_t journals_begun;
+
+/* Outside the library's state, since it is set without the lock. */
+static atomic_bool has_stopped;
 
 /* ---- Arguments */
 
@@ -94,10 +99,25 @@ uint32_t answer_line(const uint8_t *line, size_t length) {
     return step;
 }
 
+/* Makes the call whose line is written. A cancel goes by its arguments, since that takes no memory
+ * where the token's journal has room. */
+static uint32_t answer_written(const struct call *call) {
+    const struct buffer *line = &library.line;
+    if (call->name != SESSION_CANCEL)
+        return answer_line(line->bytes, line->length);
+    if (!reserve_entry(line->length))
+        return NO_MEMORY;
+    uint32_t step = ospreyrack_session_cancel(&library.token, caller_number(), call->session,
+                                              call->flags);
+    if (step == ANSWERED)
+        add_entry(line->bytes, line->length);
+    return step;
+}
+
 static uint32_t call_by_line(const struct call *call) {
     if (!write_line(call, caller_number(), &library.line))
         return NO_MEMORY;
-    uint32_t step = answer_line(library.line.bytes, library.line.length);
+    uint32_t step = answer_written(call);
     if (step != ANSWERED)
         return step;
     if (call->label != NULL && ospreyrack_code(&library.token) == CKR_OK)
@@ -260,8 +280,10 @@ static uint32_t call_by_arguments(const struct call *call) {
 
 /* ---- Both ways */
 
+/* The room that is kept for cancels lies in the journal, so it isn't cut before they are made. */
 void cut_journal(void) {
-    if (library.cuts_journal && ospreyrack_entries(&library.token) >= cut_from
+    if (library.cuts_journal && library.updates == 0
+        && ospreyrack_entries(&library.token) >= cut_from
         && ospreyrack_cut(&library.token) == CUT)
         journals_begun++;
 }
@@ -275,29 +297,59 @@ static void drop_long_lists(void) {
         buffer_free(&library.values);
 }
 
+/* Room in the token's journal for a call's entry, beside those of the cancels that may have to be
+ * made. A call takes room for one entry at most, and one that found no memory takes none. */
+static bool reserve_room(void) {
+    return library.updates == 0 || ospreyrack_reserve(&library.token, library.updates + 1);
+}
+
 /* The journal can be cut only where no session is open: after a call that needs none, or that was
  * refused since its session isn't open, or that has closed the last one. */
-CK_RV make_call(const struct call *call) {
-    if (library.journal.has_failed)
-        return CKR_DEVICE_ERROR;
-    CK_RV code = check_call(call);
-    if (code != CKR_OK)
-        return code;
+static CK_RV make_checked_call(const struct call *call) {
     uint32_t step = library.journal.is_kept ? call_by_line(call) : call_by_arguments(call);
     drop_long_lists();
     if (step != ANSWERED)
         return CKR_HOST_MEMORY;
     if (library.journal.has_failed)
         return CKR_DEVICE_ERROR;
-    code = ospreyrack_code(&library.token);
+    CK_RV code = ospreyrack_code(&library.token);
     if (call->session == 0 || call->name == CLOSE_SESSION || code == CKR_SESSION_HANDLE_INVALID)
         cut_journal();
     return code;
 }
 
+CK_RV make_call(const struct call *call) {
+    if (library.journal.has_failed || has_stopped)
+        return CKR_DEVICE_ERROR;
+    CK_RV code = check_call(call);
+    if (code != CKR_OK)
+        return code;
+    if (call->lacks_memory || !reserve_room())
+        return CKR_HOST_MEMORY;
+    return make_checked_call(call);
+}
+
+/* There is room for the entry in the token's journal, and for the line in the buffers of lines and
+ * of the file's text: these had the longer line of a piece before, and keep their room until
+ * C_Finalize. If it found no memory all the same, no later call is answered, so that nobody finishes
+ * the message. */
+void cancel_operation(CK_ULONG session, CK_FLAGS kind) {
+    const struct call cancel = {.name = SESSION_CANCEL, .session = session, .flags = kind};
+    if (!library.journal.has_failed && make_checked_call(&cancel) == CKR_HOST_MEMORY)
+        stop_answering();
+}
+
+void stop_answering(void) {
+    has_stopped = true;
+}
+
+void begin_answering(void) {
+    has_stopped = false;
+}
+
 CK_RV ask_for_session(CK_ULONG session) {
     const struct call call = {.name = GET_SESSION_INFO, .session = session};
-    if (library.journal.is_kept)
+    if (library.journal.is_kept || library.updates > 0)
         return make_call(&call);
     if (ospreyrack_get_session_info(&library.token, caller_number(), session) != ANSWERED)
         return CKR_HOST_MEMORY;

@@ -119,6 +119,7 @@ static CK_RV begin_token(void) {
         return CKR_HOST_MEMORY;
     ospreyrack_make(at);
     journals_begun++;
+    begin_answering();
     library.token.at = at;
     copy_padded(library.label, sizeof library.label, "");
     return configure() ? CKR_OK : CKR_GENERAL_ERROR;

@@ -45,22 +45,64 @@ CK_RV answer_output(struct call call, CK_BYTE *output, CK_ULONG *length) {
     return code;
 }
 
-/* A piece behind the first that isn't taken leaves a message with a hole, so the operation ends. */
+/* ---- Updates in pieces
+ *
+ * A piece behind the first that isn't taken leaves a message with a hole. So the operation ends
+ * then, before any other thread can make a call. The room that this takes in the token's journal is
+ * made before the first piece is taken, and kept: see `cancel_operation`. */
+
+struct update {
+    CK_FLAGS kind;     /* of its operation */
+    bool has_begun;    /* a piece is taken */
+    bool is_last;      /* the next piece is the last one */
+    uint64_t journals; /* how many journals had begun at the first piece */
+};
+
+/* Makes the call of a piece under the lock. While the update is under way, its token's journal
+ * isn't cut: where another journal has begun, the library was finalized meanwhile. */
+static CK_RV make_piece(const struct call *piece, struct update *update) {
+    if (update->has_begun && update->journals != journals_begun)
+        return CKR_CRYPTOKI_NOT_INITIALIZED;
+    if (!update->has_begun) {
+        update->journals = journals_begun;
+        library.updates++;
+    }
+    CK_RV code = make_call(piece);
+    if (code != CKR_OK && update->has_begun)
+        cancel_operation(piece->session, update->kind);
+    if (code != CKR_OK || update->is_last)
+        library.updates--;
+    update->has_begun = true;
+    return code;
+}
+
+/* Where the application's lock can't be taken, the operation can't be ended. So that nobody
+ * finishes the message, no later call is answered. */
+static CK_RV answer_piece(struct call piece, struct update *update) {
+    CK_RV code = enter_with_work(&piece);
+    if (code == CKR_OK)
+        code = leave(make_piece(&piece, update));
+    else if (update->has_begun && code != CKR_CRYPTOKI_NOT_INITIALIZED)
+        stop_answering();
+    drop_work(&piece);
+    return code;
+}
+
 CK_RV answer_update(struct call call, CK_FLAGS kind) {
-    const struct call cancel = {.name = SESSION_CANCEL, .session = call.session, .flags = kind};
+    struct update update = {.kind = kind};
     struct bytes left = call.bytes;
-    bool is_first = true;
-    do {
+    CK_RV code = CKR_OK;
+    if (left.length <= LONGEST_MESSAGE)
+        return answer_message(call);
+    while (code == CKR_OK && left.length > 0) {
         call.bytes.at = left.at;
         call.bytes.length = left.length > LONGEST_MESSAGE ? LONGEST_MESSAGE : left.length;
-        CK_RV code = answer_message(call);
-        if (code != CKR_OK && !is_first)
-            answer(&cancel);
-        if (code != CKR_OK)
-            return code;
-        left.at += call.bytes.length;
-        left.length -= call.bytes.length;
-        is_first = false;
-    } while (left.length > 0);
-    return CKR_OK;
+        update.is_last = call.bytes.length == left.length;
+        code = answer_piece(call, &update);
+        if (code == CKR_OK) {
+            left.at += call.bytes.length;
+            left.length -= call.bytes.length;
+        }
+    }
+    return code;
 }

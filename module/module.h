@@ -69,6 +69,7 @@ struct library {
     struct token token;
     CK_UTF8CHAR label[LABEL_LENGTH];
     bool cuts_journal; /* the token's journal in memory is cut where no session is open */
+    uint64_t updates;  /* updates in pieces that are under way: see `cancel_operation` */
     bool has_seed;     /* random bytes follow from a seed */
     uint64_t seed;     /* the state of the seeded generator */
     struct journal journal;
@@ -192,6 +193,7 @@ struct call {
     CK_ULONG count;
     const CK_UTF8CHAR *label; /* of INIT_TOKEN */
     struct work *work;        /* on a long message, where there is any */
+    bool lacks_memory;        /* there was none for the work */
 };
 
 /* The bytes that the application gave. Of what is longer than `longest` one byte more than that is
@@ -216,6 +218,17 @@ CK_RV make_call(const struct call *call);
 
 /* The same of C_GetSessionInfo, by a shorter way where no journal file is kept. */
 CK_RV ask_for_session(CK_ULONG session);
+
+/* Ends an operation whose message lacks a piece. It takes no memory: for each update that
+ * `library.updates` counts, this one among them, the token's journal has room for an entry, which
+ * no other call takes. */
+void cancel_operation(CK_ULONG session, CK_FLAGS kind);
+
+/* Lets no later call be answered until C_Finalize. It needs no lock. */
+void stop_answering(void);
+
+/* C_Initialize lets calls be answered again. */
+void begin_answering(void);
 
 /* The same, of a call that is answered a handle. */
 CK_RV make_call_for_handle(const struct call *call, CK_ULONG *handle);

@@ -89,14 +89,10 @@ CK_RV enter_with_work(struct call *call) {
         return code;
     if (!is_by_work)
         return enter();
-    bool is_given = give_work(call);
+    call->lacks_memory = !give_work(call);
     code = enter();
-    if (code != CKR_OK)
+    if (code != CKR_OK || call->lacks_memory || !begin_work(call->work))
         return code;
-    if (!is_given)
-        return leave(CKR_HOST_MEMORY);
-    if (!begin_work(call->work))
-        return CKR_OK;
     leave(CKR_OK);
     ospreyrack_long_take_in(&call->work->call);
     return enter();

@@ -193,6 +193,9 @@ static int mutexes, locks, unlocks, destroyed, created_code, locked_code, depth;
 static int locks_until_change;
 static void (*change)(void);
 
+/* The last of so many locks fails. */
+static int locks_until_failure;
+
 static CK_RV create_mutex(CK_VOID_PTR_PTR mutex) {
     if (created_code != CKR_OK)
         return (CK_RV)created_code;
@@ -210,6 +213,8 @@ static CK_RV destroy_mutex(CK_VOID_PTR mutex) {
 static CK_RV lock_mutex(CK_VOID_PTR mutex) {
     if (locked_code != CKR_OK)
         return (CK_RV)locked_code;
+    if (locks_until_failure > 0 && --locks_until_failure == 0)
+        return CKR_MUTEX_BAD;
     check(mutex == &mutexes && depth == 0, "LockMutex is given the mutex, unlocked");
     if (locks_until_change > 0 && --locks_until_change == 0)
         change();
@@ -907,6 +912,81 @@ static void test_piece_in_between(void) {
     end_token();
 }
 
+/* ---- A change between the pieces of an update. The lock is taken three times for a long piece. */
+
+enum { LOCKS_OF_PIECE = 3 };
+
+/* Answers whether the lock failed. Before the first piece is taken nothing has changed. Later the
+ * message has a hole, and the operation can't be ended, so no call is answered any more. */
+static bool try_failing_lock(int locks_before) {
+    CK_BYTE digest[32];
+    begin_with_mutexes();
+    begin_sha(CKM_SHA256);
+    locks_until_failure = locks_before + 1;
+    CK_RV code = p11->C_DigestUpdate(current_session, large, LARGE);
+    bool has_failed = locks_until_failure == 0;
+    locks_until_failure = 0;
+    check_code(code, has_failed ? CKR_GENERAL_ERROR : CKR_OK, "C_DigestUpdate");
+    length = sizeof digest;
+    code = p11->C_DigestFinal(current_session, digest, &length);
+    bool has_hole = has_failed && locks_before >= LOCKS_OF_PIECE;
+    check_code(code, has_hole ? CKR_DEVICE_ERROR : CKR_OK, "C_DigestFinal");
+    CK_SESSION_INFO info;
+    code = p11->C_GetSessionInfo(current_session, &info);
+    check_code(code, has_hole ? CKR_DEVICE_ERROR : CKR_OK, "C_GetSessionInfo");
+    end_token();
+    begin_token();
+    end_token();
+    return has_failed;
+}
+
+static void test_lock_that_fails_between(void) {
+    int locks_before = 0;
+    while (locks_before < 100 && try_failing_lock(locks_before))
+        locks_before++;
+    CHECK(locks_before > LOCKS_OF_PIECE && locks_before < 100);
+}
+
+/* The next piece is none of the new token, although its session has the same handle, and has an
+ * operation. */
+static void test_update_and_another_token(void) {
+    CK_BYTE digest[64], expected[64];
+    fill_large();
+    begin_with_mutexes();
+    begin_sha(CKM_SHA512);
+    locks_until_change = LOCKS_OF_PIECE + 1;
+    change = begin_anew;
+    EXPECT(CKR_CRYPTOKI_NOT_INITIALIZED, p11->C_DigestUpdate(current_session, large, LARGE));
+    CHECK(locks_until_change == 0);
+    digest_in_short_pieces(digest);
+    begin_sha(CKM_SHA256);
+    digest_in_short_pieces(expected);
+    CHECK(length == 32 && memcmp(digest, expected, 32) == 0);
+    end_token();
+}
+
+/* The journal in memory is then long enough to be cut. */
+static void close_sessions(void) {
+    CK_TOKEN_INFO info;
+    EXPECT(CKR_OK, p11->C_CloseAllSessions(0));
+    for (int i = 0; i < 2000; i++)
+        EXPECT(CKR_OK, p11->C_GetTokenInfo(0, &info));
+}
+
+static void test_update_and_closed_sessions(void) {
+    fill_large();
+    for (int locks_before = 1; locks_before <= 2 * LOCKS_OF_PIECE; locks_before++) {
+        begin_with_mutexes();
+        begin_sha(CKM_SHA256);
+        locks_until_change = locks_before;
+        change = close_sessions;
+        EXPECT(CKR_SESSION_HANDLE_INVALID, p11->C_DigestUpdate(current_session, large, LARGE));
+        CHECK(locks_until_change == 0);
+        EXPECT(CKR_OK, p11->C_OpenSession(0, read_write, NULL, NULL, &current_session));
+        end_token();
+    }
+}
+
 /* ---- PINs of any length */
 
 static void test_pins(void) {
@@ -1307,6 +1387,10 @@ static const struct test tests[] = {
     {"the work on a long message doesn't count for another operation",
      test_work_of_another_operation},
     {"a piece is added while a long one is taken in", test_piece_in_between},
+    {"an application's lock that fails between the pieces of an update",
+     test_lock_that_fails_between},
+    {"a piece of an update isn't taken by another token", test_update_and_another_token},
+    {"sessions are closed between the pieces of an update", test_update_and_closed_sessions},
     {"PINs of 3 to 200 bytes", test_pins},
     {"slots that aren't there", test_slots},
     {"what is said of the token and of a session", test_token_info},

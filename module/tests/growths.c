@@ -25,12 +25,19 @@ void __libc_free(void *memory);
 
 /* How many allocations there are before the one that is refused; negative where none is. */
 static long left_to_refusal = -1;
+static bool refuses_all; /* and all behind that one */
 static bool is_refused;
 static long live_allocations;
 
 static bool refuses(void) {
-    if (left_to_refusal < 0 || left_to_refusal-- > 0)
+    if (left_to_refusal < 0)
         return false;
+    if (left_to_refusal > 0) {
+        left_to_refusal--;
+        return false;
+    }
+    if (!refuses_all)
+        left_to_refusal = -1;
     is_refused = true;
     errno = ENOMEM;
     return true;
@@ -532,42 +539,232 @@ static void test_by_lines(void) {
     unsetenv("OSPREYRACK_JOURNAL");
 }
 
-/* ---- Updates that the module makes in pieces */
+/* ---- Updates that the module makes in pieces
+ *
+ * The application's function for the lock does what other threads do that have the lock before:
+ * where there is no memory any more, they take all room in the token's journal that they get, and
+ * one of them makes such an update, too. */
 
-static CK_BYTE large[(2 << 20) + 5];
+enum { PIECE = 1 << 20, MOST_ENTRIES = 2000 };
 
-/* An update whose later piece is refused ends the operation, since a piece is missing. One whose
- * first piece is refused changed nothing. Answers whether anything was refused. */
-static bool try_pieces(long number, size_t *ended) {
-    static const char sha512_of_nothing[] =
-        "cf83e1357eefb8bdf1542850d66d8007d620e4050b5715dc83f4a921d36ce9ce"
-        "47d0d13c5d85f2b0ff8318d2877eec2f63b931bd47417a81a538327af927da3e";
-    struct result made;
-    begin_library();
+static CK_BYTE large[2 * PIECE + 5];
+
+/* What is tried, beside that an allocation is refused. */
+struct trial {
+    const char *what;
+    bool refuses_all;      /* all later allocations are refused, too */
+    bool is_nearly_full;   /* the token's journal has room for one entry */
+    bool has_other_calls;  /* other threads take the room in the journal */
+    bool has_other_update; /* another thread makes an update between the pieces of the tried one */
+};
+
+static const struct trial trials[] = {
+    {"one allocation is refused", false, false, false, false},
+    {"all are, and the journal is nearly full", true, true, false, false},
+    {"all are, and others take the journal's room", true, false, true, false},
+    {"all are, and others take the room and make an update", true, false, true, true},
+};
+
+enum { TRIALS = sizeof trials / sizeof *trials };
+
+static const struct trial *trial;
+
+/* Makes calls until there is no memory for one, and answers how many there were. One of
+ * C_GetSessionInfo goes a shorter way. */
+static long fill_journal(void) {
+    struct result ignored;
+    long count = 0;
+    while (count < MOST_ENTRIES && get_token_info(&ignored) == CKR_OK)
+        count++;
+    while (count < MOST_ENTRIES && get_session_info(&ignored) == CKR_OK)
+        count++;
+    return count;
+}
+
+/* At the last of so many locks another thread makes an update. */
+static int locks_until_other;
+static CK_RV other_code;
+
+static CK_RV lock_mutex(CK_VOID_PTR mutex) {
+    static bool is_filling;
+    (void)mutex;
+    if (is_filling)
+        return CKR_OK;
+    if (trial != NULL && trial->has_other_calls && is_refused) {
+        is_filling = true;
+        fill_journal();
+        is_filling = false;
+    }
+    if (locks_until_other > 0 && --locks_until_other == 0)
+        other_code = p11->C_DigestUpdate(other_session, large, PIECE + 5);
+    return CKR_OK;
+}
+
+static CK_RV create_mutex(CK_VOID_PTR_PTR mutex) {
+    *mutex = large;
+    return CKR_OK;
+}
+
+static CK_RV leave_mutex(CK_VOID_PTR mutex) {
+    (void)mutex;
+    return CKR_OK;
+}
+
+/* Begins a message with "abc". */
+static void begin_message(CK_SESSION_HANDLE in) {
+    static CK_BYTE abc[] = {'a', 'b', 'c'};
+    EXPECT(CKR_OK, p11->C_DigestInit(in, &sha512));
+    EXPECT(CKR_OK, p11->C_DigestUpdate(in, abc, sizeof abc));
+}
+
+/* A new token with two messages that have begun. */
+static void begin_messages(void) {
+    CK_C_INITIALIZE_ARGS mutexes = {
+        .CreateMutex = create_mutex,
+        .DestroyMutex = leave_mutex,
+        .LockMutex = lock_mutex,
+        .UnlockMutex = leave_mutex,
+    };
+    unlink(journal);
+    live_at_start = live_allocations;
+    EXPECT(CKR_OK, p11->C_Initialize(&mutexes));
     session = log_in();
-    EXPECT(CKR_OK, digest_init(&made));
+    EXPECT(CKR_OK, p11->C_OpenSession(0, read_write, NULL, NULL, &other_session));
+    begin_message(session);
+    begin_message(other_session);
+}
+
+/* For how many calls the token's journal has room then. */
+static long room_at_begin(void) {
+    begin_messages();
+    refuses_all = true;
+    refuse_after(0);
+    long room = fill_journal();
+    stop_refusing();
+    refuses_all = false;
+    end_library();
+    CHECK(room > 1 && room < MOST_ENTRIES);
+    return room;
+}
+
+/* The digest of "abc" and of bytes behind it, each piece of which is a call of its own. */
+static void find_digest(CK_BYTE *digest, CK_ULONG count) {
+    CK_ULONG room = 64;
+    begin_messages();
+    for (CK_ULONG at = 0; at < count; at += PIECE)
+        EXPECT(CKR_OK, p11->C_DigestUpdate(session, large + at,
+                                           count - at < PIECE ? count - at : PIECE));
+    EXPECT(CKR_OK, p11->C_DigestFinal(session, digest, &room));
+    end_library();
+}
+
+static CK_BYTE digest_of_large[64], digest_of_other[64];
+static long room_for_calls;
+
+static void prepare_trials(void) {
+    trial = NULL;
+    for (size_t i = 0; i < sizeof large; i++)
+        large[i] = (CK_BYTE)(i % 251);
+    find_digest(digest_of_large, sizeof large);
+    find_digest(digest_of_other, PIECE + 5);
+    room_for_calls = room_at_begin();
+}
+
+/* What has come of an update. */
+enum outcome { AS_IT_WAS, ENDED, DONE, OUTCOMES };
+
+/* An update without memory leaves the message as it was where no piece was taken. Else it has ended
+ * the operation, since there would be a hole in the message. */
+static enum outcome outcome_of(CK_SESSION_HANDLE in, CK_RV code, const CK_BYTE *digest) {
+    CK_BYTE made[64] = {0};
+    CK_ULONG room = sizeof made;
+    CK_RV final_code = p11->C_DigestFinal(in, made, &room);
+    if (code == CKR_OK) {
+        check_code(final_code, CKR_OK, "C_DigestFinal");
+        check(memcmp(made, digest, sizeof made) == 0, "the digest of all pieces");
+        return DONE;
+    }
+    check_code(code, CKR_HOST_MEMORY, "C_DigestUpdate in pieces");
+    if (final_code == CKR_OPERATION_NOT_INITIALIZED)
+        return ENDED;
+    check_code(final_code, CKR_OK, "C_DigestFinal of a message as it was");
+    check(is_hexadecimal(made, room, sha512_of_abc), "the digest of a message as it was");
+    return AS_IT_WAS;
+}
+
+/* The journal in memory is cut again, once no update is under way. */
+static void check_cut(long live_before) {
+    struct result ignored;
+    EXPECT(CKR_OK, p11->C_CloseAllSessions(0));
+    for (int i = 0; i < MOST_ENTRIES; i++)
+        EXPECT(CKR_OK, get_token_info(&ignored));
+    check(live_allocations <= live_before, "the journal is cut");
+}
+
+/* Answers whether anything was refused. The lock is taken three times for a long piece, and by
+ * lines twice, so at the fourth lock the first piece is taken and the second one isn't. */
+static bool try_pieces(long number, enum outcome *tried, enum outcome *other) {
+    struct result ignored;
+    begin_messages();
+    long live_before = live_allocations;
+    for (long i = 1; trial->is_nearly_full && i < room_for_calls; i++)
+        EXPECT(CKR_OK, get_token_info(&ignored));
+    locks_until_other = trial->has_other_update ? 4 : 0;
+    other_code = CKR_HOST_MEMORY;
+    refuses_all = trial->refuses_all;
     refuse_after(number);
     CK_RV code = p11->C_DigestUpdate(session, large, sizeof large);
     bool was_refused = stop_refusing();
-    CK_RV final_code = digest_final(&made);
-    if (code == CKR_OK) {
-        check_code(final_code, CKR_OK, "C_DigestFinal");
-    } else {
-        check_code(code, CKR_HOST_MEMORY, "C_DigestUpdate of three pieces");
-        check(final_code == CKR_OPERATION_NOT_INITIALIZED
-              || is_hexadecimal(made.bytes, made.length, sha512_of_nothing), "C_DigestFinal");
-        *ended += final_code == CKR_OPERATION_NOT_INITIALIZED;
-    }
+    refuses_all = false;
+    locks_until_other = 0;
+    is_refused = false;
+    *tried = outcome_of(session, code, digest_of_large);
+    *other = outcome_of(other_session, other_code, digest_of_other);
+    check_cut(live_before);
     end_library();
     return was_refused;
 }
 
-static void test_pieces(void) {
+/* The later the refusal, the more was done before it. */
+static void run_trial(void) {
+    size_t counts[OUTCOMES] = {0}, other_counts[OUTCOMES] = {0};
+    enum outcome last = AS_IT_WAS, tried, other;
     long number = 0;
-    size_t ended = 0;
-    while (number < MOST_GROWTHS && try_pieces(number, &ended))
+    bool was_refused;
+    do {
+        was_refused = try_pieces(number, &tried, &other);
+        check(!trial->refuses_all || tried >= last, trial->what);
+        if (has_journal)
+            check_journal();
+        counts[tried]++;
+        other_counts[other]++;
+        last = tried;
         number++;
-    CHECK(number > 1 && number < MOST_GROWTHS && ended > 0);
+    } while (was_refused && number < MOST_GROWTHS);
+    check(number < MOST_GROWTHS, trial->what);
+    check(counts[AS_IT_WAS] > 0 && counts[ENDED] > 0 && counts[DONE] > 0, trial->what);
+    check(!trial->has_other_update || other_counts[ENDED] > 0, trial->what);
+}
+
+static void run_trials(void) {
+    prepare_trials();
+    for (size_t i = 0; i < TRIALS; i++) {
+        trial = &trials[i];
+        run_trial();
+    }
+    trial = NULL;
+}
+
+static void test_pieces(void) {
+    has_journal = false;
+    run_trials();
+}
+
+static void test_pieces_by_lines(void) {
+    has_journal = true;
+    setenv("OSPREYRACK_JOURNAL", journal, 1);
+    run_trials();
+    unsetenv("OSPREYRACK_JOURNAL");
 }
 
 /* ---- A thread's first call */
@@ -680,7 +877,8 @@ static const struct test tests[] = {
     {"each growth of 41 calls is refused, typed", test_typed},
     {"each growth of 41 calls is refused, by lines", test_by_lines},
     {"each growth of C_Initialize is refused, with a script and a file", test_initialize},
-    {"an update of three pieces whose later piece is refused ends", test_pieces},
+    {"an update in pieces without memory takes nothing or ends, typed", test_pieces},
+    {"an update in pieces without memory takes nothing or ends, by lines", test_pieces_by_lines},
     {"a thread's first call without memory", test_first_call},
 };
 

@@ -1,8 +1,8 @@
 """Tests of the journal file and of the other words of the environment: kills, cut files, changed
-files, full devices, seeds, and memory over many calls.
+files, full devices, forks, programs that are executed, seeds, and memory over many calls.
 
-Called with the module's file and the program ck_cases. With the first argument `answer`, `memory`,
-`polling` or `unload` it is a worker, which this program starts itself.
+Called with the module's file and the program ck_cases. With the first argument `answer`, `files`,
+`memory`, `polling` or `unload` it is a worker, which this program starts itself.
 """
 import _ctypes
 import contextlib
@@ -108,6 +108,41 @@ def unload_and_load(path):
           module.say("1 OpenSession 6"), module.finalize())
 
 
+def open_files():
+    """The paths of this process's descriptors."""
+    paths = []
+    for number in os.listdir("/proc/self/fd"):
+        # The descriptor by which the folder was read is closed by now.
+        with contextlib.suppress(FileNotFoundError):
+            paths.append(os.readlink(f"/proc/self/fd/{number}"))
+    return paths
+
+
+def files_of_program():
+    """The paths of the descriptors that a program has which this process executes. No code of the
+    library runs before in a child, as it would after a fork."""
+    out, written = os.pipe()
+    program = os.posix_spawn(sys.executable, [sys.executable, os.path.abspath(__file__), "files"],
+                             os.environ, file_actions=[(os.POSIX_SPAWN_DUP2, written, 1)])
+    os.close(written)
+    with open(out, encoding="utf-8") as file:
+        paths = file.read().split("\n")[:-1]
+    os.waitpid(program, 0)
+    return paths
+
+
+def live_as_child(act, written, end):
+    """What a child of a fork does: it writes what comes of `act`, and lives until `end` is closed.
+    It ends by exit(3), so that the library's own end is run."""
+    try:
+        with open(written, "w", encoding="utf-8") as file:
+            file.write("\n".join(act()))
+        os.read(end, 1)
+    except BaseException:
+        os._exit(1)
+    ctypes.CDLL(None).exit(0)
+
+
 class Worker:
     """A process that answers calls."""
 
@@ -180,7 +215,7 @@ class Tests:
         self.path = module_path
         self.module = support.Module(module_path)
         self.ck_cases = ck_cases
-        self.folder = folder
+        self.folder = os.path.realpath(folder)
 
     def file(self, name):
         return os.path.join(self.folder, name)
@@ -200,6 +235,25 @@ class Tests:
         os.dup2(kept, 2)
         os.close(kept)
         return code
+
+    @contextlib.contextmanager
+    def child_of_fork(self, act):
+        """A child that lives until the block has ended. Gives the lines of what comes of `act`."""
+        out, written = os.pipe()
+        end, kept = os.pipe()
+        child = os.fork()
+        if child == 0:
+            os.close(kept)
+            live_as_child(act, written, end)
+        os.close(written)
+        os.close(end)
+        with open(out, encoding="utf-8") as file:
+            lines = file.read().split("\n")
+        try:
+            yield lines
+        finally:
+            os.close(kept)
+            self.checks.equal(os.waitpid(child, 0)[1], 0, "the status of the child")
 
     def begin(self, **words):
         code, errors = self.initialize(**words)
@@ -371,6 +425,107 @@ class Tests:
         third.end()
         support.audit(self.checks, self.ck_cases, path)
 
+    def test_second_run(self):
+        """A second C_Initialize leaves the journal of the first run as it is, and says so."""
+        for name in ["run.cases", "run-%p.cases"]:
+            pattern = self.file(name)
+            path = pattern.replace("%p", str(os.getpid()))
+            for calls in [[], SOME_CALLS]:
+                write(path, b"")
+                self.begin(JOURNAL=pattern)
+                self.say_all(calls)
+                self.end()
+                content = read(path)
+                code, errors = self.initialize(JOURNAL=pattern)
+                self.checks.equal(code, GENERAL_ERROR, "the second C_Initialize")
+                self.checks.equal(errors, f"ospreyrack: OSPREYRACK_JOURNAL: {path}: the file is "
+                                  "there and isn't empty\n", "the errors")
+                self.checks.equal(self.module.say("1 GetTokenInfo"), f"{NOT_INITIALIZED:x}",
+                                  "a call after it")
+                self.checks.equal(read(path), content, "the file")
+                self.begin(JOURNAL=self.file(f"other-{len(calls)}-{name}"))
+                self.checks.equal(self.module.say("1 GetTokenInfo"), "0 4 64 0 0", "a new token")
+                self.end()
+                self.checks.equal(read(path), content, "the file, beside another one")
+            support.audit(self.checks, self.ck_cases, path)
+
+    def check_locked(self, path):
+        worker = Worker(self.path, TOKEN=path)
+        self.checks.equal(worker.code, f"{GENERAL_ERROR:x}", "C_Initialize of another process")
+        self.checks.equal(worker.end(), f"ospreyrack: OSPREYRACK_TOKEN: {path}: another process "
+                          "has locked the file\n", "its errors")
+
+    def check_calls(self, path, calls, replies):
+        """A file has these calls and no others, and can be played."""
+        content = read(path).decode() if os.path.exists(path) else "no file"
+        lines = [line for line in content.split("\n") if " -> " in line]
+        expected = [f"{call} -> {reply}" for call, reply in zip(calls, replies)]
+        self.checks.equal(lines, expected, path)
+        support.audit(self.checks, self.ck_cases, path)
+
+    def see_as_child(self, word, path):
+        """A child of a fork: what it sees without initialization, with its parent's file, and with
+        one of its own."""
+        seen = [self.module.say("1 GetTokenInfo"), self.module.say("1 CloseSession 1"),
+                str(path in open_files())]
+        code, errors = self.initialize(**{word: path})
+        seen += [f"{code:x}", errors.rstrip("\n")]
+        code, errors = self.initialize(JOURNAL=self.file("child-%p.cases"))
+        seen += [f"{code:x}{errors}", *self.say_all(LOG_IN), f"{self.module.finalize():x}"]
+        return [*seen, str(path in open_files()), str(os.getpid())]
+
+    def test_fork(self):
+        """A child of a fork leaves its parent's file as it is, and its lock, too."""
+        for word in ["JOURNAL", "TOKEN"]:
+            path = self.file(f"parent-{word}.cases")
+            self.begin(**{word: path})
+            replies = self.say_all(SOME_CALLS)
+            before = read(path)
+            self.checks.equal(open_files().count(path), 1, "the parent's descriptors of the file")
+            with self.child_of_fork(lambda: self.see_as_child(word, path)) as seen:
+                self.checks.equal(
+                    seen[:-1],
+                    [f"{NOT_INITIALIZED:x}", f"{NOT_INITIALIZED:x}", "False", f"{GENERAL_ERROR:x}",
+                     f"ospreyrack: OSPREYRACK_{word}: {path}: another process has locked the file",
+                     "0", "0", "0 1", "0", "0", "0", "0", "0", "False"], "what the child saw")
+                self.checks.equal(read(path), before, "the parent's file")
+                self.check_locked(path)
+                replies += self.say_all(["1 GetTokenInfo", "1 OpenSession 6"])
+            self.check_locked(path)
+            replies.append(self.module.say("1 GetSessionInfo 3"))
+            self.end()
+            calls = [*SOME_CALLS, "1 GetTokenInfo", "1 OpenSession 6", "1 GetSessionInfo 3"]
+            own = self.file(f"child-{seen[-1]}.cases")
+            self.check_calls(path, calls, replies)
+            self.check_calls(own, LOG_IN, seen[6:12])
+
+    def test_fork_that_stays(self):
+        """A child of a fork that lives on doesn't keep its parent's file."""
+        path = self.file("left.cases")
+        for act in [lambda: ["0"], lambda: [str(self.module.initialize())]]:
+            self.begin(TOKEN=path)
+            with self.child_of_fork(act) as seen:
+                self.checks.equal(seen, ["0"], "the child")
+                self.end()
+                worker = Worker(self.path, TOKEN=path)
+                self.checks.equal(worker.code, "0", "C_Initialize of another process")
+                self.checks.equal(worker.say("1 InitToken 31323334"), "0", "its call")
+                self.checks.equal(worker.end(), "", "its errors")
+
+    def test_exec(self):
+        """A program that is executed has no descriptor of the file."""
+        path = self.file("executed.cases")
+        for initialize in [lambda: self.initialize(TOKEN=path)[0],
+                           lambda: self.initialize_without_errors(TOKEN=path)]:
+            self.checks.equal(initialize(), 0, "C_Initialize")
+            self.checks.equal(open_files().count(path), 1, "this process's descriptors of the file")
+            self.checks.equal(files_of_program().count(path), 0, "the program's")
+            file = os.open(path, os.O_RDONLY)
+            os.set_inheritable(file, True)
+            self.checks.equal(files_of_program().count(path), 1, "the program's, of one left to it")
+            os.close(file)
+            self.end()
+
     def test_unload(self):
         """A library that is unloaded without C_Finalize leaves no lock on its file."""
         path = self.file("unloaded.cases")
@@ -528,6 +683,7 @@ class Tests:
 
 TESTS = [Tests.test_file, Tests.test_going_on, Tests.test_new_label, Tests.test_script,
          Tests.test_cut_off, Tests.test_changed, Tests.test_lacking_reply, Tests.test_two_processes,
+         Tests.test_second_run, Tests.test_fork, Tests.test_fork_that_stays, Tests.test_exec,
          Tests.test_unload, Tests.test_kills, Tests.test_full, Tests.test_filling, Tests.test_seed,
          Tests.test_long_template, Tests.test_cut, Tests.test_memory]
 
@@ -535,6 +691,8 @@ TESTS = [Tests.test_file, Tests.test_going_on, Tests.test_new_label, Tests.test_
 def main():
     if sys.argv[1] == "answer":
         return answer_input(sys.argv[2])
+    if sys.argv[1] == "files":
+        return print("\n".join(open_files()))
     if sys.argv[1] == "unload":
         return unload_and_load(sys.argv[2])
     if sys.argv[1] == "memory":

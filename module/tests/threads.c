@@ -278,6 +278,34 @@ static void *add_short_zeros(void *ignored) {
     return ignored;
 }
 
+/* An update that the module makes in three pieces, of zeros, too. */
+enum { LARGE_MESSAGE = 2 * LONGEST_MESSAGE + SHORT_PIECE };
+
+static CK_BYTE digest_of_zeros[32];
+
+static void digest_large_zeros(CK_SESSION_HANDLE session) {
+    static CK_BYTE zeros[LARGE_MESSAGE];
+    CK_MECHANISM sha256 = mechanism_of(CKM_SHA256);
+    CK_BYTE out[32];
+    CK_ULONG room = sizeof out;
+    EXPECT(CKR_OK, p11->C_DigestInit(session, &sha256));
+    EXPECT(CKR_OK, p11->C_DigestUpdate(session, zeros, sizeof zeros));
+    EXPECT(CKR_OK, p11->C_DigestFinal(session, out, &room));
+    CHECK(memcmp(out, digest_of_zeros, sizeof out) == 0);
+}
+
+/* In a journal's file the pieces are lines of 2 MiB, so there it is one round. */
+static void *update_in_pieces(void *ignored) {
+    int count = getenv("OSPREYRACK_JOURNAL") == NULL ? long_rounds() : 1;
+    for (int round = 0; round < count; round++) {
+        CK_SESSION_HANDLE session = 0;
+        EXPECT(CKR_OK, p11->C_OpenSession(0, read_write, NULL, NULL, &session));
+        digest_large_zeros(session);
+        EXPECT(CKR_OK, p11->C_CloseSession(session));
+    }
+    return ignored;
+}
+
 /* A session that other threads close, and a key whose state they change. */
 static _Atomic CK_SESSION_HANDLE moving_session;
 
@@ -465,6 +493,15 @@ static void test_added_pieces(void) {
     CHECK(memcmp(out, expected, sizeof out) == 0);
 }
 
+static void test_updates_in_pieces(void) {
+    CK_MECHANISM sha256 = mechanism_of(CKM_SHA256);
+    CK_ULONG room = sizeof digest_of_zeros;
+    EXPECT(CKR_OK, p11->C_DigestInit(shared[0], &sha256));
+    add_in_short_pieces(p11->C_DigestUpdate, shared[0], NULL, LARGE_MESSAGE);
+    EXPECT(CKR_OK, p11->C_DigestFinal(shared[0], digest_of_zeros, &room));
+    run_threads(update_in_pieces, work_in_shared_session);
+}
+
 static void test_disturbed_signing(void) {
     CK_SESSION_HANDLE session = 0;
     EXPECT(CKR_OK, p11->C_OpenSession(0, read_write, NULL, NULL, &session));
@@ -496,6 +533,8 @@ static const struct test tests[] = {
     {"threads in their own sessions and in shared ones", test_both},
     {"long messages in sessions of their own, and short ones beside them", test_long_messages},
     {"long and short pieces are added to one message", test_added_pieces},
+    {"updates above 2^20 bytes in sessions of their own, and short calls beside them",
+     test_updates_in_pieces},
     {"long messages are signed where operations, sessions and keys change", test_disturbed_signing},
     {"threads make calls, and others fork", test_forks},
     {"threads log in and out; C_Finalize", test_logins},
