@@ -331,8 +331,8 @@ CK_RV make_call(const struct call *call) {
 
 /* There is room for the entry in the token's journal, and for the line in the buffers of lines and
  * of the file's text: these had the longer line of a piece before, and keep their room until
- * C_Finalize. If it found no memory all the same, no later call is answered, so that nobody finishes
- * the message. */
+ * C_Finalize. If it found no memory all the same, no later call is answered, so that nobody
+ * finishes the message. */
 void cancel_operation(CK_ULONG session, CK_FLAGS kind) {
     const struct call cancel = {.name = SESSION_CANCEL, .session = session, .flags = kind};
     if (!library.journal.has_failed && make_checked_call(&cancel) == CKR_HOST_MEMORY)

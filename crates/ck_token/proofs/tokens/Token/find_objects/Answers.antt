@@ -21,7 +21,7 @@ returns c =
     let s = c.args.session in
     let rest = cond_some (is_searching h s) (remaining_objects h s) c.in_ok-numbers.numbers.now
     (sym (c.remaining_objects.ensures h s c.in_ok-row.ensures.row)
-        ∙ ap option_copied c.in_ok-numbers.ensures.ok_part) in
+    ∙ ap option_copied c.in_ok-numbers.ensures.ok_part) in
     let items = c.in_ok-handles.handles.items in
     let given = c.in_ok-handles.ensures.handles
     ∙ ap (λ (numbers : List ℕ). map (handle_of h) (take c.args.max (filter (is_visible h) numbers)))
