@@ -99,27 +99,24 @@ uint32_t answer_line(const uint8_t *line, size_t length) {
     return step;
 }
 
-/* Makes the call whose line is written. A cancel goes by its arguments, since that takes no memory
- * where the token's journal has room. */
-static uint32_t answer_written(const struct call *call) {
+/* Makes the call whose line is written. A cancel goes by its arguments, since that can't be out of
+ * memory where the token's journal has room. */
+static uint32_t make_written_call(const struct call *call) {
     const struct buffer *line = &library.line;
-    if (call->name != SESSION_CANCEL)
-        return answer_line(line->bytes, line->length);
-    if (!reserve_entry(line->length))
-        return NO_MEMORY;
-    uint32_t step = ospreyrack_session_cancel(&library.token, caller_number(), call->session,
-                                              call->flags);
-    if (step == ANSWERED)
-        add_entry(line->bytes, line->length);
-    return step;
+    if (call->name == SESSION_CANCEL)
+        return ospreyrack_session_cancel(&library.token, caller_number(), call->session,
+                                         call->flags);
+    return ospreyrack_line(&library.token, line->bytes, line->length);
 }
 
 static uint32_t call_by_line(const struct call *call) {
-    if (!write_line(call, caller_number(), &library.line))
+    const struct buffer *line = &library.line;
+    if (!write_line(call, caller_number(), &library.line) || !reserve_entry(line->length))
         return NO_MEMORY;
-    uint32_t step = answer_written(call);
+    uint32_t step = make_written_call(call);
     if (step != ANSWERED)
         return step;
+    add_entry(line->bytes, line->length);
     if (call->label != NULL && ospreyrack_code(&library.token) == CKR_OK)
         set_label(call->label);
     write_journal();
@@ -298,7 +295,8 @@ static void drop_long_lists(void) {
 }
 
 /* Room in the token's journal for a call's entry, beside those of the cancels that may have to be
- * made. A call takes room for one entry at most, and one that found no memory takes none. */
+ * made. A call takes room for one entry at most (a clause of the token, not of its exports), and
+ * one that found no memory takes none. */
 static bool reserve_room(void) {
     return library.updates == 0 || ospreyrack_reserve(&library.token, library.updates + 1);
 }
@@ -331,8 +329,8 @@ CK_RV make_call(const struct call *call) {
 
 /* There is room for the entry in the token's journal, and for the line in the buffers of lines and
  * of the file's text: these had the longer line of a piece before, and keep their room until
- * C_Finalize. If it found no memory all the same, no later call is answered, so that nobody
- * finishes the message. */
+ * C_Finalize. If the cancel found no memory all the same, no later call is answered, so that
+ * nobody finishes the message. */
 void cancel_operation(CK_ULONG session, CK_FLAGS kind) {
     const struct call cancel = {.name = SESSION_CANCEL, .session = session, .flags = kind};
     if (!library.journal.has_failed && make_checked_call(&cancel) == CKR_HOST_MEMORY)
@@ -349,7 +347,7 @@ void begin_answering(void) {
 
 CK_RV ask_for_session(CK_ULONG session) {
     const struct call call = {.name = GET_SESSION_INFO, .session = session};
-    if (library.journal.is_kept || library.updates > 0)
+    if (library.journal.is_kept || library.updates > 0 || has_stopped)
         return make_call(&call);
     if (ospreyrack_get_session_info(&library.token, caller_number(), session) != ANSWERED)
         return CKR_HOST_MEMORY;

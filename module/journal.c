@@ -142,7 +142,8 @@ bool write_first_journal(void) {
     return write_journal();
 }
 
-/* A fork in another thread may come in between, and its child closes the file that is open. */
+/* Marked as closed first: the child of a fork in between keeps the descriptor, and never closes one
+ * that isn't the journal's. */
 static void close_file(struct journal *journal) {
     bool was_open = journal->is_open;
     journal->is_open = false;

@@ -53,7 +53,7 @@ CK_RV answer_output(struct call call, CK_BYTE *output, CK_ULONG *length) {
 
 struct update {
     CK_FLAGS kind;     /* of its operation */
-    bool has_begun;    /* a piece is taken */
+    bool has_begun;    /* a piece was taken */
     bool is_last;      /* the next piece is the last one */
     uint64_t journals; /* how many journals had begun at the first piece */
 };
@@ -72,7 +72,8 @@ static CK_RV make_piece(const struct call *piece, struct update *update) {
         cancel_operation(piece->session, update->kind);
     if (code != CKR_OK || update->is_last)
         library.updates--;
-    update->has_begun = true;
+    if (code == CKR_OK)
+        update->has_begun = true;
     return code;
 }
 

@@ -213,13 +213,13 @@ CK_RV check_call(const struct call *call);
 
 /* Makes a call under the lock. Returns what is wrong with its arguments; CKR_HOST_MEMORY where
  * there is no memory for it, and nothing has changed; CKR_DEVICE_ERROR where the journal file can't
- * be written; or the reply's code. */
+ * be written, or after `stop_answering`; or the reply's code. */
 CK_RV make_call(const struct call *call);
 
 /* The same of C_GetSessionInfo, by a shorter way where no journal file is kept. */
 CK_RV ask_for_session(CK_ULONG session);
 
-/* Ends an operation whose message lacks a piece. It takes no memory: for each update that
+/* Ends an operation whose message lacks a piece. It can't be out of memory: for each update that
  * `library.updates` counts, this one among them, the token's journal has room for an entry, which
  * no other call takes. */
 void cancel_operation(CK_ULONG session, CK_FLAGS kind);
@@ -230,10 +230,10 @@ void stop_answering(void);
 /* C_Initialize lets calls be answered again. */
 void begin_answering(void);
 
-/* The same, of a call that is answered a handle. */
+/* As make_call, of a call that is answered a handle. */
 CK_RV make_call_for_handle(const struct call *call, CK_ULONG *handle);
 
-/* The same with the lock taken and released. */
+/* make_call and make_call_for_handle, with the lock taken and released. */
 CK_RV answer(const struct call *call);
 CK_RV answer_handle(const struct call *call, CK_ULONG *handle);
 

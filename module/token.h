@@ -51,8 +51,8 @@ enum cut {
 uint32_t ospreyrack_cut(struct token *token);
 
 /* Makes room in the token's journal for this many more entries, and says whether there was memory
- * for it. With room for one, the next ospreyrack_session_cancel takes no memory; a call without
- * memory takes no room. */
+ * for it. With room for one, the next ospreyrack_session_cancel isn't out of memory; a call
+ * that finds no memory leaves the room. */
 bool ospreyrack_reserve(struct token *token, uint64_t count);
 
 /* How many entries the token's journal has. */

@@ -84,7 +84,7 @@ pub extern "C" fn ospreyrack_get_token_info(alloc: Global, handle: &mut Handle, 
     handle.call(alloc, caller, Call::GetTokenInfo)
 }
 
-/// C_SessionCancel. Where the token's journal has room, the call takes no memory.
+/// C_SessionCancel. Where the token's journal has room, the call isn't out of memory.
 #[unsafe(no_mangle)]
 pub extern "C" fn ospreyrack_session_cancel(
     alloc: Global,
