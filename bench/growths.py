@@ -22,6 +22,9 @@ for each call. Where there is no memory to share a token, it is shared then. Wit
 
 Calls for which places in the journal are reserved are made while every growth is refused.
 
+Each run without a refused growth must have growths, and in all some must be refused and something
+made again: else the library that refuses them isn't loaded.
+
 With the argument `short` every fourth growth of a case and of a script is refused, except of
 long_journal.cases, and every second one of a race, so that it takes less time.
 
@@ -153,8 +156,8 @@ def check_case(library, command, name, lines, passed, step):
         file.flush()
         words = [*command, file.name]
         plain = play(library, words, b"", 0)
-        if plain.output != f"{file.name}: {passed} passed\n".encode():
-            return 0, 0, [f"{name}: {plain.output}"]
+        if plain.output != f"{file.name}: {passed} passed\n".encode() or plain.growths == 0:
+            return 0, 0, [f"{name}: {plain}"]
         retries = 0
         faults = []
         numbers = range(1, plain.growths + 1, step)
@@ -171,8 +174,9 @@ def check_script(library, name, lines, step):
     calls = calls_in(lines)
     text = "".join(call + "\n" for call, _ in calls).encode()
     plain = play(library, [SCRIPTS], text, 0)
-    if plain.status != 0 or plain.output != "".join(reply + "\n" for _, reply in calls).encode():
-        return 0, 0, [f"{name} as a script: {plain.output}"]
+    replies = "".join(reply + "\n" for _, reply in calls).encode()
+    if (plain.status, plain.output) != (0, replies) or plain.growths == 0:
+        return 0, 0, [f"{name} as a script: {plain}"]
     faults = []
     numbers = range(1, plain.growths + 1, step)
     for growth in numbers:
@@ -194,7 +198,7 @@ def check_threads(library, name, lines, step):
     words = [SCRIPTS, "--callers", "8"]
     text = "".join(call + "\n" for call, _ in calls_in(lines)).encode()
     plain = play(library, words, text, 0)
-    if plain.status != 0:
+    if plain.status != 0 or plain.growths == 0:
         return 0, 0, [f"{name} in threads: {plain}"]
     faults = []
     numbers = range(1, plain.growths + 1, step)
@@ -211,7 +215,7 @@ def check_reserved(library):
     calling = play(library, [RACES, "reserved"], b"", 0)
     refused = play(library, [RACES, "reserved"], b"", 0, reserving.growths + 1)
     is_right = (reserving.status, calling.status, refused.status) == (0, 0, 0)
-    if is_right and calling.growths == reserving.growths:
+    if is_right and calling.growths == reserving.growths > 0:
         return 0, 0, []
     return 0, 0, [f"reserved calls: {reserving}, {calling}, {refused}"]
 
@@ -239,9 +243,12 @@ def main(paths, races, is_short=False):
             checks.append(pool.submit(check_reserved, library))
         results = [check.result() for check in checks]
     faults = [fault for _, _, of_case in results for fault in of_case]
+    growths = sum(refused for refused, _, _ in results)
+    retries = sum(made_again for _, made_again, _ in results)
+    if growths == 0 or retries == 0:
+        faults.append("no growth was refused, or nothing was made again")
     print("\n".join(faults))
-    print(f"{sum(growths for growths, _, _ in results)} growths refused, "
-          f"{sum(retries for _, retries, _ in results)} times made again, {len(faults)} faults")
+    print(f"{growths} growths refused, {retries} times made again, {len(faults)} faults")
     return 1 if faults else 0
 
 

@@ -67,17 +67,22 @@ BAD_ARGUMENTS = [
 ]
 
 TOO_MANY_SPACES = b"a space too many stands in the line, whose words stand between single spaces"
+BYTE_ORDER_MARK = b"a byte order mark stands before the line"
+CARRIAGE_RETURN = b"a carriage return stands at the end of the line"
+TAB = b"a tab stands in the line, whose words stand between single spaces"
+NOT_DECIMAL = b"a number is written in decimal digits"
+NO_CALL = b"no call has this name"
 
 # A bad line, and the reason that is given.
 BAD_LINES = [
     (b"Nope", b"a line is a caller, a call and its arguments"),
     (b"0 Logout 1", b"the caller is a number from 1 to 8"),
     (b"9 Logout 1", b"the caller is a number from 1 to 8"),
-    (b"1 Nope", b"no call has this name"),
-    (b"1 Logn 1 1 31", b"no call has this name, the nearest is Login"),
+    (b"1 Nope", NO_CALL),
+    (b"1 Logn 1 1 31", NO_CALL + b", the nearest is Login"),
     (b"1 Login 1 1", b"Login takes 3 arguments"),
     (b"1 GetTokenInfo 1", b"GetTokenInfo takes no arguments"),
-    (b"1 Logout x", b"a number is written in decimal digits"),
+    (b"1 Logout x", NOT_DECIMAL),
     (b"1 Logout 01", b"a number has no leading zero"),
     (b"1 Logout 18446744073709551616", b"a number is below 2^64"),
     (b"1 OpenSession 0x6",
@@ -86,14 +91,46 @@ BAD_LINES = [
      b"bytes are written in two hexadecimal digits each, and no bytes as -"),
     (b"1 Logout  1", TOO_MANY_SPACES),
     (b" # x", TOO_MANY_SPACES),
-    (b"1 Logout 1\r", b"a carriage return stands at the end of the line"),
-    (b"1\tLogout 1", b"a tab stands in the line, whose words stand between single spaces"),
-    (b"\xef\xbb\xbf1 Logout 1", b"a byte order mark stands before the line"),
+    (b"1 Logout 1\r", CARRIAGE_RETURN),
+    (b"1\tLogout 1", TAB),
+    (b"\xef\xbb\xbf1 Logout 1", BYTE_ORDER_MARK),
     (b"1 DigestInit 1 250:00:00",
      b"a mechanism is written as type, or with its parameter as type:bytes"),
     (b"1 CreateObject 1 3", b"a template is written as type=bytes,.. and an empty one as -"),
     (b"1 GetAttributeValue 1 1 3", b"queries are written as type:room,.. and none as -"),
 ]
+
+# A line with several faults, and the one that is named: the first in the order of docs/script.md.
+LINES_WITH_FAULTS = [
+    (b"\xef\xbb\xbf1 Logout 1\r", BYTE_ORDER_MARK),
+    (b"\xef\xbb\xbf1\tLogout 1", BYTE_ORDER_MARK),
+    (b"\xef\xbb\xbf1 Logout  1", BYTE_ORDER_MARK),
+    (b"\xef\xbb\xbf9 Nope", BYTE_ORDER_MARK),
+    (b"1\tLogout 1\r", CARRIAGE_RETURN),
+    (b"1 Logout  1\r", CARRIAGE_RETURN),
+    (b"9 Nope\r", CARRIAGE_RETURN),
+    (b"1\tLogout  1", TAB),
+    (b"9\tNope", TAB),
+    (b"9  Logout 1", TOO_MANY_SPACES),
+    (b"Nope ", TOO_MANY_SPACES),
+    (b"9", b"a line is a caller, a call and its arguments"),
+    (b"9 Nope", b"the caller is a number from 1 to 8"),
+    (b"1 Nope x 01", NO_CALL),
+    (b"1 Login x 1", b"Login takes 3 arguments"),
+    (b"1 Login x 01 3", NOT_DECIMAL),
+    (b"1 Login 1 01 3", b"a number has no leading zero"),
+]
+
+# A name with two letters too many, or three, after the longest name and the front of the standard.
+NAMES = [
+    (b"C_GetAttributeValues", NO_CALL + b", the nearest is GetAttributeValue"),
+    (b"c_getattributevaluexx", NO_CALL + b", the nearest is GetAttributeValue"),
+    (b"C_GetAttributeValuexxx", NO_CALL),
+    (b"GetAttributeValue" + b"x" * 8, NO_CALL),
+]
+
+# The seconds of work in which a line is judged, however long it is.
+SOON = 2
 
 
 class Tests:
@@ -140,13 +177,38 @@ def scripts(tests):
     tests.end("a script is played line by line")
 
 
+def check_bad_line(tests, line, reason):
+    errors = b"ck_run: line 2: bad script: " + reason + b"\n"
+    script = b"1 InitToken 31323334\n" + line + b"\n1 GetTokenInfo\n"
+    tests.check([], script, b"0\n", errors, 1)
+    tests.check(["--callers", "8"], script, b"", errors, 1)
+
+
 def bad_lines(tests):
     for line, reason in BAD_LINES:
-        errors = b"ck_run: line 2: bad script: " + reason + b"\n"
-        script = b"1 InitToken 31323334\n" + line + b"\n1 GetTokenInfo\n"
-        tests.check([], script, b"0\n", errors, 1)
-        tests.check(["--callers", "8"], script, b"", errors, 1)
+        check_bad_line(tests, line, reason)
     tests.end("each reason of a bad line")
+    for line, reason in LINES_WITH_FAULTS:
+        check_bad_line(tests, line, reason)
+    tests.end("of several faults of a line the first is named")
+
+
+def seconds_of_programs():
+    """The seconds that the programs have worked so far, however long they had to wait."""
+    used = resource.getrusage(resource.RUSAGE_CHILDREN)
+    return used.ru_utime + used.ru_stime
+
+
+def names(tests):
+    for name, reason in NAMES:
+        check_bad_line(tests, b"1 " + name, reason)
+    for name in (b"x" * (LONGEST_LINE - 2), b"C_Login" * ((LONGEST_LINE - 2) // 7)):
+        before = seconds_of_programs()
+        check_bad_line(tests, b"1 " + name, NO_CALL)
+        seconds = seconds_of_programs() - before
+        if seconds > 2 * SOON:
+            tests.faults.append(f"a name of {len(name)} bytes took {seconds} seconds in two runs")
+    tests.end("names that are near to a call's, and names of 4 million letters")
 
 
 def longest_lines(tests):
@@ -157,6 +219,7 @@ def longest_lines(tests):
     tests.check([], comment + b"\n1 InitToken 31323334\n", b"0\n", b"", 0)
     tests.check([], comment + b"#\n", b"", errors, 1)
     tests.check([], comment + b"#", b"", errors, 1)
+    tests.check([], b"\xef\xbb\xbf" + b"1" * LONGEST_LINE + b"\r", b"", errors, 1)
     tests.check([], call + b"\n", b"a2\n", b"", 0)
     tests.check([], call + b"3\n", b"", errors, 1)
     for words in (["--callers", "1"], ["--callers", "8"]):
@@ -173,6 +236,8 @@ def callers(tests):
     tests.check(["--callers", "2"], b"", b"entries 0\naudit ok\n", b"", 0)
     tests.check(["--callers", "2"], TWO_CALLERS + b"3 GetTokenInfo\n", b"",
                 b"ck_run: line 9: bad script: the caller is a number from 1 to 2\n", 1)
+    tests.check(["--callers", "2"], b"3 Login x\n", b"",
+                b"ck_run: line 1: bad script: Login takes 3 arguments\n", 1)
     tests.end("callers in threads")
 
 
@@ -235,6 +300,7 @@ def main(program):
     tests = Tests(program)
     scripts(tests)
     bad_lines(tests)
+    names(tests)
     longest_lines(tests)
     callers(tests)
     threads(tests)

@@ -6,6 +6,7 @@ The program is crates/ck_cases/out/ck_cases, which `rt ci` leaves and `rt run` i
 or the one that is named. For each test a line is printed that begins with passed or FAILED, and the
 status is 1 where one failed.
 """
+import hashlib
 import os
 import sys
 import tempfile
@@ -115,6 +116,40 @@ limits 1 9 9 9
 foo
 """
 
+# And with those of a token that allows the most.
+MOST_SESSIONS = b"""\
+# Two sessions.
+limits largest
+1 InitToken 31323334 -> 0
+1 OpenSession 6 -> 0 1
+1 OpenSession 6 -> 0 2
+foo
+"""
+
+NO_CALL = b"t: line 6: foo: a line is a caller, a call and its arguments\n"
+
+# A run without limits of its own, and with the replies of a token that allows one session.
+WITHOUT_LIMITS = b"""\
+# Two sessions.
+1 InitToken 31323334 -> 0
+1 OpenSession 6 -> 0 1
+1 OpenSession 6 -> 0 2
+"""
+WITH_LIMITS = b"""\
+# Two sessions.
+limits 1 9 9 9
+1 InitToken 31323334 -> 0
+1 OpenSession 6 -> 0 1
+1 OpenSession 6 -> b1
+"""
+
+# The most characters that are shown of a text.
+MOST_SHOWN = 80
+
+# A run with a reply of 130 characters: CKR_OK, a space and a digest with SHA-512.
+DIGEST = hashlib.sha512(b"abc").hexdigest().encode()
+BEFORE_DIGEST = b"1 InitToken 31323334 -> 0\n1 OpenSession 6 -> 0 1\n1 DigestInit 1 270 -> 0\n"
+
 USAGE = b"\n\nUsage: ck_cases [OPTIONS] <FILE>..."
 MORE = b"\n\nFor more information, try '--help'.\n"
 
@@ -173,10 +208,46 @@ def limits(tests):
     report = (b"t: line 5: 1 OpenSession 6: came b1 CKR_SESSION_COUNT, and not 0 CKR_OK 2\n"
               b"t: only counted: 1 more\nt: 1 passed, 1 differ, 1 bad, 1 without a reply\n")
     tests.check_file(TWO_SESSIONS, ["--limits", "1,9,9,9", "--most", "1", "t"], report, b"", 1)
-    errors = b"t: line 6: foo: a line is a caller, a call and its arguments\n"
-    tests.check_file(TWO_SESSIONS, ["--limits", "1,9,9,9", "--replies", "t"], ONE_SESSION, errors,
-                     1)
+    for words, output in [("1,9,9,9", ONE_SESSION), ("largest", MOST_SESSIONS)]:
+        tests.check_file(TWO_SESSIONS, ["--limits", words, "--replies", "t"], output, NO_CALL, 1)
     tests.end("other limits, and replies that are written")
+
+
+def limits_of_first_case(tests):
+    report = (b"t: line 4: 1 OpenSession 6: came b1 CKR_SESSION_COUNT, and not 0 CKR_OK 2\n"
+              b"t: 2 passed, 1 differ\n")
+    tests.check_file(WITHOUT_LIMITS, ["t"], b"t: 3 passed\n", b"", 0)
+    tests.check_file(WITHOUT_LIMITS, ["--limits", "1,9,9,9", "t"], report, b"", 1)
+    tests.check_file(WITHOUT_LIMITS, ["--replies", "t"], WITHOUT_LIMITS, b"", 0)
+    tests.check_file(WITHOUT_LIMITS, ["--limits", "1,9,9,9", "--replies", "t"], WITH_LIMITS, b"", 0)
+    tests.end("other limits of a file without limits of its own")
+
+
+def check_long_reply(tests, recorded, place):
+    """A digest of which another reply is recorded, and what is said of where they differ."""
+    shown = [b"0 CKR_OK " + it[:MOST_SHOWN] + b".." * (len(it) > MOST_SHOWN)
+             for it in (DIGEST, recorded)]
+    report = (b"t: line 4: 1 Digest 1 616263 64: came " + shown[0] + b", and not " + shown[1]
+              + place + b"\nt: 3 passed, 1 differ\n")
+    step = b"1 Digest 1 616263 64 -> 0 " + recorded + b"\n"
+    tests.check_file(BEFORE_DIGEST + step, ["t"], report, b"", 1)
+
+
+def long_texts(tests):
+    for length in (1, MOST_SHOWN, MOST_SHOWN + 1, 3 * MOST_SHOWN):
+        text = b"x" * length
+        shown = text[:MOST_SHOWN] + b".." * (length > MOST_SHOWN)
+        tests.check_file(text, ["t"], b"t: line 1: " + shown + b": a line is a caller, a call"
+                         b" and its arguments\nt: 0 passed, 1 bad\n", b"", 1)
+    for place in (3, 61, 80, 81, 82, 83, 130):
+        # the code and the space before the digest are two characters
+        at = place - 3
+        said = b" (they differ from character %d on)" % place if place > MOST_SHOWN else b""
+        check_long_reply(tests, DIGEST[:at] + b"x" + DIGEST[at + 1:], said)
+    check_long_reply(tests, DIGEST[:77], b"")
+    check_long_reply(tests, DIGEST[:78], b" (they differ from character 81 on)")
+    check_long_reply(tests, DIGEST + b"00", b" (they differ from character 131 on)")
+    tests.end("texts of 80 characters and of more are shortened")
 
 
 def arguments(tests):
@@ -200,6 +271,8 @@ def main(program):
     tests = Files(program, "recorded runs")
     reports(tests)
     limits(tests)
+    limits_of_first_case(tests)
+    long_texts(tests)
     arguments(tests)
     bad_files(tests)
     return 1 if tests.failed else 0

@@ -2,6 +2,7 @@
 
 Called with the module's file and the program ck_cases, with random_source.so preloaded. Each case
 is played by typed calls, and again with OSPREYRACK_JOURNAL. A token then goes on from that journal.
+At the end the system's random bytes come late, in parts, or not at all.
 """
 import collections
 import ctypes
@@ -14,6 +15,7 @@ from concurrent.futures import ThreadPoolExecutor
 import support
 from support import bytes_of, hexadecimal, items_of
 
+DEVICE_ERROR = 0x30
 LONGEST_PIN = LONGEST_SIGNATURE = 64
 PIECE = 1000
 
@@ -135,6 +137,7 @@ class Player:
         self.module = module
         self.threads = [ThreadPoolExecutor(1) for _ in range(8)]
         self.set_random_bytes = ctypes.CDLL(None).set_random_bytes
+        self.set_random_faults = ctypes.CDLL(None).set_random_faults
 
     def number_threads(self):
         """The module numbers threads in the order of their first calls."""
@@ -225,6 +228,106 @@ def play_file(checks, player, path, ck_cases, skipped):
     return len(played)
 
 
+# ---- A source of random bytes that has faults
+
+ALL = 2**64 - 1
+
+# A key in a session, whose value can be read, of 64 bytes.
+KEY = "1=00,2=00,103=00,162=01,161=4000000000000000"
+VALUE = bytes(range(1, 65))
+
+# How many calls of getrandom are interrupted, and how many bytes one gives at most.
+SLOW_SOURCES = [(0, ALL), (1, ALL), (3, ALL), (0, 63), (0, 1), (1, 5)]
+
+# How many calls of getrandom give bytes, each how many at most, before one fails.
+BROKEN_SOURCES = [(0, ALL), (1, 63), (5, 1)]
+
+
+class Source:
+    """The module with random bytes that are known, and faults of the function that gives them."""
+
+    def __init__(self, player):
+        self.player = player
+        self.module = player.module
+
+    def begin(self, interruptions, most, calls):
+        self.player.set_random_bytes(VALUE, ctypes.c_size_t(len(VALUE)))
+        self.player.set_random_faults(*map(ctypes.c_size_t, [interruptions, most, calls]))
+
+    def end(self):
+        self.player.set_random_faults(*map(ctypes.c_size_t, [0, ALL, ALL]))
+        self.player.set_random_bytes(b"", ctypes.c_size_t(0))
+
+    def generate_random(self, *faults):
+        """The code of C_GenerateRandom, and what it writes."""
+        out = (ctypes.c_ubyte * len(VALUE))()
+        self.begin(*faults)
+        code = self.module.call("GenerateRandom", ctypes.c_ulong(1), out,
+                                ctypes.c_ulong(len(VALUE)))
+        self.end()
+        return code, bytes(out)
+
+    def generate_key(self, *faults):
+        """The reply of C_GenerateKey."""
+        self.begin(*faults)
+        reply = self.module.say(f"1 GenerateKey 1 350 {KEY}")
+        self.end()
+        return reply
+
+
+def begin_session(checks, module, words):
+    checks.equal(module.initialize(**words), 0, "C_Initialize")
+    checks.equal(module.say("1 InitToken 31323334"), "0", "C_InitToken")
+    checks.equal(module.say("1 OpenSession 6"), "0 1", "C_OpenSession")
+
+
+def find_all(module):
+    module.say("1 FindObjectsInit 1 -")
+    found = module.say("1 FindObjects 1 10")
+    module.say("1 FindObjectsFinal 1")
+    return found
+
+
+def check_slow_sources(checks, source, words):
+    """All bytes come, in as many calls as are needed."""
+    for interruptions, most in SLOW_SOURCES:
+        begin_session(checks, source.module, words(f"slow-{interruptions}-{most}"))
+        what = f"{interruptions} interruptions, {most} bytes at most"
+        checks.equal(source.generate_random(interruptions, most, ALL), (0, VALUE),
+                     f"C_GenerateRandom, {what}")
+        checks.equal(source.generate_key(interruptions, most, ALL), "0 1",
+                     f"C_GenerateKey, {what}")
+        checks.equal(source.module.say("1 GetAttributeValue 1 1 11:64"), f"0 ={VALUE.hex()}",
+                     f"the key's value, {what}")
+        checks.equal(source.module.finalize(), 0, "C_Finalize")
+
+
+def check_broken_sources(checks, source, words):
+    """Without random bytes no key is made."""
+    for calls, most in BROKEN_SOURCES:
+        begin_session(checks, source.module, words(f"broken-{calls}-{most}"))
+        what = f"{calls} calls give {most} bytes at most"
+        code, _ = source.generate_random(0, most, calls)
+        checks.equal(code, DEVICE_ERROR, f"C_GenerateRandom, {what}")
+        checks.equal(source.generate_key(0, most, calls), f"{DEVICE_ERROR:x}",
+                     f"C_GenerateKey, {what}")
+        checks.equal(find_all(source.module), "0 -", f"no key is made, {what}")
+        checks.equal(source.generate_key(0, ALL, ALL), "0 1", "C_GenerateKey with random bytes")
+        checks.equal(source.module.finalize(), 0, "C_Finalize")
+
+
+def test_random_source(checks, player):
+    source = Source(player)
+    with tempfile.TemporaryDirectory() as folder:
+        for kind, words in [
+                ("typed", lambda name: {}),
+                ("by lines", lambda name: {"JOURNAL": os.path.join(folder, name)})]:
+            check_slow_sources(checks, source, words)
+            checks.end(f"random bytes that are interrupted, or come in parts, {kind}")
+            check_broken_sources(checks, source, words)
+            checks.end(f"without random bytes no key is made, {kind}")
+
+
 def main():
     module_path, ck_cases = sys.argv[1:]
     checks = support.Checks("cases")
@@ -233,6 +336,7 @@ def main():
     skipped = collections.Counter()
     for path in sorted(glob.glob(os.path.join(support.DATA, "*.cases"))):
         play_file(checks, player, path, ck_cases, skipped)
+    test_random_source(checks, player)
     for reason, count in sorted(skipped.items()):
         checks.leave_out(f"{count} lines", f"{reason}, which can't be played through C")
     return checks.status()

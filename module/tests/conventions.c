@@ -16,6 +16,14 @@
 #include <unistd.h>
 
 static const char *folder;
+static bool has_journals;
+
+static char path[4096];
+
+static const char *path_of(const char *name) {
+    snprintf(path, sizeof path, "%s/%s", folder, name);
+    return path;
+}
 
 static const CK_FLAGS read_write = CKF_SERIAL_SESSION | CKF_RW_SESSION;
 
@@ -105,6 +113,24 @@ static void test_interfaces(void) {
     EXPECT(CKR_ARGUMENTS_BAD, p11->C_GetInterface(NULL, NULL, NULL, 0));
     EXPECT(CKR_ARGUMENTS_BAD, p11->C_GetFunctionList(NULL));
     EXPECT(CKR_ARGUMENTS_BAD, p11->C_GetInterfaceList(NULL, NULL));
+}
+
+/* The list has the interfaces that are given by name and version. */
+static void test_interface_list(void) {
+    static CK_UTF8CHAR standard[] = "PKCS 11", vendor[] = "Vendor Ospreyrack";
+    static CK_UTF8CHAR *const names[] = {standard, standard, vendor};
+    CK_VERSION versions[] = {{3, 0}, {2, 40}, {1, 0}};
+    CK_INTERFACE list[3], *interface = NULL;
+    CK_ULONG count = 3;
+    memset(list, 0xff, sizeof list);
+    EXPECT(CKR_OK, p11->C_GetInterfaceList(list, &count));
+    CHECK(count == 3);
+    for (int i = 0; i < 3; i++) {
+        EXPECT(CKR_OK, p11->C_GetInterface(names[i], &versions[i], &interface, 0));
+        CHECK(list[i].pInterfaceName == interface->pInterfaceName);
+        CHECK(list[i].pFunctionList == interface->pFunctionList);
+        CHECK(list[i].flags == interface->flags);
+    }
 }
 
 static void test_vendor_interface(void) {
@@ -492,6 +518,63 @@ static void test_lengths_of_no_memory(void) {
     end_token();
 }
 
+enum { MOST_ATTRIBUTES = 1 << 20, LONG_VALUE = 1 << 24 };
+
+static void *zeros_new(size_t count, size_t size) {
+    void *memory = calloc(count, size);
+    if (memory == NULL)
+        exit(2);
+    return memory;
+}
+
+/* By lines the call is too long for one. */
+static void test_most_attributes(void) {
+    CK_SESSION_HANDLE session = begin_token();
+    CK_OBJECT_HANDLE object = create_data(session, "label"), other = 0;
+    CK_ATTRIBUTE *many = zeros_new(MOST_ATTRIBUTES + 1, sizeof *many);
+    CK_ULONG more = MOST_ATTRIBUTES + 1;
+    for (CK_ULONG i = 0; i < more; i++)
+        many[i] = (CK_ATTRIBUTE){CKA_LABEL, NULL, 77};
+    EXPECT(CKR_ARGUMENTS_BAD, p11->C_GetAttributeValue(session, object, many, more));
+    EXPECT(CKR_ARGUMENTS_BAD, p11->C_SetAttributeValue(session, object, many, more));
+    EXPECT(CKR_ARGUMENTS_BAD, p11->C_CopyObject(session, object, many, more, &other));
+    EXPECT(CKR_ARGUMENTS_BAD, p11->C_CreateObject(session, many, more, &other));
+    EXPECT(CKR_ARGUMENTS_BAD, p11->C_FindObjectsInit(session, many, more));
+    CHECK(many[0].ulValueLen == 77 && many[MOST_ATTRIBUTES].ulValueLen == 77);
+    CK_RV code = p11->C_GetAttributeValue(session, object, many, MOST_ATTRIBUTES);
+    check_code(code, has_journals ? CKR_HOST_MEMORY : CKR_OK, "the most attributes");
+    CHECK(has_journals || many[MOST_ATTRIBUTES - 1].ulValueLen == 5);
+    CHECK(many[MOST_ATTRIBUTES].ulValueLen == 77);
+    free(many);
+    end_token();
+}
+
+/* A value that is too long is refused before it is read. */
+static void test_longest_value(void) {
+    CK_SESSION_HANDLE session = begin_token();
+    CK_OBJECT_HANDLE object = 0;
+    CK_OBJECT_CLASS class = CKO_DATA;
+    CK_BBOOL no = CK_FALSE;
+    CK_BYTE *value = zeros_new(LONG_VALUE, 1);
+    CK_ATTRIBUTE template[] = {
+        {CKA_CLASS, &class, sizeof class},
+        {CKA_PRIVATE, &no, sizeof no},
+        {CKA_VALUE, value, (1 << 30) + 1},
+    };
+    CK_ATTRIBUTE query = {CKA_VALUE, NULL, 0};
+    EXPECT(CKR_ATTRIBUTE_VALUE_INVALID, p11->C_CreateObject(session, template, 3, &object));
+    EXPECT(CKR_ATTRIBUTE_VALUE_INVALID, p11->C_FindObjectsInit(session, template, 3));
+    CHECK(object == 0);
+    template[2].ulValueLen = LONG_VALUE;
+    CK_RV code = p11->C_CreateObject(session, template, 3, &object);
+    check_code(code, has_journals ? CKR_HOST_MEMORY : CKR_OK, "C_CreateObject of a long value");
+    if (!has_journals)
+        EXPECT(CKR_OK, p11->C_GetAttributeValue(session, object, &query, 1));
+    CHECK(query.ulValueLen == (has_journals ? 0 : LONG_VALUE));
+    free(value);
+    end_token();
+}
+
 /* ---- Outputs and rooms */
 
 static CK_SESSION_HANDLE current_session;
@@ -820,6 +903,26 @@ static void test_large_signatures(void) {
     end_token();
 }
 
+/* The longest signature, and one that is too long only by a byte behind the right ones. */
+static void test_signature_lengths(void) {
+    CK_SESSION_HANDLE session = begin_token();
+    CK_MECHANISM hmac = mechanism_of(CKM_SHA512_HMAC);
+    CK_OBJECT_HANDLE key = create_key(session, "Jefe");
+    CK_BYTE signature[65] = {0};
+    length = 64;
+    EXPECT(CKR_OK, p11->C_SignInit(session, &hmac, key));
+    EXPECT(CKR_OK, p11->C_Sign(session, bytes, 5, signature, &length));
+    for (CK_ULONG given = 63; given <= 65; given++) {
+        CK_RV expected = given == 64 ? CKR_OK : CKR_SIGNATURE_LEN_RANGE;
+        EXPECT(CKR_OK, p11->C_VerifyInit(session, &hmac, key));
+        EXPECT(expected, p11->C_Verify(session, bytes, 5, signature, given));
+        EXPECT(CKR_OK, p11->C_VerifyInit(session, &hmac, key));
+        EXPECT(CKR_OK, p11->C_VerifyUpdate(session, bytes, 5));
+        EXPECT(expected, p11->C_VerifyFinal(session, signature, given));
+    }
+    end_token();
+}
+
 /* ---- Work on a long message, while something changes before its call. Of the three times that the
  * lock is taken for it, the change comes at the last. */
 
@@ -862,6 +965,129 @@ static void check_digest_with(void (*made)(void)) {
     begin_sha(CKM_SHA256);
     digest_in_short_pieces(expected);
     CHECK(memcmp(digest, expected, 32) == 0);
+}
+
+static CK_BYTE result[64];
+
+static CK_RV begin_verify(void) {
+    return p11->C_VerifyInit(current_session, &current_mechanism, current_key);
+}
+
+static CK_RV digest_long(void) {
+    return p11->C_Digest(current_session, large, LONG_MESSAGE, result, &length);
+}
+
+static CK_RV digest_update_long(void) {
+    return p11->C_DigestUpdate(current_session, large, LONG_MESSAGE);
+}
+
+static CK_RV digest_final(void) {
+    return p11->C_DigestFinal(current_session, result, &length);
+}
+
+static CK_RV sign_long(void) {
+    return p11->C_Sign(current_session, large, LONG_MESSAGE, result, &length);
+}
+
+static CK_RV sign_update_long(void) {
+    return p11->C_SignUpdate(current_session, large, LONG_MESSAGE);
+}
+
+static CK_RV sign_final(void) {
+    return p11->C_SignFinal(current_session, result, &length);
+}
+
+static CK_RV verify_long(void) {
+    return p11->C_Verify(current_session, large, LONG_MESSAGE, result, length);
+}
+
+static CK_RV verify_update_long(void) {
+    return p11->C_VerifyUpdate(current_session, large, LONG_MESSAGE);
+}
+
+static CK_RV verify_final(void) {
+    return p11->C_VerifyFinal(current_session, result, length);
+}
+
+/* A call with the long message, and what is done before and behind it. */
+struct long_call {
+    const char *what;
+    CK_MECHANISM_TYPE mechanism;
+    CK_RV (*begin)(void);
+    CK_RV (*make)(void);
+    CK_RV (*finish)(void);
+};
+
+/* Those that verify are given the signature that was made before them. */
+static const struct long_call long_calls[] = {
+    {"C_Digest", CKM_SHA256, begin_digest, digest_long, begin_nothing},
+    {"C_DigestUpdate", CKM_SHA256, begin_digest, digest_update_long, digest_final},
+    {"C_Sign", CKM_SHA256_HMAC, begin_sign, sign_long, begin_nothing},
+    {"C_SignUpdate", CKM_SHA256_HMAC, begin_sign, sign_update_long, sign_final},
+    {"C_Verify", CKM_SHA256_HMAC, begin_verify, verify_long, begin_nothing},
+    {"C_VerifyUpdate", CKM_SHA256_HMAC, begin_verify, verify_update_long, verify_final},
+};
+
+/* Of the first bytes of the large message, by Python's hashlib and hmac. */
+static const char sha256_of_long[] =
+    "69dbee893909fa17d1be397e0c07691336fe42049c29d403467d3d4a1fc3b5a1";
+static const char hmac_of_long[] =
+    "96a619eb5bae9466096af75548df6da442488dcb33452333407a16dfb20bf3e3";
+
+static void change_message(void) {
+    memset(large, 'x', LONG_MESSAGE);
+}
+
+/* The message is copied, and taken in without the lock. So what the application does to it later
+ * doesn't count, and the lock is taken three times. */
+static void check_long_call(const struct long_call *call) {
+    fill_large();
+    current_mechanism = mechanism_of(call->mechanism);
+    length = call->begin == begin_verify ? 32 : sizeof result;
+    check_code(call->begin(), CKR_OK, call->what);
+    change_at_call(change_message);
+    int before = locks;
+    check_code(call->make(), CKR_OK, call->what);
+    check(locks == before + 3 && locks_until_change == 0, call->what);
+    check_code(call->finish(), CKR_OK, call->what);
+    bool is_digest = call->mechanism == CKM_SHA256;
+    check(is_hexadecimal(result, length, is_digest ? sha256_of_long : hmac_of_long), call->what);
+}
+
+static void test_changed_messages(void) {
+    begin_with_mutexes();
+    current_key = create_key(current_session, "Jefe");
+    for (size_t i = 0; i < sizeof long_calls / sizeof *long_calls; i++)
+        check_long_call(&long_calls[i]);
+    end_token();
+}
+
+/* From 4,096 bytes on a message is long. Where only the length of what it gives is asked for, it
+ * isn't taken in, so the lock is taken once. */
+static void test_locks_of_messages(void) {
+    CK_MECHANISM sha256 = mechanism_of(CKM_SHA256), hmac = mechanism_of(CKM_SHA256_HMAC);
+    fill_large();
+    begin_with_mutexes();
+    current_key = create_key(current_session, "Jefe");
+    EXPECT(CKR_OK, p11->C_DigestInit(current_session, &sha256));
+    EXPECT(CKR_OK, p11->C_SignInit(current_session, &hmac, current_key));
+    EXPECT(CKR_OK, p11->C_VerifyInit(current_session, &hmac, current_key));
+    int before = locks;
+    EXPECT(CKR_OK, p11->C_Digest(current_session, large, LONG_MESSAGE, NULL, &length));
+    CHECK(locks == before + 1);
+    EXPECT(CKR_OK, p11->C_Sign(current_session, large, LONG_MESSAGE, NULL, &length));
+    CHECK(locks == before + 2);
+    for (CK_ULONG given = 4095; given <= 4096; given++) {
+        int expected = given < 4096 ? 1 : 3;
+        before = locks;
+        EXPECT(CKR_OK, p11->C_DigestUpdate(current_session, large, given));
+        CHECK(locks == before + expected);
+        EXPECT(CKR_OK, p11->C_SignUpdate(current_session, large, given));
+        CHECK(locks == before + 2 * expected);
+        EXPECT(CKR_OK, p11->C_VerifyUpdate(current_session, large, given));
+        CHECK(locks == before + 3 * expected);
+    }
+    end_token();
 }
 
 static void begin_anew(void) {
@@ -1023,24 +1249,87 @@ static void test_slots(void) {
     end_token();
 }
 
+/* Whether a text stands in a field that is padded with blanks. */
+static bool is_padded(const CK_UTF8CHAR *field, size_t size, const char *text) {
+    size_t used = strlen(text);
+    if (memcmp(field, text, used) != 0)
+        return false;
+    for (size_t i = used; i < size; i++) {
+        if (field[i] != ' ')
+            return false;
+    }
+    return true;
+}
+
+#define HAS_TEXT(field, text) is_padded((field), sizeof(field), (text))
+
+static bool is_version(CK_VERSION version, int major, int minor) {
+    return version.major == major && version.minor == minor;
+}
+
+static void test_info(void) {
+    CK_INFO info;
+    memset(&info, 0xff, sizeof info);
+    begin_token();
+    EXPECT(CKR_OK, p11->C_GetInfo(&info));
+    CHECK(is_version(info.cryptokiVersion, 3, 0) && is_version(info.libraryVersion, 1, 0));
+    CHECK(HAS_TEXT(info.manufacturerID, "Ospreyrack"));
+    CHECK(HAS_TEXT(info.libraryDescription, "Ospreyrack software token"));
+    CHECK(info.flags == 0);
+    end_token();
+}
+
+static void test_slot_info(void) {
+    CK_SLOT_INFO info;
+    memset(&info, 0xff, sizeof info);
+    begin_token();
+    EXPECT(CKR_OK, p11->C_GetSlotInfo(0, &info));
+    CHECK(HAS_TEXT(info.slotDescription, "Ospreyrack slot"));
+    CHECK(HAS_TEXT(info.manufacturerID, "Ospreyrack"));
+    CHECK(info.flags == CKF_TOKEN_PRESENT);
+    CHECK(is_version(info.hardwareVersion, 1, 0) && is_version(info.firmwareVersion, 1, 0));
+    end_token();
+}
+
+/* What is said of every token. */
+static void check_token_info(const CK_TOKEN_INFO *info) {
+    CHECK(HAS_TEXT(info->manufacturerID, "Ospreyrack"));
+    CHECK(HAS_TEXT(info->model, "Software token"));
+    CHECK(HAS_TEXT(info->serialNumber, "1"));
+    CHECK(HAS_TEXT(info->utcTime, ""));
+    CHECK(info->ulMinPinLen == 4 && info->ulMaxPinLen == 64);
+    CHECK(info->ulMaxSessionCount == 64 && info->ulMaxRwSessionCount == 64);
+    CHECK(info->ulTotalPublicMemory == CK_UNAVAILABLE_INFORMATION);
+    CHECK(info->ulFreePublicMemory == CK_UNAVAILABLE_INFORMATION);
+    CHECK(info->ulTotalPrivateMemory == CK_UNAVAILABLE_INFORMATION);
+    CHECK(info->ulFreePrivateMemory == CK_UNAVAILABLE_INFORMATION);
+    CHECK(is_version(info->hardwareVersion, 1, 0) && is_version(info->firmwareVersion, 1, 0));
+}
+
+/* Before C_InitToken. What stands in the members before is the right value of none. */
+static void test_new_token_info(void) {
+    CK_TOKEN_INFO info;
+    memset(&info, 0x5a, sizeof info);
+    EXPECT(CKR_OK, p11->C_Initialize(NULL));
+    EXPECT(CKR_OK, p11->C_GetTokenInfo(0, &info));
+    CHECK(HAS_TEXT(info.label, ""));
+    CHECK(info.flags == (CKF_RNG | CKF_LOGIN_REQUIRED));
+    CHECK(info.ulSessionCount == 0 && info.ulRwSessionCount == 0);
+    check_token_info(&info);
+    end_token();
+}
+
 static void test_token_info(void) {
     CK_TOKEN_INFO info;
-    memset(&info, 0, sizeof info);
+    memset(&info, 0x5a, sizeof info);
     CK_SESSION_HANDLE session = begin_token(), read_only = 0;
     EXPECT(CKR_OK, p11->C_OpenSession(0, CKF_SERIAL_SESSION, NULL, NULL, &read_only));
     EXPECT(CKR_OK, p11->C_GetTokenInfo(0, &info));
     CHECK(memcmp(info.label, token_label, sizeof info.label) == 0);
-    CHECK(memcmp(info.manufacturerID, "Ospreyrack                      ", 32) == 0);
-    CHECK(memchr(info.model, 0, sizeof info.model) == NULL);
-    CHECK(memchr(info.serialNumber, 0, sizeof info.serialNumber) == NULL);
-    CHECK(memcmp(info.utcTime, "                ", 16) == 0);
     CHECK(info.flags == (CKF_RNG | CKF_LOGIN_REQUIRED | CKF_USER_PIN_INITIALIZED
                          | CKF_TOKEN_INITIALIZED));
-    CHECK(info.ulMinPinLen == 4 && info.ulMaxPinLen == 64);
-    CHECK(info.ulMaxSessionCount == 64 && info.ulMaxRwSessionCount == 64);
     CHECK(info.ulSessionCount == 2 && info.ulRwSessionCount == 1);
-    CHECK(info.ulTotalPublicMemory == CK_UNAVAILABLE_INFORMATION);
-    CHECK(info.ulFreePrivateMemory == CK_UNAVAILABLE_INFORMATION);
+    check_token_info(&info);
     CK_SESSION_INFO session_info;
     EXPECT(CKR_OK, p11->C_GetSessionInfo(session, &session_info));
     CHECK(session_info.slotID == 0 && session_info.state == CKS_RW_USER_FUNCTIONS);
@@ -1075,11 +1364,12 @@ static void test_mechanisms(void) {
             || types[i] == CKM_SHA512;
         CK_FLAGS flags = types[i] == CKM_GENERIC_SECRET_KEY_GEN ? CKF_GENERATE
             : is_digest ? CKF_DIGEST : CKF_SIGN | CKF_VERIFY;
+        memset(&info, 0xff, sizeof info);
         EXPECT(CKR_OK, p11->C_GetMechanismInfo(0, types[i], &info));
         CHECK(info.flags == flags);
-        /* Of the generation of keys they are in bits, else in bytes. */
-        CK_ULONG unit = types[i] == CKM_GENERIC_SECRET_KEY_GEN ? 8 : 1;
-        CHECK(is_digest || (info.ulMinKeySize == unit && info.ulMaxKeySize == 4096 * unit));
+        /* Of the generation of keys they are in bits, else in bytes; a digest has no key. */
+        CK_ULONG unit = is_digest ? 0 : types[i] == CKM_GENERIC_SECRET_KEY_GEN ? 8 : 1;
+        CHECK(info.ulMinKeySize == unit && info.ulMaxKeySize == 4096 * unit);
     }
     EXPECT(CKR_MECHANISM_INVALID, p11->C_GetMechanismInfo(0, CKM_RSA_PKCS, &info));
     end_token();
@@ -1093,22 +1383,6 @@ static void test_object_size(void) {
     CHECK(size == CK_UNAVAILABLE_INFORMATION);
     EXPECT(CKR_OBJECT_HANDLE_INVALID, p11->C_GetObjectSize(session, object + 1, &size));
     EXPECT(CKR_SESSION_HANDLE_INVALID, p11->C_GetObjectSize(session + 1, object, &size));
-    end_token();
-}
-
-static void test_random(void) {
-    CK_SESSION_HANDLE session = begin_token();
-    uint8_t *first = guarded_new(1000), *second = guarded_new(1000);
-    EXPECT(CKR_OK, p11->C_GenerateRandom(session, first, 999));
-    EXPECT(CKR_OK, p11->C_GenerateRandom(session, second, 999));
-    CHECK(guarded_is_intact(first, 1000, 999) && guarded_is_intact(second, 1000, 999));
-    CHECK(memcmp(first, second, 999) != 0);
-    CHECK(memcmp(first, first + 500, 499) != 0);
-    EXPECT(CKR_SESSION_HANDLE_INVALID, p11->C_GenerateRandom(session + 1, first, 1));
-    EXPECT(CKR_RANDOM_SEED_NOT_SUPPORTED, p11->C_SeedRandom(session, first, 4));
-    EXPECT(CKR_SESSION_HANDLE_INVALID, p11->C_SeedRandom(session + 1, first, 4));
-    guarded_free(first);
-    guarded_free(second);
     end_token();
 }
 
@@ -1127,15 +1401,49 @@ static void *generate_and_end(void *ignored) {
     return ignored;
 }
 
+/* The thread must end by itself. If it ended in the call, the next one could wait without end. */
+static void run_thread(void *(*run)(void *)) {
+    pthread_t thread;
+    void *ended = NULL;
+    CHECK(pthread_create(&thread, NULL, run, NULL) == 0);
+    CHECK(pthread_join(thread, &ended) == 0 && ended == NULL);
+    if (ended != NULL)
+        exit(2);
+}
+
 static void test_cancelled_thread(void) {
     CK_TOKEN_INFO info;
-    pthread_t thread;
-    void *result = NULL;
     current_session = begin_token();
-    CHECK(pthread_create(&thread, NULL, generate_and_end, NULL) == 0);
-    CHECK(pthread_join(thread, &result) == 0 && result == NULL);
+    run_thread(generate_and_end);
     EXPECT(CKR_OK, p11->C_GetTokenInfo(0, &info));
     end_token();
+}
+
+static void *initialize_and_end(void *ignored) {
+    pthread_cancel(pthread_self());
+    EXPECT(CKR_OK, p11->C_Initialize(NULL));
+    pthread_setcancelstate(PTHREAD_CANCEL_DISABLE, NULL);
+    return ignored;
+}
+
+static void *finalize_and_end(void *ignored) {
+    pthread_cancel(pthread_self());
+    EXPECT(CKR_OK, p11->C_Finalize(NULL));
+    pthread_setcancelstate(PTHREAD_CANCEL_DISABLE, NULL);
+    return ignored;
+}
+
+/* A thread that opens or closes a file can be cancelled there. */
+static void test_cancelled_beginning_and_end(void) {
+    CK_TOKEN_INFO info;
+    setenv("OSPREYRACK_TOKEN", path_of("cancelled.cases"), 1);
+    run_thread(initialize_and_end);
+    EXPECT(CKR_OK, p11->C_GetTokenInfo(0, &info));
+    run_thread(finalize_and_end);
+    EXPECT(CKR_CRYPTOKI_NOT_INITIALIZED, p11->C_GetTokenInfo(0, &info));
+    EXPECT(CKR_OK, p11->C_Initialize(NULL));
+    end_token();
+    unsetenv("OSPREYRACK_TOKEN");
 }
 
 /* ---- Forks */
@@ -1179,13 +1487,6 @@ static void test_fork(void) {
     end_token();
 }
 
-static char path[4096];
-
-static const char *path_of(const char *name) {
-    snprintf(path, sizeof path, "%s/%s", folder, name);
-    return path;
-}
-
 /* Standard error goes to a file until `read_errors`. */
 static int kept_errors = -1;
 
@@ -1224,6 +1525,52 @@ static void test_fork_with_file(void) {
     create_data(session, "of the parent");
     end_token();
     unsetenv("OSPREYRACK_TOKEN");
+}
+
+/* ---- Random bytes */
+
+/* At each place some of eight outputs has another byte than stood there before. */
+static void check_random_bytes(CK_SESSION_HANDLE session, CK_ULONG count) {
+    CK_BYTE seen[1000] = {0}, made[1000];
+    for (int i = 0; i < 8; i++) {
+        memset(made, 0, sizeof made);
+        EXPECT(CKR_OK, p11->C_GenerateRandom(session, made, count));
+        for (CK_ULONG place = 0; place < count; place++)
+            seen[place] |= made[place];
+    }
+    check(memchr(seen, 0, count) == NULL, "C_GenerateRandom writes each byte");
+}
+
+static void test_random(void) {
+    CK_SESSION_HANDLE session = begin_token();
+    uint8_t *first = guarded_new(1000), *second = guarded_new(1000);
+    EXPECT(CKR_OK, p11->C_GenerateRandom(session, first, 999));
+    EXPECT(CKR_OK, p11->C_GenerateRandom(session, second, 999));
+    CHECK(guarded_is_intact(first, 1000, 999) && guarded_is_intact(second, 1000, 999));
+    CHECK(memcmp(first, second, 999) != 0);
+    CHECK(memcmp(first, first + 500, 499) != 0);
+    for (CK_ULONG count = 1; count <= 1000; count = 10 * count)
+        check_random_bytes(session, count);
+    EXPECT(CKR_SESSION_HANDLE_INVALID, p11->C_GenerateRandom(session + 1, first, 1));
+    EXPECT(CKR_RANDOM_SEED_NOT_SUPPORTED, p11->C_SeedRandom(session, first, 4));
+    EXPECT(CKR_SESSION_HANDLE_INVALID, p11->C_SeedRandom(session + 1, first, 4));
+    guarded_free(first);
+    guarded_free(second);
+    end_token();
+}
+
+/* A line on standard error says that the bytes follow from the seed. */
+static void test_seeded_random(void) {
+    char text[2000];
+    setenv("OSPREYRACK_SEED", "5", 1);
+    keep_errors();
+    CK_SESSION_HANDLE session = begin_token();
+    size_t count = read_errors(text, sizeof text);
+    unsetenv("OSPREYRACK_SEED");
+    CHECK(count > 0);
+    check_random_bytes(session, 1000);
+    check_random_bytes(session, 1);
+    end_token();
 }
 
 /* ---- The words of the environment */
@@ -1270,6 +1617,25 @@ static void test_bad_words(void) {
     check_word("OSPREYRACK_TOKEN", "", "");
     check_word("OSPREYRACK_SEEDS", "1", "");
     check_word("OSPREYRACK_", "1", "");
+}
+
+/* The application's mutex is given back, and its functions aren't called any more. */
+static void test_bad_word_and_mutexes(void) {
+    char text[2000];
+    CK_INFO info;
+    CK_C_INITIALIZE_ARGS arguments = mutex_arguments();
+    setenv("OSPREYRACK_SEED", "x", 1);
+    keep_errors();
+    CK_RV code = p11->C_Initialize(&arguments);
+    read_errors(text, sizeof text);
+    unsetenv("OSPREYRACK_SEED");
+    EXPECT(CKR_GENERAL_ERROR, code);
+    CHECK(mutexes == 1 && destroyed == 1 && depth == 0);
+    int before = locks;
+    EXPECT(CKR_OK, p11->C_Initialize(NULL));
+    EXPECT(CKR_OK, p11->C_GetInfo(&info));
+    EXPECT(CKR_OK, p11->C_Finalize(NULL));
+    CHECK(mutexes == 1 && destroyed == 1 && locks == before);
 }
 
 static const char bad_reply[] = "1 InitToken 31323334 -> 0\n1 OpenSession 6 -> 0 2\n";
@@ -1361,6 +1727,7 @@ static const struct test tests[] = {
     {"before C_Initialize and after C_Finalize; twice; a new token each time", test_order},
     {"the lists of functions have each function, and it is exported", test_lists},
     {"interfaces by name, by version, and by neither", test_interfaces},
+    {"the list of interfaces has those that are given by name", test_interface_list},
     {"the vendor interface takes a key to another state", test_vendor_interface},
     {"functions that aren't supported say so", test_unsupported},
     {"bad arguments of C_Initialize", test_bad_arguments},
@@ -1374,6 +1741,8 @@ static const struct test tests[] = {
     {"NULL pointers: digests, signing and verifying", test_null_operations},
     {"lengths of attributes that no memory can have", test_bad_lengths},
     {"lengths of messages, PINs and random bytes that no memory has", test_lengths_of_no_memory},
+    {"templates of 2^20 attributes and of one more", test_most_attributes},
+    {"values of 2^24 bytes and of more than 2^30", test_longest_value},
     {"rooms of lists: asked for, too small, exact, larger", test_lists_of_numbers},
     {"rooms of digests: asked for, too small, exact, larger", test_digest_rooms},
     {"rooms of signatures: asked for, too small, exact, larger", test_sign_rooms},
@@ -1383,6 +1752,10 @@ static const struct test tests[] = {
     {"operations end by C_SessionCancel, and by a NULL mechanism", test_cancel},
     {"digests of messages above 2^20 bytes", test_large_digests},
     {"signatures of messages above 2^20 bytes", test_large_signatures},
+    {"signatures of 63, 64 and 65 bytes are verified", test_signature_lengths},
+    {"a long message is taken in as it was when the call was made", test_changed_messages},
+    {"only for a long message that is taken in the lock is taken three times",
+     test_locks_of_messages},
     {"the work on a long message doesn't count for another token", test_work_of_another_token},
     {"the work on a long message doesn't count for another operation",
      test_work_of_another_operation},
@@ -1393,22 +1766,29 @@ static const struct test tests[] = {
     {"sessions are closed between the pieces of an update", test_update_and_closed_sessions},
     {"PINs of 3 to 200 bytes", test_pins},
     {"slots that aren't there", test_slots},
+    {"what is said of the library", test_info},
+    {"what is said of the slot", test_slot_info},
+    {"what is said of a new token", test_new_token_info},
     {"what is said of the token and of a session", test_token_info},
     {"the label is that of the last C_InitToken that was answered OK", test_label},
     {"what is said of the mechanisms", test_mechanisms},
     {"the size of an object", test_object_size},
     {"random bytes", test_random},
+    {"random bytes of a seed", test_seeded_random},
     {"a thread that is cancelled in a call leaves no lock", test_cancelled_thread},
+    {"a thread that is cancelled in C_Initialize or C_Finalize leaves no lock",
+     test_cancelled_beginning_and_end},
     {"a child of a fork begins anew, and its parent goes on", test_fork},
     {"a child of a fork leaves the parent's file and its lock alone", test_fork_with_file},
     {"bad words of the environment, and then none", test_bad_words},
+    {"a bad word of the environment and the application's mutex", test_bad_word_and_mutexes},
     {"bad files in words of the environment, and then none", test_bad_files},
     {"a file that is no journal is left as it is", test_no_journals},
     {"no memory is lost, by C_Finalize or by a C_Initialize that fails", test_leaks},
 };
 
 int main(int count, char **arguments) {
-    bool has_journals = count == 4 && strcmp(arguments[3], "journals") == 0;
+    has_journals = count == 4 && strcmp(arguments[3], "journals") == 0;
     if (count != 3 && !has_journals) {
         fprintf(stderr, "conventions MODULE FOLDER [journals]\n");
         return 2;

@@ -2,8 +2,11 @@
 """Plays the examples of README.md and docs/: documents.py MODULE CK_CASES.
 
 Commands are run as they stand, with the module's path in place of the one that a reader has; the
-lines of a journal that a page shows must stand in the journal that came, in their order."""
+lines of a journal that a page shows must stand in the journal that came, in their order. What pages
+quote of the sources must stand there. Scripts are played by crates/ck_run/out/ck_run, and left out
+where it isn't built."""
 import os
+import re
 import shutil
 import subprocess
 import sys
@@ -11,17 +14,25 @@ import tempfile
 
 import support
 
+CK_RUN = os.path.join(support.ROOT, "crates", "ck_run", "out", "ck_run")
+SCRIPT_PAGE = "docs/script.md"
+REPLY_ROW = re.compile(r"\| `([^`|]*)` \| `([^`|]*)` \|")
+
+
+def text_of(path):
+    with open(os.path.join(support.ROOT, path), encoding="utf-8") as file:
+        return file.read()
+
 
 def blocks_of(path):
     """The indented blocks of a page, without their indentation."""
     block = []
-    with open(os.path.join(support.ROOT, path)) as page:
-        for line in [*page.read().split("\n"), ""]:
-            if line.startswith("    "):
-                block.append(line[4:])
-            elif block:
-                yield block
-                block = []
+    for line in [*text_of(path).split("\n"), ""]:
+        if line.startswith("    "):
+            block.append(line[4:])
+        elif block:
+            yield block
+            block = []
 
 
 def block_with(path, text):
@@ -77,12 +88,106 @@ def check_recorded_run(checks, ck_cases, folder):
         checks.equal(said, shown, f"{page}: what ck_cases writes")
 
 
+def check_program_page(checks):
+    """The function of docs/rust.md is that of the test, and so are the names that it brings in."""
+    source = text_of("crates/ck_run/src/signing.rt")
+    function = "\n".join(block_with("docs/rust.md", "fn sign("))
+    checks.check(function and f"\n{function}\n" in source, "docs/rust.md: the function sign")
+    brought = names_brought_in("\n".join(block_with("docs/rust.md", "use ck_token::")))
+    used = {name for name in names_brought_in(source) if re.search(rf"\b{name}\b", function)}
+    checks.equal(sorted(brought), sorted(used), "docs/rust.md: the names of ck_token")
+    uses = re.findall(r"pub use [^;]*;", text_of("crates/ck_token/src/lib.rt"))
+    given = set(re.findall(r"\w+", " ".join(uses)))
+    checks.check(used and used <= given, "docs/rust.md: ck_token gives these names")
+
+
+def names_brought_in(code):
+    """The names that `use ck_token::{..};` brings in."""
+    found = re.search(r"use ck_token::\{([^}]*)\};", code)
+    return set(re.findall(r"\w+", found[1])) if found else set()
+
+
+def check_contract(checks):
+    """The clauses of Token::call that README.md shows are in its contract, and in the table."""
+    shown = block_with("README.md", "pub fn call(") or ["no contract"]
+    _, _, rest = text_of("crates/ck_token/src/tokens.rt").partition("\n    " + shown[0])
+    contract, _, _ = rest.partition("\n    {\n")
+    checks.check(len(shown) > 1 and stand_in_order(shown[1:], contract.replace("\n    ", "\n")),
+                 "README.md: the contract of Token::call")
+    clauses = [line.split()[1] for line in shown[1:] if line.split()[0] == "ensures"]
+    said = re.findall(r"^\| `(\w+)` \|", text_of("README.md").partition(shown[-1])[2], re.MULTILINE)
+    checks.equal(said, clauses, "README.md: the clauses that the table explains")
+
+
+def check_shared_token(checks):
+    """The output of the example of docs/threads.md is what `rt ci` compares."""
+    shown = block_with("docs/threads.md", "sessions were opened")
+    checks.equal("\n".join(shown) + "\n", text_of("crates/ck_threads/stdout"),
+                 "docs/threads.md: the output of ck_threads")
+
+
+def rows_of_scripts():
+    """The rows of the tables of lines and replies: each script begins with a new token."""
+    for table in text_of(SCRIPT_PAGE).split("| line | reply |")[1:]:
+        for line, reply in REPLY_ROW.findall(table.partition("\n\n")[0]):
+            yield line, reply
+
+
+def check_tables(checks, ck_cases, folder):
+    """The tables of docs/script.md are played, and stand in readme.cases."""
+    lines = [f"{line} -> {reply}" for line, reply in rows_of_scripts()]
+    text = "".join("limits largest\n" * (" InitToken " in line) + line + "\n" for line in lines)
+    with open(os.path.join(folder, "script.cases"), "w") as file:
+        file.write(text)
+    checks.check(len(lines) > 8, f"{SCRIPT_PAGE}: the tables are there")
+    checks.equal(run(f"{ck_cases} script.cases", folder).stdout,
+                 f"script.cases: {len(lines)} passed\n", f"{SCRIPT_PAGE}: the tables")
+    checks.check(stand_in_order(lines, text_of("crates/ck_cases/data/readme.cases")),
+                 f"{SCRIPT_PAGE}: the tables in readme.cases")
+
+
+def check_first_script(checks, folder):
+    """The replies to the script of README.md are those that it names."""
+    command = "\n".join(block_with("README.md", "| rt try"))
+    said = re.search(r"The replies are ([^.]*)\.", text_of("README.md"))
+    replies = re.findall(r"`([^`]*)`", said[1]) if said else []
+    ran = run(command.replace("rt try", CK_RUN), folder)
+    checks.check(len(replies) > 1, "README.md: replies are named")
+    checks.equal((ran.stdout.split("\n"), ran.returncode), ([*replies, ""], 0),
+                 "README.md: the replies to the script")
+
+
+def check_sources(checks):
+    """What pages quote of the sources and of their outputs."""
+    check_program_page(checks)
+    checks.end("the program of docs/rust.md")
+    check_contract(checks)
+    checks.end("the contract in README.md")
+    check_shared_token(checks)
+    checks.end("the output in docs/threads.md")
+
+
+def check_scripts(checks, ck_cases):
+    """What pages show of scripts and their replies."""
+    with tempfile.TemporaryDirectory() as folder:
+        check_tables(checks, ck_cases, folder)
+    checks.end("the tables of docs/script.md")
+    if not os.path.exists(CK_RUN):
+        checks.leave_out("the script of README.md", "there is no crates/ck_run/out/ck_run")
+        return
+    with tempfile.TemporaryDirectory() as folder:
+        check_first_script(checks, folder)
+    checks.end("the script of README.md")
+
+
 def main():
     module, ck_cases = (os.path.abspath(path) for path in sys.argv[1:3])
     checks = support.Checks("documents")
     with tempfile.TemporaryDirectory() as folder:
         check_recorded_run(checks, ck_cases, folder)
     checks.end("the file of docs/recorded_runs.md")
+    check_sources(checks)
+    check_scripts(checks, ck_cases)
     if shutil.which("pkcs11-tool") is None:
         checks.leave_out("examples of pkcs11-tool", "it isn't installed (apt-get install opensc)")
         return checks.status()

@@ -8,6 +8,7 @@
 
 #include <errno.h>
 #include <fcntl.h>
+#include <malloc.h>
 #include <pthread.h>
 #include <stdio.h>
 #include <stdlib.h>
@@ -28,6 +29,7 @@ static long left_to_refusal = -1;
 static bool refuses_all; /* and all behind that one */
 static bool is_refused;
 static long live_allocations;
+static long live_bytes;
 
 static bool refuses(void) {
     if (left_to_refusal < 0)
@@ -45,6 +47,13 @@ static bool refuses(void) {
 
 static void *counted(void *memory) {
     live_allocations += memory != NULL;
+    live_bytes += (long)malloc_usable_size(memory);
+    return memory;
+}
+
+static void *uncounted(void *memory) {
+    live_allocations -= memory != NULL;
+    live_bytes -= (long)malloc_usable_size(memory);
     return memory;
 }
 
@@ -59,8 +68,7 @@ void *calloc(size_t count, size_t size) {
 void *realloc(void *memory, size_t size) {
     if (refuses())
         return NULL;
-    live_allocations -= memory != NULL;
-    return counted(__libc_realloc(memory, size));
+    return counted(__libc_realloc(uncounted(memory), size));
 }
 
 void *aligned_alloc(size_t alignment, size_t size) {
@@ -73,8 +81,7 @@ int posix_memalign(void **memory, size_t alignment, size_t size) {
 }
 
 void free(void *memory) {
-    live_allocations -= memory != NULL;
-    __libc_free(memory);
+    __libc_free(uncounted(memory));
 }
 
 static void refuse_after(long allocations) {
@@ -549,6 +556,71 @@ enum { PIECE = 1 << 20, MOST_ENTRIES = 2000 };
 
 static CK_BYTE large[2 * PIECE + 5];
 
+/* An operation whose message comes by updates. It is finished by a digest or a signature: one that
+ * is made, or where the operation verifies, one that is given. */
+struct operation {
+    const char *what;
+    CK_RV (*begin)(CK_SESSION_HANDLE in);
+    CK_RV (*update)(CK_SESSION_HANDLE in, CK_BYTE *part, CK_ULONG length);
+    CK_RV (*finish)(CK_SESSION_HANDLE in, CK_BYTE *with);
+};
+
+enum { RESULT = 64 };
+
+static CK_MECHANISM long_hmac = {CKM_SHA512_HMAC, NULL, 0};
+
+static CK_RV begin_digest(CK_SESSION_HANDLE in) {
+    return p11->C_DigestInit(in, &sha512);
+}
+
+static CK_RV update_digest(CK_SESSION_HANDLE in, CK_BYTE *part, CK_ULONG length) {
+    return p11->C_DigestUpdate(in, part, length);
+}
+
+static CK_RV finish_digest(CK_SESSION_HANDLE in, CK_BYTE *with) {
+    CK_ULONG room = RESULT;
+    memset(with, 0, RESULT);
+    return p11->C_DigestFinal(in, with, &room);
+}
+
+static CK_RV begin_signing(CK_SESSION_HANDLE in) {
+    return p11->C_SignInit(in, &long_hmac, key);
+}
+
+static CK_RV update_signing(CK_SESSION_HANDLE in, CK_BYTE *part, CK_ULONG length) {
+    return p11->C_SignUpdate(in, part, length);
+}
+
+static CK_RV finish_signing(CK_SESSION_HANDLE in, CK_BYTE *with) {
+    CK_ULONG room = RESULT;
+    memset(with, 0, RESULT);
+    return p11->C_SignFinal(in, with, &room);
+}
+
+static CK_RV begin_verifying(CK_SESSION_HANDLE in) {
+    return p11->C_VerifyInit(in, &long_hmac, key);
+}
+
+static CK_RV update_verifying(CK_SESSION_HANDLE in, CK_BYTE *part, CK_ULONG length) {
+    return p11->C_VerifyUpdate(in, part, length);
+}
+
+static CK_RV finish_verifying(CK_SESSION_HANDLE in, CK_BYTE *with) {
+    return p11->C_VerifyFinal(in, with, RESULT);
+}
+
+static const struct operation digesting = {
+    "digesting", begin_digest, update_digest, finish_digest,
+};
+static const struct operation signing = {
+    "signing", begin_signing, update_signing, finish_signing,
+};
+static const struct operation verifying = {
+    "verifying", begin_verifying, update_verifying, finish_verifying,
+};
+
+static const struct operation *operation;
+
 /* What is tried, beside that an allocation is refused. */
 struct trial {
     const char *what;
@@ -596,7 +668,7 @@ static CK_RV lock_mutex(CK_VOID_PTR mutex) {
         is_filling = false;
     }
     if (locks_until_other > 0 && --locks_until_other == 0)
-        other_code = p11->C_DigestUpdate(other_session, large, PIECE + 5);
+        other_code = operation->update(other_session, large, PIECE + 5);
     return CKR_OK;
 }
 
@@ -613,8 +685,8 @@ static CK_RV leave_mutex(CK_VOID_PTR mutex) {
 /* Begins a message with "abc". */
 static void begin_message(CK_SESSION_HANDLE in) {
     static CK_BYTE abc[] = {'a', 'b', 'c'};
-    EXPECT(CKR_OK, p11->C_DigestInit(in, &sha512));
-    EXPECT(CKR_OK, p11->C_DigestUpdate(in, abc, sizeof abc));
+    EXPECT(CKR_OK, operation->begin(in));
+    EXPECT(CKR_OK, operation->update(in, abc, sizeof abc));
 }
 
 /* A new token with two messages that have begun. */
@@ -630,6 +702,7 @@ static void begin_messages(void) {
     EXPECT(CKR_OK, p11->C_Initialize(&mutexes));
     session = log_in();
     EXPECT(CKR_OK, p11->C_OpenSession(0, read_write, NULL, NULL, &other_session));
+    key = create_key(session, "Jefe");
     begin_message(session);
     begin_message(other_session);
 }
@@ -647,26 +720,30 @@ static long room_at_begin(void) {
     return room;
 }
 
-/* The digest of "abc" and of bytes behind it, each piece of which is a call of its own. */
-static void find_digest(CK_BYTE *digest, CK_ULONG count) {
-    CK_ULONG room = 64;
+/* The digest or signature of "abc" and of bytes behind it, each piece of which is a call of its
+ * own. */
+static void find_result(CK_BYTE *result, CK_ULONG count) {
     begin_messages();
     for (CK_ULONG at = 0; at < count; at += PIECE)
-        EXPECT(CKR_OK, p11->C_DigestUpdate(session, large + at,
-                                           count - at < PIECE ? count - at : PIECE));
-    EXPECT(CKR_OK, p11->C_DigestFinal(session, digest, &room));
+        EXPECT(CKR_OK, operation->update(session, large + at,
+                                         count - at < PIECE ? count - at : PIECE));
+    EXPECT(CKR_OK, operation->finish(session, result));
     end_library();
 }
 
-static CK_BYTE digest_of_large[64], digest_of_other[64];
+static CK_BYTE result_of_large[RESULT], result_of_other[RESULT], result_of_abc[RESULT];
 static long room_for_calls;
 
-static void prepare_trials(void) {
+/* What is to be verified is signed before. */
+static void prepare_trials(const struct operation *tried) {
     trial = NULL;
     for (size_t i = 0; i < sizeof large; i++)
         large[i] = (CK_BYTE)(i % 251);
-    find_digest(digest_of_large, sizeof large);
-    find_digest(digest_of_other, PIECE + 5);
+    operation = tried == &verifying ? &signing : tried;
+    find_result(result_of_large, sizeof large);
+    find_result(result_of_other, PIECE + 5);
+    find_result(result_of_abc, 0);
+    operation = tried;
     room_for_calls = room_at_begin();
 }
 
@@ -675,21 +752,18 @@ enum outcome { AS_IT_WAS, ENDED, DONE, OUTCOMES };
 
 /* An update without memory leaves the message as it was where no piece was taken. Else it has ended
  * the operation, since there would be a hole in the message. */
-static enum outcome outcome_of(CK_SESSION_HANDLE in, CK_RV code, const CK_BYTE *digest) {
-    CK_BYTE made[64] = {0};
-    CK_ULONG room = sizeof made;
-    CK_RV final_code = p11->C_DigestFinal(in, made, &room);
-    if (code == CKR_OK) {
-        check_code(final_code, CKR_OK, "C_DigestFinal");
-        check(memcmp(made, digest, sizeof made) == 0, "the digest of all pieces");
-        return DONE;
-    }
-    check_code(code, CKR_HOST_MEMORY, "C_DigestUpdate in pieces");
-    if (final_code == CKR_OPERATION_NOT_INITIALIZED)
+static enum outcome outcome_of(CK_SESSION_HANDLE in, CK_RV code, const CK_BYTE *result) {
+    const CK_BYTE *expected = code == CKR_OK ? result : result_of_abc;
+    CK_BYTE with[RESULT];
+    memcpy(with, expected, sizeof with);
+    CK_RV final_code = operation->finish(in, with);
+    if (code != CKR_OK)
+        check_code(code, CKR_HOST_MEMORY, "an update in pieces");
+    if (code != CKR_OK && final_code == CKR_OPERATION_NOT_INITIALIZED)
         return ENDED;
-    check_code(final_code, CKR_OK, "C_DigestFinal of a message as it was");
-    check(is_hexadecimal(made, room, sha512_of_abc), "the digest of a message as it was");
-    return AS_IT_WAS;
+    check_code(final_code, CKR_OK, operation->what);
+    check(memcmp(with, expected, sizeof with) == 0, "the message has all pieces, or none");
+    return code == CKR_OK ? DONE : AS_IT_WAS;
 }
 
 /* The journal in memory is cut again, once no update is under way. */
@@ -713,13 +787,13 @@ static bool try_pieces(long number, enum outcome *tried, enum outcome *other) {
     other_code = CKR_HOST_MEMORY;
     refuses_all = trial->refuses_all;
     refuse_after(number);
-    CK_RV code = p11->C_DigestUpdate(session, large, sizeof large);
+    CK_RV code = operation->update(session, large, sizeof large);
     bool was_refused = stop_refusing();
     refuses_all = false;
     locks_until_other = 0;
     is_refused = false;
-    *tried = outcome_of(session, code, digest_of_large);
-    *other = outcome_of(other_session, other_code, digest_of_other);
+    *tried = outcome_of(session, code, result_of_large);
+    *other = outcome_of(other_session, other_code, result_of_other);
     check_cut(live_before);
     end_library();
     return was_refused;
@@ -746,8 +820,8 @@ static void run_trial(void) {
     check(!trial->has_other_update || other_counts[ENDED] > 0, trial->what);
 }
 
-static void run_trials(void) {
-    prepare_trials();
+static void run_trials(const struct operation *tried) {
+    prepare_trials(tried);
     for (size_t i = 0; i < TRIALS; i++) {
         trial = &trials[i];
         run_trial();
@@ -755,16 +829,131 @@ static void run_trials(void) {
     trial = NULL;
 }
 
-static void test_pieces(void) {
+static void run_trials_typed(const struct operation *tried) {
     has_journal = false;
-    run_trials();
+    run_trials(tried);
 }
 
-static void test_pieces_by_lines(void) {
+static void run_trials_by_lines(const struct operation *tried) {
     has_journal = true;
     setenv("OSPREYRACK_JOURNAL", journal, 1);
-    run_trials();
+    run_trials(tried);
     unsetenv("OSPREYRACK_JOURNAL");
+}
+
+static void test_digest_pieces(void) {
+    run_trials_typed(&digesting);
+    CHECK(is_hexadecimal(result_of_abc, RESULT, sha512_of_abc));
+}
+
+static void test_digest_pieces_by_lines(void) {
+    run_trials_by_lines(&digesting);
+}
+
+static void test_sign_pieces(void) {
+    run_trials_typed(&signing);
+}
+
+static void test_sign_pieces_by_lines(void) {
+    run_trials_by_lines(&signing);
+}
+
+static void test_verify_pieces(void) {
+    run_trials_typed(&verifying);
+}
+
+static void test_verify_pieces_by_lines(void) {
+    run_trials_by_lines(&verifying);
+}
+
+/* ---- A search that the module makes in pieces */
+
+enum { OBJECTS = 1500, FIRST_HANDLES = 1000 };
+
+static CK_OBJECT_HANDLE handles[OBJECTS];
+
+/* Where the second piece finds no memory, the handles of the first are given all the same. The next
+ * call finds those that weren't given. Answers whether an allocation was refused. */
+static bool try_search(long number, CK_ULONG *found) {
+    CK_ULONG left = 0;
+    size_t wrong = 0;
+    *found = 0;
+    memset(handles, 0, sizeof handles);
+    EXPECT(CKR_OK, p11->C_FindObjectsInit(session, NULL, 0));
+    refuse_after(number);
+    CK_RV code = p11->C_FindObjects(session, handles, OBJECTS, found);
+    bool was_refused = stop_refusing();
+    check_code(code, *found > 0 ? CKR_OK : CKR_HOST_MEMORY, "C_FindObjects");
+    CHECK(*found == 0 || *found == FIRST_HANDLES || *found == OBJECTS);
+    EXPECT(CKR_OK, p11->C_FindObjects(session, handles + *found, OBJECTS - *found, &left));
+    CHECK(*found + left == OBJECTS);
+    for (size_t i = 0; i < OBJECTS; i++)
+        wrong += handles[i] != i + 1;
+    CHECK(wrong == 0);
+    EXPECT(CKR_OK, p11->C_FindObjectsFinal(session));
+    return was_refused;
+}
+
+static void run_searches(void) {
+    size_t nothing = 0, first = 0;
+    long number = 0;
+    CK_ULONG found;
+    unlink(journal);
+    begin_library();
+    session = log_in();
+    for (int i = 0; i < OBJECTS; i++)
+        create_data(session, "label");
+    while (number < MOST_GROWTHS && try_search(number, &found)) {
+        nothing += found == 0;
+        first += found == FIRST_HANDLES;
+        number++;
+    }
+    CHECK(number < MOST_GROWTHS && found == OBJECTS);
+    CHECK(nothing > 0 && first > 0);
+    end_library();
+}
+
+static void test_searches(void) {
+    run_searches();
+}
+
+static void test_searches_by_lines(void) {
+    setenv("OSPREYRACK_JOURNAL", journal, 1);
+    run_searches();
+    unsetenv("OSPREYRACK_JOURNAL");
+}
+
+/* ---- Templates and queries of many attributes */
+
+enum { ATTRIBUTES = 200000, LONG_TEMPLATE = 1 << 20 };
+
+static CK_ATTRIBUTE attributes[ATTRIBUTES];
+
+/* The journal in memory is then cut, since no session is open. */
+static void get_many_token_infos(void) {
+    struct result ignored;
+    for (int i = 0; i < MOST_ENTRIES; i++)
+        EXPECT(CKR_OK, get_token_info(&ignored));
+}
+
+/* What the call took is given back with the journal that has it. */
+static void check_many_attributes(CK_RV code, long live_before) {
+    check_code(code, CKR_SESSION_HANDLE_INVALID, "a call with many attributes");
+    check(live_bytes - live_before > LONG_TEMPLATE, "the journal has the attributes");
+    get_many_token_infos();
+    check(live_bytes - live_before < LONG_TEMPLATE, "what the attributes took is given back");
+}
+
+static void test_many_attributes(void) {
+    for (int i = 0; i < ATTRIBUTES; i++)
+        attributes[i] = (CK_ATTRIBUTE){CKA_PRIVATE, &no, sizeof no};
+    begin_library();
+    get_many_token_infos();
+    long live_before = live_bytes;
+    check_many_attributes(p11->C_FindObjectsInit(1, attributes, ATTRIBUTES), live_before);
+    check_many_attributes(p11->C_CreateObject(1, attributes, ATTRIBUTES, &object), live_before);
+    check_many_attributes(p11->C_GetAttributeValue(1, 1, attributes, ATTRIBUTES), live_before);
+    end_library();
 }
 
 /* ---- A thread's first call */
@@ -877,8 +1066,19 @@ static const struct test tests[] = {
     {"each growth of 41 calls is refused, typed", test_typed},
     {"each growth of 41 calls is refused, by lines", test_by_lines},
     {"each growth of C_Initialize is refused, with a script and a file", test_initialize},
-    {"an update in pieces without memory takes nothing or ends, typed", test_pieces},
-    {"an update in pieces without memory takes nothing or ends, by lines", test_pieces_by_lines},
+    {"a digest in pieces without memory takes nothing or ends, typed", test_digest_pieces},
+    {"a digest in pieces without memory takes nothing or ends, by lines",
+     test_digest_pieces_by_lines},
+    {"signing in pieces without memory takes nothing or ends, typed", test_sign_pieces},
+    {"signing in pieces without memory takes nothing or ends, by lines",
+     test_sign_pieces_by_lines},
+    {"verifying in pieces without memory takes nothing or ends, typed", test_verify_pieces},
+    {"verifying in pieces without memory takes nothing or ends, by lines",
+     test_verify_pieces_by_lines},
+    {"a search whose second piece finds no memory gives the first, typed", test_searches},
+    {"a search whose second piece finds no memory gives the first, by lines",
+     test_searches_by_lines},
+    {"memory for 200,000 attributes is given back", test_many_attributes},
     {"a thread's first call without memory", test_first_call},
 };
 

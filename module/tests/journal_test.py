@@ -1,8 +1,9 @@
 """Tests of the journal file and of the other words of the environment: kills, cut files, changed
-files, full devices, forks, programs that are executed, seeds, and memory over many calls.
+files, full devices, forks, programs that are executed or have rights of another user, seeds, and
+memory over many calls.
 
-Called with the module's file and the program ck_cases. With the first argument `answer`, `files`,
-`memory`, `polling` or `unload` it is a worker, which this program starts itself.
+Called with the module's file and the program ck_cases. With the name of one of `WORKERS` in front
+of the module's file it is a worker, which this program starts itself.
 """
 import _ctypes
 import contextlib
@@ -22,7 +23,10 @@ import support
 
 GENERAL_ERROR = 5
 NOT_INITIALIZED = 0x190
+HOST_MEMORY = "2"
 DEVICE_ERROR = "30"
+LONGEST_LINE = 4194304
+LONGEST_PIECE = 1 << 20
 LOG_IN = ["1 InitToken 31323334", "1 OpenSession 6", "1 Login 1 0 31323334",
               "1 InitPIN 1 75736572", "1 Logout 1", "1 Login 1 1 75736572"]
 SOME_CALLS = LOG_IN + [
@@ -31,6 +35,14 @@ SOME_CALLS = LOG_IN + [
     "1 SignInit 1 251 4294967298", "1 Sign 1 6162 32", "1 Login 1 1 31", "1 GetTokenInfo",
     "1 FindObjectsInit 1 -", "1 FindObjects 1 9", "1 OpenSession 4",
 ]
+
+# The first bytes of splitmix64 from the state 7. Runs with a seed may be kept as cases, so a seed's
+# bytes stay the same from version to version.
+RANDOM_OF_SEVEN = ("d70d3259e4e1cb631c663cf4d73c4c04022ab1ba804098e6"
+                   "cb293e6770eb3a95da211e6a663bd373")
+
+# Users that need not have a name.
+OWNER, OTHER_USER = 1, 2
 
 # ---- Workers
 
@@ -91,6 +103,18 @@ def measure_polling(path):
     print(resident_memory() - before, code, flush=True)
 
 
+def measure_line(path, line):
+    """The same of one call on a session that isn't open."""
+    module = support.Module(path)
+    module.call("Initialize", None)
+    words = line.split(" ")
+    for count in range(200000):
+        reply = module.answer(words)
+        if count == 20000:
+            before = resident_memory()
+    print(resident_memory() - before, reply, flush=True)
+
+
 def environment_of(words):
     environment = {word: value for word, value in os.environ.items()
                    if not word.startswith("OSPREYRACK_")}
@@ -106,6 +130,28 @@ def unload_and_load(path):
     module = support.Module(path)
     print(module.call("Finalize", None), module.call("Initialize", None),
           module.say("1 OpenSession 6"), module.finalize())
+
+
+MUTEX_FUNCTION = ctypes.CFUNCTYPE(ctypes.c_ulong, ctypes.c_void_p)
+
+
+class Arguments(ctypes.Structure):
+    """Those of C_Initialize, with the application's functions for a mutex."""
+    _fields_ = [("functions", MUTEX_FUNCTION * 4), ("flags", ctypes.c_ulong),
+                ("reserved", ctypes.c_void_p * 2)]
+
+
+def unload_with_functions(path):
+    """Unloads the library in the middle of its work under the application's lock, and begins with
+    it anew. There is one thread only, so the functions for the lock need not do anything."""
+    module = support.Module(path)
+    function = MUTEX_FUNCTION(lambda mutex: 0)
+    arguments = Arguments((MUTEX_FUNCTION * 4)(*[function] * 4))
+    print(module.call("Initialize", ctypes.byref(arguments)), module.say("1 InitToken 31323334"),
+          flush=True)
+    _ctypes.dlclose(module.library._handle)
+    print(open_files().count(os.environ["OSPREYRACK_TOKEN"]),
+          support.Module(path).call("Initialize", None), flush=True)
 
 
 def open_files():
@@ -181,7 +227,22 @@ def limit_files(limit):
         resource.setrlimit(resource.RLIMIT_FSIZE, (limit, resource.RLIM_INFINITY))
 
 
+WORKERS = {
+    "answer": answer_input,
+    "files": lambda: print("\n".join(open_files())),
+    "memory": measure_memory,
+    "polling": measure_polling,
+    "asking": lambda path: measure_line(path, "1 GetSessionInfo 7"),
+    "starting": lambda path: measure_line(path, "1 DigestInit 7 250"),
+    "unload": unload_and_load,
+    "unload_with_functions": unload_with_functions,
+}
+
 # ---- Helpers
+
+
+class LeftOut(Exception):
+    """Why a test can't be made here."""
 
 
 @contextlib.contextmanager
@@ -352,6 +413,56 @@ class Tests:
         self.checks.equal(self.module.say("1 GetTokenInfo"), "0 40c 64 0 0", "without a file")
         self.end()
         support.audit(self.checks, self.ck_cases, path)
+
+    def test_only_reply(self):
+        """A reply alone shows that a file is a journal."""
+        path = self.file("only_reply.cases")
+        write(path, b"1 InitToken 31323334 -> 0\n")
+        self.begin(TOKEN=path)
+        self.checks.equal(self.module.say("1 GetTokenInfo"), "0 404 64 0 0", "GetTokenInfo")
+        self.end()
+        self.checks.equal(read(path), b"1 InitToken 31323334 -> 0\n1 CloseAllSessions -> 0\n"
+                          b"1 GetTokenInfo -> 0 404 64 0 0\n", "the file")
+
+    def check_longest_comment(self, word):
+        """Of a script, or of the token's file: the longest comment, and one that is too long."""
+        for length, expected in [(LONGEST_LINE, 0), (LONGEST_LINE + 1, GENERAL_ERROR)]:
+            path = self.file(f"{word}-{length}")
+            write(path, b"#" * length + b"\n1 InitToken 31323334 -> 0\n")
+            code, errors = self.initialize(**{word: path})
+            self.checks.equal(code, expected, f"C_Initialize with {word} of {length} bytes")
+            line = f"ospreyrack: OSPREYRACK_{word}: {path}, line 1: this is no call\n"
+            self.checks.equal(errors, "" if expected == 0 else line, "the errors")
+            if code == 0:
+                self.end()
+
+    def test_longest_line(self):
+        """A line has at most 4,194,304 bytes, be it a call that is written or a comment."""
+        path = self.file("longest.cases")
+        self.begin(JOURNAL=path)
+        for start, length, reply in [("1 FindObjectsInit 1 3=", LONGEST_LINE, "b3"),
+                                     ("1 FindObjectsInit 1 11=", LONGEST_LINE + 1, HOST_MEMORY)]:
+            line = start + "00" * ((length - len(start)) // 2)
+            self.checks.equal(len(line), length, "the length of the line")
+            self.checks.equal(self.module.say(line), reply, f"a line of {length} bytes")
+        self.end()
+        self.checks.equal(read(path).count(b"FindObjectsInit"), 1, "the calls in the file")
+        support.audit(self.checks, self.ck_cases, path)
+        self.begin(TOKEN=path)
+        self.end()
+        for word in ["SCRIPT", "TOKEN"]:
+            self.check_longest_comment(word)
+
+    def test_failed_start(self):
+        """A C_Initialize that fails leaves neither its seed nor its journal to the next one."""
+        path = self.file("failed.cases")
+        made = []
+        for _ in range(2):
+            code, _ = self.initialize(SEED=1, JOURNAL=path, SCRIPT=self.file("absent"))
+            self.checks.equal(code, GENERAL_ERROR, "C_Initialize with a script that isn't there")
+            made.append(self.random_of_start())
+        self.checks.check(made[0] != made[1], "random bytes that follow from no seed")
+        self.checks.equal(read(path), b"", "the journal")
 
     def test_cut_off(self):
         """A file that is cut off at each of its bytes: what has its end is kept."""
@@ -536,6 +647,65 @@ class Tests:
         self.checks.equal(run.stderr, "", "the errors")
         support.audit(self.checks, self.ck_cases, path)
 
+    def test_unload_with_functions(self):
+        """Under the application's lock the file of an unloaded library stays open."""
+        path = self.file("unloaded_with_functions.cases")
+        run = subprocess.run(
+            [sys.executable, os.path.abspath(__file__), "unload_with_functions", self.path],
+            env=environment_of({"TOKEN": path}), capture_output=True, text=True, timeout=60)
+        self.checks.equal(run.stdout, f"0 0\n1 {GENERAL_ERROR}\n", "the replies")
+        self.checks.equal(run.stderr, f"ospreyrack: OSPREYRACK_TOKEN: {path}: another process has "
+                          "locked the file\n", "the errors")
+        support.audit(self.checks, self.ck_cases, path)
+
+    def program_for_all(self):
+        """The program of rights.c, in a folder with the module that all users can read."""
+        os.chmod(self.folder, 0o755)
+        program, module = self.file("rights"), self.file("module.so")
+        subprocess.run([os.environ.get("CC", "gcc"), "-std=c11", "-D_GNU_SOURCE", "-Wall",
+                        "-Wextra", "-Werror", "-o", program,
+                        os.path.join(support.TESTS, "rights.c")], check=True, timeout=100)
+        shutil.copy(self.path, module)
+        for file in [program, module]:
+            os.chmod(file, 0o755)
+        return program
+
+    def give_rights(self, program):
+        """Whoever runs the program has its owner's rights from now on."""
+        try:
+            os.chown(program, OWNER, OWNER)
+            os.chmod(program, 0o4755)
+            made = self.run_as_other_user(program)
+        except OSError as reason:
+            raise LeftOut(f"only root can try this, and can't everywhere: {reason}") from reason
+        if made.startswith("0 "):
+            raise LeftOut("no program gets rights of another user here")
+
+    def run_as_other_user(self, program, **words):
+        """Whether the program has rights that its user doesn't have, and what C_Initialize
+        answers."""
+        run = subprocess.run([program, self.file("module.so")], env=environment_of(words),
+                             user=OTHER_USER, group=OTHER_USER, extra_groups=[],
+                             capture_output=True, text=True, timeout=60)
+        return run.stdout.rstrip("\n") or run.stderr
+
+    def test_rights(self):
+        """A program with rights that its user doesn't have passes over the words. A file for it
+        would be made with these rights, wherever the user wants."""
+        program, place = self.program_for_all(), self.file("place")
+        os.mkdir(place)
+        os.chmod(place, 0o777)
+        self.give_rights(program)
+        all_words = [{"JOURNAL": os.path.join(place, "%p.cases")}, {"SEED": "none"}, {"OTHER": 1}]
+        for words in all_words:
+            self.checks.equal(self.run_as_other_user(program, **words), "1 0", f"with {words}")
+        self.checks.equal(os.listdir(place), [], "the files that were made")
+        os.chmod(program, 0o755)
+        codes = [self.run_as_other_user(program, **words) for words in all_words]
+        self.checks.equal(codes, ["0 0", f"0 {GENERAL_ERROR}", f"0 {GENERAL_ERROR}"],
+                          "the same without these rights")
+        self.checks.equal(len(os.listdir(place)), 1, "the files that were made without them")
+
     def kill_once(self, path, draw):
         """A process that is killed in the middle of calls. Answers how many were answered."""
         before = read(path) if os.path.exists(path) else b""
@@ -601,6 +771,34 @@ class Tests:
             self.begin(TOKEN=path)
             self.end()
 
+    def test_filling_in_update(self):
+        """A device that becomes full in an update: the file ends with the piece before. The end of
+        the operation doesn't stand in it, since nothing is answered any more."""
+        path = self.file("pieces.cases")
+        piece = "61" * LONGEST_PIECE
+        worker = Worker(self.path, limit=len(piece) + 1500, TOKEN=path)
+        calls = ["1 InitToken 31323334", "1 OpenSession 6", "1 DigestInit 1 250"]
+        replies = [worker.say(line) for line in calls]
+        self.checks.equal(replies, ["0", "0 1", "0"], "the start of the digest")
+        for line in [f"1 DigestUpdate 1 {piece}" + "62" * 2000, "1 DigestUpdate 1 63",
+                     "1 DigestFinal 1 32", "1 GetTokenInfo"]:
+            self.checks.equal(worker.say(line), DEVICE_ERROR, line[:40])
+        errors = worker.end()
+        self.checks.equal(worker.last, "0", "C_Finalize")
+        self.checks.check(errors.startswith("ospreyrack: OSPREYRACK_TOKEN: ")
+                          and errors.count("\n") == 1, errors)
+        self.check_calls(path, [*calls, f"1 DigestUpdate 1 {piece}"], [*replies, "0"])
+
+    def random_of_start(self, **words):
+        """The first random bytes behind a C_Initialize with these words."""
+        out = (support.c_ubyte * 40)()
+        self.begin(**words)
+        self.say_all(LOG_IN[:2])
+        code = self.module.call("GenerateRandom", support.c_ulong(1), out, support.c_ulong(40))
+        self.checks.equal(code, 0, "C_GenerateRandom")
+        self.end()
+        return bytes(out)
+
     def seeded_run(self, seed):
         code, errors = self.initialize(SEED=seed)
         self.checks.equal(code, 0, "C_Initialize with a seed")
@@ -625,20 +823,29 @@ class Tests:
         self.checks.check(not set(first) & set(other), "another seed makes others")
         self.checks.check(not set(first) & set(largest), "the largest seed makes others")
 
-    def run_memory(self, kind, cut):
+    def test_seeded_bytes(self):
+        """The bytes of a seed never change, and its number is decimal."""
+        seven, ten, eleven = (self.random_of_start(SEED=seed) for seed in ["7", "010", "0000011"])
+        self.checks.equal(seven.hex(), RANDOM_OF_SEVEN, "the random bytes of seed 7")
+        self.checks.equal(ten, self.random_of_start(SEED=10), "the random bytes of seed 010")
+        self.checks.equal(eleven, self.random_of_start(SEED=11), "the random bytes of seed 0000011")
+        self.checks.equal(len({seven, ten, eleven}), 3, "different random bytes")
+
+    def run_memory(self, kind, cut, last):
         run = subprocess.run([sys.executable, os.path.abspath(__file__), kind, self.path],
                              env=environment_of({"CUT": cut}), capture_output=True, text=True,
                              timeout=200)
         grown, reply = run.stdout.split()
-        self.checks.equal(reply, "0", "the last reply")
+        self.checks.equal(reply, last, "the last reply")
         return int(grown)
 
     def test_memory(self):
         """OSPREYRACK_CUT=yes keeps memory flat over 200,000 calls, and =no doesn't."""
-        for kind in ["memory", "polling"]:
-            grown = self.run_memory(kind, "yes")
+        for kind, last in [("memory", "0"), ("polling", "0"), ("asking", "b3"),
+                           ("starting", "b3")]:
+            grown = self.run_memory(kind, "yes", last)
             self.checks.check(grown < 1 << 20, f"with yes, {kind} grows by {grown} bytes")
-            grown = self.run_memory(kind, "no")
+            grown = self.run_memory(kind, "no", last)
             self.checks.check(grown > 4 << 20, f"with no, {kind} grows by {grown} bytes")
 
     def test_long_template(self):
@@ -682,28 +889,31 @@ class Tests:
 
 
 TESTS = [Tests.test_file, Tests.test_going_on, Tests.test_new_label, Tests.test_script,
+         Tests.test_only_reply, Tests.test_longest_line, Tests.test_failed_start,
          Tests.test_cut_off, Tests.test_changed, Tests.test_lacking_reply, Tests.test_two_processes,
          Tests.test_second_run, Tests.test_fork, Tests.test_fork_that_stays, Tests.test_exec,
-         Tests.test_unload, Tests.test_kills, Tests.test_full, Tests.test_filling, Tests.test_seed,
-         Tests.test_long_template, Tests.test_cut, Tests.test_memory]
+         Tests.test_unload, Tests.test_unload_with_functions, Tests.test_rights, Tests.test_kills,
+         Tests.test_full, Tests.test_filling, Tests.test_filling_in_update, Tests.test_seed,
+         Tests.test_seeded_bytes, Tests.test_long_template, Tests.test_cut, Tests.test_memory]
+
+
+def run_test(checks, test):
+    # A test's first sentence is its name.
+    name = " ".join(test.__doc__.split()).split(". ")[0].rstrip(".")
+    try:
+        with tempfile.TemporaryDirectory() as folder:
+            test(Tests(checks, sys.argv[1], sys.argv[2], folder))
+    except LeftOut as reason:
+        return checks.leave_out(name, reason)
+    checks.end(name)
 
 
 def main():
-    if sys.argv[1] == "answer":
-        return answer_input(sys.argv[2])
-    if sys.argv[1] == "files":
-        return print("\n".join(open_files()))
-    if sys.argv[1] == "unload":
-        return unload_and_load(sys.argv[2])
-    if sys.argv[1] == "memory":
-        return measure_memory(sys.argv[2])
-    if sys.argv[1] == "polling":
-        return measure_polling(sys.argv[2])
+    if sys.argv[1] in WORKERS:
+        return WORKERS[sys.argv[1]](*sys.argv[2:])
     checks = support.Checks("journal")
     for test in TESTS:
-        with tempfile.TemporaryDirectory() as folder:
-            test(Tests(checks, sys.argv[1], sys.argv[2], folder))
-        checks.end(test.__doc__.split(".\n")[0].rstrip("."))
+        run_test(checks, test)
     return checks.status()
 
 

@@ -1,0 +1,352 @@
+#!/usr/bin/env python3
+"""Says where a check of the repository is gone.
+
+inventory.txt beside this file lists all checks, by kind and name: edits that the prover must
+refuse, tests of the crates, of the scripts and of the module, files of recorded calls and of races,
+crates, and the lines by which `check` and module/tests/run start them. With the word `check`, or
+none, this compares the list with what is there and looks whether the edits and files are as they
+are named elsewhere; the status is 1 where something is missing, isn't listed or is wrong. With the
+word `write` it writes the list.
+"""
+import ast
+import collections
+import glob
+import os
+import re
+import sys
+
+HERE = os.path.dirname(os.path.abspath(__file__))
+ROOT = os.path.dirname(HERE)
+LIST = os.path.join(HERE, "inventory.txt")
+HEAD = "# The checks of this repository, by kind. `python3 tests/inventory.py write` writes this.\n"
+
+ARROW = " -> "
+LAW_EDIT = re.compile(r"^\|[^|]*\| `(\w+)` \|", re.MULTILINE)
+RUST_TEST = re.compile(r"#\[test\]\s*(?:#\[[^\]]*\]\s*)*(?:pub(?:\([a-z]+\))? )?fn (\w+)")
+TEST_MODULE = re.compile(r"#\[cfg\(test\)\]\s*(?:pub(?:\([a-z]+\))? )?mod (\w+)")
+# A line of a table in C, by the text at its front.
+C_ENTRY = re.compile(r'^    \{"((?:[^"\\]|\\.)*)",', re.MULTILINE)
+C_TEST = re.compile(r'"(?:[^"\\]|\\.)*",\s*(test_\w+)\}')
+C_CHECK = re.compile(r"\b(?:CHECK|EXPECT|check_?\w*)\(")
+PART = re.compile(r"^part ")
+STEP = re.compile(r"^(?:\w+=\S+ )*(?:try|play|run_\w+|check_\w+|compile\w*) ?(?!\S*\(\))")
+PYTHON_CHECK = re.compile(r"^(?:check\w*|equal|run_client|audit|end)$")
+
+
+def text_of(path):
+    with open(os.path.join(ROOT, path), encoding="utf-8", newline="\n") as file:
+        return file.read()
+
+
+def files(pattern):
+    """The files and folders of this pattern, by their paths from the repository's top."""
+    return sorted(glob.glob(pattern, root_dir=ROOT))
+
+
+# ---- What is there
+
+
+def edits():
+    return files("crates/*/must-fail/*")
+
+
+def sources():
+    return sorted(glob.glob("crates/*/src/**/*.rt", root_dir=ROOT, recursive=True))
+
+
+def crate_tests():
+    """The functions that are tests, each with its file."""
+    return [f"{path} {name}" for path in sources() for name in RUST_TEST.findall(text_of(path))]
+
+
+def test_modules():
+    """The modules that are there for tests only, each with the file that names it."""
+    return [f"{path} {name}" for path in sources() for name in TEST_MODULE.findall(text_of(path))]
+
+
+def crates():
+    """The crates that crates.txt names, in its order."""
+    return [line.split(":")[0].split()[0] for line in text_of("crates.txt").split("\n")
+            if ":" in line]
+
+
+def program_files():
+    """What programs are given, and what they must write."""
+    return [path for name in ("args", "stdin", "stdout") for path in files(f"crates/*/{name}")]
+
+
+def recorded_runs():
+    """The files of cases, each with how many replies it records."""
+    return [f"{path} {sum(ARROW in line for line in text_of(path).split(chr(10)))} replies"
+            for path in files("crates/*/data/*.cases")]
+
+
+def races():
+    """The files of races, each with how many races and lines it has."""
+    found = []
+    for path in files("crates/*/data/*.races"):
+        lines = [line for line in text_of(path).split("\n") if line and not line.startswith("#")]
+        count = sum(line.startswith("race") for line in lines)
+        found.append(f"{path} {count} races in {len(lines)} lines")
+    return found
+
+
+def c_files():
+    return files("module/tests/*.c") + files("bench/*.c")
+
+
+def c_tests():
+    return [f"{path} {name}" for path in c_files() for name in C_TEST.findall(text_of(path))]
+
+
+def c_entries():
+    """What tables of tests, of calls and of cases have, by the texts that name it."""
+    return [f"{path} {name}" for path in c_files() for name in C_ENTRY.findall(text_of(path))]
+
+
+def c_checks():
+    """How many checks each file has."""
+    counts = [(path, len(C_CHECK.findall(text_of(path)))) for path in c_files()]
+    return [f"{path} {count} checks" for path, count in counts if count]
+
+
+def python_files():
+    return files("tests/*.py") + files("module/tests/*.py") + files("bench/growths.py")
+
+
+def names_in(node):
+    """The names that code uses, with those of methods."""
+    named = {it.id for it in ast.walk(node) if isinstance(it, ast.Name)}
+    return named | {it.attr for it in ast.walk(node) if isinstance(it, ast.Attribute)}
+
+
+def functions_of(tree):
+    """The functions and methods of a file, and its code outside of them."""
+    functions, rest = {}, []
+    for node in tree.body:
+        if isinstance(node, ast.ClassDef):
+            for part in node.body:
+                if isinstance(part, ast.FunctionDef):
+                    functions.setdefault(part.name, []).append(part)
+        elif isinstance(node, ast.FunctionDef):
+            functions.setdefault(node.name, []).append(node)
+        else:
+            rest.append(node)
+    return functions, rest
+
+
+def called_functions(tree):
+    """The functions that the file's code comes to, by their names."""
+    functions, rest = functions_of(tree)
+    called, names = set(), set().union(*map(names_in, rest))
+    while names:
+        name = names.pop()
+        if name in functions and name not in called:
+            called.add(name)
+            names |= set().union(*map(names_in, functions[name]))
+    return called
+
+
+def python_functions():
+    """The functions of scripts that are called."""
+    return [f"{path} {name}" for path in python_files()
+            for name in called_functions(ast.parse(text_of(path)))]
+
+
+def name_called(call):
+    return getattr(call.func, "attr", None) or getattr(call.func, "id", "")
+
+
+def python_checks():
+    """How many checks each script has."""
+    found = []
+    for path in python_files():
+        calls = [it for it in ast.walk(ast.parse(text_of(path))) if isinstance(it, ast.Call)]
+        count = sum(bool(PYTHON_CHECK.match(name_called(it))) for it in calls)
+        found += [f"{path} {count} checks"] * (count > 0)
+    return found
+
+
+def entries_of(value):
+    """How many entries a table has, and nothing of what is no table."""
+    if isinstance(value, ast.Dict):
+        return len(value.keys)
+    return len(value.elts) if isinstance(value, (ast.List, ast.Tuple)) else 0
+
+
+def python_tables():
+    """The tables of scripts, with how many entries each has."""
+    return [f"{path} {node.targets[0].id} {entries_of(node.value)} entries"
+            for path in python_files() for node in ast.parse(text_of(path)).body
+            if isinstance(node, ast.Assign) and isinstance(node.targets[0], ast.Name)
+            and entries_of(node.value)]
+
+
+def clients():
+    """The clients of the module that are tried, by their names."""
+    for node in ast.parse(text_of("module/tests/clients.py")).body:
+        if isinstance(node, ast.Assign) and node.targets[0].id == "CLIENTS":
+            return [key.value for key in node.value.keys]
+    return []
+
+
+def commands_of(path, form):
+    """The commands of a shell script that have this form, each in one line."""
+    lines = re.sub(r"\s*\\\n\s*", " ", text_of(path)).split("\n")
+    return [line.strip() for line in lines if form.match(line.strip())]
+
+
+def inventory():
+    """All checks, as sorted lines."""
+    kinds = {
+        "edit that must fail": edits(),
+        "test of a crate": crate_tests(),
+        "module of tests": test_modules(),
+        "crate": crates(),
+        "file of a program": program_files(),
+        "recorded run": recorded_runs(),
+        "races": races(),
+        "test in C": c_tests(),
+        "entry in C": c_entries(),
+        "checks in C": c_checks(),
+        "function in Python": python_functions(),
+        "checks in Python": python_checks(),
+        "table in Python": python_tables(),
+        "client": clients(),
+        "part of check": commands_of("check", PART),
+        "step of module/tests/run": commands_of("module/tests/run", STEP),
+    }
+    return sorted(f"{kind}: {name}" for kind, names in kinds.items() for name in names)
+
+
+# ---- What must be so whatever the list says
+
+
+def texts_in(edit):
+    """Each text that an edit replaces: its file, the text, and what stands there then."""
+    path, old = "", None
+    for line in text_of(edit).split("\n"):
+        word, _, text = line.partition(": ")
+        if word == "file":
+            path = os.path.join(edit.split("/must-fail/")[0], text)
+        elif word == "old":
+            old = text
+        elif word == "new":
+            yield path, old, text
+
+
+def edit_faults(edit):
+    lines = text_of(edit).split("\n")
+    for word in ("file", "clause", "old", "new"):
+        if not any(line.startswith(word + ": ") for line in lines):
+            yield f"{edit} has no line {word}:"
+            return
+    if sum(line.startswith("old: ") for line in lines) != len(list(texts_in(edit))):
+        yield f"{edit} has not as many lines old: as new:"
+    changed = {}
+    for path, old, new in texts_in(edit):
+        if not os.path.isfile(os.path.join(ROOT, path)):
+            yield f"{edit} is of {path}, which isn't there"
+            return
+        source = changed.get(path) or text_of(path)
+        if source.count(old) != 1:
+            yield f"{edit}: its old text stands {source.count(old)} times in {path}"
+        if old == new:
+            yield f"{edit} changes nothing"
+        changed[path] = source.replace(old, new)
+
+
+def law_faults():
+    """The edits of docs/laws.md are those of definitions, each named once."""
+    named = collections.Counter("definition_of_" + it for it in LAW_EDIT.findall(
+        text_of("docs/laws.md")))
+    there = collections.Counter(
+        os.path.basename(path)[:-len(".edit")] for path in edits() if "/definition_of_" in path)
+    for name in sorted((named - there).keys()):
+        yield f"docs/laws.md names {name} once too often: the edit isn't there"
+    for name in sorted((there - named).keys()):
+        yield f"docs/laws.md lacks the edit {name}"
+
+
+def crate_faults():
+    """Each folder of crates/ is in crates.txt, and the other way round."""
+    folders = {os.path.basename(os.path.dirname(path)) for path in files("crates/*/")}
+    for name in sorted(folders ^ set(crates())):
+        yield f"crates/{name} " + ("isn't in crates.txt" if name in folders else "isn't there")
+
+
+def argument_faults():
+    """A program with a folder `data` is given each file of it."""
+    for folder in files("crates/*/data"):
+        arguments = files(os.path.join(os.path.dirname(folder), "args"))
+        given = [word for path in arguments for word in text_of(path).split()]
+        there = os.listdir(os.path.join(ROOT, folder))
+        for name in sorted(set(there) - {os.path.basename(word) for word in given}):
+            yield f"{folder}/{name} isn't named in the file args of the crate"
+        for word in given:
+            if "." in word and os.path.basename(word) not in there:
+                yield f"{folder}/{word}, which the file args names, isn't there"
+
+
+def module_faults():
+    """Each file with tests is a module of its crate, for tests only."""
+    modules = set(test_modules())
+    for path in sorted({it.split()[0] for it in crate_tests()}):
+        folder, name = os.path.split(path)
+        name = name[:-len(".rt")]
+        if not {f"{folder}/main.rt {name}", f"{folder}/lib.rt {name}"} & modules:
+            yield f"{path} has tests, and no #[cfg(test)] mod {name} names it"
+
+
+def start_faults():
+    """Each file of tests is started, compiled or brought in by another."""
+    for path in files("tests/*.py"):
+        if f"python3 {path}" not in text_of("check"):
+            yield f"{path} isn't a part of check"
+    texts = {path: text_of(path) for path in files("module/tests/*.*") + ["module/tests/run"]}
+    for path in files("module/tests/*.*"):
+        name = os.path.basename(path)
+        words = (name, "import " + os.path.splitext(name)[0])
+        if not any(word in text for other, text in texts.items() if other != path
+                   for word in words):
+            yield f"{path} isn't named by module/tests/run, or by what it starts"
+
+
+def faults():
+    yield from (fault for edit in edits() for fault in edit_faults(edit))
+    yield from law_faults()
+    yield from crate_faults()
+    yield from argument_faults()
+    yield from module_faults()
+    yield from start_faults()
+
+
+def check():
+    with open(LIST, encoding="utf-8") as file:
+        listed = collections.Counter(file.read().split("\n")[1:-1])
+    there = collections.Counter(inventory())
+    said = [f"missing: {line}" for line in (listed - there).elements()]
+    said += [f"not listed: {line}" for line in (there - listed).elements()]
+    said += [f"wrong: {fault}" for fault in faults()]
+    for line in said:
+        print(line)
+    if said:
+        print("python3 tests/inventory.py write lists what is there, where that is meant")
+        return 1
+    print(f"tests/inventory.txt lists the {there.total()} checks that are there")
+    return 0
+
+
+def main():
+    if sys.argv[1:] in ([], ["check"]):
+        return check()
+    if sys.argv[1:] != ["write"]:
+        print("inventory.py [check | write]", file=sys.stderr)
+        return 2
+    with open(LIST, "w", encoding="utf-8") as file:
+        file.write(HEAD + "".join(line + "\n" for line in inventory()))
+    return 0
+
+
+if __name__ == "__main__":
+    sys.exit(main())
