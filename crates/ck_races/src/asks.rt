@@ -18,7 +18,8 @@ use ck_types::{Limits, NoMemory, Pin, Rv, UserType, mechanism_types};
 use std::alloc::Global;
 use std::mem;
 
-/// How many times a caller asks for the state of the session while another logs in.
+/// How many times a caller asks for the state of the session in its script. The first of two
+/// callers asks once.
 const ASKS: u32 = 1_000;
 
 /// How many times a caller asks until it must have seen the call of another.

@@ -1,5 +1,5 @@
-//! Eight callers make twenty calls each by `run_scripts`, of which every other call may come
-//! between. Then the token is taken back, and each caller got the replies of its entries.
+//! Eight callers make twenty calls each by `run_scripts`. Between two calls of one, calls of all
+//! others may come. Then the token is taken back, and each caller got the replies of its entries.
 use crate::journals::{CallerReplies, check_audit, check_replies};
 use crate::mix::{Handles, call_of};
 use crate::scripts::{add_script, finish};

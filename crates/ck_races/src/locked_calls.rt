@@ -1,5 +1,5 @@
-//! A caller makes calls under one lock, with no others between them. Meanwhile another is answered
-//! without the lock. Then its callers are lost, and the token is taken back without them.
+//! A caller makes calls under one lock, while another is answered without it. Then both callers are
+//! lost, and the token is taken back without them.
 use crate::asks::{check_ask, expect};
 use crate::journals::check_audit;
 use crate::shared_work::{Shared, SharedWork, share_with};

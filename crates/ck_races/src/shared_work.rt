@@ -1,4 +1,4 @@
-//! A token that is shared among callers which stay in one thread, until it is taken back.
+//! A token that is shared until it is taken back, and what is done with its callers meanwhile.
 ghost use Rattle.std.specs.Prelude.{◌≡◌, ◌≤◌, ℕ, IfErr};
 ghost use Rattle.ck_journal.specs.Histories.{start, start_of};
 ghost use Rattle.ck_callers.specs.Accounts.{name_of};
@@ -35,7 +35,7 @@ pub(crate) enum SharedWork<'a> {
     },
     /// Eight callers make the calls of their scripts.
     EightScripts,
-    /// One caller makes calls under one lock. Then both are lost.
+    /// One caller makes calls under one lock. Then both callers are lost.
     CallsUnderLock,
 }
 
