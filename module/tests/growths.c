@@ -808,6 +808,7 @@ static void run_trial(void) {
     do {
         was_refused = try_pieces(number, &tried, &other);
         check(!trial->refuses_all || tried >= last, trial->what);
+        check(trial->has_other_update || other == AS_IT_WAS, trial->what);
         if (has_journal)
             check_journal();
         counts[tried]++;
