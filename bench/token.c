@@ -14,6 +14,7 @@
 enum { CALLER = 1 };
 
 static struct token token;
+static struct message_call message_call;
 
 static CK_RV code_of(uint32_t step)
 {
@@ -24,9 +25,11 @@ static CK_RV initialize(CK_VOID_PTR arguments)
 {
     (void)arguments;
     token.at = malloc(ospreyrack_size());
-    if (token.at == NULL)
+    message_call.at = malloc(ospreyrack_message_size());
+    if (token.at == NULL || message_call.at == NULL)
         return CKR_HOST_MEMORY;
     ospreyrack_make(token.at);
+    ospreyrack_message_make(message_call.at);
     return CKR_OK;
 }
 
@@ -34,7 +37,9 @@ static CK_RV finalize(CK_VOID_PTR reserved)
 {
     (void)reserved;
     ospreyrack_reset(&token);
+    ospreyrack_message_reset(&message_call);
     free(token.at);
+    free(message_call.at);
     return CKR_OK;
 }
 
@@ -91,7 +96,9 @@ static CK_RV digest(CK_SESSION_HANDLE session, CK_BYTE_PTR message, CK_ULONG len
                     CK_BYTE_PTR out, CK_ULONG_PTR room)
 {
     (void)out;
-    return code_of(ospreyrack_digest(&token, CALLER, session, message, length, true, *room));
+    if (!ospreyrack_digest(&message_call, session, message, length, true, *room))
+        return CKR_HOST_MEMORY;
+    return code_of(ospreyrack_call(&token, CALLER, &message_call));
 }
 
 static CK_FUNCTION_LIST functions = {

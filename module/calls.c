@@ -210,33 +210,59 @@ static uint32_t call_with_mechanism(const struct call *call, uint32_t caller) {
                                   parameter.length, call->object);
 }
 
-/* Calls with a message, or a piece or the end of one. */
-static uint32_t call_with_message(const struct call *call, uint32_t caller) {
-    struct token *token = &library.token;
+bool give_message(struct message_call *place, const struct call *call) {
     CK_ULONG session = call->session;
     struct bytes bytes = call->bytes;
     struct bytes signature = call->signature;
     struct room room = call->room;
     switch (call->name) {
     case DIGEST:
-        return ospreyrack_digest(token, caller, session, bytes.at, bytes.length, room.has_room,
+        return ospreyrack_digest(place, session, bytes.at, bytes.length, room.has_room,
                                  room.length);
     case DIGEST_UPDATE:
-        return ospreyrack_digest_update(token, caller, session, bytes.at, bytes.length);
-    case DIGEST_FINAL:
-        return ospreyrack_digest_final(token, caller, session, room.has_room, room.length);
+        return ospreyrack_digest_update(place, session, bytes.at, bytes.length);
     case SIGN:
-        return ospreyrack_sign(token, caller, session, bytes.at, bytes.length, room.has_room,
-                               room.length);
+        return ospreyrack_sign(place, session, bytes.at, bytes.length, room.has_room, room.length);
     case SIGN_UPDATE:
-        return ospreyrack_sign_update(token, caller, session, bytes.at, bytes.length);
-    case SIGN_FINAL:
-        return ospreyrack_sign_final(token, caller, session, room.has_room, room.length);
+        return ospreyrack_sign_update(place, session, bytes.at, bytes.length);
     case VERIFY:
-        return ospreyrack_verify(token, caller, session, bytes.at, bytes.length, signature.at,
+        return ospreyrack_verify(place, session, bytes.at, bytes.length, signature.at,
                                  signature.length);
     case VERIFY_UPDATE:
-        return ospreyrack_verify_update(token, caller, session, bytes.at, bytes.length);
+        return ospreyrack_verify_update(place, session, bytes.at, bytes.length);
+    default:
+        return false;
+    }
+}
+
+static uint32_t call_with_message(const struct call *call, uint32_t caller) {
+    if (!give_message(&library.message, call))
+        return NO_MEMORY;
+    return ospreyrack_call(&library.token, caller, &library.message);
+}
+
+/* Calls that begin or end an operation, and those that bring a message. */
+static uint32_t call_on_operation(const struct call *call, uint32_t caller) {
+    struct token *token = &library.token;
+    CK_ULONG session = call->session;
+    struct bytes signature = call->signature;
+    struct room room = call->room;
+    switch (call->name) {
+    case DIGEST_INIT:
+    case SIGN_INIT:
+    case VERIFY_INIT:
+        return call_with_mechanism(call, caller);
+    case DIGEST:
+    case DIGEST_UPDATE:
+    case SIGN:
+    case SIGN_UPDATE:
+    case VERIFY:
+    case VERIFY_UPDATE:
+        return call_with_message(call, caller);
+    case DIGEST_FINAL:
+        return ospreyrack_digest_final(token, caller, session, room.has_room, room.length);
+    case SIGN_FINAL:
+        return ospreyrack_sign_final(token, caller, session, room.has_room, room.length);
     case VERIFY_FINAL:
         return ospreyrack_verify_final(token, caller, session, signature.at, signature.length);
     default:
@@ -266,12 +292,8 @@ static uint32_t call_by_arguments(const struct call *call) {
         return ospreyrack_get_token_info(token, caller);
     case SESSION_CANCEL:
         return ospreyrack_session_cancel(token, caller, session, call->flags);
-    case DIGEST_INIT:
-    case SIGN_INIT:
-    case VERIFY_INIT:
-        return call_with_mechanism(call, caller);
     default:
-        return call_with_message(call, caller);
+        return call_on_operation(call, caller);
     }
 }
 

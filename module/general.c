@@ -114,22 +114,30 @@ static CK_RV check_arguments(const CK_C_INITIALIZE_ARGS *arguments) {
 }
 
 static CK_RV begin_token(void) {
-    void *at = malloc(ospreyrack_size());
-    if (at == NULL)
+    void *token = malloc(ospreyrack_size());
+    void *message = malloc(ospreyrack_message_size());
+    if (token == NULL || message == NULL) {
+        free(token);
+        free(message);
         return CKR_HOST_MEMORY;
-    ospreyrack_make(at);
+    }
+    ospreyrack_make(token);
+    ospreyrack_message_make(message);
     journals_begun++;
     begin_answering();
-    library.token.at = at;
+    library.token.at = token;
+    library.message.at = message;
     copy_padded(library.label, sizeof library.label, "");
     return configure() ? CKR_OK : CKR_GENERAL_ERROR;
 }
 
-/* Gives back the memory and the file; the lock is left. */
+/* Gives back the memory and the file; the lock is left. Where a call with a message lies, there is
+ * none now, so nothing is lost with its place. */
 static void end_token(void) {
     if (library.token.at != NULL)
         ospreyrack_reset(&library.token);
     free(library.token.at);
+    free(library.message.at);
     close_journal();
     buffer_free(&library.line);
     buffer_free(&library.items);

@@ -67,6 +67,7 @@ struct journal {
 struct library {
     bool is_initialized;
     struct token token;
+    struct message_call message; /* where a call with a short message lies while it is made */
     CK_UTF8CHAR label[LABEL_LENGTH];
     bool cuts_journal; /* the token's journal in memory is cut where no session is open */
     uint64_t updates;  /* updates in pieces that are under way: see `cancel_operation` */
@@ -243,6 +244,9 @@ uint32_t caller_number(void);
 /* How many journals the library's tokens have begun in memory: one when a token is made, and one at
  * each cut. */
 extern uint64_t journals_begun;
+
+/* Gives the place a call with a copy of its message. Answers false without memory. */
+bool give_message(struct message_call *place, const struct call *call);
 
 /* Makes the call of a line, and adds it to the journal's text where a journal is kept. */
 uint32_t answer_line(const uint8_t *line, size_t length);

@@ -115,78 +115,65 @@ uint32_t ospreyrack_find_objects(struct token *token, uint32_t caller, uint64_t 
 uint32_t ospreyrack_find_objects_final(struct token *token, uint32_t caller, uint64_t session);
 uint32_t ospreyrack_digest_init(struct token *token, uint32_t caller, uint64_t session,
                                 uint64_t mechanism, const uint8_t *parameter, size_t length);
-uint32_t ospreyrack_digest(struct token *token, uint32_t caller, uint64_t session,
-                           const uint8_t *bytes, size_t length, bool has_room, uint64_t room);
-uint32_t ospreyrack_digest_update(struct token *token, uint32_t caller, uint64_t session,
-                                  const uint8_t *bytes, size_t length);
 uint32_t ospreyrack_digest_final(struct token *token, uint32_t caller, uint64_t session,
                                  bool has_room, uint64_t room);
 uint32_t ospreyrack_sign_init(struct token *token, uint32_t caller, uint64_t session,
                               uint64_t mechanism, const uint8_t *parameter, size_t length,
                               uint64_t key);
-uint32_t ospreyrack_sign(struct token *token, uint32_t caller, uint64_t session,
-                         const uint8_t *bytes, size_t length, bool has_room, uint64_t room);
-uint32_t ospreyrack_sign_update(struct token *token, uint32_t caller, uint64_t session,
-                                const uint8_t *bytes, size_t length);
 uint32_t ospreyrack_sign_final(struct token *token, uint32_t caller, uint64_t session,
                                bool has_room, uint64_t room);
 uint32_t ospreyrack_verify_init(struct token *token, uint32_t caller, uint64_t session,
                                 uint64_t mechanism, const uint8_t *parameter, size_t length,
                                 uint64_t key);
-uint32_t ospreyrack_verify(struct token *token, uint32_t caller, uint64_t session,
-                           const uint8_t *bytes, size_t length,
-                           const uint8_t *signature, size_t signature_length);
-uint32_t ospreyrack_verify_update(struct token *token, uint32_t caller, uint64_t session,
-                                  const uint8_t *bytes, size_t length);
 uint32_t ospreyrack_verify_final(struct token *token, uint32_t caller, uint64_t session,
                                  const uint8_t *signature, size_t length);
 
-/* ---- Calls that bring a long message
+/* ---- Calls that bring a message
  *
- * Such a call lies in memory of C's, so that its message is copied and taken in while other threads
- * use the token. First the call is given; then its work is begun by the token, and the bytes are
- * taken in; then the token makes the call. A call is used by one thread at a time. */
+ * Such a call lies in memory of C's. First it is given, with a copy of its message; then the token
+ * makes it. Where the message is long, its work is begun by the token before that, and the bytes
+ * are taken in while other threads use the token. A call is used by one thread at a time. */
 
 /* Where such a call lies. */
-struct long_call {
+struct message_call {
     void *at;
 };
 
 /* How many bytes it takes, without the message. */
-size_t ospreyrack_long_size(void);
+size_t ospreyrack_message_size(void);
 
 /* Makes the place of a call in room of that many bytes, whose address is a multiple of 16. There is
  * no call yet. It takes no other memory. */
-void ospreyrack_long_make(void *at);
+void ospreyrack_message_make(void *at);
 
 /* Takes the call away, and gives back all memory that it has taken. */
-void ospreyrack_long_reset(struct long_call *call);
+void ospreyrack_message_reset(struct message_call *call);
 
 /* Give the call. Where there is no memory for it they answer false, and nothing has changed. */
-bool ospreyrack_long_digest(struct long_call *call, uint64_t session, const uint8_t *bytes,
-                            size_t length, bool has_room, uint64_t room);
-bool ospreyrack_long_digest_update(struct long_call *call, uint64_t session, const uint8_t *bytes,
-                                   size_t length);
-bool ospreyrack_long_sign(struct long_call *call, uint64_t session, const uint8_t *bytes,
-                          size_t length, bool has_room, uint64_t room);
-bool ospreyrack_long_sign_update(struct long_call *call, uint64_t session, const uint8_t *bytes,
-                                 size_t length);
-bool ospreyrack_long_verify(struct long_call *call, uint64_t session, const uint8_t *bytes,
-                            size_t length, const uint8_t *signature, size_t signature_length);
-bool ospreyrack_long_verify_update(struct long_call *call, uint64_t session, const uint8_t *bytes,
-                                   size_t length);
+bool ospreyrack_digest(struct message_call *call, uint64_t session, const uint8_t *bytes,
+                       size_t length, bool has_room, uint64_t room);
+bool ospreyrack_digest_update(struct message_call *call, uint64_t session, const uint8_t *bytes,
+                              size_t length);
+bool ospreyrack_sign(struct message_call *call, uint64_t session, const uint8_t *bytes,
+                     size_t length, bool has_room, uint64_t room);
+bool ospreyrack_sign_update(struct message_call *call, uint64_t session, const uint8_t *bytes,
+                            size_t length);
+bool ospreyrack_verify(struct message_call *call, uint64_t session, const uint8_t *bytes,
+                       size_t length, const uint8_t *signature, size_t signature_length);
+bool ospreyrack_verify_update(struct message_call *call, uint64_t session, const uint8_t *bytes,
+                              size_t length);
 
-/* Begins the work on the message. Where there is none to be done before the call, it answers
+/* Begins the work on a long message. Where there is none to be done before the call, it answers
  * false. */
-bool ospreyrack_long_begin(struct token *token, struct long_call *call);
+bool ospreyrack_begin_work(struct token *token, struct message_call *call);
 
 /* Takes in the bytes of the message, where the work has begun. */
-void ospreyrack_long_take_in(struct long_call *call);
+void ospreyrack_take_in(struct message_call *call);
 
 /* Makes the call, and takes it away. Where its work was begun, that was by the same token, which
  * has been neither reset nor cut since. The work counts only where the call's operation is as it
  * was then. */
-uint32_t ospreyrack_long_call(struct token *token, uint32_t caller, struct long_call *call);
+uint32_t ospreyrack_call(struct token *token, uint32_t caller, struct message_call *call);
 
 /* ---- The reply to the last answered call */
 

@@ -12,7 +12,7 @@
 enum { SHORTEST_LONG_MESSAGE = 4096 };
 
 struct work {
-    struct long_call call;
+    struct message_call call;
     bool has_begun;
     uint64_t journals; /* how many journals had begun when the work was */
     max_align_t room[];
@@ -26,41 +26,15 @@ static bool is_long(const struct call *call) {
         && check_call(call) == CKR_OK;
 }
 
-static bool give(struct long_call *given, const struct call *call) {
-    CK_ULONG session = call->session;
-    struct bytes bytes = call->bytes;
-    struct bytes signature = call->signature;
-    struct room room = call->room;
-    switch (call->name) {
-    case DIGEST:
-        return ospreyrack_long_digest(given, session, bytes.at, bytes.length, room.has_room,
-                                      room.length);
-    case DIGEST_UPDATE:
-        return ospreyrack_long_digest_update(given, session, bytes.at, bytes.length);
-    case SIGN:
-        return ospreyrack_long_sign(given, session, bytes.at, bytes.length, room.has_room,
-                                    room.length);
-    case SIGN_UPDATE:
-        return ospreyrack_long_sign_update(given, session, bytes.at, bytes.length);
-    case VERIFY:
-        return ospreyrack_long_verify(given, session, bytes.at, bytes.length, signature.at,
-                                      signature.length);
-    case VERIFY_UPDATE:
-        return ospreyrack_long_verify_update(given, session, bytes.at, bytes.length);
-    default:
-        return false;
-    }
-}
-
 /* Copies the call with its message. Answers false without memory. */
 static bool give_work(struct call *call) {
-    struct work *work = malloc(sizeof *work + ospreyrack_long_size());
+    struct work *work = malloc(sizeof *work + ospreyrack_message_size());
     if (work == NULL)
         return false;
     *work = (struct work){.call.at = work->room};
-    ospreyrack_long_make(work->room);
+    ospreyrack_message_make(work->room);
     call->work = work;
-    return give(&work->call, call);
+    return give_message(&work->call, call);
 }
 
 /* Finds out whether calls are made by work: where a journal's file is kept, they go by lines. */
@@ -78,7 +52,7 @@ static bool begin_work(struct work *work) {
     if (library.journal.is_kept)
         return false;
     work->journals = journals_begun;
-    work->has_begun = ospreyrack_long_begin(&library.token, &work->call);
+    work->has_begun = ospreyrack_begin_work(&library.token, &work->call);
     return work->has_begun;
 }
 
@@ -94,7 +68,7 @@ CK_RV enter_with_work(struct call *call) {
     if (code != CKR_OK || call->lacks_memory || !begin_work(call->work))
         return code;
     leave(CKR_OK);
-    ospreyrack_long_take_in(&call->work->call);
+    ospreyrack_take_in(&call->work->call);
     return enter();
 }
 
@@ -102,13 +76,13 @@ bool call_by_work(const struct call *call, uint32_t *step) {
     struct work *work = call->work;
     if (work->has_begun && work->journals != journals_begun)
         return false;
-    *step = ospreyrack_long_call(&library.token, caller_number(), &work->call);
+    *step = ospreyrack_call(&library.token, caller_number(), &work->call);
     return true;
 }
 
 void drop_work(struct call *call) {
     if (call->work != NULL)
-        ospreyrack_long_reset(&call->work->call);
+        ospreyrack_message_reset(&call->work->call);
     free(call->work);
     call->work = NULL;
 }

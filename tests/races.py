@@ -142,6 +142,20 @@ BAD_FILES = [
     (GOOD + "race\n1 GetTokenInfo -> \n", "line 4: came 0 4 64 0 0"),
     (GOOD + GOOD + "race\n0 " + CALL, "line 6: " + CALLER),
     ("race\n1 GetTokenInfo -> 1\n1 Nope -> 0\n", "line 3: no call has this name"),
+    ("", "there is no race"),
+    ("# x\n\n", "there is no race"),
+    ("race\n", "the race of line 1 has no calls that are made together"),
+    (GOOD + "\nrace\n" + GOOD, "the race of line 4 has no calls that are made together"),
+    (GOOD + "together\n", "the race of line 1 has no calls that are made together"),
+    (GOOD + "cut\n", "the race of line 1 has no calls that are made together"),
+    (f"{GOOD}cut\n1 {CALL}\ncut\n1 {CALL}\n", "line 5: cut can't stand here"),
+    (f"{GOOD}together\n1 {CALL}\ncut\n1 {CALL}\n", "line 5: cut can't stand here"),
+    (f"{GOOD}together\n1 {CALL}\ntogether\n", "line 5: together can't stand here"),
+    (f"{GOOD}together\n1 {CALL}\ntogether in any order\n",
+     "line 5: together in any order can't stand here"),
+    (f"{GOOD}together\nafterwards\n1 {CALL}\n", "line 4: afterwards can't stand here"),
+    (f"{GOOD}afterwards\n1 {CALL}\ntogether\n", "line 5: together can't stand here"),
+    (f"{GOOD}afterwards\n1 {CALL}\nafterwards\n", "line 5: afterwards can't stand here"),
 ]
 
 

@@ -1,7 +1,7 @@
 pub mod Calls
 pub mod Copies
 pub mod Lives
-pub mod LongCalls
+pub mod MessageCalls
 pub mod Queries
 pub mod Replies
 pub mod Steps

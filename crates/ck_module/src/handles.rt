@@ -1,11 +1,11 @@
 ghost use Rattle.std.specs.Prelude.{◌≡◌};
 ghost use Rattle.std.specs.Borrow.{sem};
-ghost use Rattle.ck_module.specs.declared.long_calls.LongCall.{LongCall};
+ghost use Rattle.ck_module.specs.declared.message_calls.MessageCall.{MessageCall};
 ghost use Rattle.ck_module.specs.declared.modules.Module.{Module};
-ghost use Rattle.ck_module.specs.contracts.long_calls.LongCall.{the_row as long_call_row};
+ghost use Rattle.ck_module.specs.contracts.message_calls.MessageCall.{the_row as message_call_row};
 ghost use Rattle.ck_module.specs.contracts.modules.Module.{the_row as module_row};
 
-use crate::long_calls::LongCall;
+use crate::message_calls::MessageCall;
 use crate::modules::Module;
 use ck_journal::Call;
 use std::alloc::Global;
@@ -56,35 +56,34 @@ impl Handle {
 // A handle may go to another thread, as the token that lies there may.
 unsafe impl Send for Handle {}
 
-/// What C holds of a call with a long message: where it lies. Contracts see the call that lies
-/// there.
+/// What C holds of a call with a message: where it lies. Contracts see the call that lies there.
 #[repr(C)]
-pub struct LongHandle {
+pub struct MessageHandle {
     at: *mut u8,
-    pub ghost value: { LongCall } by { long_call_row.coded },
+    pub ghost value: { MessageCall } by { message_call_row.coded },
 }
 
-impl Model for LongHandle {
+impl Model for MessageHandle {
     ghost use Rattle.std.specs.Borrow.{full_share};
     ghost use Rattle.std.specs.Ptr.{lies_at};
-    ghost use Rattle.ck_module.specs.contracts.long_calls.LongCall.{the_row};
+    ghost use Rattle.ck_module.specs.contracts.message_calls.MessageCall.{the_row};
 
     ghost also_owns = { λ h. lies_at the_row full_share h.at h.value };
 }
 
-impl LongHandle {
+impl MessageHandle {
     ghost use Rattle.std.specs.Borrow.{Lends};
-    ghost use Rattle.ck_module.specs.contracts.handles.LongHandle.{the_row};
+    ghost use Rattle.ck_module.specs.contracts.handles.MessageHandle.{the_row};
 
     /// Lends the call. When the loan ends, what was written is the call that lies there.
-    pub(crate) fn as_mut(&mut self) -> &mut LongCall
-        ensures* writes_back { sem 𝓛 (Lends the_row long_call_row self.entry result
+    pub(crate) fn as_mut(&mut self) -> &mut MessageCall
+        ensures* writes_back { sem 𝓛 (Lends the_row message_call_row self.entry result
             (λ w. record self.old { value = w })) }
         ensures value { result.now ≡ self.old.value }
     {
-        unsafe { &mut *(self.at as *mut LongCall) }
+        unsafe { &mut *(self.at as *mut MessageCall) }
     }
 }
 
 // A handle may go to another thread, as the call that lies there may.
-unsafe impl Send for LongHandle {}
+unsafe impl Send for MessageHandle {}

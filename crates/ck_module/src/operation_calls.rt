@@ -33,50 +33,6 @@ pub extern "C" fn ospreyrack_digest_init(
     handle.call(alloc, caller, call)
 }
 
-/// C_Digest. Without `has_room` only the length is asked for.
-#[unsafe(no_mangle)]
-pub extern "C" fn ospreyrack_digest(
-    alloc: Global,
-    handle: &mut Handle,
-    caller: u32,
-    session: u64,
-    bytes: &[u8],
-    has_room: bool,
-    room: u64,
-) -> u32
-    ensures { IsCalledBy caller (call.Digest session bytes.now (room_of has_room room)) result
-        handle.old.value handle.new.value }
-{
-    let Ok(bytes) = Bytes::from_slice(alloc, bytes) else {
-        return Step::NoMemory.number();
-    };
-    let call = Call::Digest {
-        session,
-        bytes,
-        room: room_of(has_room, room),
-    };
-    handle.call(alloc, caller, call)
-}
-
-/// C_DigestUpdate.
-#[unsafe(no_mangle)]
-pub extern "C" fn ospreyrack_digest_update(
-    alloc: Global,
-    handle: &mut Handle,
-    caller: u32,
-    session: u64,
-    bytes: &[u8],
-) -> u32
-    ensures { IsCalledBy caller (call.DigestUpdate session bytes.now) result
-        handle.old.value handle.new.value }
-{
-    let Ok(bytes) = Bytes::from_slice(alloc, bytes) else {
-        return Step::NoMemory.number();
-    };
-    let call = Call::DigestUpdate { session, bytes };
-    handle.call(alloc, caller, call)
-}
-
 /// C_DigestFinal. Without `has_room` only the length is asked for.
 #[unsafe(no_mangle)]
 pub extern "C" fn ospreyrack_digest_final(
@@ -120,50 +76,6 @@ pub extern "C" fn ospreyrack_sign_init(
         mechanism: Mechanism { kind, parameter },
         key,
     };
-    handle.call(alloc, caller, call)
-}
-
-/// C_Sign. Without `has_room` only the length is asked for.
-#[unsafe(no_mangle)]
-pub extern "C" fn ospreyrack_sign(
-    alloc: Global,
-    handle: &mut Handle,
-    caller: u32,
-    session: u64,
-    bytes: &[u8],
-    has_room: bool,
-    room: u64,
-) -> u32
-    ensures { IsCalledBy caller (call.Sign session bytes.now (room_of has_room room)) result
-        handle.old.value handle.new.value }
-{
-    let Ok(bytes) = Bytes::from_slice(alloc, bytes) else {
-        return Step::NoMemory.number();
-    };
-    let call = Call::Sign {
-        session,
-        bytes,
-        room: room_of(has_room, room),
-    };
-    handle.call(alloc, caller, call)
-}
-
-/// C_SignUpdate.
-#[unsafe(no_mangle)]
-pub extern "C" fn ospreyrack_sign_update(
-    alloc: Global,
-    handle: &mut Handle,
-    caller: u32,
-    session: u64,
-    bytes: &[u8],
-) -> u32
-    ensures { IsCalledBy caller (call.SignUpdate session bytes.now) result
-        handle.old.value handle.new.value }
-{
-    let Ok(bytes) = Bytes::from_slice(alloc, bytes) else {
-        return Step::NoMemory.number();
-    };
-    let call = Call::SignUpdate { session, bytes };
     handle.call(alloc, caller, call)
 }
 
@@ -211,52 +123,6 @@ pub extern "C" fn ospreyrack_verify_init(
         mechanism: Mechanism { kind, parameter },
         key,
     };
-    handle.call(alloc, caller, call)
-}
-
-/// C_Verify.
-#[unsafe(no_mangle)]
-pub extern "C" fn ospreyrack_verify(
-    alloc: Global,
-    handle: &mut Handle,
-    caller: u32,
-    session: u64,
-    bytes: &[u8],
-    signature: &[u8],
-) -> u32
-    ensures { IsCalledBy caller (call.Verify session bytes.now signature.now) result
-        handle.old.value handle.new.value }
-{
-    let Ok(bytes) = Bytes::from_slice(alloc, bytes) else {
-        return Step::NoMemory.number();
-    };
-    let Ok(signature) = Bytes::from_slice(alloc, signature) else {
-        return Step::NoMemory.number();
-    };
-    let call = Call::Verify {
-        session,
-        bytes,
-        signature,
-    };
-    handle.call(alloc, caller, call)
-}
-
-/// C_VerifyUpdate.
-#[unsafe(no_mangle)]
-pub extern "C" fn ospreyrack_verify_update(
-    alloc: Global,
-    handle: &mut Handle,
-    caller: u32,
-    session: u64,
-    bytes: &[u8],
-) -> u32
-    ensures { IsCalledBy caller (call.VerifyUpdate session bytes.now) result
-        handle.old.value handle.new.value }
-{
-    let Ok(bytes) = Bytes::from_slice(alloc, bytes) else {
-        return Step::NoMemory.number();
-    };
-    let call = Call::VerifyUpdate { session, bytes };
     handle.call(alloc, caller, call)
 }
 

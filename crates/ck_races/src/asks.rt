@@ -38,7 +38,7 @@ pub(crate) const RUNS: u32 = 100;
 type AskingScript<K> = Script<K, Step, Answered>;
 
 pub(crate) fn expect(holds: bool) -> anyhow::Result<()> {
-    ensure!(holds, "asks are not answered as they must be");
+    ensure!(holds, "a reply, a status or a count is not what it must be");
     Ok(())
 }
 

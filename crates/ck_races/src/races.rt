@@ -12,7 +12,8 @@
 //!
 //! A word of bytes may have an asterisk and a count: `61*5000` is 5,000 bytes `61`.
 //!
-//! Empty lines and lines that begin with `#` are skipped.
+//! Empty lines and lines that begin with `#` are skipped. A file has a race, and each race has calls
+//! that are made together; without a line `together` these are all of them.
 use crate::words::script_line;
 use anyhow::{Context, bail, ensure};
 use ck_journal::{Call, Reply};
@@ -30,6 +31,14 @@ pub(crate) struct RaceLine<'a> {
     pub(crate) reply: &'a str,
 }
 
+/// Which calls of a race follow.
+#[derive(Clone, Copy, PartialEq)]
+enum Part {
+    First,
+    Together,
+    Afterwards,
+}
+
 #[derive(Drop)]
 pub(crate) struct Race<'a> {
     /// The number of its first line.
@@ -43,8 +52,7 @@ pub(crate) struct Race<'a> {
     pub(crate) first: usize,
     pub(crate) is_in_any_order: bool,
     pub(crate) afterwards: Vec<RaceLine<'a>>,
-    /// Whether the calls that follow are made afterwards.
-    is_afterwards: bool,
+    part: Part,
 }
 
 impl<'a> Race<'a> {
@@ -57,19 +65,25 @@ impl<'a> Race<'a> {
             first: 0,
             is_in_any_order: false,
             afterwards: Vec::new(alloc),
-            is_afterwards: false,
+            part: Part::First,
         }
+    }
+
+    /// The calls before were made before the cut.
+    fn cut(&mut self, alloc: Global) {
+        self.earlier = mem::replace(&mut self.lines, Vec::new(alloc));
     }
 
     /// The calls that follow are made together.
     fn gather(&mut self, is_in_any_order: bool) {
         self.first = self.lines.len();
         self.is_in_any_order = is_in_any_order;
+        self.part = Part::Together;
     }
 
     /// Adds a call to those that are made afterwards, or to those before.
     fn add_call(&mut self, line: RaceLine<'a>) -> Result<(), NoMemory> {
-        if self.is_afterwards {
+        if self.part == Part::Afterwards {
             self.afterwards.push(line)?;
         } else {
             self.lines.push(line)?;
@@ -77,13 +91,24 @@ impl<'a> Race<'a> {
         Ok(())
     }
 
+    /// Whether some calls are made together.
+    fn is_whole(&self) -> bool {
+        self.first < self.lines.len()
+    }
+
     /// Adds what a line says.
     fn add(&mut self, alloc: Global, number: u64, text: &'a str) -> anyhow::Result<()> {
+        let is_first = self.part == Part::First;
         match text {
-            "cut" => self.earlier = mem::replace(&mut self.lines, Vec::new(alloc)),
-            "together" => self.gather(false),
-            "together in any order" => self.gather(true),
-            "afterwards" => self.is_afterwards = true,
+            "cut" if is_first && self.earlier.is_empty() => self.cut(alloc),
+            "together" if is_first => self.gather(false),
+            "together in any order" if is_first => self.gather(true),
+            "afterwards" if self.part != Part::Afterwards && self.is_whole() => {
+                self.part = Part::Afterwards;
+            }
+            "cut" | "together" | "together in any order" | "afterwards" => {
+                bail!("line {number}: {text} can't stand here")
+            }
             _ => match text.strip_prefix("sessions ") {
                 Some(sessions) => self.limits = limits_of(number, sessions)?,
                 None => self.add_call(line_in(alloc, number, text)?)?,
@@ -155,6 +180,19 @@ fn add_line<'a>(
     race.add(alloc, number, text)
 }
 
+/// There is a race, and each has calls that are made together.
+fn check_races(races: &[Race]) -> anyhow::Result<()> {
+    ensure!(!races.is_empty(), "there is no race");
+    for race in races {
+        ensure!(
+            race.is_whole(),
+            "the race of line {} has no calls that are made together",
+            race.number
+        );
+    }
+    Ok(())
+}
+
 /// The races of a file.
 pub(crate) fn races_in<'a>(alloc: Global, text: &'a str) -> anyhow::Result<Vec<Race<'a>>> {
     let mut races = Vec::new(alloc);
@@ -165,5 +203,6 @@ pub(crate) fn races_in<'a>(alloc: Global, text: &'a str) -> anyhow::Result<Vec<R
             add_line(alloc, &mut races, number, text)?;
         }
     }
+    check_races(&races)?;
     Ok(races)
 }

@@ -1,4 +1,4 @@
--- `ospreyrack_long_make` makes the value and writes it through the pointer. `V` is the value's row.
+-- `ospreyrack_message_make` makes the value and writes it through the pointer. `V` is the value's row.
 use Rattle.std.proofs.Common.{◌≡◌, [], ◌∷◌, refl}
 use Rattle.std.proofs.raw_atomic.Walks.{proved}
 use base.Fraction.{full_share}
@@ -26,21 +26,21 @@ use denote.Triple.Clauses.{ensured, lasts}
 use denote.Triple.Spec.{triple_of}
 use denote.Triple.Table.{framed}
 use denote.Triple.Walked.{Stays, walk_of, says, stay_dropped, Goes-dropped, ends_at}
-use Rattle.ck_module.specs.declared.long_calls.LongCall.{LongCall}
-use Rattle.ck_module.specs.declared.long_calls.LongCall.TheVariants as variant
-use Rattle.ck_module.specs.contracts.long_calls.LongCall.{the_row as V}
-use Rattle.ck_module.proofs.long_calls.LongCall.TheLaws as v-laws
-use Rattle.ck_module.specs.contracts.long_exports.ospreyrack_long_make as f
-use Rattle.ck_module.proofs.long_exports.ospreyrack_long_make.Statement.{statement}
-use Rattle.ck_module.proofs.long_exports.ospreyrack_long_make.Code as code
-use Rattle.ck_module.specs.contracts.long_calls.LongCall.new as g
-use Rattle.ck_module.proofs.long_calls.LongCall.new.Met.{met}
+use Rattle.ck_module.specs.declared.message_calls.MessageCall.{MessageCall}
+use Rattle.ck_module.specs.declared.message_calls.MessageCall.TheVariants as variant
+use Rattle.ck_module.specs.contracts.message_calls.MessageCall.{the_row as V}
+use Rattle.ck_module.proofs.message_calls.MessageCall.TheLaws as v-laws
+use Rattle.ck_module.specs.contracts.message_exports.ospreyrack_message_make as f
+use Rattle.ck_module.proofs.message_exports.ospreyrack_message_make.Statement.{statement}
+use Rattle.ck_module.proofs.message_exports.ospreyrack_message_make.Code as code
+use Rattle.ck_module.specs.contracts.message_calls.MessageCall.new as g
+use Rattle.ck_module.proofs.message_calls.MessageCall.new.Met.{met}
 
 abbrev stayed : Stays f.ended.signature.params f.ended.kept
 stayed = (stay_dropped _ yes, tt)
 
-pub ospreyrack_long_make_spec : {M : Type 1} → statement M
-ospreyrack_long_make_spec 𝓤 𝓛 𝓜 𝓡 wired =
+pub ospreyrack_message_make_spec : {M : Type 1} → statement M
+ospreyrack_message_make_spec 𝓤 𝓛 𝓜 𝓡 wired =
     let c = f.clauses 𝓛 𝓜.mem 𝓡.returns in let W = walk_of 𝓛 f.ended stayed c in
     let 𝓣 = tables 𝓤 𝓛.H 𝓜 𝓡 𝓡.env in
     proved 𝓛 f.ended stayed c 𝓜 𝓡
@@ -61,9 +61,9 @@ ospreyrack_long_make_spec 𝓤 𝓛 𝓜 𝓡 wired =
     nothing ! $ nothing ! $ join ! $ nothing ! $ move ! (1 ∷ 0 ∷ []) $
     use2 𝓛 (raw (G.pre z)) (id⊢ 𝓤 _) $
     calls_at ! (framed 𝓤 𝓛.H 𝓜 (tables 𝓤 𝓛.H 𝓜 𝓡 𝓡.env)) G
-    (met 𝓤 𝓛 𝓜 𝓡 (code.calls-ck_module::long_calls::LongCall::new 𝓡.env wired)) z
+    (met 𝓤 𝓛 𝓜 𝓡 (code.calls-ck_module::message_calls::MessageCall::new 𝓡.env wired)) z
     (no_more !) (λ v.
-    use1 𝓛 (later (some (λ (m : LongCall). (‵ ftrue ⊛ ‵ (V.own_val m (v ∷ [])))
+    use1 𝓛 (later (some (λ (m : MessageCall). (‵ ftrue ⊛ ‵ (V.own_val m (v ∷ [])))
     ⊛ raw (ensured 𝓛 g.ended (g.clauses 𝓛 𝓜.mem 𝓡.returns) κs tt tt m)))) (id⊢ 𝓤 _) $
     await ! tt $ pick ! (λ m. split ! $ split ! $ drop ! $ move ! (1 ∷ []) $
     use1 𝓛 (raw (fact 𝓤 (m ≡ variant.Empty)))
@@ -82,5 +82,5 @@ ospreyrack_long_make_spec 𝓤 𝓛 𝓜 𝓡 wired =
     suffices ! _ (ends_at 𝓛 f.ended stayed c (y (block_ptr b o)) vunit tt (tt, tt) (tt, tt)) $
     feq_i ! _ (vunit ∷ []) _ refl $ nothing ! $ nothing ! $ join ! $ nothing ! $ group ! 3 $
     frame ! $
-    show ! (λ (w : LongCall). sep 𝓤 (sem 𝓛 (lies_at V full_share (block_ptr b o) w))
+    show ! (λ (w : MessageCall). sep 𝓤 (sem 𝓛 (lies_at V full_share (block_ptr b o) w))
     (fact 𝓤 (w ≡ variant.Empty))) m $ says ! new $ done !)))))))

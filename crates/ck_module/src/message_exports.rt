@@ -3,67 +3,67 @@ ghost use Rattle.std.specs.Borrow.{sem, full_share};
 ghost use Rattle.std.specs.Mem.{type_size};
 ghost use Rattle.std.specs.Ptr.{lies_at, room_at};
 ghost use Rattle.ck_journal.specs.declared.calls.Call.TheVariants as call;
-ghost use Rattle.ck_module.specs.LongCalls.{IsBegin, IsGiven, IsMade, IsTakenIn, IsWorkOf};
-ghost use Rattle.ck_module.specs.LongCalls.{call_of, has_begun};
+ghost use Rattle.ck_module.specs.MessageCalls.{IsBegin, IsGiven, IsMade, IsTakenIn, IsWorkOf};
+ghost use Rattle.ck_module.specs.MessageCalls.{call_of, has_begun};
 ghost use Rattle.ck_module.specs.Queries.{room_of};
-ghost use Rattle.ck_module.specs.contracts.long_calls.LongCall.{the_row};
-ghost use Rattle.ck_module.specs.declared.long_calls.LongCall.{LongCall};
-ghost use Rattle.ck_module.specs.declared.long_calls.LongCall.TheVariants as variant;
+ghost use Rattle.ck_module.specs.contracts.message_calls.MessageCall.{the_row};
+ghost use Rattle.ck_module.specs.declared.message_calls.MessageCall.{MessageCall};
+ghost use Rattle.ck_module.specs.declared.message_calls.MessageCall.TheVariants as variant;
 
-use crate::handles::{Handle, LongHandle};
-use crate::long_calls::LongCall;
+use crate::handles::{Handle, MessageHandle};
+use crate::message_calls::MessageCall;
 use crate::queries::room_of;
 use crate::steps::Step;
 use ck_journal::Call;
 use ck_types::Bytes;
 use std::alloc::Global;
 
-/// How many bytes a call with a long message takes, without the message.
+/// How many bytes a call with a message takes, without the message.
 #[unsafe(no_mangle)]
-pub extern "C" fn ospreyrack_long_size() -> usize
+pub extern "C" fn ospreyrack_message_size() -> usize
     ensures { result ≡ type_size the_row }
 {
-    size_of::<LongCall>()
+    size_of::<MessageCall>()
 }
 
 /// Makes the place of a call in the room that C gives. No call is there yet.
 #[unsafe(no_mangle)]
-pub unsafe extern "C" fn ospreyrack_long_make(at: *mut u8)
+pub unsafe extern "C" fn ospreyrack_message_make(at: *mut u8)
     requires* { sem 𝓛 (room_at the_row at) }
-    ensures* { ∃ₛ (λ (l : LongCall). sem 𝓛 (lies_at the_row full_share at l)
+    ensures* { ∃ₛ (λ (l : MessageCall). sem 𝓛 (lies_at the_row full_share at l)
         ∗ ⌜ l ≡ variant.Empty ⌝) }
 {
-    let long = LongCall::new();
-    std::ptr::write(at as *mut LongCall, long);
+    let call = MessageCall::new();
+    std::ptr::write(at as *mut MessageCall, call);
 }
 
 /// Takes the call away, and gives back the memory that it has taken.
 #[unsafe(no_mangle)]
-pub extern "C" fn ospreyrack_long_reset(handle: &mut LongHandle)
-    ensures { handle.new.value ≡ variant.Empty }
+pub extern "C" fn ospreyrack_message_reset(message: &mut MessageHandle)
+    ensures { message.new.value ≡ variant.Empty }
 {
-    *handle.as_mut() = LongCall::new();
+    *message.as_mut() = MessageCall::new();
 }
 
 // ---- the call is given: whether there was memory for a copy of its message
 
 /// C_Digest (PKCS #11 Base 3.0, Message digesting functions).
 #[unsafe(no_mangle)]
-pub extern "C" fn ospreyrack_long_digest(
+pub extern "C" fn ospreyrack_digest(
     alloc: Global,
-    handle: &mut LongHandle,
+    message: &mut MessageHandle,
     session: u64,
     bytes: &[u8],
     has_room: bool,
     room: u64,
 ) -> bool
     ensures { IsGiven (call.Digest session bytes.now (room_of has_room room)) result
-        handle.old.value handle.new.value }
+        message.old.value message.new.value }
 {
     let Ok(bytes) = Bytes::from_slice(alloc, bytes) else {
         return false;
     };
-    *handle.as_mut() = LongCall::Given(Call::Digest {
+    *message.as_mut() = MessageCall::Given(Call::Digest {
         session,
         bytes,
         room: room_of(has_room, room),
@@ -73,39 +73,39 @@ pub extern "C" fn ospreyrack_long_digest(
 
 /// C_DigestUpdate.
 #[unsafe(no_mangle)]
-pub extern "C" fn ospreyrack_long_digest_update(
+pub extern "C" fn ospreyrack_digest_update(
     alloc: Global,
-    handle: &mut LongHandle,
+    message: &mut MessageHandle,
     session: u64,
     bytes: &[u8],
 ) -> bool
     ensures { IsGiven (call.DigestUpdate session bytes.now) result
-        handle.old.value handle.new.value }
+        message.old.value message.new.value }
 {
     let Ok(bytes) = Bytes::from_slice(alloc, bytes) else {
         return false;
     };
-    *handle.as_mut() = LongCall::Given(Call::DigestUpdate { session, bytes });
+    *message.as_mut() = MessageCall::Given(Call::DigestUpdate { session, bytes });
     true
 }
 
 /// C_Sign (PKCS #11 Base 3.0, Signing and MACing functions).
 #[unsafe(no_mangle)]
-pub extern "C" fn ospreyrack_long_sign(
+pub extern "C" fn ospreyrack_sign(
     alloc: Global,
-    handle: &mut LongHandle,
+    message: &mut MessageHandle,
     session: u64,
     bytes: &[u8],
     has_room: bool,
     room: u64,
 ) -> bool
     ensures { IsGiven (call.Sign session bytes.now (room_of has_room room)) result
-        handle.old.value handle.new.value }
+        message.old.value message.new.value }
 {
     let Ok(bytes) = Bytes::from_slice(alloc, bytes) else {
         return false;
     };
-    *handle.as_mut() = LongCall::Given(Call::Sign {
+    *message.as_mut() = MessageCall::Given(Call::Sign {
         session,
         bytes,
         room: room_of(has_room, room),
@@ -115,33 +115,33 @@ pub extern "C" fn ospreyrack_long_sign(
 
 /// C_SignUpdate.
 #[unsafe(no_mangle)]
-pub extern "C" fn ospreyrack_long_sign_update(
+pub extern "C" fn ospreyrack_sign_update(
     alloc: Global,
-    handle: &mut LongHandle,
+    message: &mut MessageHandle,
     session: u64,
     bytes: &[u8],
 ) -> bool
     ensures { IsGiven (call.SignUpdate session bytes.now) result
-        handle.old.value handle.new.value }
+        message.old.value message.new.value }
 {
     let Ok(bytes) = Bytes::from_slice(alloc, bytes) else {
         return false;
     };
-    *handle.as_mut() = LongCall::Given(Call::SignUpdate { session, bytes });
+    *message.as_mut() = MessageCall::Given(Call::SignUpdate { session, bytes });
     true
 }
 
 /// C_Verify (PKCS #11 Base 3.0, Functions for verifying signatures and MACs).
 #[unsafe(no_mangle)]
-pub extern "C" fn ospreyrack_long_verify(
+pub extern "C" fn ospreyrack_verify(
     alloc: Global,
-    handle: &mut LongHandle,
+    message: &mut MessageHandle,
     session: u64,
     bytes: &[u8],
     signature: &[u8],
 ) -> bool
     ensures { IsGiven (call.Verify session bytes.now signature.now) result
-        handle.old.value handle.new.value }
+        message.old.value message.new.value }
 {
     let Ok(bytes) = Bytes::from_slice(alloc, bytes) else {
         return false;
@@ -149,7 +149,7 @@ pub extern "C" fn ospreyrack_long_verify(
     let Ok(signature) = Bytes::from_slice(alloc, signature) else {
         return false;
     };
-    *handle.as_mut() = LongCall::Given(Call::Verify {
+    *message.as_mut() = MessageCall::Given(Call::Verify {
         session,
         bytes,
         signature,
@@ -159,19 +159,19 @@ pub extern "C" fn ospreyrack_long_verify(
 
 /// C_VerifyUpdate.
 #[unsafe(no_mangle)]
-pub extern "C" fn ospreyrack_long_verify_update(
+pub extern "C" fn ospreyrack_verify_update(
     alloc: Global,
-    handle: &mut LongHandle,
+    message: &mut MessageHandle,
     session: u64,
     bytes: &[u8],
 ) -> bool
     ensures { IsGiven (call.VerifyUpdate session bytes.now) result
-        handle.old.value handle.new.value }
+        message.old.value message.new.value }
 {
     let Ok(bytes) = Bytes::from_slice(alloc, bytes) else {
         return false;
     };
-    *handle.as_mut() = LongCall::Given(Call::VerifyUpdate { session, bytes });
+    *message.as_mut() = MessageCall::Given(Call::VerifyUpdate { session, bytes });
     true
 }
 
@@ -179,36 +179,39 @@ pub extern "C" fn ospreyrack_long_verify_update(
 
 /// Begins the work on the message, and says whether there is work to be done before the call.
 #[unsafe(no_mangle)]
-pub extern "C" fn ospreyrack_long_begin(handle: &mut Handle, long: &mut LongHandle) -> bool
-    ensures begun { IsBegin handle.old.value.token.history long.old.value long.new.value }
-    ensures told { result ≡ has_begun long.new.value }
+pub extern "C" fn ospreyrack_begin_work(handle: &mut Handle, message: &mut MessageHandle) -> bool
+    ensures begun { IsBegin handle.old.value.token.history message.old.value message.new.value }
+    ensures told { result ≡ has_begun message.new.value }
     ensures unchanged { handle.new.value ≡ handle.old.value }
 {
-    long.as_mut().begin(&handle.as_mut().token)
+    message.as_mut().begin(&handle.as_mut().token)
 }
 
 /// Takes in the bytes of the message, where the work on it has begun. It needs no token.
 #[unsafe(no_mangle)]
-pub extern "C" fn ospreyrack_long_take_in(long: &mut LongHandle)
-    ensures { IsTakenIn long.old.value long.new.value }
+pub extern "C" fn ospreyrack_take_in(message: &mut MessageHandle)
+    ensures { IsTakenIn message.old.value message.new.value }
 {
-    long.as_mut().take_in();
+    message.as_mut().take_in();
 }
 
 /// Makes the call. The work counts only where the call's operation hasn't changed since it was
 /// begun; the token has to be the one that began it, neither reset nor cut since.
 #[unsafe(no_mangle)]
-pub extern "C" fn ospreyrack_long_call(
+pub extern "C" fn ospreyrack_call(
     alloc: Global,
     handle: &mut Handle,
     caller: u32,
-    long: &mut LongHandle,
+    message: &mut MessageHandle,
 ) -> u32
-    requires { IsWorkOf handle.old.value.token.history long.old.value }
-    ensures made { IsMade caller (call_of long.old.value) result
+    requires { IsWorkOf handle.old.value.token.history message.old.value }
+    ensures made { IsMade caller (call_of message.old.value) result
         handle.old.value handle.new.value }
-    ensures empty { long.new.value ≡ variant.Empty }
+    ensures empty { message.new.value ≡ variant.Empty }
 {
-    let long = long.as_mut().take();
-    handle.as_mut().long_call(alloc, caller, long).number()
+    let message = message.as_mut().take();
+    handle
+        .as_mut()
+        .message_call(alloc, caller, message)
+        .number()
 }

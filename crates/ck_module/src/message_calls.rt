@@ -1,9 +1,9 @@
 ghost use Rattle.std.specs.Prelude.{◌≡◌};
 ghost use Rattle.ck_journal.specs.Works.{IsAhead};
 ghost use Rattle.ck_module.specs.Calls.{IsCalled};
-ghost use Rattle.ck_module.specs.LongCalls.{IsBegin, IsMadeBy, IsTakenIn, IsWorkOf};
-ghost use Rattle.ck_module.specs.LongCalls.{call_of, has_begun};
-ghost use Rattle.ck_module.specs.declared.long_calls.LongCall.TheVariants as long;
+ghost use Rattle.ck_module.specs.MessageCalls.{IsBegin, IsMadeBy, IsTakenIn, IsWorkOf};
+ghost use Rattle.ck_module.specs.MessageCalls.{call_of, has_begun};
+ghost use Rattle.ck_module.specs.declared.message_calls.MessageCall.TheVariants as variant;
 
 use crate::modules::Module;
 use crate::steps::Step;
@@ -13,10 +13,10 @@ use ck_types::NoMemory;
 use std::alloc::Global;
 use std::mem;
 
-/// A call that brings a long message, and the work on the message. It lies in C's memory, so that
-/// others can call the token while the bytes are taken in.
+/// A call that brings a message, and the work on the message where it is long. It lies in C's
+/// memory, so that others can call the token while the bytes are taken in.
 #[derive(Drop)]
-pub enum LongCall {
+pub enum MessageCall {
     /// There is no call.
     Empty,
     /// No work has begun, or there is none to be done before the call.
@@ -27,19 +27,19 @@ pub enum LongCall {
     Done(Call, Work),
 }
 
-impl LongCall {
-    pub(crate) fn new() -> LongCall
-        ensures { result ≡ long.Empty }
+impl MessageCall {
+    pub(crate) fn new() -> MessageCall
+        ensures { result ≡ variant.Empty }
     {
-        LongCall::Empty
+        MessageCall::Empty
     }
 
     /// Takes the call out.
-    pub(crate) fn take(&mut self) -> LongCall
+    pub(crate) fn take(&mut self) -> MessageCall
         ensures taken { result ≡ self.old }
-        ensures empty { self.new ≡ long.Empty }
+        ensures empty { self.new ≡ variant.Empty }
     {
-        mem::replace(self, LongCall::Empty)
+        mem::replace(self, MessageCall::Empty)
     }
 
     /// Begins the work on the message of the call, and says whether there is work to be done.
@@ -48,13 +48,13 @@ impl LongCall {
         ensures told { result ≡ has_begun self.new }
     {
         *self = match self.take() {
-            LongCall::Given(call) => match token.work(&call) {
-                Some(work) => LongCall::Begun(call, work),
-                None => LongCall::Given(call),
+            MessageCall::Given(call) => match token.work(&call) {
+                Some(work) => MessageCall::Begun(call, work),
+                None => MessageCall::Given(call),
             },
             other => other,
         };
-        matches!(self, LongCall::Begun(_, _))
+        matches!(self, MessageCall::Begun(_, _))
     }
 
     /// Takes in the bytes of a message whose work has begun.
@@ -62,9 +62,9 @@ impl LongCall {
         ensures { IsTakenIn self.old self.new }
     {
         *self = match self.take() {
-            LongCall::Begun(call, mut work) => {
+            MessageCall::Begun(call, mut work) => {
                 work.finish(&call);
-                LongCall::Done(call, work)
+                MessageCall::Done(call, work)
             }
             other => other,
         };
@@ -86,16 +86,16 @@ impl Module {
         }
     }
 
-    /// Makes a call with a long message, by the work where that is done, and keeps its reply.
-    pub(crate) fn long_call(&mut self, alloc: Global, caller: u32, long: LongCall) -> Step
-        requires { IsWorkOf self.old.token.history long }
-        ensures { IsMadeBy caller (call_of long) result self.old self.new }
+    /// Makes a call with a message, by the work where that is done, and keeps its reply.
+    pub(crate) fn message_call(&mut self, alloc: Global, caller: u32, message: MessageCall) -> Step
+        requires { IsWorkOf self.old.token.history message }
+        ensures { IsMadeBy caller (call_of message) result self.old self.new }
     {
-        match long {
-            LongCall::Empty => Step::NoCall,
-            LongCall::Given(call) => self.call(alloc, caller, call),
-            LongCall::Begun(call, _) => self.call(alloc, caller, call),
-            LongCall::Done(call, work) => self.call_after(alloc, caller, call, &work),
+        match message {
+            MessageCall::Empty => Step::NoCall,
+            MessageCall::Given(call) => self.call(alloc, caller, call),
+            MessageCall::Begun(call, _) => self.call(alloc, caller, call),
+            MessageCall::Done(call, work) => self.call_after(alloc, caller, call, &work),
         }
     }
 }

@@ -1,46 +1,46 @@
--- What becomes of a call with a long message that lies in C's memory
+-- What becomes of a call with a message that lies in C's memory
 use Rattle.std.specs.Prelude.{◌≡◌, ⊤, ℕ, Bool, true, false, Option, Some, None, MatchBool}
 use Rattle.ck_journal.specs.declared.calls.Call.{Call}
 use Rattle.ck_journal.specs.Histories.{History}
 use Rattle.ck_journal.specs.Works.{IsBegun, IsDone, IsAhead}
 use Rattle.ck_module.specs.Calls.{IsCalled}
 use Rattle.ck_module.specs.Steps.{step_number}
-use Rattle.ck_module.specs.declared.long_calls.LongCall.{LongCall}
-use Rattle.ck_module.specs.declared.long_calls.LongCall.TheVariants as long
+use Rattle.ck_module.specs.declared.message_calls.MessageCall.{MessageCall}
+use Rattle.ck_module.specs.declared.message_calls.MessageCall.TheVariants as variant
 use Rattle.ck_module.specs.declared.modules.Module.{Module}
 use Rattle.ck_module.specs.declared.steps.Step.{Step}
 use Rattle.ck_module.specs.declared.steps.Step.TheVariants as step
 
 -- the call is there, or there was no memory for it
-abbrev pub IsGiven : Call → Bool → LongCall → LongCall → Type 0
-IsGiven c result old new = MatchBool result (new ≡ long.Given c) (new ≡ old)
+abbrev pub IsGiven : Call → Bool → MessageCall → MessageCall → Type 0
+IsGiven c result old new = MatchBool result (new ≡ variant.Given c) (new ≡ old)
 
 -- the work was begun, by a token with this history, for the call that was given; or nothing changed
-abbrev pub IsBegin : History → LongCall → LongCall → Type 0
-IsBegin h (long.Given c) (long.Begun begun w) = (begun ≡ c) × IsBegun h c w
+abbrev pub IsBegin : History → MessageCall → MessageCall → Type 0
+IsBegin h (variant.Given c) (variant.Begun begun w) = (begun ≡ c) × IsBegun h c w
 IsBegin h old new = new ≡ old
 
-abbrev pub has_begun : LongCall → Bool
-has_begun (long.Begun c w) = true
+abbrev pub has_begun : MessageCall → Bool
+has_begun (variant.Begun c w) = true
 has_begun other = false
 
 -- work that was begun is done, for the same call; or nothing changed
-abbrev pub IsTakenIn : LongCall → LongCall → Type 0
-IsTakenIn (long.Begun c begun) (long.Done same w) =
+abbrev pub IsTakenIn : MessageCall → MessageCall → Type 0
+IsTakenIn (variant.Begun c begun) (variant.Done same w) =
     (same ≡ c) × ((h : History) → IsBegun h c begun → IsDone h c w)
-IsTakenIn (long.Begun c begun) new = ⊥
+IsTakenIn (variant.Begun c begun) new = ⊥
 IsTakenIn old new = new ≡ old
 
 -- where the work is done: the token that began it has this history, or had a front of it
-abbrev pub IsWorkOf : History → LongCall → Type 0
-IsWorkOf h (long.Done c w) = IsAhead h c w
+abbrev pub IsWorkOf : History → MessageCall → Type 0
+IsWorkOf h (variant.Done c w) = IsAhead h c w
 IsWorkOf h other = ⊤
 
-abbrev pub call_of : LongCall → Option Call
-call_of long.Empty = None
-call_of (long.Given c) = Some c
-call_of (long.Begun c w) = Some c
-call_of (long.Done c w) = Some c
+abbrev pub call_of : MessageCall → Option Call
+call_of variant.Empty = None
+call_of (variant.Given c) = Some c
+call_of (variant.Begun c w) = Some c
+call_of (variant.Done c w) = Some c
 
 -- the call was made; where there is none, nothing has changed
 abbrev pub IsMadeBy : ℕ → Option Call → Step → Module → Module → Type 0
