@@ -1,5 +1,5 @@
 -- What becomes of a call with a message that lies in C's memory
-use Rattle.std.specs.Prelude.{◌≡◌, ⊤, ℕ, Bool, true, false, Option, Some, None, MatchBool}
+use Rattle.std.specs.Prelude.{◌≡◌, ⊤, ℕ, Bool, true, false, Option, Some, None}
 use Rattle.ck_journal.specs.declared.calls.Call.{Call}
 use Rattle.ck_journal.specs.Histories.{History}
 use Rattle.ck_journal.specs.Works.{IsBegun, IsDone, IsAhead}
@@ -10,10 +10,6 @@ use Rattle.ck_module.specs.declared.message_calls.MessageCall.TheVariants as var
 use Rattle.ck_module.specs.declared.modules.Module.{Module}
 use Rattle.ck_module.specs.declared.steps.Step.{Step}
 use Rattle.ck_module.specs.declared.steps.Step.TheVariants as step
-
--- the call is there, or there was no memory for it
-abbrev pub IsGiven : Call → Bool → MessageCall → MessageCall → Type 0
-IsGiven c result old new = MatchBool result (new ≡ variant.Given c) (new ≡ old)
 
 -- the work was begun, by a token with this history, for the call that was given; or nothing changed
 abbrev pub IsBegin : History → MessageCall → MessageCall → Type 0

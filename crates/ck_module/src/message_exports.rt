@@ -1,9 +1,9 @@
-ghost use Rattle.std.specs.Prelude.{◌≡◌};
+ghost use Rattle.std.specs.Prelude.{◌≡◌, true, false};
 ghost use Rattle.std.specs.Borrow.{sem, full_share};
 ghost use Rattle.std.specs.Mem.{type_size};
 ghost use Rattle.std.specs.Ptr.{lies_at, room_at};
 ghost use Rattle.ck_journal.specs.declared.calls.Call.TheVariants as call;
-ghost use Rattle.ck_module.specs.MessageCalls.{IsBegin, IsGiven, IsMade, IsTakenIn, IsWorkOf};
+ghost use Rattle.ck_module.specs.MessageCalls.{IsBegin, IsMade, IsTakenIn, IsWorkOf};
 ghost use Rattle.ck_module.specs.MessageCalls.{call_of, has_begun};
 ghost use Rattle.ck_module.specs.Queries.{room_of};
 ghost use Rattle.ck_module.specs.contracts.message_calls.MessageCall.{the_row};
@@ -57,8 +57,9 @@ pub extern "C" fn ospreyrack_digest(
     has_room: bool,
     room: u64,
 ) -> bool
-    ensures { IsGiven (call.Digest session bytes.now (room_of has_room room)) result
-        message.old.value message.new.value }
+    ensures given { result ≡ true → message.new.value
+        ≡ variant.Given (call.Digest session bytes.now (room_of has_room room)) }
+    ensures unchanged { result ≡ false → message.new.value ≡ message.old.value }
 {
     let Ok(bytes) = Bytes::from_slice(alloc, bytes) else {
         return false;
@@ -79,8 +80,9 @@ pub extern "C" fn ospreyrack_digest_update(
     session: u64,
     bytes: &[u8],
 ) -> bool
-    ensures { IsGiven (call.DigestUpdate session bytes.now) result
-        message.old.value message.new.value }
+    ensures given { result ≡ true → message.new.value
+        ≡ variant.Given (call.DigestUpdate session bytes.now) }
+    ensures unchanged { result ≡ false → message.new.value ≡ message.old.value }
 {
     let Ok(bytes) = Bytes::from_slice(alloc, bytes) else {
         return false;
@@ -99,8 +101,9 @@ pub extern "C" fn ospreyrack_sign(
     has_room: bool,
     room: u64,
 ) -> bool
-    ensures { IsGiven (call.Sign session bytes.now (room_of has_room room)) result
-        message.old.value message.new.value }
+    ensures given { result ≡ true → message.new.value
+        ≡ variant.Given (call.Sign session bytes.now (room_of has_room room)) }
+    ensures unchanged { result ≡ false → message.new.value ≡ message.old.value }
 {
     let Ok(bytes) = Bytes::from_slice(alloc, bytes) else {
         return false;
@@ -121,8 +124,9 @@ pub extern "C" fn ospreyrack_sign_update(
     session: u64,
     bytes: &[u8],
 ) -> bool
-    ensures { IsGiven (call.SignUpdate session bytes.now) result
-        message.old.value message.new.value }
+    ensures given { result ≡ true → message.new.value
+        ≡ variant.Given (call.SignUpdate session bytes.now) }
+    ensures unchanged { result ≡ false → message.new.value ≡ message.old.value }
 {
     let Ok(bytes) = Bytes::from_slice(alloc, bytes) else {
         return false;
@@ -140,8 +144,9 @@ pub extern "C" fn ospreyrack_verify(
     bytes: &[u8],
     signature: &[u8],
 ) -> bool
-    ensures { IsGiven (call.Verify session bytes.now signature.now) result
-        message.old.value message.new.value }
+    ensures given { result ≡ true → message.new.value
+        ≡ variant.Given (call.Verify session bytes.now signature.now) }
+    ensures unchanged { result ≡ false → message.new.value ≡ message.old.value }
 {
     let Ok(bytes) = Bytes::from_slice(alloc, bytes) else {
         return false;
@@ -165,8 +170,9 @@ pub extern "C" fn ospreyrack_verify_update(
     session: u64,
     bytes: &[u8],
 ) -> bool
-    ensures { IsGiven (call.VerifyUpdate session bytes.now) result
-        message.old.value message.new.value }
+    ensures given { result ≡ true → message.new.value
+        ≡ variant.Given (call.VerifyUpdate session bytes.now) }
+    ensures unchanged { result ≡ false → message.new.value ≡ message.old.value }
 {
     let Ok(bytes) = Bytes::from_slice(alloc, bytes) else {
         return false;
