@@ -6,7 +6,6 @@
 #include "module.h"
 
 #include <stdatomic.h>
-#include <string.h>
 
 /* Bounds beyond which an application's number is taken for a mistake. With them the lengths of a
  * template can be added without overflow. */
@@ -125,7 +124,7 @@ static uint32_t call_by_line(const struct call *call) {
 
 /* ---- Calls by arguments
  *
- * Each switch hands the calls that it doesn't name to the next one. Those that none names go by a
+ * Each switch that makes calls hands those that it doesn't name to the next one. Those that none names go by a
  * line also without a journal's file: C_InitToken, the calls on PINs, C_Login, C_GetMechanismList,
  * C_GenerateKey, C_CopyObject and C_SetAttributeValue. */
 

@@ -131,8 +131,8 @@ static CK_RV begin_token(void) {
     return configure() ? CKR_OK : CKR_GENERAL_ERROR;
 }
 
-/* Gives back the memory and the file; the lock is left. Where a call with a message lies, there is
- * none now, so nothing is lost with its place. */
+/* Gives back the memory and the file; the lock is left. Under it no call with a message is being
+ * made, so its place has nothing to give back. */
 static void end_token(void) {
     if (library.token.at != NULL)
         ospreyrack_reset(&library.token);

@@ -8,6 +8,7 @@
 
 #include <errno.h>
 #include <fcntl.h>
+#include <stdatomic.h>
 #include <string.h>
 #include <sys/file.h>
 #include <sys/stat.h>
@@ -54,9 +55,11 @@ bool open_journal(const char *word, const char *path) {
     int file = open_file(path);
     if (file < 0)
         return report(word, "%s: the file can't be opened: %s", path, strerror(errno));
-    journal->is_open = true;
     journal->file = file;
     journal->word = word;
+    /* The child of a fork in between keeps the descriptor. */
+    atomic_signal_fence(memory_order_seq_cst);
+    journal->is_open = true;
     return lock_file(journal, path);
 }
 
@@ -112,7 +115,10 @@ static bool truncate_file(const struct journal *journal) {
 
 /* What was written in part is taken back, since the application gets no answer to it. */
 static bool write_text(struct journal *journal, size_t length) {
-    ssize_t written = write(journal->file, journal->text.bytes, length);
+    ssize_t written;
+    do
+        written = write(journal->file, journal->text.bytes, length);
+    while (written < 0 && errno == EINTR);
     if (written == (ssize_t)length) {
         journal->length += written;
         return true;

@@ -24,7 +24,7 @@ static size_t key_length(const CK_ATTRIBUTE *attributes, CK_ULONG count) {
 
 static CK_RV generate_key(struct call call, CK_OBJECT_HANDLE *key) {
     uint8_t bytes[LONGEST_KEY];
-    if (call.mechanism == NULL)
+    if (call.mechanism == NULL || key == NULL)
         return CKR_ARGUMENTS_BAD;
     CK_RV code = check_call(&call);
     if (code != CKR_OK)

@@ -76,6 +76,24 @@ void take_own_mutex(void) {
         pthread_mutex_lock(&own_mutex);
 }
 
+/* Whether this is still the library's lock: while a thread waits for it, another one that has it may
+ * finalize the library, and even initialize it anew. */
+static bool is_current(const struct application_lock *lock) {
+    pthread_mutex_lock(&own_mutex);
+    bool is_same = library.is_initialized && application_lock.mutex == lock->mutex;
+    pthread_mutex_unlock(&own_mutex);
+    return is_same;
+}
+
+static CK_RV enter_by_application(struct application_lock lock) {
+    if (lock.lock(lock.mutex) != CKR_OK)
+        return CKR_GENERAL_ERROR;
+    if (is_current(&lock))
+        return CKR_OK;
+    lock.unlock(lock.mutex);
+    return CKR_CRYPTOKI_NOT_INITIALIZED;
+}
+
 CK_RV enter(void) {
     take_own_mutex();
     if (!library.is_initialized) {
@@ -86,7 +104,7 @@ CK_RV enter(void) {
         return CKR_OK;
     struct application_lock lock = application_lock;
     pthread_mutex_unlock(&own_mutex);
-    return lock.lock(lock.mutex) == CKR_OK ? CKR_OK : CKR_GENERAL_ERROR;
+    return enter_by_application(lock);
 }
 
 CK_RV leave(CK_RV code) {

@@ -67,7 +67,7 @@ struct journal {
 struct library {
     bool is_initialized;
     struct token token;
-    struct message_call message; /* where a call with a short message lies while it is made */
+    struct message_call message; /* where a call with a message lies that is made without work */
     CK_UTF8CHAR label[LABEL_LENGTH];
     bool cuts_journal; /* the token's journal in memory is cut where no session is open */
     uint64_t updates;  /* updates in pieces that are under way: see `cancel_operation` */
@@ -269,7 +269,8 @@ bool write_line(const struct call *call, uint32_t caller, struct buffer *line);
  * lock is free. */
 CK_RV enter_with_work(struct call *call);
 
-/* Makes the call by its work. Answers false where that doesn't count any more. */
+/* Makes the call that has work. Answers false, and makes none, where the work was begun before the
+ * token was made anew or its journal was cut. */
 bool call_by_work(const struct call *call, uint32_t *step);
 
 /* Gives back the memory of a call's work, where it has any. */

@@ -25,7 +25,8 @@ struct token {
 /* What comes of a call. */
 enum step {
     ANSWERED = 0,  /* it was answered, and stands in the token's journal */
-    NO_CALL = 1,   /* the line is empty, a comment or a bad one; nothing has changed */
+    NO_CALL = 1,   /* the line is empty, a comment or a bad one, or no call was given; nothing has
+                      changed */
     NO_MEMORY = 2, /* there was no memory for it; nothing has changed */
 };
 
@@ -149,7 +150,8 @@ void ospreyrack_message_make(void *at);
 /* Takes the call away, and gives back all memory that it has taken. */
 void ospreyrack_message_reset(struct message_call *call);
 
-/* Give the call. Where there is no memory for it they answer false, and nothing has changed. */
+/* Give the call of this name: ospreyrack_call makes it. Where there is no memory for it they answer
+ * false, and nothing has changed. */
 bool ospreyrack_digest(struct message_call *call, uint64_t session, const uint8_t *bytes,
                        size_t length, bool has_room, uint64_t room);
 bool ospreyrack_digest_update(struct message_call *call, uint64_t session, const uint8_t *bytes,

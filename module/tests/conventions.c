@@ -1191,6 +1191,50 @@ static void test_update_and_another_token(void) {
     end_token();
 }
 
+/* ---- The library is finalized while a call waits for the application's lock. */
+
+static void finalize(void) {
+    EXPECT(CKR_OK, p11->C_Finalize(NULL));
+}
+
+static CK_RV ask_for_session(void) {
+    CK_SESSION_INFO info;
+    return p11->C_GetSessionInfo(current_session, &info);
+}
+
+static CK_RV finalize_again(void) {
+    return p11->C_Finalize(NULL);
+}
+
+static CK_RV update_with_pieces(void) {
+    return p11->C_DigestUpdate(current_session, large, LARGE);
+}
+
+/* At the last of so many locks of a call. */
+static void check_finalized_at(int locks_before, CK_RV (*make)(void), const char *what) {
+    begin_with_mutexes();
+    begin_sha(CKM_SHA256);
+    locks_until_change = locks_before;
+    change = finalize;
+    check_code(make(), CKR_CRYPTOKI_NOT_INITIALIZED, what);
+    check(locks_until_change == 0 && depth == 0 && locks == unlocks && destroyed == 1, what);
+    check_code(p11->C_Finalize(NULL), CKR_CRYPTOKI_NOT_INITIALIZED, what);
+    begin_with_mutexes();
+    begin_sha(CKM_SHA256);
+    check_code(digest_update_long(), CKR_OK, what);
+    end_token();
+}
+
+static void test_finalized_while_waiting(void) {
+    fill_large();
+    check_finalized_at(1, ask_for_session, "C_GetSessionInfo");
+    check_finalized_at(1, finalize_again, "C_Finalize");
+    for (int locks_before = 1; locks_before <= LOCKS_OF_PIECE; locks_before++)
+        check_finalized_at(locks_before, digest_update_long, "C_DigestUpdate of a long piece");
+    for (int locks_before = 1; locks_before <= 2 * LOCKS_OF_PIECE; locks_before++)
+        check_finalized_at(locks_before, update_with_pieces, "C_DigestUpdate in pieces");
+}
+
 /* The journal in memory is then long enough to be cut. */
 static void close_sessions(void) {
     CK_TOKEN_INFO info;
@@ -1573,6 +1617,30 @@ static void test_seeded_random(void) {
     end_token();
 }
 
+/* The first random bytes of a seed, also behind a C_GenerateKey that has no place for the handle. */
+static void first_bytes_of_seed(bool is_behind_bad_call, CK_BYTE *out) {
+    CK_MECHANISM generation = mechanism_of(CKM_GENERIC_SECRET_KEY_GEN);
+    CK_ULONG key_length = 16;
+    CK_ATTRIBUTE key = {CKA_VALUE_LEN, &key_length, sizeof key_length};
+    setenv("OSPREYRACK_SEED", "5", 1);
+    keep_errors();
+    CK_SESSION_HANDLE session = begin_token();
+    char text[2000];
+    read_errors(text, sizeof text);
+    unsetenv("OSPREYRACK_SEED");
+    if (is_behind_bad_call)
+        EXPECT(CKR_ARGUMENTS_BAD, p11->C_GenerateKey(session, &generation, &key, 1, NULL));
+    EXPECT(CKR_OK, p11->C_GenerateRandom(session, out, 16));
+    end_token();
+}
+
+static void test_seed_and_bad_call(void) {
+    CK_BYTE first[16] = {0}, second[16] = {0};
+    first_bytes_of_seed(false, first);
+    first_bytes_of_seed(true, second);
+    CHECK(memcmp(first, second, sizeof first) == 0);
+}
+
 /* ---- The words of the environment */
 
 static void write_file(const char *name, const char *text) {
@@ -1764,6 +1832,7 @@ static const struct test tests[] = {
      test_lock_that_fails_between},
     {"a piece of an update isn't taken by another token", test_update_and_another_token},
     {"sessions are closed between the pieces of an update", test_update_and_closed_sessions},
+    {"the library is finalized while a call waits for the lock", test_finalized_while_waiting},
     {"PINs of 3 to 200 bytes", test_pins},
     {"slots that aren't there", test_slots},
     {"what is said of the library", test_info},
@@ -1775,6 +1844,7 @@ static const struct test tests[] = {
     {"the size of an object", test_object_size},
     {"random bytes", test_random},
     {"random bytes of a seed", test_seeded_random},
+    {"random bytes of a seed behind a call that is refused", test_seed_and_bad_call},
     {"a thread that is cancelled in a call leaves no lock", test_cancelled_thread},
     {"a thread that is cancelled in C_Initialize or C_Finalize leaves no lock",
      test_cancelled_beginning_and_end},

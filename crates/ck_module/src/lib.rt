@@ -4,7 +4,8 @@
 //!
 //! An export that makes a call gives a number: 0 where the call was answered (`ospreyrack_code`
 //! then reads its return code), 1 where there is no call, as in an empty or a bad line, and 2 where
-//! there was no memory, so that neither the token nor its reply has changed.
+//! there was no memory, so that neither the token nor its reply has changed. A call that brings a
+//! message is given first, with a copy of it, and `ospreyrack_call` makes it.
 #![tactic(auto)]
 
 mod copies;

@@ -45,9 +45,10 @@ pub extern "C" fn ospreyrack_message_reset(message: &mut MessageHandle)
     *message.as_mut() = MessageCall::new();
 }
 
-// ---- the call is given: whether there was memory for a copy of its message
+// ---- the call is given: true where there was memory for a copy of its message
 
-/// C_Digest (PKCS #11 Base 3.0, Message digesting functions).
+/// Gives C_Digest (PKCS #11 Base 3.0, Message digesting functions), with a copy of its message.
+/// Without `has_room` only the length is asked for.
 #[unsafe(no_mangle)]
 pub extern "C" fn ospreyrack_digest(
     alloc: Global,
@@ -72,7 +73,7 @@ pub extern "C" fn ospreyrack_digest(
     true
 }
 
-/// C_DigestUpdate.
+/// Gives C_DigestUpdate, with a copy of the piece.
 #[unsafe(no_mangle)]
 pub extern "C" fn ospreyrack_digest_update(
     alloc: Global,
@@ -91,7 +92,8 @@ pub extern "C" fn ospreyrack_digest_update(
     true
 }
 
-/// C_Sign (PKCS #11 Base 3.0, Signing and MACing functions).
+/// Gives C_Sign (PKCS #11 Base 3.0, Signing and MACing functions), with a copy of its message.
+/// Without `has_room` only the length is asked for.
 #[unsafe(no_mangle)]
 pub extern "C" fn ospreyrack_sign(
     alloc: Global,
@@ -116,7 +118,7 @@ pub extern "C" fn ospreyrack_sign(
     true
 }
 
-/// C_SignUpdate.
+/// Gives C_SignUpdate, with a copy of the piece.
 #[unsafe(no_mangle)]
 pub extern "C" fn ospreyrack_sign_update(
     alloc: Global,
@@ -135,7 +137,8 @@ pub extern "C" fn ospreyrack_sign_update(
     true
 }
 
-/// C_Verify (PKCS #11 Base 3.0, Functions for verifying signatures and MACs).
+/// Gives C_Verify (PKCS #11 Base 3.0, Functions for verifying signatures and MACs), with copies of
+/// its message and its signature.
 #[unsafe(no_mangle)]
 pub extern "C" fn ospreyrack_verify(
     alloc: Global,
@@ -162,7 +165,7 @@ pub extern "C" fn ospreyrack_verify(
     true
 }
 
-/// C_VerifyUpdate.
+/// Gives C_VerifyUpdate, with a copy of the piece.
 #[unsafe(no_mangle)]
 pub extern "C" fn ospreyrack_verify_update(
     alloc: Global,

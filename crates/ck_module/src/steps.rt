@@ -6,7 +6,7 @@ ghost use Rattle.ck_module.specs.Steps.{step_number};
 pub(crate) enum Step {
     /// It was answered, and stands in the journal.
     Answered,
-    /// The line is empty, a comment or a bad one.
+    /// The line is empty, a comment or a bad one, or no call was given.
     NoCall,
     /// There was no memory for it.
     NoMemory,
