@@ -37,7 +37,7 @@ static bool give_work(struct call *call) {
     return give_message(&work->call, call);
 }
 
-/* Finds out whether calls are made by work: where a journal's file is kept, they go by lines. */
+/* Finds out whether calls are made by work: where a journal file is kept, they go by lines. */
 static CK_RV find_whether_by_work(bool *is_by_work) {
     CK_RV code = enter();
     if (code != CKR_OK)
@@ -47,7 +47,7 @@ static CK_RV find_whether_by_work(bool *is_by_work) {
 }
 
 /* Begins the work under the lock, and answers whether there is work to be done. Since the message
- * was copied, another thread may have initialized the library anew, with a journal's file. */
+ * was copied, another thread may have initialized the library anew, with a journal file. */
 static bool begin_work(struct work *work) {
     if (library.journal.is_kept)
         return false;

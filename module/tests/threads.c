@@ -199,7 +199,7 @@ static int long_rounds(void) {
     return rounds / 8 + 1;
 }
 
-/* In a journal's file the longest would be lines of 2 MiB. */
+/* In a journal file the longest would be lines of 2 MiB. */
 static int number_of_lengths(void) {
     return getenv("OSPREYRACK_JOURNAL") == NULL ? LENGTHS : LENGTHS - 1;
 }
@@ -294,7 +294,7 @@ static void digest_large_zeros(CK_SESSION_HANDLE session) {
     CHECK(memcmp(out, digest_of_zeros, sizeof out) == 0);
 }
 
-/* In a journal's file the pieces are lines of 2 MiB, so there it is one round. */
+/* In a journal file the pieces are lines of 2 MiB, so there it is one round. */
 static void *update_in_pieces(void *ignored) {
     int count = getenv("OSPREYRACK_JOURNAL") == NULL ? long_rounds() : 1;
     for (int round = 0; round < count; round++) {
