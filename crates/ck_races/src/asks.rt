@@ -251,7 +251,7 @@ fn check_scripts<K: TokenId>(
 
 impl<'a, K: TokenId, R: Runtime> Shared<'a, K, R> {
     /// A caller makes a call, which is answered CKR_OK.
-    fn make_call(&self, caller: &mut Caller<K>, call: Call) -> anyhow::Result<()> {
+    pub(crate) fn make_call(&self, caller: &mut Caller<K>, call: Call) -> anyhow::Result<()> {
         let reply = self.call(caller, call)?;
         expect(reply.rv == Rv::Ok)
     }

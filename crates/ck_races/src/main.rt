@@ -2,8 +2,8 @@
 //! callers make, with the replies that they get. Each race is played by threads of its callers,
 //! with all calls in a set order and with only the first ones. Then callers ask for the state of a
 //! session while another logs in, two callers are held at their calls, one caller makes calls under
-//! one lock and the token is taken back without its callers, and eight callers make the calls of
-//! their scripts and drawn calls at once. What is written is the same in every order of the calls.
+//! one lock and the token is taken back without its callers, long messages are taken in before
+//! their calls, and eight callers make the calls of their scripts and drawn calls at once. What is written is the same in every order of the calls.
 //!
 //! With the word `alone` before the files only the calls of each race are made, one after the
 //! other: on a shared token, by `run` and by `run_scripts`. Where there was no memory they are made
@@ -19,6 +19,7 @@ mod files;
 mod held_steps;
 mod journals;
 mod locked_calls;
+mod long_messages;
 mod mix;
 mod orders;
 mod races;
@@ -39,6 +40,7 @@ use eight_scripts::run_eight_scripts;
 use files::play_file;
 use held_steps::run_held_steps;
 use locked_calls::run_locked_calls;
+use long_messages::run_long_messages;
 use reserved::{make_reserved_calls, reserved_token};
 use std::env;
 use std::env::Env;
@@ -52,6 +54,8 @@ fn play_together<R: Runtime>(rt: R, text: &mut String) -> anyhow::Result<()> {
     write!(text, "held steps: {} passed\n", held_steps::RUNS)?;
     run_locked_calls(rt)?;
     write!(text, "calls under one lock: passed\n")?;
+    run_long_messages(rt)?;
+    write!(text, "long messages: passed\n")?;
     let calls = run_eight_scripts(rt)?;
     write!(text, "scripts of eight callers: {calls}, audit ok\n")?;
     let calls = make_drawn_calls(rt)?;

@@ -1,0 +1,44 @@
+//! A long message is taken in before its call where an operation takes it, and else not.
+use crate::asks::expect;
+use crate::journals::check_audit;
+use crate::shared_work::{Shared, SharedWork, share_with};
+use anyhow::Context;
+use ck_journal::{Call, READ_WRITE};
+use ck_shared::{Caller, Runtime, TokenId};
+use ck_token::Token;
+use ck_types::{Bytes, Limits, Mechanism, NoMemory, Pin, SHA256};
+
+/// From how many bytes on a message is long.
+const LONG: usize = 4096;
+
+impl<'a, K: TokenId, R: Runtime> Shared<'a, K, R> {
+    /// Whether these bytes are taken in before they are added to the digest of session 1.
+    fn is_taken_in(&self, bytes: &[u8]) -> Result<bool, NoMemory> {
+        let bytes = Bytes::from_slice(self.rt.alloc(), bytes)?;
+        let call = Call::DigestUpdate { session: 1, bytes };
+        Ok(self.token.take_in(self.rt, &call).is_some())
+    }
+
+    /// A caller begins a digest. Before, no message is taken in; then a long one is, and a shorter
+    /// one isn't.
+    pub(crate) fn take_in_messages(&self, callers: &mut [Caller<K>]) -> anyhow::Result<()> {
+        let (pin, flags) = (Pin::of(b"1234"), READ_WRITE);
+        let mechanism = Mechanism::new(self.rt.alloc(), SHA256);
+        let caller = callers.first_mut().context("a caller is missing")?;
+        self.make_call(caller, Call::InitToken { pin })?;
+        self.make_call(caller, Call::OpenSession { flags })?;
+        expect(!self.is_taken_in(&[97; LONG])?)?;
+        let session = 1;
+        self.make_call(caller, Call::DigestInit { session, mechanism })?;
+        expect(self.is_taken_in(&[97; LONG])? && !self.is_taken_in(&[97; LONG - 1])?)
+    }
+}
+
+/// Makes the calls on a new token.
+pub(crate) fn run_long_messages<R: Runtime>(rt: R) -> anyhow::Result<()> {
+    let alloc = rt.alloc();
+    let token = Token::new(alloc, Limits::largest());
+    let (token, _outcome) = share_with(rt, token, 1, &SharedWork::LongMessages)?;
+    check_audit(alloc, &token)?;
+    Ok(())
+}
