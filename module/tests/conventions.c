@@ -1235,6 +1235,59 @@ static void test_finalized_while_waiting(void) {
         check_finalized_at(locks_before, update_with_pieces, "C_DigestUpdate in pieces");
 }
 
+/* Two mutexes of the application, one after the other, each with how often it is locked. */
+static int mutexes_in_turn[2], mutexes_made;
+
+static CK_RV create_next(CK_VOID_PTR_PTR mutex) {
+    *mutex = &mutexes_in_turn[mutexes_made++];
+    return CKR_OK;
+}
+
+static CK_RV destroy_any(CK_VOID_PTR mutex) {
+    (void)mutex;
+    return CKR_OK;
+}
+
+static CK_RV lock_any(CK_VOID_PTR mutex) {
+    if (locks_until_change > 0 && --locks_until_change == 0)
+        change();
+    ++*(int *)mutex;
+    return CKR_OK;
+}
+
+static CK_RV unlock_any(CK_VOID_PTR mutex) {
+    --*(int *)mutex;
+    return CKR_OK;
+}
+
+static void begin_with_next_mutex(void) {
+    CK_C_INITIALIZE_ARGS arguments = {
+        .CreateMutex = create_next,
+        .DestroyMutex = destroy_any,
+        .LockMutex = lock_any,
+        .UnlockMutex = unlock_any,
+    };
+    EXPECT(CKR_OK, p11->C_Initialize(&arguments));
+    current_session = log_in();
+}
+
+static void begin_anew_with_next_mutex(void) {
+    EXPECT(CKR_OK, p11->C_Finalize(NULL));
+    begin_with_next_mutex();
+}
+
+/* A call that has waited for a mutex that isn't the library's any more isn't made under it. */
+static void test_another_mutex(void) {
+    mutexes_made = 0;
+    begin_with_next_mutex();
+    locks_until_change = 1;
+    change = begin_anew_with_next_mutex;
+    EXPECT(CKR_CRYPTOKI_NOT_INITIALIZED, ask_for_session());
+    CHECK(mutexes_made == 2 && mutexes_in_turn[0] == 0 && mutexes_in_turn[1] == 0);
+    EXPECT(CKR_OK, ask_for_session());
+    end_token();
+}
+
 /* The journal in memory is then long enough to be cut. */
 static void close_sessions(void) {
     CK_TOKEN_INFO info;
@@ -1833,6 +1886,7 @@ static const struct test tests[] = {
     {"a piece of an update isn't taken by another token", test_update_and_another_token},
     {"sessions are closed between the pieces of an update", test_update_and_closed_sessions},
     {"the library is finalized while a call waits for the lock", test_finalized_while_waiting},
+    {"a call has waited for a mutex that isn't the library's any more", test_another_mutex},
     {"PINs of 3 to 200 bytes", test_pins},
     {"slots that aren't there", test_slots},
     {"what is said of the library", test_info},
