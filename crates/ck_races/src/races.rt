@@ -69,7 +69,7 @@ impl<'a> Race<'a> {
         }
     }
 
-    /// The calls before were made before the cut.
+    /// The calls so far are those before the cut.
     fn cut(&mut self, alloc: Global) {
         self.earlier = mem::replace(&mut self.lines, Vec::new(alloc));
     }
