@@ -114,8 +114,8 @@ impl<K: TokenId, G: JournaledToken, R: Wait + Drop> SharedToken<K, G, R> {
     }
 
     /// Takes the lock. Whoever has it makes calls by `Locked::step`, with no others between them,
-    /// and reads the token by `Locked::token`. The board answers without the lock meanwhile. What is
-    /// known of the token under the lock is the invariant of `Locked`, so no clause repeats it.
+    /// and reads the token by `Locked::token`. The board answers without the lock meanwhile. What
+    /// is known of the token under the lock is the invariant of `Locked`, so no clause repeats it.
     pub fn lock<W: Wait>(&self, rt: &W) -> MutexGuard<'_, Locked<K, G, R>> {
         let backoff = Backoff::new();
         let mut yields = YIELDS;
