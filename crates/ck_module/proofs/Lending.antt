@@ -131,7 +131,7 @@ module _ (H : HandleType) {M : Type 1} {𝓤 : Ura M} (𝓛 : Logic 𝓤) (κ : 
   bound = (((κ, tt), (q, tt), tt, (ref, tt), (vptr rb ro ∷ [], tt)), tt)
 
   module _ (b o : ℕ) (us : List Val) where
-    -- all of the handle but the value
+    -- all of the handle except the value
     abbrev Rest : Fml
     Rest = fsep ((Struct (shape (owning H))).own_val (H.at h, tt) us)
         (cell_at full_share (R H).mir us rb ro)

@@ -1,4 +1,4 @@
-ghost use Rattle.std.specs.Prelude.{◌≡◌};
+ghost use Rattle.std.specs.Prelude.{◌≡◌, IfOk, OnErr, true, false};
 ghost use Rattle.std.specs.Borrow.{sem};
 ghost use Rattle.ck_module.specs.declared.message_calls.MessageCall.{MessageCall};
 ghost use Rattle.ck_module.specs.declared.modules.Module.{Module};
@@ -7,7 +7,9 @@ ghost use Rattle.ck_module.specs.contracts.modules.Module.{the_row as module_row
 
 use crate::message_calls::MessageCall;
 use crate::modules::Module;
+use crate::steps::Step;
 use ck_journal::Call;
+use ck_types::NoMemory;
 use std::alloc::Global;
 use std::marker::Model;
 
@@ -27,8 +29,9 @@ impl Model for Handle {
 }
 
 impl Handle {
-    ghost use Rattle.std.specs.Prelude.{◌<◌, false};
+    ghost use Rattle.std.specs.Prelude.{◌<◌};
     ghost use Rattle.std.specs.Borrow.{Lends};
+    ghost use Rattle.ck_journal.specs.declared.calls.Call.{Call};
     ghost use Rattle.ck_module.specs.Calls.{IsCalledBy};
     ghost use Rattle.ck_module.specs.contracts.handles.Handle.{the_row};
     ghost use Rattle.ck_token.specs.Decisions.{may_run_out};
@@ -39,7 +42,24 @@ impl Handle {
             (λ w. record self.old { value = w })) }
         ensures value { result.now ≡ self.old.value }
     {
+        // SAFETY: a token lies there, which nobody else uses (`also_owns`).
         unsafe { &mut *(self.at as *mut Module) }
+    }
+
+    /// Makes a call, where there was memory for its lists, and gives the number of what came of it.
+    pub(crate) fn call_with_lists(
+        &mut self,
+        alloc: Global,
+        caller: u32,
+        call: Result<Call, NoMemory>,
+    ) -> u32
+        ensures { (c : Call) → IfOk call (λ made. made ≡ c)
+            → IsCalledBy caller c result self.old.value self.new.value }
+    {
+        match call {
+            Ok(call) => self.call(alloc, caller, call),
+            Err(NoMemory) => Step::NoMemory.number(),
+        }
     }
 
     /// Makes a call, and gives the number of what came of it.
@@ -53,7 +73,7 @@ impl Handle {
     }
 }
 
-// A handle may go to another thread, as the token that lies there may.
+// SAFETY: a handle may go to another thread, as the token that lies there may.
 unsafe impl Send for Handle {}
 
 /// What C holds of a call with a message: where it lies. Contracts see the call that lies there.
@@ -74,6 +94,21 @@ impl Model for MessageHandle {
 impl MessageHandle {
     ghost use Rattle.std.specs.Borrow.{Lends};
     ghost use Rattle.ck_module.specs.contracts.handles.MessageHandle.{the_row};
+    ghost use Rattle.ck_module.specs.declared.message_calls.MessageCall.TheVariants as variant;
+
+    /// Gives a call where there was memory for its lists, and says whether there was.
+    pub(crate) fn give(&mut self, call: Result<Call, NoMemory>) -> bool
+        ensures given { IfOk call (λ c. (result ≡ true) × (self.new.value ≡ variant.Given c)) }
+        ensures unchanged { OnErr call ((result ≡ false) × (self.new.value ≡ self.old.value)) }
+    {
+        match call {
+            Ok(call) => {
+                self.as_mut().set(MessageCall::Given(call));
+                true
+            }
+            Err(NoMemory) => false,
+        }
+    }
 
     /// Lends the call. When the loan ends, what was written is the call that lies there.
     pub(crate) fn as_mut(&mut self) -> &mut MessageCall
@@ -81,9 +116,10 @@ impl MessageHandle {
             (λ w. record self.old { value = w })) }
         ensures value { result.now ≡ self.old.value }
     {
+        // SAFETY: a call lies there, which nobody else uses (`also_owns`).
         unsafe { &mut *(self.at as *mut MessageCall) }
     }
 }
 
-// A handle may go to another thread, as the call that lies there may.
+// SAFETY: a handle may go to another thread, as the call that lies there may.
 unsafe impl Send for MessageHandle {}

@@ -14,8 +14,8 @@ pub extern "C" fn ospreyrack_line(alloc: Global, handle: &mut Handle, line: &[u8
     handle.as_mut().line(alloc, line).number()
 }
 
-/// Makes the text of the reply to the last answered call, without a line end: 0. Where there is no
-/// memory for it: 2, and nothing is said of the text.
+/// Makes the text of the reply to the last answered call, without a line end, and gives 0. Where
+/// there is no memory for it, gives 2, and nothing is said of the text.
 #[unsafe(no_mangle)]
 pub extern "C" fn ospreyrack_write_text(handle: &mut Handle) -> u32
     ensures { IsTextOf result handle.old.value handle.new.value }

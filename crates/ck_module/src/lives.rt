@@ -23,6 +23,10 @@ pub extern "C" fn ospreyrack_size() -> usize
 }
 
 /// Makes a new token in the room that C gives. It takes no other memory.
+///
+/// # Safety
+///
+/// `at` is the address, a multiple of 16, of `ospreyrack_size` bytes that nothing else uses.
 #[unsafe(no_mangle)]
 pub unsafe extern "C" fn ospreyrack_make(alloc: Global, at: *mut u8)
     requires* { sem 𝓛 (room_at the_row at) }
@@ -40,7 +44,7 @@ pub extern "C" fn ospreyrack_reset(alloc: Global, handle: &mut Handle)
     *handle.as_mut() = Module::new(alloc);
 }
 
-/// Cuts the token's journal: 0. Where a session is open: 1. Where there is no memory for it: 2.
+/// Cuts the token's journal and gives 0; 1 where a session is open, 2 where there is no memory.
 #[unsafe(no_mangle)]
 pub extern "C" fn ospreyrack_cut(alloc: Global, handle: &mut Handle) -> u32
     ensures { (cut : Result (Unit {0}) Uncut) × (result ≡ cut_number cut)

@@ -34,6 +34,13 @@ impl MessageCall {
         MessageCall::Empty
     }
 
+    /// Puts a call in the place of what was there.
+    pub(crate) fn set(&mut self, call: MessageCall)
+        ensures { self.new ≡ call }
+    {
+        *self = call;
+    }
+
     /// Takes the call out.
     pub(crate) fn take(&mut self) -> MessageCall
         ensures taken { result ≡ self.old }
@@ -47,13 +54,14 @@ impl MessageCall {
         ensures begun { IsBegin token.now.history self.old self.new }
         ensures told { result ≡ has_begun self.new }
     {
-        *self = match self.take() {
+        let call = match self.take() {
             MessageCall::Given(call) => match token.work(&call) {
                 Some(work) => MessageCall::Begun(call, work),
                 None => MessageCall::Given(call),
             },
             other => other,
         };
+        self.set(call);
         matches!(self, MessageCall::Begun(_, _))
     }
 
@@ -61,13 +69,14 @@ impl MessageCall {
     pub(crate) fn take_in(&mut self)
         ensures { IsTakenIn self.old self.new }
     {
-        *self = match self.take() {
+        let call = match self.take() {
             MessageCall::Begun(call, mut work) => {
                 work.finish(&call);
                 MessageCall::Done(call, work)
             }
             other => other,
         };
+        self.set(call);
     }
 }
 

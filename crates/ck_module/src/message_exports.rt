@@ -1,4 +1,4 @@
-ghost use Rattle.std.specs.Prelude.{◌≡◌, true, false};
+ghost use Rattle.std.specs.Prelude.{◌≡◌, IfOk, true, false};
 ghost use Rattle.std.specs.Borrow.{sem, full_share};
 ghost use Rattle.std.specs.Mem.{type_size};
 ghost use Rattle.std.specs.Ptr.{lies_at, room_at};
@@ -13,9 +13,8 @@ ghost use Rattle.ck_module.specs.declared.message_calls.MessageCall.TheVariants 
 use crate::handles::{Handle, MessageHandle};
 use crate::message_calls::MessageCall;
 use crate::queries::room_of;
-use crate::steps::Step;
 use ck_journal::Call;
-use ck_types::Bytes;
+use ck_types::{Bytes, NoMemory};
 use std::alloc::Global;
 
 /// How many bytes a call with a message takes, without the message.
@@ -27,6 +26,11 @@ pub extern "C" fn ospreyrack_message_size() -> usize
 }
 
 /// Makes the place of a call in the room that C gives. No call is there yet.
+///
+/// # Safety
+///
+/// `at` is the address, a multiple of 16, of `ospreyrack_message_size` bytes that nothing else
+/// uses.
 #[unsafe(no_mangle)]
 pub unsafe extern "C" fn ospreyrack_message_make(at: *mut u8)
     requires* { sem 𝓛 (room_at the_row at) }
@@ -42,7 +46,7 @@ pub unsafe extern "C" fn ospreyrack_message_make(at: *mut u8)
 pub extern "C" fn ospreyrack_message_reset(message: &mut MessageHandle)
     ensures { message.new.value ≡ variant.Empty }
 {
-    *message.as_mut() = MessageCall::new();
+    message.as_mut().set(MessageCall::Empty);
 }
 
 // ---- the call is given: true where there was memory for a copy of its message
@@ -62,15 +66,12 @@ pub extern "C" fn ospreyrack_digest(
         ≡ variant.Given (call.Digest session bytes.now (room_of has_room room)) }
     ensures unchanged { result ≡ false → message.new.value ≡ message.old.value }
 {
-    let Ok(bytes) = Bytes::from_slice(alloc, bytes) else {
-        return false;
-    };
-    *message.as_mut() = MessageCall::Given(Call::Digest {
+    let (bytes, room) = (Bytes::from_slice(alloc, bytes), room_of(has_room, room));
+    message.give(bytes.map(|bytes| Call::Digest {
         session,
         bytes,
-        room: room_of(has_room, room),
-    });
-    true
+        room,
+    }))
 }
 
 /// Gives C_DigestUpdate, with a copy of the piece.
@@ -85,11 +86,8 @@ pub extern "C" fn ospreyrack_digest_update(
         ≡ variant.Given (call.DigestUpdate session bytes.now) }
     ensures unchanged { result ≡ false → message.new.value ≡ message.old.value }
 {
-    let Ok(bytes) = Bytes::from_slice(alloc, bytes) else {
-        return false;
-    };
-    *message.as_mut() = MessageCall::Given(Call::DigestUpdate { session, bytes });
-    true
+    let bytes = Bytes::from_slice(alloc, bytes);
+    message.give(bytes.map(|bytes| Call::DigestUpdate { session, bytes }))
 }
 
 /// Gives C_Sign (PKCS #11 Base 3.0, Signing and MACing functions), with a copy of its message.
@@ -107,15 +105,12 @@ pub extern "C" fn ospreyrack_sign(
         ≡ variant.Given (call.Sign session bytes.now (room_of has_room room)) }
     ensures unchanged { result ≡ false → message.new.value ≡ message.old.value }
 {
-    let Ok(bytes) = Bytes::from_slice(alloc, bytes) else {
-        return false;
-    };
-    *message.as_mut() = MessageCall::Given(Call::Sign {
+    let (bytes, room) = (Bytes::from_slice(alloc, bytes), room_of(has_room, room));
+    message.give(bytes.map(|bytes| Call::Sign {
         session,
         bytes,
-        room: room_of(has_room, room),
-    });
-    true
+        room,
+    }))
 }
 
 /// Gives C_SignUpdate, with a copy of the piece.
@@ -130,11 +125,8 @@ pub extern "C" fn ospreyrack_sign_update(
         ≡ variant.Given (call.SignUpdate session bytes.now) }
     ensures unchanged { result ≡ false → message.new.value ≡ message.old.value }
 {
-    let Ok(bytes) = Bytes::from_slice(alloc, bytes) else {
-        return false;
-    };
-    *message.as_mut() = MessageCall::Given(Call::SignUpdate { session, bytes });
-    true
+    let bytes = Bytes::from_slice(alloc, bytes);
+    message.give(bytes.map(|bytes| Call::SignUpdate { session, bytes }))
 }
 
 /// Gives C_Verify (PKCS #11 Base 3.0, Functions for verifying signatures and MACs), with copies of
@@ -151,18 +143,22 @@ pub extern "C" fn ospreyrack_verify(
         ≡ variant.Given (call.Verify session bytes.now signature.now) }
     ensures unchanged { result ≡ false → message.new.value ≡ message.old.value }
 {
-    let Ok(bytes) = Bytes::from_slice(alloc, bytes) else {
-        return false;
-    };
-    let Ok(signature) = Bytes::from_slice(alloc, signature) else {
-        return false;
-    };
-    *message.as_mut() = MessageCall::Given(Call::Verify {
+    message.give(verification(alloc, session, bytes, signature))
+}
+
+fn verification(
+    alloc: Global,
+    session: u64,
+    bytes: &[u8],
+    signature: &[u8],
+) -> Result<Call, NoMemory>
+    ensures { IfOk result (λ c. c ≡ call.Verify session bytes.now signature.now) }
+{
+    Ok(Call::Verify {
         session,
-        bytes,
-        signature,
-    });
-    true
+        bytes: Bytes::from_slice(alloc, bytes)?,
+        signature: Bytes::from_slice(alloc, signature)?,
+    })
 }
 
 /// Gives C_VerifyUpdate, with a copy of the piece.
@@ -177,11 +173,8 @@ pub extern "C" fn ospreyrack_verify_update(
         ≡ variant.Given (call.VerifyUpdate session bytes.now) }
     ensures unchanged { result ≡ false → message.new.value ≡ message.old.value }
 {
-    let Ok(bytes) = Bytes::from_slice(alloc, bytes) else {
-        return false;
-    };
-    *message.as_mut() = MessageCall::Given(Call::VerifyUpdate { session, bytes });
-    true
+    let bytes = Bytes::from_slice(alloc, bytes);
+    message.give(bytes.map(|bytes| Call::VerifyUpdate { session, bytes }))
 }
 
 // ---- its message is worked on, and the call is made

@@ -6,7 +6,6 @@ ghost use Rattle.ck_module.specs.Templates.{template_of};
 
 use crate::handles::Handle;
 use crate::queries::{Query, queries_of};
-use crate::steps::Step;
 use crate::templates::{TypeAndLength, template_of};
 use ck_journal::Call;
 use std::alloc::Global;
@@ -25,11 +24,9 @@ pub extern "C" fn ospreyrack_create_object(
     ensures { IsCalledBy caller (call.CreateObject session
         (template_of attributes.now values.now)) result handle.old.value handle.new.value }
 {
-    let Ok(template) = template_of(alloc, attributes, values) else {
-        return Step::NoMemory.number();
-    };
-    let call = Call::CreateObject { session, template };
-    handle.call(alloc, caller, call)
+    let template = template_of(alloc, attributes, values);
+    let call = template.map(|template| Call::CreateObject { session, template });
+    handle.call_with_lists(alloc, caller, call)
 }
 
 /// C_GetAttributeValue.
@@ -45,15 +42,13 @@ pub extern "C" fn ospreyrack_get_attribute_value(
     ensures { IsCalledBy caller (call.GetAttributeValue session object
         (map query_of queries.now)) result handle.old.value handle.new.value }
 {
-    let Ok(queries) = queries_of(alloc, queries) else {
-        return Step::NoMemory.number();
-    };
-    let call = Call::GetAttributeValue {
+    let queries = queries_of(alloc, queries);
+    let call = queries.map(|queries| Call::GetAttributeValue {
         session,
         object,
         queries,
-    };
-    handle.call(alloc, caller, call)
+    });
+    handle.call_with_lists(alloc, caller, call)
 }
 
 /// Takes a key to another state (SP 800-57 Part 1, Key States and Transitions), which no function

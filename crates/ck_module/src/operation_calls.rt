@@ -4,7 +4,6 @@ ghost use Rattle.ck_module.specs.Queries.{room_of};
 
 use crate::handles::Handle;
 use crate::queries::room_of;
-use crate::steps::Step;
 use ck_journal::Call;
 use ck_types::{Bytes, Mechanism};
 use std::alloc::Global;
@@ -23,14 +22,12 @@ pub extern "C" fn ospreyrack_digest_init(
         (call.DigestInit session (record { kind = kind; parameter = parameter.now })) result
         handle.old.value handle.new.value }
 {
-    let Ok(parameter) = Bytes::from_slice(alloc, parameter) else {
-        return Step::NoMemory.number();
-    };
-    let call = Call::DigestInit {
+    let parameter = Bytes::from_slice(alloc, parameter);
+    let call = parameter.map(|parameter| Call::DigestInit {
         session,
         mechanism: Mechanism { kind, parameter },
-    };
-    handle.call(alloc, caller, call)
+    });
+    handle.call_with_lists(alloc, caller, call)
 }
 
 /// C_DigestFinal. Without `has_room` only the length is asked for.
@@ -68,15 +65,13 @@ pub extern "C" fn ospreyrack_sign_init(
         (call.SignInit session (record { kind = kind; parameter = parameter.now }) key) result
         handle.old.value handle.new.value }
 {
-    let Ok(parameter) = Bytes::from_slice(alloc, parameter) else {
-        return Step::NoMemory.number();
-    };
-    let call = Call::SignInit {
+    let parameter = Bytes::from_slice(alloc, parameter);
+    let call = parameter.map(|parameter| Call::SignInit {
         session,
         mechanism: Mechanism { kind, parameter },
         key,
-    };
-    handle.call(alloc, caller, call)
+    });
+    handle.call_with_lists(alloc, caller, call)
 }
 
 /// C_SignFinal. Without `has_room` only the length is asked for.
@@ -115,15 +110,13 @@ pub extern "C" fn ospreyrack_verify_init(
         (call.VerifyInit session (record { kind = kind; parameter = parameter.now }) key) result
         handle.old.value handle.new.value }
 {
-    let Ok(parameter) = Bytes::from_slice(alloc, parameter) else {
-        return Step::NoMemory.number();
-    };
-    let call = Call::VerifyInit {
+    let parameter = Bytes::from_slice(alloc, parameter);
+    let call = parameter.map(|parameter| Call::VerifyInit {
         session,
         mechanism: Mechanism { kind, parameter },
         key,
-    };
-    handle.call(alloc, caller, call)
+    });
+    handle.call_with_lists(alloc, caller, call)
 }
 
 /// C_VerifyFinal.
@@ -138,9 +131,7 @@ pub extern "C" fn ospreyrack_verify_final(
     ensures { IsCalledBy caller (call.VerifyFinal session signature.now) result
         handle.old.value handle.new.value }
 {
-    let Ok(signature) = Bytes::from_slice(alloc, signature) else {
-        return Step::NoMemory.number();
-    };
-    let call = Call::VerifyFinal { session, signature };
-    handle.call(alloc, caller, call)
+    let signature = Bytes::from_slice(alloc, signature);
+    let call = signature.map(|signature| Call::VerifyFinal { session, signature });
+    handle.call_with_lists(alloc, caller, call)
 }

@@ -13,7 +13,7 @@ use ck_journal::{Answer, Body};
 /// A session's state (CK_STATE) and flags, as CK_SESSION_INFO has them.
 #[repr(C)]
 #[derive(Clone, Copy)]
-pub struct SessionView {
+pub struct SessionInfo {
     pub state: u64,
     pub flags: u64,
 }
@@ -22,7 +22,7 @@ pub struct SessionView {
 /// are open, and how many of these are read/write sessions.
 #[repr(C)]
 #[derive(Clone, Copy)]
-pub struct TokenView {
+pub struct TokenInfo {
     pub flags: u64,
     pub limit: u64,
     pub sessions: u64,
@@ -33,7 +33,7 @@ pub struct TokenView {
 /// which has this length.
 #[repr(C)]
 #[derive(Clone, Copy)]
-pub struct AnswerView {
+pub struct QueryAnswer {
     pub kind: u64,
     pub length: u64,
 }
@@ -61,35 +61,35 @@ pub extern "C" fn ospreyrack_handle(handle: &mut Handle) -> u64
 
 /// A session's state and flags; zeros where the reply has none.
 #[unsafe(no_mangle)]
-pub extern "C" fn ospreyrack_session(handle: &mut Handle, out: &mut SessionView)
+pub extern "C" fn ospreyrack_session(handle: &mut Handle, out: &mut SessionInfo)
     ensures session { out.new ≡ session_in handle.old.value.reply.body }
     ensures unchanged { handle.new.value ≡ handle.old.value }
 {
     *out = session_in(&handle.as_mut().reply.body);
 }
 
-fn session_in(body: &Body) -> SessionView
+fn session_in(body: &Body) -> SessionInfo
     ensures { result ≡ session_in body.now }
 {
     match body {
-        Body::Session { state, flags } => SessionView {
+        Body::Session { state, flags } => SessionInfo {
             state: state.number(),
             flags: *flags,
         },
-        _ => SessionView { state: 0, flags: 0 },
+        _ => SessionInfo { state: 0, flags: 0 },
     }
 }
 
 /// The token's flags and counts; zeros where the reply has none.
 #[unsafe(no_mangle)]
-pub extern "C" fn ospreyrack_token_info(handle: &mut Handle, out: &mut TokenView)
+pub extern "C" fn ospreyrack_token_info(handle: &mut Handle, out: &mut TokenInfo)
     ensures token { out.new ≡ token_in handle.old.value.reply.body }
     ensures unchanged { handle.new.value ≡ handle.old.value }
 {
     *out = token_in(&handle.as_mut().reply.body);
 }
 
-fn token_in(body: &Body) -> TokenView
+fn token_in(body: &Body) -> TokenInfo
     ensures { result ≡ token_in body.now }
 {
     match body {
@@ -98,13 +98,13 @@ fn token_in(body: &Body) -> TokenView
             limit,
             sessions,
             rw_sessions,
-        } => TokenView {
+        } => TokenInfo {
             flags: flags.number(),
             limit: *limit,
             sessions: *sessions,
             rw_sessions: *rw_sessions,
         },
-        _ => TokenView {
+        _ => TokenInfo {
             flags: 0,
             limit: 0,
             sessions: 0,
@@ -155,26 +155,26 @@ fn handles_in(body: &Body) -> &[u64]
 
 /// The answer to the query of this index, counted from 0; unavailable where there is none.
 #[unsafe(no_mangle)]
-pub extern "C" fn ospreyrack_answer(handle: &mut Handle, index: usize, out: &mut AnswerView)
+pub extern "C" fn ospreyrack_answer(handle: &mut Handle, index: usize, out: &mut QueryAnswer)
     ensures answer { out.new ≡ answer_in handle.old.value.reply.body index }
     ensures unchanged { handle.new.value ≡ handle.old.value }
 {
     *out = answer_in(&handle.as_mut().reply.body, index);
 }
 
-fn answer_in(body: &Body, index: usize) -> AnswerView
+fn answer_in(body: &Body, index: usize) -> QueryAnswer
     ensures { result ≡ answer_in body.now index }
 {
     match answer_at(body, index) {
-        Some(Answer::Value(value)) => AnswerView {
+        Some(Answer::Value(value)) => QueryAnswer {
             kind: 2,
             length: value.as_slice().len() as u64,
         },
-        Some(Answer::Length(length)) => AnswerView {
+        Some(Answer::Length(length)) => QueryAnswer {
             kind: 1,
             length: *length,
         },
-        Some(Answer::Unavailable) | None => AnswerView { kind: 0, length: 0 },
+        Some(Answer::Unavailable) | None => QueryAnswer { kind: 0, length: 0 },
     }
 }
 

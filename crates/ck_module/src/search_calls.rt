@@ -3,7 +3,6 @@ ghost use Rattle.ck_module.specs.Calls.{IsCalledBy};
 ghost use Rattle.ck_module.specs.Templates.{template_of};
 
 use crate::handles::Handle;
-use crate::steps::Step;
 use crate::templates::{TypeAndLength, template_of};
 use ck_journal::Call;
 use std::alloc::Global;
@@ -22,11 +21,9 @@ pub extern "C" fn ospreyrack_find_objects_init(
     ensures { IsCalledBy caller (call.FindObjectsInit session
         (template_of attributes.now values.now)) result handle.old.value handle.new.value }
 {
-    let Ok(template) = template_of(alloc, attributes, values) else {
-        return Step::NoMemory.number();
-    };
-    let call = Call::FindObjectsInit { session, template };
-    handle.call(alloc, caller, call)
+    let template = template_of(alloc, attributes, values);
+    let call = template.map(|template| Call::FindObjectsInit { session, template });
+    handle.call_with_lists(alloc, caller, call)
 }
 
 /// C_FindObjects.

@@ -1,10 +1,10 @@
 ghost use Rattle.std.specs.Prelude.{◌≡◌};
 ghost use Rattle.ck_module.specs.Steps.{step_number};
 
-/// What comes of a call that C asks for.
+/// What comes of a call that C asks for, or of the text of a reply.
 #[derive(Clone, Copy)]
 pub(crate) enum Step {
-    /// It was answered, and stands in the journal.
+    /// The call was answered and stands in the journal, or the text was made.
     Answered,
     /// The line is empty, a comment or a bad one, or no call was given.
     NoCall,

@@ -1,4 +1,5 @@
--- `ospreyrack_message_make` makes the value and writes it through the pointer. `V` is the value's row.
+-- `ospreyrack_message_make` makes the value and writes it through the pointer. `V` is the value's
+-- row.
 use Rattle.std.proofs.Common.{◌≡◌, [], ◌∷◌, refl}
 use Rattle.std.proofs.raw_atomic.Walks.{proved}
 use base.Fraction.{full_share}
