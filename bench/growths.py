@@ -149,7 +149,7 @@ def is_script_right(ended, plain):
 
 def check_case(library, command, name, lines, passed, step):
     """How many growths the case is refused, after how many something was made again, and what was
-    wrong. Without a refused growth so many pass: the lines of a case, or one race. Of the growths
+    wrong. Without a refused growth this many pass: the lines of a case, or one race. Of the growths
     one in `step` is refused."""
     with tempfile.NamedTemporaryFile("w", suffix=".cases", encoding="utf-8", newline="\n") as file:
         file.write("\n".join(lines) + "\n")

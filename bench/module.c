@@ -5,10 +5,10 @@
  *     module MODULE THREADS [PARAMETERS]
  *     module MODULE few
  *
- * PARAMETERS is what the module is given at C_Initialize as NSS's library wants it; a module without
- * them is a token that is initialized here. Of one thread the best row of rounds counts, half a
- * millisecond long, which other work of the machine disturbs less than the mean of all. With `few`
- * one thread makes the rounds that `token.c` has, too.
+ * PARAMETERS is what the module is given at C_Initialize as NSS's library wants it; a module
+ * without them is a token that is initialized here. Of one thread the best row of rounds counts,
+ * half a millisecond long, which other work of the machine disturbs less than the mean of all. With
+ * `few` one thread makes the rounds that `token.c` has, too.
  */
 #include <dlfcn.h>
 #include <pkcs11.h>
@@ -211,7 +211,7 @@ static double measure(struct worker *workers, unsigned threads, void (*round)(st
     return (now() - begin) * 1e9 / (double)rounds;
 }
 
-/* The seconds that so many rounds take. */
+/* The seconds that this many rounds take. */
 static double time_row(struct worker *worker, void (*round)(struct worker *), unsigned long rounds)
 {
     double begin = now();

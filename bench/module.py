@@ -1,6 +1,6 @@
 #!/usr/bin/env python3
-"""Measures the C module beside SoftHSM and NSS's own module, each loaded as applications load it, by
-one thread and by four, and prints a table of nanoseconds for each call. Then prints the module's
+"""Measures the C module beside SoftHSM and NSS's own module, each loaded as applications load it,
+by one thread and by four, and prints a table of nanoseconds for each call. Then prints the module's
 own share of a call: the call in C less the token's call, which `token.c` makes in the same way, as
 a module that does nothing else. The machine's load is printed first and last.
 

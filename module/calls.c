@@ -124,9 +124,9 @@ static uint32_t call_by_line(const struct call *call) {
 
 /* ---- Calls by arguments
  *
- * Each switch that makes calls hands those that it doesn't name to the next one. Those that none names go by a
- * line also without a journal file: C_InitToken, the calls on PINs, C_Login, C_GetMechanismList,
- * C_GenerateKey, C_CopyObject and C_SetAttributeValue. */
+ * Each switch that makes calls hands those that it doesn't name to the next one. Those that none
+ * names go by a line also without a journal file: C_InitToken, the calls on PINs, C_Login,
+ * C_GetMechanismList, C_GenerateKey, C_CopyObject and C_SetAttributeValue. */
 
 /* Gathers a template's items, and their values one after the other. */
 static bool gather_template(const struct call *call) {

@@ -76,8 +76,8 @@ void take_own_mutex(void) {
         pthread_mutex_lock(&own_mutex);
 }
 
-/* Whether this is still the library's lock: while a thread waits for it, another one that has it may
- * finalize the library, and even initialize it anew. */
+/* Whether this is still the library's lock: while a thread waits for it, another one that has it
+ * may finalize the library, and even initialize it anew. */
 static bool is_current(const struct application_lock *lock) {
     pthread_mutex_lock(&own_mutex);
     bool is_same = library.is_initialized && application_lock.mutex == lock->mutex;

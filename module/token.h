@@ -17,6 +17,10 @@
 #include <stddef.h>
 #include <stdint.h>
 
+/* Of a function that takes or gives a list: sanitizers look whether a pointer that it is given is
+ * NULL. */
+#define NOT_NULL __attribute__((nonnull))
+
 /* Where a token lies. */
 struct token {
     void *at;
@@ -62,7 +66,7 @@ uint64_t ospreyrack_entries(struct token *token);
 /* ---- Calls by lines */
 
 /* Makes the call of a line of the script language, which stands here without its line end. */
-uint32_t ospreyrack_line(struct token *token, const uint8_t *line, size_t length);
+uint32_t ospreyrack_line(struct token *token, const uint8_t *line, size_t length) NOT_NULL;
 
 /* Makes the text of the reply, without a line end: ANSWERED. Or NO_MEMORY, and then nothing is said
  * of the text. */
@@ -70,7 +74,7 @@ uint32_t ospreyrack_write_text(struct token *token);
 
 /* The length of the text that was last made. Its bytes, or as many of them as there is room for,
  * are copied to `out`. */
-size_t ospreyrack_text(struct token *token, uint8_t *out, size_t room);
+size_t ospreyrack_text(struct token *token, uint8_t *out, size_t room) NOT_NULL;
 
 /* ---- Calls by their arguments, each with the name of the standard's function, except
  * ospreyrack_set_key_state. `caller` is the number that the call's entry has in the journal. */
@@ -100,34 +104,35 @@ uint32_t ospreyrack_session_cancel(struct token *token, uint32_t caller, uint64_
                                    uint64_t flags);
 uint32_t ospreyrack_create_object(struct token *token, uint32_t caller, uint64_t session,
                                   const struct item *items, size_t count,
-                                  const uint8_t *values, size_t length);
+                                  const uint8_t *values, size_t length) NOT_NULL;
 uint32_t ospreyrack_get_attribute_value(struct token *token, uint32_t caller, uint64_t session,
                                         uint64_t object, const struct query *queries,
-                                        size_t count);
+                                        size_t count) NOT_NULL;
 uint32_t ospreyrack_set_key_state(struct token *token, uint32_t caller, uint64_t session,
                                   uint64_t key, uint64_t state);
 uint32_t ospreyrack_destroy_object(struct token *token, uint32_t caller, uint64_t session,
                                    uint64_t object);
 uint32_t ospreyrack_find_objects_init(struct token *token, uint32_t caller, uint64_t session,
                                       const struct item *items, size_t count,
-                                      const uint8_t *values, size_t length);
+                                      const uint8_t *values, size_t length) NOT_NULL;
 uint32_t ospreyrack_find_objects(struct token *token, uint32_t caller, uint64_t session,
                                  uint64_t max);
 uint32_t ospreyrack_find_objects_final(struct token *token, uint32_t caller, uint64_t session);
 uint32_t ospreyrack_digest_init(struct token *token, uint32_t caller, uint64_t session,
-                                uint64_t mechanism, const uint8_t *parameter, size_t length);
+                                uint64_t mechanism, const uint8_t *parameter,
+                                size_t length) NOT_NULL;
 uint32_t ospreyrack_digest_final(struct token *token, uint32_t caller, uint64_t session,
                                  bool has_room, uint64_t room);
 uint32_t ospreyrack_sign_init(struct token *token, uint32_t caller, uint64_t session,
                               uint64_t mechanism, const uint8_t *parameter, size_t length,
-                              uint64_t key);
+                              uint64_t key) NOT_NULL;
 uint32_t ospreyrack_sign_final(struct token *token, uint32_t caller, uint64_t session,
                                bool has_room, uint64_t room);
 uint32_t ospreyrack_verify_init(struct token *token, uint32_t caller, uint64_t session,
                                 uint64_t mechanism, const uint8_t *parameter, size_t length,
-                                uint64_t key);
+                                uint64_t key) NOT_NULL;
 uint32_t ospreyrack_verify_final(struct token *token, uint32_t caller, uint64_t session,
-                                 const uint8_t *signature, size_t length);
+                                 const uint8_t *signature, size_t length) NOT_NULL;
 
 /* ---- Calls that bring a message
  *
@@ -153,17 +158,17 @@ void ospreyrack_message_reset(struct message_call *call);
 /* Give the call of this name: ospreyrack_call makes it. Where there is no memory for it they answer
  * false, and nothing has changed. */
 bool ospreyrack_digest(struct message_call *call, uint64_t session, const uint8_t *bytes,
-                       size_t length, bool has_room, uint64_t room);
+                       size_t length, bool has_room, uint64_t room) NOT_NULL;
 bool ospreyrack_digest_update(struct message_call *call, uint64_t session, const uint8_t *bytes,
-                              size_t length);
+                              size_t length) NOT_NULL;
 bool ospreyrack_sign(struct message_call *call, uint64_t session, const uint8_t *bytes,
-                     size_t length, bool has_room, uint64_t room);
+                     size_t length, bool has_room, uint64_t room) NOT_NULL;
 bool ospreyrack_sign_update(struct message_call *call, uint64_t session, const uint8_t *bytes,
-                            size_t length);
+                            size_t length) NOT_NULL;
 bool ospreyrack_verify(struct message_call *call, uint64_t session, const uint8_t *bytes,
-                       size_t length, const uint8_t *signature, size_t signature_length);
+                       size_t length, const uint8_t *signature, size_t signature_length) NOT_NULL;
 bool ospreyrack_verify_update(struct message_call *call, uint64_t session, const uint8_t *bytes,
-                              size_t length);
+                              size_t length) NOT_NULL;
 
 /* Begins the work on a long message. Where there is none to be done before the call, it answers
  * false. */
@@ -205,8 +210,8 @@ void ospreyrack_token_info(struct token *token, struct token_info *out);
 
 /* How many mechanisms, or handles of found objects, the reply has. They, or as many of them as
  * there is room for, are copied to `out`. */
-size_t ospreyrack_mechanisms(struct token *token, uint64_t *out, size_t room);
-size_t ospreyrack_handles(struct token *token, uint64_t *out, size_t room);
+size_t ospreyrack_mechanisms(struct token *token, uint64_t *out, size_t room) NOT_NULL;
+size_t ospreyrack_handles(struct token *token, uint64_t *out, size_t room) NOT_NULL;
 
 /* The answer to a query, counted from 0. */
 enum answer_kind {
@@ -225,13 +230,13 @@ void ospreyrack_answer(struct token *token, size_t index, struct answer *out);
 
 /* The length of the value that this query is answered, and 0 where it isn't answered one. The
  * value's bytes, or as many of them as there is room for, are copied to `out`. */
-size_t ospreyrack_value(struct token *token, size_t index, uint8_t *out, size_t room);
+size_t ospreyrack_value(struct token *token, size_t index, uint8_t *out, size_t room) NOT_NULL;
 
 /* The length of the digest or signature that the reply has or tells the length of, else 0. */
 uint64_t ospreyrack_length(struct token *token);
 
 /* The length of the digest or signature that the reply has, and 0 where it has none. Its bytes, or
  * as many of them as there is room for, are copied to `out`. */
-size_t ospreyrack_bytes(struct token *token, uint8_t *out, size_t room);
+size_t ospreyrack_bytes(struct token *token, uint8_t *out, size_t room) NOT_NULL;
 
 #endif

@@ -22,20 +22,45 @@ HEAD = "# The checks of this repository, by kind. `python3 tests/inventory.py wr
 
 ARROW = " -> "
 LAW_EDIT = re.compile(r"^\|[^|]*\| `(\w+)` \|", re.MULTILINE)
+# Comments of C and Rust; and strings and characters, in which none begin.
+COMMENT = re.compile(r"""//[^\n]*|/\*.*?\*/|"(?:[^"\\]|\\.)*"|'(?:[^'\\\n]|\\.)'""", re.DOTALL)
 RUST_TEST = re.compile(r"#\[test\]\s*(?:#\[[^\]]*\]\s*)*(?:pub(?:\([a-z]+\))? )?fn (\w+)")
 TEST_MODULE = re.compile(r"#\[cfg\(test\)\]\s*(?:pub(?:\([a-z]+\))? )?mod (\w+)")
+# Attributes by which a test may not be run, or may pass where it fails: all but that of a module of
+# tests.
+HINDRANCE = re.compile(r"#!?\[(?!cfg\(test\)\])\s*(?:cfg\w*|ignore|should_panic)\b[^\n]*")
+C_CONDITION = re.compile(r"^\s*#\s*(?:if|ifdef|ifndef)\b.*", re.MULTILINE)
+RUST_CHECK = re.compile(r"\b(?:(?:assert\w*|ensure|bail)!|expect\(|check_\w+\()")
 # A line of a table in C, by the text at its front.
 C_ENTRY = re.compile(r'^    \{"((?:[^"\\]|\\.)*)",', re.MULTILINE)
 C_TEST = re.compile(r'"(?:[^"\\]|\\.)*",\s*(test_\w+)\}')
 C_CHECK = re.compile(r"\b(?:CHECK|EXPECT|check_?\w*)\(")
 PART = re.compile(r"^part ")
-STEP = re.compile(r"^(?:\w+=\S+ )*(?:try|play|run_\w+|check_\w+|compile\w*) ?(?!\S*\(\))")
+STEP = re.compile(r"^(?:if |! )?(?:\w+=\S+ )*"
+                  r"(?:try|play|tells|is_failure|run_\w+|check_\w+|compile\w*) ?(?!\S*\(\))")
 PYTHON_CHECK = re.compile(r"^(?:check\w*|equal|run_client|audit|end)$")
+
+# The crates that are only there to test the others and to measure them.
+CRATES_OF_TESTS = ("ck_bench", "ck_races", "ck_run", "ck_threads")
+
+# The lines by which a script finds and counts what has failed; with the last one it ends.
+VERDICTS = {
+    "check": ['if "$@"; then', "failed=$((failed + 1))", "status=${PIPESTATUS[0]}",
+              'grep -q ": BAD EDIT: " "$said" && status=1', 'return "$status"',
+              '[ "$failed" -eq 0 ]'],
+    "module/tests/run": ['failed=$(grep -c "^FAILED" "$log" || true)',
+                         '[ "$passed" -gt 0 ] && [ "$failed" -eq 0 ]'],
+}
 
 
 def text_of(path):
     with open(os.path.join(ROOT, path), encoding="utf-8", newline="\n") as file:
         return file.read()
+
+
+def code_of(path):
+    """A file of C or Rust without its comments."""
+    return COMMENT.sub(lambda it: "" if it[0].startswith("/") else it[0], text_of(path))
 
 
 def files(pattern):
@@ -56,12 +81,19 @@ def sources():
 
 def crate_tests():
     """The functions that are tests, each with its file."""
-    return [f"{path} {name}" for path in sources() for name in RUST_TEST.findall(text_of(path))]
+    return [f"{path} {name}" for path in sources() for name in RUST_TEST.findall(code_of(path))]
 
 
 def test_modules():
     """The modules that are there for tests only, each with the file that names it."""
-    return [f"{path} {name}" for path in sources() for name in TEST_MODULE.findall(text_of(path))]
+    return [f"{path} {name}" for path in sources() for name in TEST_MODULE.findall(code_of(path))]
+
+
+def rust_checks():
+    """How many checks each file has that is there only to test others."""
+    paths = [path for path in sources() if path.split("/")[1] in CRATES_OF_TESTS]
+    counts = [(path, len(RUST_CHECK.findall(code_of(path)))) for path in paths]
+    return [f"{path} {count} checks" for path, count in counts if count]
 
 
 def crates():
@@ -96,17 +128,17 @@ def c_files():
 
 
 def c_tests():
-    return [f"{path} {name}" for path in c_files() for name in C_TEST.findall(text_of(path))]
+    return [f"{path} {name}" for path in c_files() for name in C_TEST.findall(code_of(path))]
 
 
 def c_entries():
     """What tables of tests, of calls and of cases have, by the texts that name it."""
-    return [f"{path} {name}" for path in c_files() for name in C_ENTRY.findall(text_of(path))]
+    return [f"{path} {name}" for path in c_files() for name in C_ENTRY.findall(code_of(path))]
 
 
 def c_checks():
     """How many checks each file has."""
-    counts = [(path, len(C_CHECK.findall(text_of(path)))) for path in c_files()]
+    counts = [(path, len(C_CHECK.findall(code_of(path)))) for path in c_files()]
     return [f"{path} {count} checks" for path, count in counts if count]
 
 
@@ -202,6 +234,7 @@ def inventory():
         "edit that must fail": edits(),
         "test of a crate": crate_tests(),
         "module of tests": test_modules(),
+        "checks in Rust": rust_checks(),
         "crate": crates(),
         "file of a program": program_files(),
         "recorded run": recorded_runs(),
@@ -298,6 +331,27 @@ def module_faults():
             yield f"{path} has tests, and no #[cfg(test)] mod {name} names it"
 
 
+def hindrance_faults():
+    """No test is kept from being run, and no comment ends elsewhere than it is taken to."""
+    for path in sources() + c_files():
+        form = C_CONDITION if path.endswith(".c") else HINDRANCE
+        for line in form.findall(code_of(path)):
+            yield f"{path}: by this line tests may be left out: {line.strip()}"
+        if "*/" in COMMENT.sub("", text_of(path)):
+            yield f"{path} has a comment in a comment"
+
+
+def verdict_faults():
+    """The scripts that start all checks end with another status than 0 where one has failed."""
+    for path, wanted in VERDICTS.items():
+        lines = [line.strip() for line in text_of(path).split("\n")]
+        for line in wanted:
+            if lines.count(line) != 1:
+                yield f"{path}: the line {line} doesn't stand there once"
+        if lines[-2:] != [wanted[-1], ""]:
+            yield f"{path} doesn't end with the line {wanted[-1]}"
+
+
 def start_faults():
     """Each file of tests is started, compiled or brought in by another."""
     for path in files("tests/*.py"):
@@ -318,7 +372,9 @@ def faults():
     yield from crate_faults()
     yield from argument_faults()
     yield from module_faults()
+    yield from hindrance_faults()
     yield from start_faults()
+    yield from verdict_faults()
 
 
 def check():

@@ -10,6 +10,8 @@ import os
 import resource
 import subprocess
 import sys
+import tempfile
+import time
 
 HERE = os.path.dirname(os.path.abspath(__file__))
 PROGRAM = os.path.join(HERE, "..", "crates", "ck_run", "out", "ck_run")
@@ -64,6 +66,8 @@ BAD_ARGUMENTS = [
     (["-c"], b"unexpected argument '-c' found" + USAGE),
     (["script.txt"], b"unexpected argument 'script.txt' found" + USAGE),
     (["--callers", "2", "script.txt"], b"unexpected argument 'script.txt' found" + USAGE),
+    # the byte ff
+    (["\udcff"], b"they can't be read"),
 ]
 
 TOO_MANY_SPACES = b"a space too many stands in the line, whose words stand between single spaces"
@@ -241,6 +245,29 @@ def callers(tests):
     tests.end("callers in threads")
 
 
+def most_threads(tests, words, script):
+    """How many threads the program has at once at the most, with the one that it begins with."""
+    most, end = 0, time.monotonic() + SECONDS
+    with tempfile.TemporaryFile() as file:
+        file.write(script)
+        file.seek(0)
+        made = subprocess.Popen([tests.program, *words], stdin=file, stdout=subprocess.DEVNULL)
+        while made.poll() is None:
+            most = max(most, len(os.listdir(f"/proc/{made.pid}/task")))
+            if time.monotonic() > end:
+                made.kill()
+    return most
+
+
+def side_by_side(tests):
+    # In turn there would be two threads, and for a moment one that has just ended.
+    script = b"".join(b"%d GetTokenInfo\n" % (1 + count % 8) for count in range(200_000))
+    most = most_threads(tests, ["--callers", "8"], script)
+    if most < 5:
+        tests.faults.append(f"with eight callers there are {most} threads at once")
+    tests.end("callers have their threads at the same time")
+
+
 def threads(tests):
     most = resource.getrlimit(resource.RLIMIT_STACK)[1]
     if most != resource.RLIM_INFINITY and most < STACK_WITHOUT_ROOM:
@@ -303,6 +330,7 @@ def main(program):
     names(tests)
     longest_lines(tests)
     callers(tests)
+    side_by_side(tests)
     threads(tests)
     arguments(tests)
     readers(tests)

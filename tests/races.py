@@ -54,7 +54,7 @@ SHAPES = """\
 # in it: one with a set order, and two in any order, with two sessions and with a cut.
 NOT_ALONE = [2, 9, 15]
 
-# After so many faults a test of wrong replies ends.
+# After this many faults a test of wrong replies ends.
 MOST_FAULTS = 9
 
 ARROW = " -> "

@@ -89,6 +89,8 @@ REPORTS = [
      b"t: 1 passed, 2 bad\n", 1),
     (b"limits 65 1 1 1\ncut -> entries 0\n",
      b"t: line 1: limits 65 1 1 1: " + BAD_LIMITS + b"\nt: 1 passed, 1 bad\n", 1),
+    (b"audit 65 1 1 1 -> legal\n",
+     b"t: line 1: audit 65 1 1 1: " + BAD_LIMITS + b"\nt: 0 passed, 1 bad\n", 1),
     # more lines than are named
     (b"1 Logout 1 -> 0\n1 Logout 1 -> 0\n1 Logout 1 -> 0\ncut -> legal\n",
      b"t: line 1: 1 Logout 1: came b3 CKR_SESSION_HANDLE_INVALID, and not 0 CKR_OK\n"
@@ -143,6 +145,13 @@ limits 1 9 9 9
 1 OpenSession 6 -> b1
 """
 
+# The most lines of a file that are named, where nothing else is asked for, and what is written of a
+# file with one bad line more.
+MOST_NAMED = 100
+TOO_MANY_LINES = b"a\n" * (MOST_NAMED + 1)
+NAMED_LINES = b"".join(b"t: line %d: a: a line is a caller, a call and its arguments\n" % number
+                       for number in range(1, MOST_NAMED + 1)) + b"t: only counted: 1 more\n"
+
 # The most characters that are shown of a text.
 MOST_SHOWN = 80
 
@@ -179,11 +188,11 @@ BAD_FILES = [
 class Files(Tests):
     """Tests of a program that is run in a folder with a file `t`."""
 
-    def check_file(self, text, words, output, errors, status):
+    def check_file(self, text, words, output, errors, status, **files):
         with tempfile.TemporaryDirectory() as folder:
             with open(os.path.join(folder, "t"), "wb") as file:
                 file.write(text)
-            self.check(words, None, output, errors, status, cwd=folder)
+            self.check(words, None, output, errors, status, cwd=folder, **files)
 
 
 def plain(block):
@@ -221,6 +230,12 @@ def limits_of_first_case(tests):
     tests.check_file(WITHOUT_LIMITS, ["--replies", "t"], WITHOUT_LIMITS, b"", 0)
     tests.check_file(WITHOUT_LIMITS, ["--limits", "1,9,9,9", "--replies", "t"], WITH_LIMITS, b"", 0)
     tests.end("other limits of a file without limits of its own")
+
+
+def many_lines(tests):
+    tests.check_file(TOO_MANY_LINES, ["t"], NAMED_LINES + b"t: 0 passed, 101 bad\n", b"", 1)
+    tests.check_file(TOO_MANY_LINES, ["--replies", "t"], TOO_MANY_LINES, NAMED_LINES, 1)
+    tests.end("of 101 bad lines 100 are named")
 
 
 def check_long_reply(tests, recorded, place):
@@ -267,14 +282,25 @@ def bad_files(tests):
     tests.end("files that aren't read")
 
 
+def full_device(tests):
+    errors = b"ck_cases: No space left on device (os error 28)\n"
+    text, _, _ = REPORTS[0]
+    for words in (["t"], ["--replies", "t"], ["--help"]):
+        with open("/dev/full", "wb") as full:
+            tests.check_file(text, words, None, errors, 1, stdout=full)
+    tests.end("a device that is full")
+
+
 def main(program):
     tests = Files(program, "recorded runs")
     reports(tests)
     limits(tests)
     limits_of_first_case(tests)
+    many_lines(tests)
     long_texts(tests)
     arguments(tests)
     bad_files(tests)
+    full_device(tests)
     return 1 if tests.failed else 0
 
 

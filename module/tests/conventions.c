@@ -13,6 +13,7 @@
 #include <string.h>
 #include <sys/stat.h>
 #include <sys/wait.h>
+#include <time.h>
 #include <unistd.h>
 
 static const char *folder;
@@ -94,7 +95,7 @@ static bool is_interface(const CK_INTERFACE *interface, const char *name, int ma
 
 static void test_interfaces(void) {
     static CK_UTF8CHAR standard[] = "PKCS 11", vendor[] = "Vendor Ospreyrack", other[] = "PKCS 12";
-    CK_VERSION v3_0 = {3, 0}, v2_40 = {2, 40}, v1_0 = {1, 0}, v3_1 = {3, 1};
+    CK_VERSION v3_0 = {3, 0}, v2_40 = {2, 40}, v1_0 = {1, 0}, v3_1 = {3, 1}, v2_0 = {2, 0};
     CK_INTERFACE *interface = NULL;
     EXPECT(CKR_OK, p11->C_GetInterface(NULL, NULL, &interface, 0));
     CHECK(is_interface(interface, "PKCS 11", 3, 0));
@@ -108,6 +109,7 @@ static void test_interfaces(void) {
     CHECK(is_interface(interface, "Vendor Ospreyrack", 1, 0));
     CHECK(p11->C_GetInterface(other, NULL, &interface, 0) != CKR_OK);
     CHECK(p11->C_GetInterface(standard, &v3_1, &interface, 0) != CKR_OK);
+    CHECK(p11->C_GetInterface(standard, &v2_0, &interface, 0) != CKR_OK);
     CHECK(p11->C_GetInterface(vendor, &v2_40, &interface, 0) != CKR_OK);
     CHECK(p11->C_GetInterface(NULL, NULL, &interface, CKF_INTERFACE_FORK_SAFE) != CKR_OK);
     EXPECT(CKR_ARGUMENTS_BAD, p11->C_GetInterface(NULL, NULL, NULL, 0));
@@ -214,13 +216,28 @@ static void test_unsupported(void) {
 
 static int mutexes, locks, unlocks, destroyed, created_code, locked_code, depth;
 
-/* At the last of so many locks the application's function makes this change, as another thread
+/* At the last of this many locks the application's function makes this change, as another thread
  * would that has the lock before. */
 static int locks_until_change;
 static void (*change)(void);
 
-/* The last of so many locks fails. */
+/* The last of this many locks fails. */
 static int locks_until_failure;
+
+/* How long this thread had worked at each lock and unlock, in nanoseconds. Only the time of its own
+ * work counts, however many threads want the processor. */
+enum { MOST_TIMES = 6 };
+
+static long long times[MOST_TIMES];
+static size_t times_noted = MOST_TIMES;
+
+static void note_time(void) {
+    struct timespec now;
+    if (times_noted >= MOST_TIMES)
+        return;
+    clock_gettime(CLOCK_THREAD_CPUTIME_ID, &now);
+    times[times_noted++] = now.tv_sec * 1000000000LL + now.tv_nsec;
+}
 
 static CK_RV create_mutex(CK_VOID_PTR_PTR mutex) {
     if (created_code != CKR_OK)
@@ -246,10 +263,12 @@ static CK_RV lock_mutex(CK_VOID_PTR mutex) {
         change();
     depth++;
     locks++;
+    note_time();
     return CKR_OK;
 }
 
 static CK_RV unlock_mutex(CK_VOID_PTR mutex) {
+    note_time();
     check(mutex == &mutexes && depth == 1, "UnlockMutex is given the mutex, locked");
     depth--;
     unlocks++;
@@ -423,6 +442,17 @@ static void test_null_objects(void) {
     end_token();
 }
 
+/* The first template of a token, and the first queries, where the module has no memory for any
+ * yet. What it hands on isn't NULL all the same: see token.h. */
+static void test_empty_lists(void) {
+    CK_SESSION_HANDLE session = begin_token();
+    EXPECT(CKR_OK, p11->C_FindObjectsInit(session, NULL, 0));
+    end_token();
+    session = begin_token();
+    EXPECT(CKR_OBJECT_HANDLE_INVALID, p11->C_GetAttributeValue(session, 1, NULL, 0));
+    end_token();
+}
+
 /* A NULL pointer changes nothing: the operation stays active. */
 static void test_null_operations(void) {
     CK_SESSION_HANDLE session = begin_token();
@@ -549,10 +579,11 @@ static void test_most_attributes(void) {
     end_token();
 }
 
-/* A value that is too long is refused before it is read. */
+/* A value that is too long is refused before it is read. The longest one isn't refused for its
+ * length, but C_SetAttributeValue goes by a line, and is too long for one. */
 static void test_longest_value(void) {
     CK_SESSION_HANDLE session = begin_token();
-    CK_OBJECT_HANDLE object = 0;
+    CK_OBJECT_HANDLE object = 0, other = create_data(session, "label");
     CK_OBJECT_CLASS class = CKO_DATA;
     CK_BBOOL no = CK_FALSE;
     CK_BYTE *value = zeros_new(LONG_VALUE, 1);
@@ -564,7 +595,10 @@ static void test_longest_value(void) {
     CK_ATTRIBUTE query = {CKA_VALUE, NULL, 0};
     EXPECT(CKR_ATTRIBUTE_VALUE_INVALID, p11->C_CreateObject(session, template, 3, &object));
     EXPECT(CKR_ATTRIBUTE_VALUE_INVALID, p11->C_FindObjectsInit(session, template, 3));
+    EXPECT(CKR_ATTRIBUTE_VALUE_INVALID, p11->C_SetAttributeValue(session, other, template + 2, 1));
     CHECK(object == 0);
+    template[2].ulValueLen = 1 << 30;
+    EXPECT(CKR_HOST_MEMORY, p11->C_SetAttributeValue(session, other, template + 2, 1));
     template[2].ulValueLen = LONG_VALUE;
     CK_RV code = p11->C_CreateObject(session, template, 3, &object);
     check_code(code, has_journals ? CKR_HOST_MEMORY : CKR_OK, "C_CreateObject of a long value");
@@ -643,7 +677,7 @@ static CK_RV make_interfaces(void *out, CK_ULONG *count) {
     return p11->C_GetInterfaceList(out, count);
 }
 
-/* One call with room for so many elements: only `written` of them are written. */
+/* One call with room for this many elements: only `written` of them are written. */
 static void check_room(const struct output *output, CK_ULONG room, CK_RV expected, CK_ULONG count,
                        CK_ULONG written) {
     size_t memory_length = room * output->size;
@@ -923,6 +957,35 @@ static void test_signature_lengths(void) {
     end_token();
 }
 
+/* Of what is too long only the first bytes are read, whatever length it is said to have. This is
+ * the most that memory could have. */
+static void test_said_to_be_long(void) {
+    const CK_ULONG most = ((CK_ULONG)1 << 47) - 1;
+    CK_SESSION_HANDLE session = begin_token();
+    CK_MECHANISM sha256 = mechanism_of(CKM_SHA256), hmac = mechanism_of(CKM_SHA256_HMAC);
+    CK_MECHANISM general = {CKM_SHA256_HMAC_GENERAL, bytes, most};
+    CK_OBJECT_HANDLE key = create_key(session, "Jefe");
+    CK_BYTE out[100] = {0};
+    length = sizeof out;
+    fill_large();
+    EXPECT(CKR_PIN_LEN_RANGE, p11->C_SetPIN(session, user_pin, 4, out, most));
+    EXPECT(CKR_MECHANISM_PARAM_INVALID, p11->C_SignInit(session, &general, key));
+    EXPECT(CKR_OK, p11->C_DigestInit(session, &sha256));
+    EXPECT(CKR_DATA_LEN_RANGE, p11->C_Digest(session, large, most, out, &length));
+    EXPECT(CKR_OK, p11->C_SignInit(session, &hmac, key));
+    EXPECT(CKR_DATA_LEN_RANGE, p11->C_Sign(session, large, most, out, &length));
+    EXPECT(CKR_OK, p11->C_VerifyInit(session, &hmac, key));
+    EXPECT(CKR_DATA_LEN_RANGE, p11->C_Verify(session, large, most, out, 32));
+    EXPECT(CKR_OK, p11->C_VerifyInit(session, &hmac, key));
+    EXPECT(CKR_SIGNATURE_LEN_RANGE, p11->C_Verify(session, bytes, 5, out, most));
+    EXPECT(CKR_OK, p11->C_VerifyInit(session, &hmac, key));
+    EXPECT(CKR_OK, p11->C_VerifyUpdate(session, bytes, 5));
+    EXPECT(CKR_SIGNATURE_LEN_RANGE, p11->C_VerifyFinal(session, out, most));
+    EXPECT(CKR_OK, p11->C_Logout(session));
+    EXPECT(CKR_PIN_INCORRECT, p11->C_Login(session, CKU_USER, out, most));
+    end_token();
+}
+
 /* ---- Work on a long message, while something changes before its call. Of the three times that the
  * lock is taken for it, the change comes at the last. */
 
@@ -1142,6 +1205,33 @@ static void test_piece_in_between(void) {
 
 enum { LOCKS_OF_PIECE = 3 };
 
+static CK_RV digest_piece(void) {
+    return p11->C_Digest(current_session, large, PIECE, result, &length);
+}
+
+static CK_RV digest_update_piece(void) {
+    return p11->C_DigestUpdate(current_session, large, PIECE);
+}
+
+/* The piece is taken in before the last lock, and not under it. */
+static void check_work_without_lock(CK_RV (*make)(void), const char *what) {
+    begin_sha(CKM_SHA256);
+    length = sizeof result;
+    times_noted = 0;
+    check_code(make(), CKR_OK, what);
+    check(times_noted == 2 * LOCKS_OF_PIECE, what);
+    check(times[4] - times[3] > 2 * (times[5] - times[4]), what);
+    EXPECT(CKR_OK, p11->C_SessionCancel(current_session, CKF_DIGEST));
+}
+
+static void test_work_without_lock(void) {
+    fill_large();
+    begin_with_mutexes();
+    check_work_without_lock(digest_piece, "C_Digest");
+    check_work_without_lock(digest_update_piece, "C_DigestUpdate");
+    end_token();
+}
+
 /* Answers whether the lock failed. Before the first piece is taken nothing has changed. Later the
  * message has a hole, and the operation can't be ended, so no call is answered any more. */
 static bool try_failing_lock(int locks_before) {
@@ -1210,7 +1300,7 @@ static CK_RV update_with_pieces(void) {
     return p11->C_DigestUpdate(current_session, large, LARGE);
 }
 
-/* At the last of so many locks of a call. */
+/* At the last of this many locks of a call. */
 static void check_finalized_at(int locks_before, CK_RV (*make)(void), const char *what) {
     begin_with_mutexes();
     begin_sha(CKM_SHA256);
@@ -1286,6 +1376,48 @@ static void test_another_mutex(void) {
     CHECK(mutexes_made == 2 && mutexes_in_turn[0] == 0 && mutexes_in_turn[1] == 0);
     EXPECT(CKR_OK, ask_for_session());
     end_token();
+}
+
+/* The new token takes no harm from the update of the old one. */
+static void test_update_and_another_mutex(void) {
+    fill_large();
+    mutexes_made = 0;
+    begin_with_next_mutex();
+    begin_sha(CKM_SHA256);
+    locks_until_change = LOCKS_OF_PIECE + 1;
+    change = begin_anew_with_next_mutex;
+    EXPECT(CKR_CRYPTOKI_NOT_INITIALIZED, update_with_pieces());
+    CHECK(locks_until_change == 0 && mutexes_made == 2);
+    EXPECT(CKR_OK, ask_for_session());
+    end_token();
+}
+
+static CK_RV create_null(CK_VOID_PTR_PTR mutex) {
+    *mutex = NULL;
+    return CKR_OK;
+}
+
+static CK_RV lock_null(CK_VOID_PTR mutex) {
+    if (locks_until_change > 0 && --locks_until_change == 0)
+        change();
+    return mutex == NULL ? CKR_OK : CKR_MUTEX_BAD;
+}
+
+/* What an application has as its mutex is its own affair. */
+static void test_mutex_that_is_null(void) {
+    CK_C_INITIALIZE_ARGS arguments = {
+        .CreateMutex = create_null,
+        .DestroyMutex = destroy_any,
+        .LockMutex = lock_null,
+        .UnlockMutex = destroy_any,
+    };
+    EXPECT(CKR_OK, p11->C_Initialize(&arguments));
+    current_session = log_in();
+    EXPECT(CKR_OK, ask_for_session());
+    locks_until_change = 1;
+    change = finalize;
+    EXPECT(CKR_CRYPTOKI_NOT_INITIALIZED, ask_for_session());
+    CHECK(locks_until_change == 0);
 }
 
 /* The journal in memory is then long enough to be cut. */
@@ -1428,6 +1560,7 @@ static void test_token_info(void) {
     CHECK(info.ulSessionCount == 2 && info.ulRwSessionCount == 1);
     check_token_info(&info);
     CK_SESSION_INFO session_info;
+    memset(&session_info, 0xff, sizeof session_info);
     EXPECT(CKR_OK, p11->C_GetSessionInfo(session, &session_info));
     CHECK(session_info.slotID == 0 && session_info.state == CKS_RW_USER_FUNCTIONS);
     CHECK(session_info.flags == read_write && session_info.ulDeviceError == 0);
@@ -1485,6 +1618,13 @@ static void test_object_size(void) {
 
 /* ---- A thread that is cancelled */
 
+/* The thread could be cancelled after a call, as it could before. */
+static void forbid_cancel_again(void) {
+    int before = PTHREAD_CANCEL_DISABLE;
+    pthread_setcancelstate(PTHREAD_CANCEL_DISABLE, &before);
+    CHECK(before == PTHREAD_CANCEL_ENABLE);
+}
+
 /* The thread is to end where it next can. It can't under the lock, which would stay taken. */
 static void *generate_and_end(void *ignored) {
     CK_MECHANISM generation = mechanism_of(CKM_GENERIC_SECRET_KEY_GEN);
@@ -1494,7 +1634,7 @@ static void *generate_and_end(void *ignored) {
     pthread_cancel(pthread_self());
     EXPECT(CKR_OK, p11->C_GenerateKey(current_session, &generation, &template, 1, &key));
     CHECK(key != 0);
-    pthread_setcancelstate(PTHREAD_CANCEL_DISABLE, NULL);
+    forbid_cancel_again();
     return ignored;
 }
 
@@ -1519,14 +1659,14 @@ static void test_cancelled_thread(void) {
 static void *initialize_and_end(void *ignored) {
     pthread_cancel(pthread_self());
     EXPECT(CKR_OK, p11->C_Initialize(NULL));
-    pthread_setcancelstate(PTHREAD_CANCEL_DISABLE, NULL);
+    forbid_cancel_again();
     return ignored;
 }
 
 static void *finalize_and_end(void *ignored) {
     pthread_cancel(pthread_self());
     EXPECT(CKR_OK, p11->C_Finalize(NULL));
-    pthread_setcancelstate(PTHREAD_CANCEL_DISABLE, NULL);
+    forbid_cancel_again();
     return ignored;
 }
 
@@ -1541,6 +1681,20 @@ static void test_cancelled_beginning_and_end(void) {
     EXPECT(CKR_OK, p11->C_Initialize(NULL));
     end_token();
     unsetenv("OSPREYRACK_TOKEN");
+}
+
+static void test_forbidden_cancel(void) {
+    CK_MECHANISM generation = mechanism_of(CKM_GENERIC_SECRET_KEY_GEN);
+    CK_ULONG key_length = 16;
+    CK_OBJECT_HANDLE key = 0;
+    CK_ATTRIBUTE template = {CKA_VALUE_LEN, &key_length, sizeof key_length};
+    int before = PTHREAD_CANCEL_ENABLE;
+    pthread_setcancelstate(PTHREAD_CANCEL_DISABLE, NULL);
+    CK_SESSION_HANDLE session = begin_token();
+    EXPECT(CKR_OK, p11->C_GenerateKey(session, &generation, &template, 1, &key));
+    end_token();
+    pthread_setcancelstate(PTHREAD_CANCEL_ENABLE, &before);
+    CHECK(before == PTHREAD_CANCEL_DISABLE);
 }
 
 /* ---- Forks */
@@ -1670,7 +1824,7 @@ static void test_seeded_random(void) {
     end_token();
 }
 
-/* The first random bytes of a seed, also behind a C_GenerateKey that has no place for the handle. */
+/* The first random bytes of a seed, also behind a C_GenerateKey without a place for the handle. */
 static void first_bytes_of_seed(bool is_behind_bad_call, CK_BYTE *out) {
     CK_MECHANISM generation = mechanism_of(CKM_GENERIC_SECRET_KEY_GEN);
     CK_ULONG key_length = 16;
@@ -1800,7 +1954,7 @@ static void test_bad_files(void) {
     mkdir(path_of("folder"), 0700);
     check_file_word("OSPREYRACK_SCRIPT", "not_there", "not_there");
     check_file_word("OSPREYRACK_SCRIPT", "bad_line", "line 4");
-    check_file_word("OSPREYRACK_SCRIPT", "bad_reply", "line 2");
+    check_file_word("OSPREYRACK_SCRIPT", "bad_reply", "line 2: the reply is 0 1, and not 0 2");
     check_file_word("OSPREYRACK_SCRIPT", "bad_code", "line 1");
     check_file_word("OSPREYRACK_SCRIPT", "folder", "folder");
     check_file_word("OSPREYRACK_JOURNAL", "not_there/journal", "not_there/journal");
@@ -1859,6 +2013,7 @@ static const struct test tests[] = {
     {"NULL pointers: PINs", test_null_pins},
     {"NULL pointers: sessions and random bytes", test_null_sessions},
     {"NULL pointers: objects, searches and keys", test_null_objects},
+    {"empty lists, where the module has had none before", test_empty_lists},
     {"NULL pointers: digests, signing and verifying", test_null_operations},
     {"lengths of attributes that no memory can have", test_bad_lengths},
     {"lengths of messages, PINs and random bytes that no memory has", test_lengths_of_no_memory},
@@ -1874,9 +2029,12 @@ static const struct test tests[] = {
     {"digests of messages above 2^20 bytes", test_large_digests},
     {"signatures of messages above 2^20 bytes", test_large_signatures},
     {"signatures of 63, 64 and 65 bytes are verified", test_signature_lengths},
+    {"PINs, parameters, messages and signatures that are said to have 2^47 - 1 bytes",
+     test_said_to_be_long},
     {"a long message is taken in as it was when the call was made", test_changed_messages},
     {"only for a long message that is taken in the lock is taken three times",
      test_locks_of_messages},
+    {"a long message is taken in while the lock is free", test_work_without_lock},
     {"the work on a long message doesn't count for another token", test_work_of_another_token},
     {"the work on a long message doesn't count for another operation",
      test_work_of_another_operation},
@@ -1887,6 +2045,9 @@ static const struct test tests[] = {
     {"sessions are closed between the pieces of an update", test_update_and_closed_sessions},
     {"the library is finalized while a call waits for the lock", test_finalized_while_waiting},
     {"a call has waited for a mutex that isn't the library's any more", test_another_mutex},
+    {"an update has waited for a mutex that isn't the library's any more",
+     test_update_and_another_mutex},
+    {"an application's mutex that is NULL", test_mutex_that_is_null},
     {"PINs of 3 to 200 bytes", test_pins},
     {"slots that aren't there", test_slots},
     {"what is said of the library", test_info},
@@ -1902,6 +2063,7 @@ static const struct test tests[] = {
     {"a thread that is cancelled in a call leaves no lock", test_cancelled_thread},
     {"a thread that is cancelled in C_Initialize or C_Finalize leaves no lock",
      test_cancelled_beginning_and_end},
+    {"a thread that can't be cancelled can't be so after calls either", test_forbidden_cancel},
     {"a child of a fork begins anew, and its parent goes on", test_fork},
     {"a child of a fork leaves the parent's file and its lock alone", test_fork_with_file},
     {"bad words of the environment, and then none", test_bad_words},

@@ -646,7 +646,7 @@ static void use_token(uint64_t number) {
     end_token();
 }
 
-/* Each step succeeds at times, but for those that would have to draw a signature. */
+/* Each step succeeds at times, except those that would have to draw a signature. */
 static void check_reach(void) {
     size_t reached = 0;
     for (size_t i = 0; i < STEPS; i++) {

@@ -653,7 +653,7 @@ static long fill_journal(void) {
     return count;
 }
 
-/* At the last of so many locks another thread makes an update. */
+/* At the last of this many locks another thread makes an update. */
 static int locks_until_other;
 static CK_RV other_code;
 

@@ -23,6 +23,7 @@ import support
 
 GENERAL_ERROR = 5
 NOT_INITIALIZED = 0x190
+SEED_NOT_SUPPORTED = 0x120
 HOST_MEMORY = "2"
 DEVICE_ERROR = "30"
 LONGEST_LINE = 4194304
@@ -390,6 +391,15 @@ class Tests:
         self.module.label = support.LABEL
         support.audit(self.checks, self.ck_cases, path)
 
+    def test_no_label(self):
+        """A comment that is nearly a label's line is only a comment."""
+        path, before = self.file("no_label.script"), "62" * 32
+        for text in ["61" * 31, "61" * 33, "6g" * 32, "g6" * 32, "6A" * 32]:
+            write(path, f"# label {before}\n# label {text}\n1 InitToken 31323334\n".encode())
+            self.begin(SCRIPT=path)
+            self.checks.equal(bytes(self.module.token_info()[1].label).hex(), before, text)
+            self.end()
+
     def test_script(self):
         """A script prepares PINs and a key, once for each token."""
         script, path = self.file("script"), self.file("scripted.cases")
@@ -436,6 +446,22 @@ class Tests:
             if code == 0:
                 self.end()
 
+    def test_calls_beside(self):
+        """What stands in the journal for functions that the token doesn't have."""
+        path, one, four = self.file("beside_token.cases"), support.c_ulong(1), support.c_ulong(4)
+        out, size = (support.c_ubyte * 4)(), support.c_ulong(0)
+        self.begin(JOURNAL=path)
+        self.say_all(LOG_IN[:2] + ["1 CreateObject 1 0=0000000000000000,2=00"])
+        for name, rest, code in [("GenerateRandom", [out, four], 0),
+                                 ("SeedRandom", [out, four], SEED_NOT_SUPPORTED),
+                                 ("GetObjectSize", [one, support.byref(size)], 0)]:
+            self.checks.equal(self.module.call(name, one, *rest), code, f"C_{name}")
+        self.end()
+        lines = ["1 GetSessionInfo 1 -> 0 2 6", "1 GetSessionInfo 1 -> 0 2 6",
+                 "1 GetAttributeValue 1 1 - -> 0 -", ""]
+        self.checks.equal(read(path).decode().split("\n")[-4:], lines, "the last lines")
+        support.audit(self.checks, self.ck_cases, path)
+
     def test_longest_line(self):
         """A line has at most 4,194,304 bytes, be it a call that is written or a comment."""
         path = self.file("longest.cases")
@@ -463,6 +489,18 @@ class Tests:
             made.append(self.random_of_start())
         self.checks.check(made[0] != made[1], "random bytes that follow from no seed")
         self.checks.equal(read(path), b"", "the journal")
+
+    def test_bad_word_and_file(self):
+        """A bad word beside a good file leaves the file as it is."""
+        content = read(self.journal_of_some_calls())
+        path = self.file("beside.cases")
+        for words in [{"SEED": "x"}, {"CUT": "maybe"}, {"OTHER": "1"}]:
+            write(path, content)
+            code, errors = self.initialize(TOKEN=path, **words)
+            os.environ.pop("OSPREYRACK_OTHER", None)
+            self.checks.equal(code, GENERAL_ERROR, f"C_Initialize with {words}")
+            self.checks.check(errors.startswith(f"ospreyrack: OSPREYRACK_{[*words][0]}: "), errors)
+            self.checks.equal(read(path), content, "the file")
 
     def test_cut_off(self):
         """A file that is cut off at each of its bytes: what has its end is kept."""
@@ -493,7 +531,7 @@ class Tests:
             if b" -> " not in line:
                 continue
             other_digit = b"1" if line.endswith(b"0") else b"0"
-            for other in [line[:-1] + other_digit, line + b"0",
+            for other in [line[:-1], line[:-1] + other_digit, line + b"0",
                           line.replace(b" -> ", b" -> 9", 1), line.replace(b"1 ", b"9 ", 1),
                           line.replace(b" -> ", b" ->", 1)]:
                 content = b"\n".join(lines[:place] + [other] + lines[place + 1:])
@@ -885,12 +923,16 @@ class Tests:
                           "the files")
         support.audit(self.checks, self.ck_cases, self.file("cut_yes.cases"))
         self.begin(TOKEN=self.file("cut_yes.cases"))
+        before = memory_in_use()
         self.end()
+        held.append(before - memory_in_use())
+        self.checks.check(held[-1] < held[2] / 2, f"it is cut while a file is answered: {held}")
 
 
-TESTS = [Tests.test_file, Tests.test_going_on, Tests.test_new_label, Tests.test_script,
-         Tests.test_only_reply, Tests.test_longest_line, Tests.test_failed_start,
-         Tests.test_cut_off, Tests.test_changed, Tests.test_lacking_reply, Tests.test_two_processes,
+TESTS = [Tests.test_file, Tests.test_going_on, Tests.test_new_label, Tests.test_no_label,
+         Tests.test_script, Tests.test_only_reply, Tests.test_calls_beside, Tests.test_longest_line,
+         Tests.test_failed_start, Tests.test_bad_word_and_file, Tests.test_cut_off,
+         Tests.test_changed, Tests.test_lacking_reply, Tests.test_two_processes,
          Tests.test_second_run, Tests.test_fork, Tests.test_fork_that_stays, Tests.test_exec,
          Tests.test_unload, Tests.test_unload_with_functions, Tests.test_rights, Tests.test_kills,
          Tests.test_full, Tests.test_filling, Tests.test_filling_in_update, Tests.test_seed,

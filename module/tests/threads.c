@@ -541,7 +541,7 @@ static const struct test tests[] = {
 };
 
 int main(int count, char **arguments) {
-    char name[64];
+    char name[100];
     has_mutexes = count == 5 && strcmp(arguments[4], "mutexes") == 0;
     if (count != 4 && !has_mutexes) {
         fprintf(stderr, "threads MODULE THREADS ROUNDS [mutexes]\n");
@@ -551,8 +551,9 @@ int main(int count, char **arguments) {
     rounds = atoi(arguments[3]);
     if (threads < 2 || threads > MOST_THREADS)
         return 2;
-    snprintf(name, sizeof name, "threads, %d%s%s", threads,
+    snprintf(name, sizeof name, "threads, %d%s%s%s", threads,
              getenv("OSPREYRACK_JOURNAL") == NULL ? "" : " with a journal",
+             getenv("OSPREYRACK_SEED") == NULL ? "" : " with a seed",
              has_mutexes ? " with the application's mutexes" : "");
     load_module(arguments[1]);
     return run_tests(name, tests, sizeof tests / sizeof *tests);
