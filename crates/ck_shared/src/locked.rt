@@ -119,7 +119,7 @@ fn show_by<K: TokenId, G: JournaledToken, R: Wait + Drop, W: Wait>(
 
 /// Makes a call of this caller, with the work on its message where there is some.
 #[inline(always)]
-fn answer<G: JournaledToken>(
+fn make_call<G: JournaledToken>(
     token: &mut G,
     alloc: Global,
     caller: u32,
@@ -132,13 +132,11 @@ fn answer<G: JournaledToken>(
     ensures unchanged { OnErr result (IsUnchanged (G.state token.old) (G.state token.new)) }
     ensures legal { IsLegal (G.state token.new).limits (G.state token.new).history }
 {
-    match work {
-        None => token.call(alloc, caller, call),
-        Some(work) => token.call_after(alloc, caller, call, Some(work)),
-    }
+    token.call_after(alloc, caller, call, work)
 }
 
-/// Adds the token's newest entry to the history. The other front is then one of the history before.
+/// Adds the token's newest entry to the history, and shows that `other` is a front of the history
+/// before it.
 fn extend<K: TokenId, G: JournaledToken, W: Wait>(
     rt: &W,
     front: &mut Front<K>,
@@ -301,7 +299,7 @@ impl<K: TokenId, G: JournaledToken, R: Wait + Drop> Locked<K, G, R> {
         let number = caller.account().number();
         let leaves = call.leaves_board();
         let slot = add_slot(alloc, &mut self.writer, leaves)?;
-        let Ok(reply) = answer(&mut self.token, alloc, number, call, work) else {
+        let Ok(reply) = make_call(&mut self.token, alloc, number, call, work) else {
             show_by(rt, &mut self.writer, slot, &self.token, &self.known);
             return Err(NoMemory);
         };

@@ -149,9 +149,26 @@ impl<K: TokenId, G: JournaledToken, R: Wait + Drop> SharedToken<K, G, R> {
             HasCalled K.limits caller.old call reply caller.new) }
         ensures caller { OnErr result (caller.new ≡ caller.old) }
     {
-        if !call.brings_long_message() {
-            return self.lock(rt).step(rt, alloc, caller, call);
+        if call.brings_long_message() {
+            return self.call_with_long_message(rt, alloc, caller, call);
         }
+        self.lock(rt).step(rt, alloc, caller, call)
+    }
+
+    /// As `call`, of a call that brings a long message.
+    // Never inlined, so that a short call doesn't clear room for a message on the stack.
+    #[inline(never)]
+    fn call_with_long_message<W: Wait>(
+        &self,
+        rt: &W,
+        alloc: Global,
+        caller: &mut Caller<K>,
+        call: Call,
+    ) -> Result<Reply, NoMemory>
+        ensures called { IfOk result (λ reply.
+            HasCalled K.limits caller.old call reply caller.new) }
+        ensures caller { OnErr result (caller.new ≡ caller.old) }
+    {
         let message = self.take_in(rt, &call);
         self.call_with(rt, alloc, caller, call, message)
     }

@@ -21,8 +21,8 @@ use std::sync::Wait;
 use std::thread::Threads;
 use std::{mem, thread};
 
-/// The work of each caller of a shared token. Its method is over any `K`, so who implements it needs
-/// no proof file for `K`.
+/// The work of each caller of a shared token. Its method is over any `K`, so who implements it
+/// needs no proof file for `K`.
 pub trait CallerWork<R> {
     ghost use Rattle.ck_callers.specs.Callers.{CallerState};
 

@@ -10,4 +10,4 @@ pub mod Cuts
 pub mod Decisions
 pub mod QueryCodes
 pub mod Runs
-pub mod Tries
+pub mod TryCalls

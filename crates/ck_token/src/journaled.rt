@@ -23,7 +23,7 @@ impl JournaledToken for Token {
         Token::work(self, call)
     }
 
-    #[inline(never)]
+    #[inline(always)]
     fn call_after(
         &mut self,
         alloc: Global,

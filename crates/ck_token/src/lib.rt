@@ -30,12 +30,12 @@ mod journaled;
 mod queries;
 mod runs;
 mod tokens;
-mod tries;
+mod try_calls;
 
 pub use cuts::Uncut;
 pub use runs::{Stopped, run};
 pub use tokens::Token;
-pub use tries::CallError;
+pub use try_calls::CallError;
 
 // What users of a token need of the crates below.
 pub use ck_journal::{

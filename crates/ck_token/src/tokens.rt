@@ -51,18 +51,20 @@ impl Model for Token {
     ghost invariant = { λ t. TokenAgrees t.limits t.journal.history t.parts };
 }
 
-/// Drops what is left of a call that finds no memory, in a function that is never inlined: a
-/// compiled function clears, where it begins, the stack room of all that it may drop.
+/// `NoMemory`, for a call of which this is left: `drop_apart` drops it.
 #[inline(always)]
 fn out_of_memory<T: Drop>(left: T) -> NoMemory {
     drop_apart(left);
     NoMemory
 }
 
+/// Drops a value in a function of its own, since a compiled function clears, where it begins, the
+/// stack room of all that it may drop.
 #[cold]
 #[inline(never)]
 fn drop_apart<T: Drop>(_left: T) {}
 
+/// Makes a reply of its code and its body, which a `Decision` has apart.
 #[inline(always)]
 fn reply_with(rv: Rv, body: Body) -> Reply
     ensures { result ≡ record { rv = rv; body = body } }
@@ -182,9 +184,9 @@ impl Token {
     }
 
     /// Takes the journal out; the token goes on with a new one, which starts from what is left of
-    /// the calls so far and has no entry. It may have no room for entries. Where a session is open, which is
-    /// looked at first, or there is no memory, nothing has changed. All later calls are answered as
-    /// they would have been.
+    /// the calls so far and has no entry. It may have no room for entries. Where a session is open,
+    /// which is looked at first, or there is no memory, nothing has changed. All later calls are
+    /// answered as they would have been.
     pub fn cut(&mut self, alloc: Global) -> Result<Journal, Uncut>
         ensures cut { IsCut self.old self.new result }
         ensures sound { OnOk result (IsSound (base_of self.old.history)) }
@@ -206,8 +208,9 @@ impl Token {
     /// Answers a call and enters it in the journal. Where there is no memory for it, nothing has
     /// changed and the call isn't in the journal. Where the journal has room, only a call that
     /// passes its checks can run out of memory, and only one that opens a session, creates,
-    /// generates or copies an object, sets or reads attributes, finds or returns objects, reads the list of
-    /// mechanisms, starts an operation, or gives a digest or a signature.
+    /// generates or copies an object, sets or reads attributes, finds or returns objects, reads the
+    /// list of mechanisms, starts an operation, or gives a digest or a signature.
+    #[inline(always)]
     pub fn call(&mut self, alloc: Global, caller: u32, call: Call) -> Result<Reply, NoMemory>
         ensures answered { IfOk result (λ reply. IsAnswered self.old self.new caller call reply) }
         ensures unchanged { OnErr result (IsUnchanged self.old self.new) }
@@ -223,8 +226,9 @@ impl Token {
     /// As `call`, with the work that `Token::work` began for this call and that is done. It counts
     /// only where the call's operation hasn't changed since; the reply and the entry are those of
     /// `call` in any case.
-    // It becomes a part of `call`, so that a call without work takes no time for it.
-    #[inline(always)]
+    // Never inlined: where it was compiled twice, with work and without, its parts stayed functions
+    // of their own, and short calls took longer.
+    #[inline(never)]
     pub fn call_after(
         &mut self,
         alloc: Global,
@@ -286,6 +290,7 @@ impl Token {
         }
     }
 
+    /// Decides a call, each by a function of its own. `ready` is as that of `decide`.
     #[inline(always)]
     fn decision(
         &self,

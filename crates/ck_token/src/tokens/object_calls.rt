@@ -31,7 +31,7 @@ pub(super) fn check_no_parameter(mechanism: &Mechanism) -> Result<(), RvError>
 
 /// The state of this number, where the key may go over to it. Checks: CKR_ARGUMENTS_BAD (7) where
 /// no state has the number, CKR_ACTION_PROHIBITED (1b).
-fn transition(key: &Record, number: u64) -> Result<KeyState, RvError>
+fn check_transition(key: &Record, number: u64) -> Result<KeyState, RvError>
     ensures state { IfOk result (λ state. state_of_number number ≡ Some state) }
     ensures passes { IfOk result (λ state.
         transition_error (state_in key.now) (state_of_number number) ≡ None) }
@@ -256,7 +256,7 @@ impl Token {
         let row = self.session(session)?;
         let (number, attributes) = self.key(key)?;
         self.check_writable(row, attributes.placement())?;
-        let state = transition(attributes, state)?;
+        let state = check_transition(attributes, state)?;
         Ok(Decision::of_change(Change::SetKeyState { number, state }))
     }
 

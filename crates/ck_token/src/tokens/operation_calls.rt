@@ -170,7 +170,7 @@ impl Token {
     /// The number of the key that the handle names, where operations of the kind may use it.
     /// Checks: CKR_KEY_HANDLE_INVALID (60), CKR_KEY_FUNCTION_NOT_PERMITTED (68) for its flag or its
     /// state.
-    fn usable_key(&self, kind: OperationKind, handle: u64) -> Result<u64, RvError>
+    fn check_usable_key(&self, kind: OperationKind, handle: u64) -> Result<u64, RvError>
         ensures number { IfOk result (λ number.
             object_named self.now.history handle ≡ Some number) }
         ensures passes { IfOk result (λ number.
@@ -184,7 +184,7 @@ impl Token {
     }
 
     /// C_SignInit and C_VerifyInit. Checks: CKR_SESSION_HANDLE_INVALID (b3), CKR_OPERATION_ACTIVE
-    /// (90), CKR_MECHANISM_INVALID (70), CKR_MECHANISM_PARAM_INVALID (71), those of `usable_key`.
+    /// (90), CKR_MECHANISM_INVALID (70), CKR_MECHANISM_PARAM_INVALID (71), those of `check_usable_key`.
     pub(super) fn hmac_init(
         &self,
         kind: OperationKind,
@@ -204,7 +204,7 @@ impl Token {
         let len = mechanism
             .tag_length()
             .ok_or(RvError::MechanismParamInvalid)?;
-        let key = self.usable_key(kind, key)?;
+        let key = self.check_usable_key(kind, key)?;
         Ok(Decision::of_change(Change::StartHmac {
             kind,
             session,

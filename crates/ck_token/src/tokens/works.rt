@@ -37,6 +37,7 @@ impl Token {
         if !takes_long_message(call, operation) {
             return None;
         }
+        // A copy of a running tag takes no memory and never fails.
         Some(Work {
             entries: self.journal.len(),
             running: operation.running().clone().unwrap(),

@@ -4,7 +4,7 @@ use Rattle.ck_types.specs.declared.errors.RvError.TheVariants as rv_error
 use Rattle.ck_types.proofs.CheckLemmas.{check_of-ok, check_of-err}
 use Rattle.ck_journal.specs.Answers.{usage_error}
 use Rattle.ck_token.proofs.DecisionLemmas.{of-err}
-use Rattle.ck_token.proofs.tokens.Token.usable_key.Goals as goal
+use Rattle.ck_token.proofs.tokens.Token.check_usable_key.Goals as goal
 
 pub returns-clause-passes : goal.returns-clause-passes
 returns-clause-passes c =

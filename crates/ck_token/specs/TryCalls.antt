@@ -5,8 +5,8 @@ use Rattle.ck_journal.specs.Bodies.{result_of}
 use Rattle.ck_journal.specs.TokenStates.{TokenState, IsAnswered, IsUnchanged}
 use Rattle.ck_journal.specs.declared.calls.Call.{Call}
 use Rattle.ck_journal.specs.declared.replies.Body.{Body}
-use Rattle.ck_token.specs.declared.tries.CallError.{CallError}
-use Rattle.ck_token.specs.declared.tries.CallError.TheVariants as call_error
+use Rattle.ck_token.specs.declared.try_calls.CallError.{CallError}
+use Rattle.ck_token.specs.declared.try_calls.CallError.TheVariants as call_error
 
 -- the call was answered with CKR_OK and this body, or with this error; or there was no memory for
 -- it, and nothing has changed
