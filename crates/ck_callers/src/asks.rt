@@ -19,8 +19,8 @@ pub enum Ask {
     Mechanisms,
 }
 
-/// What is answered to a question: the reply that the call would get, or the types of all mechanisms
-/// (CK_MECHANISM_TYPE) in rising order.
+/// What is answered to a question: the reply that the call would get, or the types of all
+/// mechanisms (CK_MECHANISM_TYPE) in rising order.
 #[derive(Drop)]
 pub enum Status {
     Reply(Reply),

@@ -57,7 +57,7 @@ impl<K: TokenId> Caller<K> {
     ghost use Rattle.ck_callers.specs.Callers.{HasCalled, IsNextCall, IsSettled, new_caller};
 
     /// A caller that has made no call.
-    pub fn new(
+    pub(crate) fn new(
         account: Account<K>,
         known: &KnownHistory<K>,
         reader: ReadHandle<BoardCopy<K>>,
@@ -181,7 +181,7 @@ fn look<K: TokenId>(
 {
     let board = reader.enter()?;
     let newest = seen.newest(board.known())?;
-    // The counts are the same, since only this caller makes its calls; the prover is shown it.
+    // The counts are the same, since only this caller makes its calls. The test tells the prover.
     if newest.calls(account.number()) != account.count() {
         return None;
     }
@@ -198,8 +198,8 @@ impl<K: TokenId> Caller<K> {
     ghost use Rattle.ck_callers.specs.Asks.{call_of, reply_of};
 
     /// Answers a question as the token would have answered it after all calls that the caller knows
-    /// of afterwards. It takes neither the lock nor memory and waits for nobody. `None` where the board can't be
-    /// read, or lacks an entry that the caller knows and that may have changed it.
+    /// of afterwards. It takes neither the lock nor memory and waits for nobody. `None` where the
+    /// board can't be read, or lacks an entry that the caller knows and that may have changed it.
     pub fn status(&mut self, ask: Ask) -> Option<Status>
         ensures answer { IfSome result (λ status.
             reply_of status ≡ answer K.limits self.new.seen (call_of ask)) }

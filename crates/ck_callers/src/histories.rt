@@ -9,8 +9,8 @@ use ck_journal::Entry;
 use logbook::{Offer, Seen, Start, Word};
 use std::marker::{Brand, Model, PhantomData};
 
-/// A type that stands for one history: its book, the base that it starts from, and the limits of its
-/// token. Two fronts of one such type are fronts of one history.
+/// A type that stands for one history: its book, the base that it starts from, and the limits of
+/// its token. Two fronts of one such type are fronts of one history.
 pub trait HistoryId {
     ghost use Rattle.logbook.specs.Pages.{Book};
     ghost use Rattle.ck_types.specs.TokenLimits.{Ranges};
@@ -43,7 +43,7 @@ pub struct NewHistory {
 
 impl NewHistory {
     /// A history without entries, with a book of its own.
-    pub fn new() -> NewHistory
+    pub(crate) fn new() -> NewHistory
         ensures entries { result.seen.log ≡ [] }
         ensures head { result.head ≡ head_of result.seen.book }
     {
@@ -55,7 +55,7 @@ impl NewHistory {
     }
 
     /// The history under its name: the length that threads share, and the front without entries.
-    pub fn named<K: HistoryId>(self) -> (Head<K>, Front<K>)
+    pub(crate) fn named<K: HistoryId>(self) -> (Head<K>, Front<K>)
         requires { self.seen.book ≡ K.book }
         ensures { result.1 ≡ start K.base }
     {
@@ -135,6 +135,7 @@ impl<K: HistoryId> Front<K> {
         ensures front { IsTrue result → IsFront self.now other.now }
         ensures longer { result ≡ false → IsFront other.now self.now }
     {
+        // Tells the prover that both are fronts of one book, so that the shorter begins the longer.
         let mut both = self.seen.again();
         both.learn(&other.seen);
         self.count <= other.count
@@ -149,6 +150,7 @@ impl<K: HistoryId> Front<K> {
             ((self.new ≡ entry.now ◁ self.old) × IsFront other.now self.old)
             (self.new ≡ self.old) }
     {
+        // Tells the prover that the other front is one of the same book.
         let mut both = self.seen.again();
         both.learn(&other.seen);
         let mut offer: Offer<Entry, u64, LengthOfLog, Nothing> = both.plain::<Nothing, Entry, Add>(

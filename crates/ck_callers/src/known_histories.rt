@@ -7,7 +7,11 @@ ghost use Rattle.ck_callers.specs.KnownHistories.{Covers, HasNext};
 
 use crate::histories::Front;
 use crate::identity::TokenId;
+use ck_journal::MOST_CALLERS;
 use std::marker::Model;
+
+/// A place for each caller that a token may have.
+const PLACES: usize = MOST_CALLERS as usize;
 
 /// A history with how many calls of each caller it has, and a front of it since which no entry has
 /// changed the board. Contracts see the two histories.
@@ -15,7 +19,7 @@ use std::marker::Model;
 pub struct KnownHistory<K: TokenId> {
     front: Front<K>,
     changed: Front<K>,
-    calls: [u64; 8],
+    calls: [u64; PLACES],
 }
 
 impl<K: TokenId> Model for KnownHistory<K> {
@@ -50,19 +54,19 @@ fn last_change<K: TokenId>(before: &Front<K>, front: &Front<K>, leaves: bool) ->
 
 impl<K: TokenId> KnownHistory<K> {
     /// A history without entries.
-    pub fn new(front: &Front<K>) -> KnownHistory<K>
+    pub(crate) fn new(front: &Front<K>) -> KnownHistory<K>
         requires { front.now ≡ start K.base }
         ensures { result ≡ record { history = start K.base; changed = start K.base } }
     {
         KnownHistory {
             front: front.duplicate(),
             changed: front.duplicate(),
-            calls: [0; 8],
+            calls: [0; PLACES],
         }
     }
 
     /// A copy, which takes no memory.
-    pub fn duplicate(&self) -> KnownHistory<K>
+    pub(crate) fn duplicate(&self) -> KnownHistory<K>
         ensures { result ≡ self.now }
     {
         KnownHistory {
@@ -80,7 +84,7 @@ impl<K: TokenId> KnownHistory<K> {
     }
 
     /// How many calls of the caller were answered.
-    pub fn calls(&self, caller: u32) -> u64
+    pub(crate) fn calls(&self, caller: u32) -> u64
         requires { (1 ≤ caller) × (caller ≤ 8) }
         ensures { result ≡ call_count caller self.now.history }
     {

@@ -79,7 +79,7 @@ impl<K: TokenId> Model for CallBooks<K> {
         ∷ b.five.total ∷ b.six.total ∷ b.seven.total ∷ b.eight.total ∷ [] };
 }
 
-/// The part of the ledger of one caller.
+/// The one part of a caller's ledger.
 #[derive(Drop)]
 enum CallerShare<K: TokenId> {
     One(Share<CallerLedger<K, 1>>),
@@ -155,7 +155,7 @@ impl NewLedgers {
 
     /// Ledgers without calls. No clause says which names they have; that each has its one part is
     /// an invariant of the type.
-    pub fn new() -> NewLedgers {
+    pub(crate) fn new() -> NewLedgers {
         NewLedgers {
             one: Blank::new(1),
             two: Blank::new(1),
@@ -170,7 +170,7 @@ impl NewLedgers {
 
     /// The books, and the accounts of the callers 1 to `callers`, under their names. No call is
     /// counted.
-    pub fn named<K: TokenId>(
+    pub(crate) fn named<K: TokenId>(
         self,
         alloc: Global,
         callers: u32,
@@ -252,7 +252,7 @@ impl<K: TokenId> CallBooks<K> {
     }
 
     /// Shows that the books have as many calls of the caller as its account. It changes nothing.
-    pub fn compare(&mut self, account: &mut Account<K>)
+    pub(crate) fn compare(&mut self, account: &mut Account<K>)
         ensures range { (1 ≤ account.old.number) × (account.old.number ≤ 8) }
         ensures same { account.old.count ≡ slice_index self.old (account.old.number - 1) }
         ensures books { self.new ≡ self.old }
@@ -262,7 +262,7 @@ impl<K: TokenId> CallBooks<K> {
     }
 
     /// Counts a call of the caller.
-    pub fn count(&mut self, account: &mut Account<K>)
+    pub(crate) fn count(&mut self, account: &mut Account<K>)
         requires { slice_index self.old (account.old.number - 1) + 1 < 2 ^ 64 }
         ensures same { account.old.count ≡ slice_index self.old (account.old.number - 1) }
         ensures books { self.new

@@ -127,6 +127,7 @@ fn run_all<
             let script = match run {
                 Ok(thread) => thread.join(rt),
                 Err(refused) => {
+                    // Only a call of the closure gives the script back, which isn't played then.
                     has_thread.store(false, Ordering::SeqCst);
                     (refused.value)()
                 }

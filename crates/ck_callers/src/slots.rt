@@ -18,7 +18,7 @@ pub struct EntrySlot<K: TokenId> {
 }
 
 impl<K: TokenId> EntrySlot<K> {
-    /// The two handles of a slot that is not filled. What lies under its lock no clause can name.
+    /// The two handles of a slot that isn't filled. No clause can name what lies under its lock.
     pub fn vacant(alloc: Global) -> Result<(EntrySlot<K>, EntrySlot<K>), NoMemory> {
         let place = Arc::new(alloc, Mutex::new(None))?;
         let other = Arc::try_clone(&place)?;
@@ -26,8 +26,8 @@ impl<K: TokenId> EntrySlot<K> {
     }
 
     /// Fills the slot with the board after a call and the history that it is of, without memory.
-    /// That the board is of this history is asked here and kept by the type of what the slot holds;
-    /// that it lies there then no clause can say.
+    /// The precondition says that the board is of this history, and the type of what the slot holds
+    /// keeps that. No clause can say that it then lies there.
     pub fn fill(&self, board: TokenBoard, known: &KnownHistory<K>)
         requires { board ≡ board_of K.limits known.now.history }
     {

@@ -68,7 +68,7 @@ fn play_file<R: Files + Print + Eprint + AllocGlobal>(
     options: &PlayOptions,
 ) -> io::Result<Status> {
     match read_file(rt, name) {
-        Ok(bytes) => play_bytes(rt, name, bytes.as_slice(), options),
+        Ok(bytes) => play_bytes(rt, name, &bytes, options),
         Err(error) => report_file_error(rt, name, &error),
     }
 }
@@ -90,8 +90,8 @@ fn play_files<R: Files + Print + Eprint + AllocGlobal>(
 fn run<R: Env + Files + Print + Eprint + AllocGlobal>(rt: &R) -> io::Result<Status> {
     let alloc = rt.alloc();
     let words: Vec<String> = env::args(rt)?.collect(alloc)?;
-    match request_of(alloc, words.as_slice()) {
-        Ok(Request::Play { names, options }) => play_files(rt, names.as_slice(), &options),
+    match request_of(alloc, &words) {
+        Ok(Request::Play { names, options }) => play_files(rt, &names, &options),
         Ok(Request::Help(text)) => {
             print!(rt; "{text}")?;
             Ok(Status::Right)

@@ -1,7 +1,7 @@
 -- Entries in segments: the one at a place, one more entry, and one more segment
-use Rattle.std.proofs.Common.{◌≡◌, ℕ, zero, suc, ◌+◌, ◌-◌, ◌*◌, ◌/◌, ◌%◌, ◌<◌, ◌≤◌, inl, inr, List, []}
-use Rattle.std.proofs.Common.{◌∷◌, ◌++◌, Option, Some, None, length, get_or, set, drop, refl, sym, ap, ◌∙◌}
-use Rattle.std.proofs.Common.{arith, append_assoc, append-nil, add-one, Bor}
+use Rattle.std.proofs.Common.{◌≡◌, ℕ, zero, suc, ◌+◌, ◌-◌, ◌*◌, ◌/◌, ◌%◌, ◌<◌, ◌≤◌, inl, inr}
+use Rattle.std.proofs.Common.{List, [], ◌∷◌, ◌++◌, Option, Some, None, length, get_or, set, drop}
+use Rattle.std.proofs.Common.{refl, sym, ap, ◌∙◌, arith, append_assoc, append-nil, add-one, Bor}
 use Rattle.std.specs.Prelude.{slice_get, vec_capacity}
 use Rattle.std.specs.Global.{Vec}
 use Rattle.std.proofs.lemmas.Bool.{cases_lt}
@@ -29,7 +29,8 @@ get-right : {A : Type 0} (xs ys : List A) (i : ℕ) → length xs ≤ i
     → slice_get (xs ++ ys) i ≡ slice_get ys (i - length xs)
 get-right [] ys i past = ap (slice_get ys) (omega arith)
 get-right (x ∷ xs) ys zero past = absurd (omega arith)
-get-right (x ∷ xs) ys (suc i) past = get-right xs ys i (omega arith) ∙ ap (slice_get ys) (omega arith)
+get-right (x ∷ xs) ys (suc i) past =
+    get-right xs ys i (omega arith) ∙ ap (slice_get ys) (omega arith)
 
 none-past : {A : Type 0} (xs : List A) (i : ℕ) → slice_get xs i ≡ None → length xs ≤ i
 none-past [] i none = omega arith
@@ -142,7 +143,8 @@ pub get-in_segment : (len : ℕ) (segments : List (Vec Entry)) (index : ℕ) (s 
     → option_copied r ≡ slice_get (joined segments) index
 get-in_segment len segments index s r filled within is item =
     let found = slice_get_read segments (length segments) (index / SEGMENT) s refl within is in
-    copied-item s.items (index % SEGMENT) r item ∙ sym (get-joined len segments index s filled found)
+    copied-item s.items (index % SEGMENT) r item
+    ∙ sym (get-joined len segments index s filled found)
 
 pub get-no_segment : (len : ℕ) (segments : List (Vec Entry)) (index : ℕ) → AreFilled len segments
     → length segments ≤ index / SEGMENT → slice_get (joined segments) index ≡ None

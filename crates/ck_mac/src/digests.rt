@@ -1,12 +1,11 @@
-ghost use Rattle.std.specs.Prelude.{◌≡◌, ⊤, ℕ, List, [], ◌++◌};
+ghost use Rattle.std.specs.Prelude.{◌≡◌, ℕ, List, [], ◌++◌};
 ghost use Rattle.ck_mac.specs.Digests.{digest_of};
 
 use crate::tags::Tag;
 use ck_types::Hash;
 use sha2::{Digest, Sha224, Sha256, Sha384, Sha512};
-use std::alloc::AllocError;
 
-#[derive(Drop)]
+#[derive(Clone, Drop)]
 enum Hasher {
     Sha224(Sha224),
     Sha256(Sha256),
@@ -15,7 +14,7 @@ enum Hasher {
 }
 
 /// A running digest: that of a message that comes in pieces (FIPS 180-4).
-#[derive(Drop)]
+#[derive(Clone, Drop)]
 pub struct Running {
     hasher: Hasher,
 }
@@ -73,23 +72,6 @@ impl Running {
             Hasher::Sha384(hasher) => Tag::of(&hasher.finalize()),
             Hasher::Sha512(hasher) => Tag::of(&hasher.finalize()),
         }
-    }
-}
-
-/// A clone takes no memory and never fails.
-impl Clone for Running {
-    ghost is_clone = { λ running clone. clone ≡ running };
-
-    ghost is_infallible = { λ _. ⊤ };
-
-    fn clone(&self) -> Result<Running, AllocError> {
-        let hasher = match &self.hasher {
-            Hasher::Sha224(hasher) => Hasher::Sha224(hasher.clone()?),
-            Hasher::Sha256(hasher) => Hasher::Sha256(hasher.clone()?),
-            Hasher::Sha384(hasher) => Hasher::Sha384(hasher.clone()?),
-            Hasher::Sha512(hasher) => Hasher::Sha512(hasher.clone()?),
-        };
-        Ok(Running { hasher })
     }
 }
 

@@ -1,4 +1,4 @@
-ghost use Rattle.std.specs.Prelude.{◌≡◌, ⊤, ◌≤◌, ℕ, List, [], ◌++◌, take};
+ghost use Rattle.std.specs.Prelude.{◌≡◌, ◌≤◌, ℕ, List, [], ◌++◌, take};
 ghost use Rattle.ck_mac.specs.Digests.{Holds};
 ghost use Rattle.ck_types.specs.Hashes.{block_length, digest_length};
 ghost use Rattle.ck_mac.specs.Macs.{block_key, xor_each};
@@ -7,7 +7,6 @@ ghost use Rattle.ck_types.specs.declared.hashes.Hash.{Hash};
 use crate::digests::{Running, digest};
 use crate::tags::{Tag, with_zeros};
 use ck_types::{Hash, RvError};
-use std::alloc::AllocError;
 
 /// The length in bytes of the longest block.
 const LONGEST_BLOCK: usize = 128;
@@ -19,7 +18,7 @@ const INNER_PAD: u8 = 0x36;
 const OUTER_PAD: u8 = 0x5c;
 
 /// A running HMAC: that of a message that comes in pieces (FIPS 198-1), whole or its first bytes.
-#[derive(Drop)]
+#[derive(Clone, Drop)]
 pub struct Mac {
     /// Has taken in the key combined with the inner pad, and then the message so far.
     inner: Running,
@@ -98,21 +97,6 @@ impl Mac {
             → result ≡ check_of (signature_error (take n (hmac hash key message)) signature.now) }
     {
         self.finish().check(signature)
-    }
-}
-
-/// A clone takes no memory and never fails.
-impl Clone for Mac {
-    ghost is_clone = { λ mac clone. clone ≡ mac };
-
-    ghost is_infallible = { λ _. ⊤ };
-
-    fn clone(&self) -> Result<Mac, AllocError> {
-        Ok(Mac {
-            inner: self.inner.clone()?,
-            outer: self.outer.clone()?,
-            len: self.len,
-        })
     }
 }
 

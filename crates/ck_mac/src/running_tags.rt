@@ -1,10 +1,9 @@
 use crate::digests::Running;
 use crate::macs::Mac;
 use crate::tags::Tag;
-use std::alloc::AllocError;
 
 /// A running tag: the digest or the HMAC of a message that comes in pieces.
-#[derive(Drop)]
+#[derive(Clone, Drop)]
 pub enum RunningTag {
     Digest(Running),
     Mac(Mac),
@@ -42,6 +41,7 @@ impl RunningTag {
         ensures { (computation : Computation) (message : List ℕ)
             → HoldsTag computation self.now message → result ≡ tag_of computation message }
     {
+        // The copies take no memory and never fail.
         match self {
             RunningTag::Digest(running) => running.clone().unwrap().finish(),
             RunningTag::Mac(mac) => mac.clone().unwrap().finish(),
@@ -54,6 +54,7 @@ impl RunningTag {
             → HoldsTag computation self.now message
             → result ≡ tag_of computation (message ++ bytes.now) }
     {
+        // The copies take no memory and never fail.
         match self {
             RunningTag::Digest(running) => {
                 let mut running = running.clone().unwrap();
@@ -66,21 +67,5 @@ impl RunningTag {
                 mac.finish()
             }
         }
-    }
-}
-
-/// A clone takes no memory and never fails.
-impl Clone for RunningTag {
-    ghost use Rattle.std.specs.Prelude.{◌≡◌, ⊤};
-
-    ghost is_clone = { λ running clone. clone ≡ running };
-
-    ghost is_infallible = { λ _. ⊤ };
-
-    fn clone(&self) -> Result<RunningTag, AllocError> {
-        Ok(match self {
-            RunningTag::Digest(running) => RunningTag::Digest(running.clone()?),
-            RunningTag::Mac(mac) => RunningTag::Mac(mac.clone()?),
-        })
     }
 }

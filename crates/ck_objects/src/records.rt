@@ -325,15 +325,10 @@ impl Record {
     fn field(&self, kind: u64) -> Option<Field>
         ensures { option_map field_bytes result ≡ value_at self.now kind }
     {
-        match &self.object {
-            Object::Data(data) => match Attribute::of(kind) {
-                None => None,
-                Some(attribute) => data.field(attribute),
-            },
-            Object::Key(key) => match Attribute::of(kind) {
-                None => None,
-                Some(attribute) => key.field(attribute),
-            },
+        match (&self.object, Attribute::of(kind)) {
+            (_, None) => None,
+            (Object::Data(data), Some(attribute)) => data.field(attribute),
+            (Object::Key(key), Some(attribute)) => key.field(attribute),
         }
     }
 }

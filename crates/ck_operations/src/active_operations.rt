@@ -136,6 +136,7 @@ impl Operation {
           entries = entries;
         }) self.old self.new }
     {
+        // A copy of a running tag takes no memory and never fails.
         match ready {
             Some(running) => self.running = running.clone().unwrap(),
             None => self.running.update(bytes),

@@ -42,7 +42,7 @@ use Rattle.ck_parts.specs.declared.changes.Change.TheVariants as change
 
 -- ---- a call that makes a step on an operation
 
--- it is about nobody's PIN, and does nothing but its step
+-- it is about nobody's PIN, and does only its step
 pub record IsStepAlone (h : History) (c : Call) : Type 0 where
   pub sessions : (effects_of (Some c)).sessions ≡ false
   pub objects : (effects_of (Some c)).objects ≡ false

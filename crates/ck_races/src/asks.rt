@@ -37,17 +37,17 @@ pub(crate) const RUNS: u32 = 100;
 
 type AskingScript<K> = Script<K, Step, Answered>;
 
+/// Fails where something isn't as it must be.
 pub(crate) fn expect(holds: bool) -> anyhow::Result<()> {
     ensure!(holds, "a reply, a status or a count is not what it must be");
     Ok(())
 }
 
-/// Whether an ask is answered by this text, or with all mechanisms where no text is wanted.
+/// Whether a question is answered by the reply that has this text.
 fn is_status(alloc: Global, status: &Option<Status>, wanted: &str) -> Result<bool, NoMemory> {
     Ok(match status {
         Some(Status::Reply(reply)) => reply_line(alloc, reply)?.as_str() == wanted,
-        Some(Status::Mechanisms(types)) => wanted.is_empty() && *types == mechanism_types(),
-        None => false,
+        _ => false,
     })
 }
 
@@ -98,7 +98,8 @@ fn check_before<K: TokenId>(
 ) -> anyhow::Result<()> {
     check_ask(alloc, caller, Ask::Token, state)?;
     check_ask(alloc, caller, Ask::Session(1), "b3")?;
-    check_ask(alloc, caller, Ask::Mechanisms, "")
+    let status = caller.status(Ask::Mechanisms);
+    expect(matches!(status, Some(Status::Mechanisms(types)) if types == mechanism_types()))
 }
 
 /// The login of the user.

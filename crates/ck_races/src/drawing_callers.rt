@@ -36,12 +36,11 @@ struct DrawingCaller<'a, 'c, K: TokenId, G, R> {
 /// The row that a number stands for.
 fn row_of(number: u64) -> &'static str {
     let draw = (number / SELDOM_IN) as usize;
-    let row = match number % SELDOM_IN {
-        0 => SELDOM.get(draw % SELDOM.len()),
-        1..=LONG_IN => LONG.get(draw % LONG.len()),
-        _ => ROWS.get(draw % ROWS.len()),
-    };
-    row.copied().unwrap_or("GetTokenInfo")
+    match number % SELDOM_IN {
+        0 => SELDOM[draw % SELDOM.len()],
+        1..=LONG_IN => LONG[draw % LONG.len()],
+        _ => ROWS[draw % ROWS.len()],
+    }
 }
 
 /// Keeps the handle of a reply, where there is one, for the word behind its call.
@@ -80,17 +79,17 @@ impl<'a, 'c, K: TokenId, G: Gate<K>, R: Wait> DrawingCaller<'a, 'c, K, G, R> {
         let row = row_of(self.draws.next_u64());
         let number = self.draws.next_u64();
         let sets = self.sets;
-        if let Some(handles) = sets.get(number as usize % SETS) {
-            self.make_row(handles, row)?;
-            let session = handles.session.load(Ordering::SeqCst);
-            let status = self.gate.status(self.caller, Ask::Session(session));
-            ensure!(status.is_some(), "a question is not answered");
-        }
+        let handles = &sets[number as usize % SETS];
+        self.make_row(handles, row)?;
+        let session = handles.session.load(Ordering::SeqCst);
+        let status = self.gate.status(self.caller, Ask::Session(session));
+        ensure!(status.is_some(), "a question is not answered");
         Ok(())
     }
 
     /// Draws rows until the caller has made its calls.
     fn make_calls(&mut self) -> anyhow::Result<()> {
+        // Each row has a call at least, so this many rows are enough. The loop must be seen to end.
         for _ in 0..CALLS {
             if self.replies.len() < CALLS {
                 self.make_drawn_row()?;

@@ -109,7 +109,7 @@ fn check_texts(lines: &[RaceLine], texts: &[String]) -> anyhow::Result<()> {
 }
 
 /// The replies are those of the lines, to whichever callers.
-fn check_in_any(alloc: Global, lines: &[RaceLine], journal: &Journal) -> anyhow::Result<()> {
+fn check_in_any_order(alloc: Global, lines: &[RaceLine], journal: &Journal) -> anyhow::Result<()> {
     let texts = texts_of(alloc, journal)?;
     check_texts(lines, &texts)
 }
@@ -122,11 +122,11 @@ pub(crate) fn check_token(
     race: &Race,
     callers: &[u32],
 ) -> anyhow::Result<()> {
-    let (journal, lines) = (token.journal(), race.lines.as_slice());
+    let (journal, lines) = (token.journal(), &race.lines);
     check_order(journal, lines, callers)?;
     let is_in_order = check_in_order(alloc, lines, journal)?;
     if race.is_in_any_order {
-        check_in_any(alloc, lines, journal)?;
+        check_in_any_order(alloc, lines, journal)?;
     }
     if is_in_order || race.is_in_any_order {
         make_calls(alloc, token, &race.afterwards)?;

@@ -1,5 +1,5 @@
 //! Orders of callers, and a gate that keeps one.
-use ck_journal::{Call, Reply};
+use ck_journal::{Call, MOST_CALLERS, Reply};
 use ck_shared::{Ask, Caller, Gate, Status, TokenId};
 use ck_types::NoMemory;
 use rand_core::Rng;
@@ -13,10 +13,11 @@ use std::time::Duration;
 /// to the gate or was made, and after `LONGEST_SLEEP` at the latest.
 const MOST_LOOKS: u32 = 1_000_000;
 
-/// In microseconds.
+/// The longest that a held call sleeps before it looks again, in microseconds.
 const LONGEST_SLEEP: u64 = 20;
 
-/// A place behind all places of an order.
+/// The count of made calls once a call has waited too long. No order has as many calls, so none is
+/// held any more.
 const LATE: u64 = u64::MAX / 2;
 
 /// An order of calls, by the numbers of their callers.
@@ -32,7 +33,7 @@ pub(crate) struct CallOrder<'a> {
 }
 
 impl<'a> CallOrder<'a> {
-    /// Calls after these aren't held.
+    /// An order of the calls of these callers. Calls after these aren't held.
     pub(crate) fn new(callers: &'a [u32]) -> CallOrder<'a> {
         CallOrder {
             callers,
@@ -58,14 +59,14 @@ impl<'a> CallOrder<'a> {
         self.moves.wake_all();
     }
 
-    /// A call was made.
-    pub(crate) fn count(&self) {
+    /// Counts a call that was made.
+    pub(crate) fn count_made(&self) {
         self.made.fetch_add(1, Ordering::SeqCst);
         self.tell();
     }
 
-    /// Whether the next call is one of this caller, and those of all other callers of later calls
-    /// have come.
+    /// Whether the next call is this caller's, and each caller that still has a call in the order
+    /// has come to the gate with its next one.
     fn is_next(&self, caller: u32) -> bool {
         let made = self.made.load(Ordering::SeqCst);
         let left = self.callers.get(made as usize..).unwrap_or(&[]);
@@ -75,7 +76,9 @@ impl<'a> CallOrder<'a> {
         if *next != caller {
             return false;
         }
-        let waiting = (1..=8).filter(|number| left.contains(number)).count();
+        let waiting = (1..=MOST_CALLERS)
+            .filter(|number| left.contains(number))
+            .count();
         self.come.load(Ordering::SeqCst) >= made.saturating_add(waiting as u64)
     }
 
@@ -90,6 +93,7 @@ impl<'a> CallOrder<'a> {
             if self.is_next(caller) {
                 return;
             }
+            // A thread sleeps only while the low 32 bits are still these.
             let moves = (moves % 0x1_0000_0000) as u32;
             self.moves.park_timeout(rt, moves, longest);
         }
@@ -123,7 +127,7 @@ impl<'a, K: TokenId, G: Gate<K>> Gate<K> for HeldGate<'a, G> {
     ) -> Result<Reply, NoMemory> {
         self.order.hold(rt, caller.number());
         let reply = self.gate.call(rt, alloc, caller, call);
-        self.order.count();
+        self.order.count_made();
         reply
     }
 

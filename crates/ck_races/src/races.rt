@@ -12,8 +12,8 @@
 //!
 //! A word of bytes may have an asterisk and a count: `61*5000` is 5,000 bytes `61`.
 //!
-//! Empty lines and lines that begin with `#` are skipped. A file has a race, and each race has
-//! calls that are made together; without a line `together` these are all of them.
+//! Empty lines and lines that begin with `#` are skipped. A file has one race at least, and each
+//! race has calls that are made together; without a line `together` these are all of them.
 use crate::words::script_line;
 use anyhow::{Context, bail, ensure};
 use ck_journal::{Call, Reply};
@@ -39,6 +39,7 @@ enum Part {
     Afterwards,
 }
 
+/// The calls of callers, and the replies to them.
 #[derive(Drop)]
 pub(crate) struct Race<'a> {
     /// The number of its first line.

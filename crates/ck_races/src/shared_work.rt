@@ -132,6 +132,7 @@ fn act_and_close<K: TokenId + Send + Sync, R: Runtime>(
     let shared = Shared { rt, token: &token };
     let outcome = shared.act(&mut callers, work)?;
     if matches!(work, SharedWork::CallsUnderLock) {
+        // The callers are lost, and the token is taken back without them.
         drop(callers);
         return Ok((token.into_token(), outcome));
     }

@@ -36,7 +36,7 @@ impl<'a, K: TokenId, G: JournaledToken, R: Wait + Drop> Gate<K> for TakingGate<'
         let message = self.token.take_in(rt, &call);
         self.order.hold(rt, caller.number());
         let reply = self.token.call_with(rt, alloc, caller, call, message);
-        self.order.count();
+        self.order.count_made();
         reply
     }
 

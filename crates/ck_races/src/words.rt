@@ -4,11 +4,15 @@ use std::alloc::{AllocError, Global};
 /// Adds a word. One of bytes with an asterisk and a count, as `61*5000`, stands for the bytes that
 /// many times.
 pub(crate) fn push_word(line: &mut String, word: &str) -> Result<(), AllocError> {
-    let (bytes, count) = word.split_once('*').unwrap_or((word, "1"));
-    for _ in 0..count.parse().unwrap_or(1u32) {
-        line.push_str(bytes)?;
+    if let Some((bytes, count)) = word.split_once('*')
+        && let Ok(count) = count.parse::<u32>()
+    {
+        for _ in 0..count {
+            line.push_str(bytes)?;
+        }
+        return Ok(());
     }
-    Ok(())
+    line.push_str(word)
 }
 
 /// A line of a script, whose words are written out.

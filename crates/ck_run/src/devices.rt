@@ -65,7 +65,7 @@ fn play(alloc: Global, script: &[u8], devices: Devices, writer: &mut MemorySink)
     end_text(play_with::<Token, _, _>(alloc, limits, &mut reader, writer, devices.most_reads))
 }
 
-/// Plays a script: these replies are written, and playing ends so.
+/// Plays a script: these replies are written, and playing ends as `end` says.
 pub(crate) fn check_play(
     rt: &impl Abort,
     alloc: Global,
@@ -82,7 +82,7 @@ pub(crate) fn check_play(
     );
 }
 
-/// Plays a script that is a text: these replies are written, and playing ends so.
+/// Plays a script that is a text: these replies are written, and playing ends as `end` says.
 pub(crate) fn check_script(
     rt: &impl Abort,
     alloc: Global,

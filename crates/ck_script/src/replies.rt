@@ -68,6 +68,7 @@ fn push_digits(out: &mut Vec<u8>, bytes: &[u8]) -> Result<(), NoMemory>
         return Err(NoMemory);
     };
     out.resize(end, 0)?;
+    // The room that was made has two bytes for each byte.
     hex::encode_to_slice(bytes, &mut out[start..]).unwrap();
     Ok(())
 }
@@ -192,5 +193,5 @@ pub fn reply_line(alloc: Global, reply: &Reply) -> Result<String, NoMemory>
 {
     let mut line = Vec::new(alloc);
     push_line(&mut line, reply)?;
-    Ok(String::from_utf8_lossy(alloc, line.as_slice())?)
+    Ok(String::from_utf8_lossy(alloc, &line)?)
 }

@@ -28,7 +28,7 @@ pub(crate) fn similar_name(alloc: Global, text: &[u8]) -> Result<Option<CallName
     let mut fewest = TOO_MANY_EDITS;
     for name in CallName::all() {
         let other = lower_case(alloc, name.text().as_bytes())?;
-        let edits = generic_levenshtein(alloc, letters, other.as_slice())?;
+        let edits = generic_levenshtein(alloc, letters, &other)?;
         if edits < fewest {
             fewest = edits;
             nearest = Some(name);

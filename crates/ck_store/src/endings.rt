@@ -42,7 +42,7 @@ fn end_object(objects: &mut Slab<StoredObject>, place: Place, ending: Ending)
         return;
     };
     if object.is_ended_by(ending) {
-        drop(objects.try_remove(place.key));
+        objects.try_remove(place.key);
     }
 }
 

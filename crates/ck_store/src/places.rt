@@ -202,7 +202,7 @@ pub(crate) fn remove_numbered(objects: &mut Slab<StoredObject>, index: &[Place],
     ensures ended { IsIndex objects.old index.now → EndsAll (has_number number) objects.new }
 {
     if let Some(key) = key_of(objects, index, number) {
-        drop(objects.try_remove(key));
+        objects.try_remove(key);
     }
 }
 

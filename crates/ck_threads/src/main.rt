@@ -25,6 +25,7 @@ impl<R: Wait + AllocGlobal> CallerWork<R> for ThreeSessions {
     fn act<K: TokenId, G: Gate<K>>(&self, rt: &R, gate: &G, caller: &mut Caller<K>) -> u64 {
         for _ in 0..3u32 {
             let call = Call::OpenSession { flags: READ_WRITE };
+            // A reply needs no look here: a call is counted where it was answered.
             let _reply = gate.call(rt, rt.alloc(), caller, call);
         }
         caller.count()
