@@ -6,6 +6,7 @@
  */
 #include "support.h"
 
+#include <limits.h>
 #include <pthread.h>
 #include <sanitizer/lsan_interface.h>
 #include <stdio.h>
@@ -1213,15 +1214,30 @@ static CK_RV digest_update_piece(void) {
     return p11->C_DigestUpdate(current_session, large, PIECE);
 }
 
-/* The piece is taken in before the last lock, and not under it. */
-static void check_work_without_lock(CK_RV (*make)(void), const char *what) {
+static void note_times(CK_RV (*make)(void), const char *what) {
     begin_sha(CKM_SHA256);
     length = sizeof result;
     times_noted = 0;
     check_code(make(), CKR_OK, what);
     check(times_noted == 2 * LOCKS_OF_PIECE, what);
-    check(times[4] - times[3] > 2 * (times[5] - times[4]), what);
     EXPECT(CKR_OK, p11->C_SessionCancel(current_session, CKF_DIGEST));
+}
+
+static long long least(long long one, long long other) {
+    return one < other ? one : other;
+}
+
+/* The piece is taken in before the last lock, and not under it. The least of a few times counts,
+ * since another system may have the processor in the middle of one. */
+static void check_work_without_lock(CK_RV (*make)(void), const char *what) {
+    enum { TRIES = 5 };
+    long long without_lock = LLONG_MAX, under_lock = LLONG_MAX;
+    for (int i = 0; i < TRIES; i++) {
+        note_times(make, what);
+        without_lock = least(without_lock, times[4] - times[3]);
+        under_lock = least(under_lock, times[5] - times[4]);
+    }
+    check(without_lock > 2 * under_lock, what);
 }
 
 static void test_work_without_lock(void) {
