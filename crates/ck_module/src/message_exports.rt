@@ -146,6 +146,7 @@ pub extern "C" fn ospreyrack_verify(
     message.give(verification(alloc, session, bytes, signature))
 }
 
+/// C_Verify, with copies of its message and its signature.
 fn verification(
     alloc: Global,
     session: u64,

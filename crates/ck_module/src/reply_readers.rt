@@ -2,9 +2,9 @@ ghost use Rattle.std.specs.Prelude.{◌≡◌, length};
 ghost use Rattle.ck_types.specs.ReturnCodes.{number_of};
 ghost use Rattle.ck_module.specs.Copies.{filled_with};
 ghost use Rattle.ck_module.specs.Replies.{handle_in, session_in, token_in, mechanisms_in};
+ghost use Rattle.ck_module.specs.Replies.{handles_in, answer_at, answer_in, value_in, length_in};
+ghost use Rattle.ck_module.specs.Replies.{bytes_in};
 ghost use Rattle.std.specs.Option.{option_copied};
-ghost use Rattle.ck_module.specs.Replies.{handles_in, answer_at, answer_in, value_in};
-ghost use Rattle.ck_module.specs.Replies.{length_in, bytes_in};
 
 use crate::copies::copy_front;
 use crate::handles::Handle;

@@ -49,13 +49,11 @@ impl Data {
     ghost use Rattle.ck_types.specs.Numbers.{number_bytes};
     ghost use Rattle.ck_objects.specs.Attributes.{type_of};
     ghost use Rattle.ck_types.specs.Checks.{first_error};
-    ghost use Rattle.ck_objects.specs.Templates.{value_at, form_error, flag_at};
+    ghost use Rattle.ck_objects.specs.Templates.{value_at, form_error, flag_at, created_error};
+    ghost use Rattle.ck_objects.specs.Templates.{class_of};
     ghost use Rattle.ck_objects.specs.declared.attributes.Attribute.TheVariants as attribute;
-    ghost use Rattle.ck_objects.specs.Records.{with_given, placement_of};
-    ghost use Rattle.ck_objects.specs.Structs.{data_items, blank_data};
-    ghost use Rattle.ck_objects.specs.Structs.{keeps, changed_data};
-    ghost use Rattle.ck_objects.specs.Records.{created_items, is_set};
-    ghost use Rattle.ck_objects.specs.Templates.{created_error, class_of};
+    ghost use Rattle.ck_objects.specs.Records.{with_given, placement_of, created_items, is_set};
+    ghost use Rattle.ck_objects.specs.Structs.{data_items, blank_data, keeps, changed_data};
     ghost use Rattle.ck_objects.specs.declared.attributes.Class.TheVariants as class;
     ghost use Rattle.ck_objects.specs.Fields.{field_bytes, flag_field};
 

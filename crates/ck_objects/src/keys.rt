@@ -85,13 +85,9 @@ impl Key {
     ghost use Rattle.ck_types.specs.Checks.{first_error};
     ghost use Rattle.ck_objects.specs.Templates.{value_at, flag_at, form_error, class_of};
     ghost use Rattle.ck_objects.specs.Templates.{created_error, generated_error};
-    ghost use Rattle.ck_objects.specs.Records.{placement_of, is_revealable};
-    ghost use Rattle.ck_objects.specs.Structs.{key_items, blank_key};
-    ghost use Rattle.ck_objects.specs.Records.{with_given, created_items};
-    ghost use Rattle.ck_objects.specs.Structs.{KeepsKey};
-    ghost use Rattle.ck_objects.specs.Records.{generated_items};
-    ghost use Rattle.ck_objects.specs.Records.{is_set};
-    ghost use Rattle.ck_objects.specs.Structs.{changed_key};
+    ghost use Rattle.ck_objects.specs.Records.{placement_of, is_revealable, with_given};
+    ghost use Rattle.ck_objects.specs.Records.{created_items, generated_items, is_set};
+    ghost use Rattle.ck_objects.specs.Structs.{key_items, blank_key, KeepsKey, changed_key};
     ghost use Rattle.ck_objects.specs.Fields.{field_bytes, flag_field};
     ghost use Rattle.ck_objects.specs.declared.attributes.Class.TheVariants as class;
 

@@ -47,22 +47,18 @@ impl Clone for Record {
 }
 
 impl Record {
-    ghost use Rattle.std.specs.Prelude.{option_map};
+    ghost use Rattle.std.specs.Prelude.{option_map, Some, true};
     ghost use Rattle.ck_types.specs.Checks.{check_of};
-    ghost use Rattle.std.specs.Prelude.{Some, true};
     ghost use Rattle.std.specs.Result.{result_err};
     ghost use Rattle.ck_objects.specs.Templates.{value_at, created_error, generated_error};
-    ghost use Rattle.ck_objects.specs.declared.attributes.Attribute.TheVariants as attribute;
-    ghost use Rattle.ck_objects.specs.Records.{generated_items};
-    ghost use Rattle.ck_objects.specs.Structs.{data_items, key_items};
-    ghost use Rattle.ck_objects.specs.Records.{readable_value, read_error, state_in, key_value};
-    ghost use Rattle.ck_objects.specs.Records.{with_state};
-    ghost use Rattle.ck_objects.specs.Records.{created_items, with_given};
     ghost use Rattle.ck_objects.specs.Templates.{class_of};
-    ghost use Rattle.ck_objects.specs.Records.{protections_of, placement_of, is_revealable};
-    ghost use Rattle.ck_objects.specs.Records.{is_hidden};
-    ghost use Rattle.ck_objects.specs.Records.{copied_error, changed_error};
-    ghost use Rattle.ck_objects.specs.Records.{is_set, has_item, matches};
+    ghost use Rattle.ck_objects.specs.declared.attributes.Attribute.TheVariants as attribute;
+    ghost use Rattle.ck_objects.specs.Records.{generated_items, readable_value, read_error};
+    ghost use Rattle.ck_objects.specs.Records.{state_in, key_value, with_state, created_items};
+    ghost use Rattle.ck_objects.specs.Records.{with_given, protections_of, placement_of};
+    ghost use Rattle.ck_objects.specs.Records.{is_revealable, is_hidden, copied_error};
+    ghost use Rattle.ck_objects.specs.Records.{changed_error, is_set, has_item, matches};
+    ghost use Rattle.ck_objects.specs.Structs.{data_items, key_items};
     ghost use Rattle.ck_objects.specs.Fields.{field_bytes};
 
     /// The object that C_CreateObject makes by a template that passes `Template::check_creation`

@@ -3,8 +3,7 @@ ghost use Rattle.std.specs.Prelude.{◌≡◌, ◌++◌, false, [], ◌∷◌, S
 ghost use Rattle.ck_script.specs.Lines.{lines_in, meaning};
 ghost use Rattle.ck_plays.specs.Devices.{Reading};
 ghost use Rattle.ck_plays.specs.Plays.{with_call};
-ghost use Rattle.ck_plays.specs.CallerScripts.{is_bad_for, AreCallsOf, IsRefusedFor};
-ghost use Rattle.ck_plays.specs.CallerScripts.{IsRefusedLine};
+ghost use Rattle.ck_plays.specs.CallerScripts.{is_bad_for, AreCallsOf, IsRefusedFor, IsRefusedLine};
 ghost use Rattle.ck_plays.specs.CallerScripts.{HasGoodScript, HasNoCalls};
 
 use crate::devices::Source;

@@ -86,8 +86,7 @@ impl<'a> MemorySource<'a> {
 }
 
 impl<'a> Source for MemorySource<'a> {
-    ghost use Rattle.std.specs.Prelude.{◌≡◌, ◌≤◌, ◌↔◌, length, max, IfOk, IsErr};
-    ghost use Rattle.std.specs.Prelude.{Some};
+    ghost use Rattle.std.specs.Prelude.{◌≡◌, ◌≤◌, ◌↔◌, length, max, IfOk, IsErr, Some};
     ghost use Rattle.ck_plays.specs.Devices.{Reading, IsReadOf, after_read};
 
     ghost is_read = { λ s r. IsReadOf (Some s.rest.now) s.counts r };

@@ -1,11 +1,7 @@
-ghost use Rattle.std.specs.Option.{option_copied};
-ghost use Rattle.std.specs.Prelude.{◌≡◌, [], ◌<◌, ◌-◌, ◌^◌, IfNone, IfSome, IfOk, IsTrue, OnErr};
+ghost use Rattle.std.specs.Prelude.{◌≡◌, [], ◌<◌, ◌-◌, ◌^◌, IfNone, IfOk, IsTrue, OnErr};
 ghost use Rattle.left_right.specs.Handles.{published, pending};
-ghost use Rattle.ck_journal.specs.Answers.{IsLegal};
 ghost use Rattle.ck_journal.specs.Fronts.{IsFront};
 ghost use Rattle.ck_journal.specs.Histories.{◌◁◌, entry_count};
-ghost use Rattle.ck_journal.specs.TokenStates.{IsAnswered, IsUnchanged};
-ghost use Rattle.ck_journal.specs.Works.{IsAhead};
 ghost use Rattle.ck_callers.specs.KnownHistories.{Covers};
 ghost use Rattle.ck_journal.specs.declared.calls.Entry.{Entry};
 
@@ -115,24 +111,6 @@ fn show_by<K: TokenId, G: JournaledToken, R: Wait + Drop, W: Wait>(
     if let Some(slot) = slot {
         show(rt, writer, &slot, token, known);
     }
-}
-
-/// Makes a call of this caller, with the work on its message where there is some.
-#[inline(always)]
-fn make_call<G: JournaledToken>(
-    token: &mut G,
-    alloc: Global,
-    caller: u32,
-    call: Call,
-    work: Option<&Work>,
-) -> Result<Reply, NoMemory>
-    requires { IfSome (option_copied work) (IsAhead (G.state token.old).history call) }
-    ensures answered { IfOk result (λ reply.
-        IsAnswered (G.state token.old) (G.state token.new) caller call reply) }
-    ensures unchanged { OnErr result (IsUnchanged (G.state token.old) (G.state token.new)) }
-    ensures legal { IsLegal (G.state token.new).limits (G.state token.new).history }
-{
-    token.call_after(alloc, caller, call, work)
 }
 
 /// Adds the token's newest entry to the history, and shows that `other` is a front of the history
@@ -299,7 +277,7 @@ impl<K: TokenId, G: JournaledToken, R: Wait + Drop> Locked<K, G, R> {
         let number = caller.account().number();
         let leaves = call.leaves_board();
         let slot = add_slot(alloc, &mut self.writer, leaves)?;
-        let Ok(reply) = make_call(&mut self.token, alloc, number, call, work) else {
+        let Ok(reply) = self.token.call_after(alloc, number, call, work) else {
             show_by(rt, &mut self.writer, slot, &self.token, &self.known);
             return Err(NoMemory);
         };

@@ -150,7 +150,7 @@ impl<K: TokenId, G: JournaledToken, R: Wait + Drop> SharedToken<K, G, R> {
         ensures caller { OnErr result (caller.new ≡ caller.old) }
     {
         if call.brings_long_message() {
-            return self.call_with_long_message(rt, alloc, caller, call);
+            return self.take_in_and_call(rt, alloc, caller, call);
         }
         self.lock(rt).step(rt, alloc, caller, call)
     }
@@ -158,7 +158,7 @@ impl<K: TokenId, G: JournaledToken, R: Wait + Drop> SharedToken<K, G, R> {
     /// As `call`, of a call that brings a long message.
     // Never inlined, so that a short call doesn't clear room for a message on the stack.
     #[inline(never)]
-    fn call_with_long_message<W: Wait>(
+    fn take_in_and_call<W: Wait>(
         &self,
         rt: &W,
         alloc: Global,

@@ -1,7 +1,6 @@
 //! A token that is shared while each of its callers does some work in a thread of its own.
 ghost use Rattle.std.specs.List.{AllZip};
-ghost use Rattle.std.specs.Prelude.{◌≡◌, ◌≤◌, ℕ, [], All, IfOk, map};
-ghost use Rattle.std.specs.Prelude.{vec_len, vec_capacity};
+ghost use Rattle.std.specs.Prelude.{◌≡◌, ◌≤◌, ℕ, [], All, IfOk, map, vec_len, vec_capacity};
 ghost use Rattle.ck_journal.specs.Callers.{AreCallers};
 ghost use Rattle.ck_journal.specs.Fronts.{IsFront};
 ghost use Rattle.ck_journal.specs.Histories.{start, start_of};

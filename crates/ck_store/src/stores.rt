@@ -55,11 +55,10 @@ impl Model for Store {
 }
 
 impl Store {
-    ghost use Rattle.std.specs.Prelude.{◌≡◌, ◌+◌, ◌<◌, ◌^◌, ℕ, true, None, Some};
-    ghost use Rattle.std.specs.Prelude.{filter, find, not, [], ◌∷◌, ◌++◌};
+    ghost use Rattle.std.specs.Prelude.{◌≡◌, ◌+◌, ◌<◌, ◌^◌, ℕ, true, None, Some, filter, find, not};
+    ghost use Rattle.std.specs.Prelude.{[], ◌∷◌, ◌++◌, IfNone, IfOk, IfSome, IsOk, OnOk};
     ghost use Rattle.ck_store.specs.Rows.{ObjectRow, PassesChange, has_number, is_ended_by};
     ghost use Rattle.ck_store.specs.Rows.{object_row};
-    ghost use Rattle.std.specs.Prelude.{IfNone, IfOk, IfSome, IsOk, OnOk};
     ghost use Rattle.std.specs.Option.{option_copied};
     ghost use Rattle.ck_objects.specs.KeyStates.{state_of_number};
     ghost use Rattle.ck_objects.specs.Records.{changed_error, protections_of};

@@ -184,7 +184,8 @@ impl Token {
     }
 
     /// C_SignInit and C_VerifyInit. Checks: CKR_SESSION_HANDLE_INVALID (b3), CKR_OPERATION_ACTIVE
-    /// (90), CKR_MECHANISM_INVALID (70), CKR_MECHANISM_PARAM_INVALID (71), those of `check_usable_key`.
+    /// (90), CKR_MECHANISM_INVALID (70), CKR_MECHANISM_PARAM_INVALID (71), those of
+    /// `check_usable_key`.
     pub(super) fn hmac_init(
         &self,
         kind: OperationKind,
