@@ -38,7 +38,7 @@ C_CHECK = re.compile(r"\b(?:CHECK|EXPECT|check_?\w*)\(")
 PART = re.compile(r"^part ")
 STEP = re.compile(r"^(?:if |! )?(?:\w+=\S+ )*"
                   r"(?:try|play|tells|is_failure|run_\w+|check_\w+|compile\w*) ?(?!\S*\(\))")
-PYTHON_CHECK = re.compile(r"^(?:check\w*|equal|run_client|audit|end)$")
+PYTHON_CHECK = re.compile(r"^(?:check\w*|expect|equal|run_client|audit|end)$")
 
 # The crates that are only there to test the others and to measure them.
 CRATES_OF_TESTS = ("ck_bench", "ck_races", "ck_run", "ck_threads")

@@ -144,6 +144,7 @@ class Tests:
         self.program = os.path.abspath(program)
         self.name = name
         self.failed = 0
+        self.checked = 0
         self.faults = []
 
     def run(self, words, script, **files):
@@ -154,21 +155,30 @@ class Tests:
         ended = subprocess.run([self.program, *words], timeout=SECONDS, **files)
         return ended.stdout, ended.stderr, ended.returncode
 
+    def expect(self, is_right, fault):
+        self.checked += 1
+        if not is_right:
+            self.faults.append(fault)
+
     def check(self, words, script, output, errors, status, **files):
         """The program writes this and ends so."""
         made = self.run(words, script, **files)
-        if made != (output, errors, status):
-            shown = script if len(script or b"") < 200 else f"a script of {len(script)} bytes"
-            made = f"{made[0]!r:.300} {made[1]!r:.300} {made[2]}"
-            wanted = f"{output!r:.300} {errors!r:.300} {status}"
-            self.faults.append(f"{words} {shown} {files}: {made}, and not {wanted}")
+        shown = script if len(script or b"") < 200 else f"a script of {len(script)} bytes"
+        came = f"{made[0]!r:.300} {made[1]!r:.300} {made[2]}"
+        wanted = f"{output!r:.300} {errors!r:.300} {status}"
+        self.expect(made == (output, errors, status),
+                    f"{words} {shown} {files}: {came}, and not {wanted}")
 
     def end(self, name):
+        self.expect(self.checked > 0, "nothing was checked")
         for fault in self.faults:
             print(f"  {fault}", file=sys.stderr)
         self.failed += bool(self.faults)
         print(f"{'FAILED' if self.faults else 'passed'} {self.name}: {name}", flush=True)
-        self.faults = []
+        self.checked, self.faults = 0, []
+
+    def status(self):
+        return 1 if self.failed else 0
 
 
 def scripts(tests):
@@ -210,8 +220,8 @@ def names(tests):
         before = seconds_of_programs()
         check_bad_line(tests, b"1 " + name, NO_CALL)
         seconds = seconds_of_programs() - before
-        if seconds > 2 * SOON:
-            tests.faults.append(f"a name of {len(name)} bytes took {seconds} seconds in two runs")
+        tests.expect(seconds <= 2 * SOON,
+                     f"a name of {len(name)} bytes took {seconds} seconds in two runs")
     tests.end("names that are near to a call's, and names of 4 million letters")
 
 
@@ -263,8 +273,7 @@ def side_by_side(tests):
     # In turn there would be two threads, and for a moment one that has just ended.
     script = b"".join(b"%d GetTokenInfo\n" % (1 + count % 8) for count in range(200_000))
     most = most_threads(tests, ["--callers", "8"], script)
-    if most < 5:
-        tests.faults.append(f"with eight callers there are {most} threads at once")
+    tests.expect(most >= 5, f"with eight callers there are {most} threads at once")
     tests.end("callers have their threads at the same time")
 
 
@@ -335,7 +344,7 @@ def main(program):
     arguments(tests)
     readers(tests)
     writers(tests)
-    return 1 if tests.failed else 0
+    return tests.status()
 
 
 if __name__ == "__main__":

@@ -240,11 +240,11 @@ def shapes(tests):
     lines = read(DATA, NAME).split("\n")
     came = [shape_of(lines, race) for race in races_in(lines)]
     wanted = SHAPES.splitlines()
-    if len(came) != len(wanted):
-        tests.faults.append(f"{NAME} has {len(came)} races, and not {len(wanted)}")
+    tests.expect(len(came) == len(wanted),
+                 f"{NAME} has {len(came)} races, and not {len(wanted)}")
     for place, (shape, said) in enumerate(zip(came, wanted), 1):
-        if shape != said:
-            tests.faults.append(f"race {place} of {NAME} has the calls {shape}, and not {said}")
+        tests.expect(shape == said,
+                     f"race {place} of {NAME} has the calls {shape}, and not {said}")
     tests.end("how many races there are, and calls in each part of them")
 
 
@@ -316,7 +316,7 @@ def main(program):
     set_orders(tests)
     bad_lines(tests)
     bad_files(tests)
-    return 1 if tests.failed else 0
+    return tests.status()
 
 
 if __name__ == "__main__":

@@ -301,7 +301,7 @@ def main(program):
     arguments(tests)
     bad_files(tests)
     full_device(tests)
-    return 1 if tests.failed else 0
+    return tests.status()
 
 
 if __name__ == "__main__":

@@ -78,7 +78,7 @@ follow-requires-2 g c =
     let caller = c.args.caller.now in
     let h = (g.G.JournaledToken.state c.self.inside.token).history in
     let answered = c.in-Ok.ensures.answered in
-    let entered : (g.G.JournaledToken.state c.call_after.new.token).history
+    let entered : (g.G.JournaledToken.state c.call_after.new.self).history
     ≡ entry_by caller.number c.args.call c.in-Ok.reply ◁ h =
     answered.entered ∙ ap (λ r. entry_by c.number-number.result c.args.call r ◁ h)
     (sym answered.answered)
@@ -103,7 +103,7 @@ pub show_by-requires-2-clause-shown : goal.show_by-requires-2-clause-shown
 show_by-requires-2-clause-shown g c =
     let h = (g.G.JournaledToken.state c.self.inside.token).history in
     let answered = c.in-Ok.ensures.answered in
-    let entered : (g.G.JournaledToken.state c.call_after.new.token).history
+    let entered : (g.G.JournaledToken.state c.call_after.new.self).history
     ≡ entry_by c.number-number.result c.args.call c.in-Ok.reply ◁ h =
     answered.entered ∙ ap (λ r. entry_by c.number-number.result c.args.call r ◁ h)
     (sym answered.answered) in
@@ -123,7 +123,7 @@ returns-clause-called g c =
     let caller = c.args.caller.now in
     let h = (g.G.JournaledToken.state c.self.inside.token).history in
     let answered = c.in-Ok.ensures.answered in
-    let entered : (g.G.JournaledToken.state c.call_after.new.token).history
+    let entered : (g.G.JournaledToken.state c.call_after.new.self).history
     ≡ entry_by caller.number c.args.call c.in-Ok.reply ◁ h =
     answered.entered ∙ ap (λ r. entry_by c.number-number.result c.args.call r ◁ h)
     (sym answered.answered)
@@ -160,6 +160,6 @@ invariant_of-self-2 g c =
 pub returns-clause-answered : goal.returns-clause-answered
 returns-clause-answered g c =
     let old = g.G.JournaledToken.state c.self.inside.token in
-    let new = g.G.JournaledToken.state c.call_after.new.token in
+    let new = g.G.JournaledToken.state c.call_after.new.self in
     rw (← c.self.view_is) (subst (λ n. IsAnswered old new n c.args.call c.in-Ok.reply)
     (c.number-number.ensures.value ∙ c.account.ensures.number) c.in-Ok.ensures.answered)
