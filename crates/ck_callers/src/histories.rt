@@ -23,6 +23,7 @@ pub trait HistoryId {
     ghost limits: { Ranges };
 }
 
+// The proof of each call that passes Brand says what it stands for, so these values aren't used.
 impl HistoryId for Brand {
     ghost use Rattle.ck_journal.specs.Bases.{empty_base};
 

@@ -12,6 +12,7 @@ pub trait TokenId: HistoryId {
     ghost callers: { ℕ };
 }
 
+// The proof of each call that passes Brand says what it stands for, so these values aren't used.
 impl TokenId for Brand {
     ghost ledger = { λ caller. 0 };
 

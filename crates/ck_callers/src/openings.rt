@@ -22,6 +22,7 @@ use std::sync::Wait;
 /// What a shared token has beside the token, and its callers, before the first call.
 #[derive(Drop)]
 pub struct Opened<K: TokenId, R: Wait + Drop>
+// A field's type may rest only on bounds that its holder repeats.
 where
     BoardCopy<K>: Absorb<EntrySlot<K>>,
 {

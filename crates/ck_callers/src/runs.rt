@@ -92,6 +92,8 @@ impl<K: TokenId, S: Turn<K, A>, A: Drop> Promise<Script<K, S, A>> for RunOf<K, S
 }
 
 /// Runs all scripts, each in a thread of its own.
+// By recursion: each thread's scope lies in that of the one before, so no memory is taken for
+// handles of threads.
 fn run_all<
     K: TokenId + Send + Sync,
     S: Turn<K, A> + Send,

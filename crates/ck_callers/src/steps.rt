@@ -15,11 +15,12 @@ pub enum Step {
     Ask(Ask),
 }
 
-/// What is answered to a step, and how many entries the history has that the caller then knows.
+/// What is answered to a step. `seen` is how many entries the history has that the caller then
+/// knows.
 #[derive(Drop)]
 pub enum Answered {
-    Reply(Reply, u64),
-    Status(Option<Status>, u64),
+    Reply { reply: Reply, seen: u64 },
+    Status { status: Option<Status>, seen: u64 },
 }
 
 impl<K: TokenId> Turn<K, Reply> for Call {
@@ -57,11 +58,13 @@ impl<K: TokenId> Turn<K, Answered> for Step {
         match self {
             Step::Call(call) => {
                 let reply = gate.call(rt, alloc, caller, call)?;
-                Ok(Answered::Reply(reply, caller.seen()))
+                let seen = caller.seen();
+                Ok(Answered::Reply { reply, seen })
             }
             Step::Ask(ask) => {
                 let status = gate.status(caller, ask);
-                Ok(Answered::Status(status, caller.seen()))
+                let seen = caller.seen();
+                Ok(Answered::Status { status, seen })
             }
         }
     }

@@ -109,12 +109,10 @@ fn output_of(matches: &ArgMatches<'_>) -> Output {
     if matches.get_flag("replies") {
         return Output::Replies;
     }
-    Output::Report {
-        most: matches.get_one("most").unwrap_or(MOST_FINDINGS),
-    }
+    Output::Report
 }
 
-/// What the words that the command takes ask for.
+/// What the arguments that the command takes ask for.
 fn request_in<'a>(alloc: Global, matches: &ArgMatches<'a>) -> Result<Request<'a>, ArgumentError> {
     let limits = limits_of(matches).map_err(ArgumentError::Limits)?;
     let output = output_of(matches);
@@ -123,16 +121,21 @@ fn request_in<'a>(alloc: Global, matches: &ArgMatches<'a>) -> Result<Request<'a>
         return Err(ArgumentError::Files);
     }
     let names = Vec::from_slice(alloc, names)?;
-    let options = PlayOptions { limits, output };
+    let most = matches.get_one("most").unwrap_or(MOST_FINDINGS);
+    let options = PlayOptions {
+        limits,
+        most,
+        output,
+    };
     Ok(Request::Play { names, options })
 }
 
-/// What the program is asked to do by its words, of which the first is its name.
+/// What the program is asked to do by its arguments, of which the first is its name.
 pub(crate) fn request_of<'a>(
     alloc: Global,
-    words: &'a [String],
+    arguments: &'a [String],
 ) -> Result<Request<'a>, ArgumentError> {
-    match command(alloc)?.try_get_matches_from(words) {
+    match command(alloc)?.try_get_matches_from(arguments) {
         Ok(matches) => request_in(alloc, &matches),
         Err(error) => match error.kind() {
             ErrorKind::DisplayHelp => Ok(Request::Help(format!(in alloc; "{error}")?)),

@@ -19,8 +19,8 @@ pub(crate) const MOST_FINDINGS: u64 = 100;
 /// What is written of a file.
 #[derive(Clone, Copy)]
 pub(crate) enum Output {
-    /// A line for each finding, this many at the most, and one that counts lines.
-    Report { most: u64 },
+    /// A line for each finding, and one that counts lines.
+    Report,
     /// The file again, with what came in place of what is recorded.
     Replies,
 }
@@ -30,6 +30,8 @@ pub(crate) enum Output {
 pub(crate) struct PlayOptions {
     /// The limits of all cases, in place of those that the file has.
     pub(crate) limits: Option<Limits>,
+    /// The most findings of a file that are written.
+    pub(crate) most: u64,
     pub(crate) output: Output,
 }
 
@@ -40,7 +42,8 @@ pub(crate) struct Played {
     pub(crate) output: String,
     /// What goes to standard error.
     pub(crate) errors: String,
-    /// Whether all is right: each line has what came of it, where the file isn't written again.
+    /// Whether no line is bad and no audit finds a wrong entry; and, where the file isn't written
+    /// again, no reply differs.
     pub(crate) is_right: bool,
 }
 
@@ -62,9 +65,9 @@ struct Player<'a> {
 impl<'a> Player<'a> {
     fn new(alloc: Global, name: &'a str, options: &PlayOptions) -> Player<'a> {
         let limits = options.limits.unwrap_or(Limits::largest());
-        let (most, rewritten) = match options.output {
-            Output::Report { most } => (most, None),
-            Output::Replies => (MOST_FINDINGS, Some(String::new(alloc))),
+        let rewritten = match options.output {
+            Output::Report => None,
+            Output::Replies => Some(String::new(alloc)),
         };
         Player {
             alloc,
@@ -72,7 +75,7 @@ impl<'a> Player<'a> {
             token: RetryingToken::new(alloc, limits),
             number: 0,
             has_begun: false,
-            report: Report::new(alloc, name, most),
+            report: Report::new(alloc, name, options.most),
             rewritten,
         }
     }

@@ -12,7 +12,7 @@ pub(crate) enum Finding<'a> {
         came: &'a str,
         recorded: &'a str,
     },
-    /// The line, whose text up to its arrow this is, is none of a case.
+    /// A bad line: its text up to the arrow, and why it is bad.
     Bad {
         text: &'a str,
         fault: LineFault,

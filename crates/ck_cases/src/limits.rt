@@ -25,7 +25,7 @@ impl fmt::Display for LargestLimits {
     }
 }
 
-/// Why a text is none of limits.
+/// Why a text isn't limits.
 #[derive(Clone, Copy, Debug, Error)]
 #[error("limits are the word largest, or four numbers: {0}")]
 pub(crate) struct LimitsError(LargestLimits);

@@ -44,7 +44,7 @@ fn play_bytes<R: Print + Eprint + AllocGlobal>(
         }
         Err(error) => {
             match options.output {
-                Output::Report { .. } => println!(rt; "{name}: {error}")?,
+                Output::Report => println!(rt; "{name}: {error}")?,
                 Output::Replies => eprintln!(rt; "{name}: {error}")?,
             }
             Ok(Status::Wrong)
@@ -89,8 +89,8 @@ fn play_files<R: Files + Print + Eprint + AllocGlobal>(
 /// Does what the arguments ask for.
 fn run<R: Env + Files + Print + Eprint + AllocGlobal>(rt: &R) -> io::Result<Status> {
     let alloc = rt.alloc();
-    let words: Vec<String> = env::args(rt)?.collect(alloc)?;
-    match request_of(alloc, &words) {
+    let arguments: Vec<String> = env::args(rt)?.collect(alloc)?;
+    match request_of(alloc, &arguments) {
         Ok(Request::Play { names, options }) => play_files(rt, &names, &options),
         Ok(Request::Help(text)) => {
             print!(rt; "{text}")?;

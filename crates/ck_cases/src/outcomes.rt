@@ -15,7 +15,7 @@ pub(crate) enum Outcome {
     /// The journal isn't cut, since a session is open.
     Uncut,
     Audited(Verdict),
-    /// The step is none.
+    /// The step is bad.
     Bad(LineFault),
 }
 

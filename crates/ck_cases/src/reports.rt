@@ -82,7 +82,7 @@ impl<'a> Report<'a> {
         }
     }
 
-    /// Counts a line of which what is recorded came.
+    /// Counts a line whose recorded reply came.
     pub(crate) fn add_passed(&mut self) {
         self.counts.passed = self.counts.passed.saturating_add(1);
     }

@@ -21,7 +21,7 @@ impl fmt::Display for Shortened<'_> {
     }
 }
 
-/// The token's return code that a word is.
+/// The return code whose number this word is, where the token has one.
 fn code_in(word: &str) -> Option<Rv> {
     u64::from_str_radix(word, 16).ok().and_then(Rv::of)
 }

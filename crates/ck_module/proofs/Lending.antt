@@ -1,5 +1,5 @@
--- What is proved of every handle: `as_mut` lends the value that lies at its pointer, and the handle
--- follows it (`lends`). And a handle may go to another thread where its value may (`sends`).
+-- What is proved of every place: `as_mut` lends the value that lies at its pointer, and the place
+-- follows it (`lends`). And a place may go to another thread where its value may (`sends`).
 use Rattle.std.proofs.Common.{◌≡◌, ℕ, List, [], ◌∷◌, refl, sym, ap, ◌∙◌, MutBor}
 use Rattle.std.proofs.raw_atomic.Walks.{proved}
 use seplogic.Ra.Ura.{Ura}
@@ -32,7 +32,7 @@ use denote.RattleType.{RattleType}
 use denote.RawPtr.{Ptr, RawPtr, ptr_val, block_ptr, null_ptr, lies_at, in_a_block}
 use denote.Ref.{MutRef, mut_vals, mut_Tells}
 use denote.Signature.{plain, mut_ref_to}
-use denote.Steps.{nothing, opens, peeks}
+use denote.Outcomes.{nothing, opens, peeks}
 use denote.Struct.Field.{RawPtr-field}
 use denote.Struct.Laws.{RawPtr-laws}
 use denote.Struct.Owning.{Owning, row, shape, to, wholly}
@@ -43,9 +43,9 @@ use denote.Triple.Spec.{Meets}
 use denote.Triple.Walked.{Stays, walk_of, says, stay_dropped, Goes-spent_ref, ends_at}
 use Rattle.std.proofs.VecSteps.Shapes.{after}
 
--- A handle's type: a pointer, and as its ghost field the value that lies there. `V` is the value's
--- row, and `D` the type of what contracts see of a handle.
-pub record HandleType : Type 2 where
+-- A place's type: a pointer, and as its ghost field the value that lies there. `V` is the value's
+-- row, and `D` the type of what contracts see of a place.
+pub record PlaceType : Type 2 where
   pub V : RattleType
   pub D : Type 0
   pub at : D → Ptr
@@ -56,7 +56,7 @@ pub record HandleType : Type 2 where
   pub name : Sym
   pub coded : Coded D
 
-module _ (H : HandleType) where
+module _ (H : PlaceType) where
   open H use {V, D}
 
   abbrev pub owning : Owning
@@ -119,7 +119,7 @@ module _ (H : HandleType) where
         (fact 𝓤 (r.now ≡ H.value a.0.now));
   }
 
-module _ (H : HandleType) {M : Type 1} {𝓤 : Ura M} (𝓛 : Logic 𝓤) (κ : Lft) (q : Share) (rb ro : ℕ)
+module _ (H : PlaceType) {M : Type 1} {𝓤 : Ura M} (𝓛 : Logic 𝓤) (κ : Lft) (q : Share) (rb ro : ℕ)
     (γ : GName) (h : H.D) where
   open 𝓛 use {A}
   open H use {V, D}
@@ -131,7 +131,7 @@ module _ (H : HandleType) {M : Type 1} {𝓤 : Ura M} (𝓛 : Logic 𝓤) (κ : 
   bound = (((κ, tt), (q, tt), tt, (ref, tt), (vptr rb ro ∷ [], tt)), tt)
 
   module _ (b o : ℕ) (us : List Val) where
-    -- all of the handle except the value
+    -- all of the place except the value
     abbrev Rest : Fml
     Rest = fsep ((Struct (shape (owning H))).own_val (H.at h, tt) us)
         (cell_at full_share (R H).mir us rb ro)
@@ -170,7 +170,7 @@ module _ (H : HandleType) {M : Type 1} {𝓤 : Ura M} (𝓛 : Logic 𝓤) (κ : 
         nothing ! $ nothing ! $ fjoin ! $ join ! $ nothing ! $ move ! (2 ∷ 0 ∷ []) $
         join ! $ join ! $ frame ! $ says ! refl $ done !
 
-module _ (H : HandleType) {M : Type 1} {𝓤 : Ura M} (𝓛 : Logic 𝓤) (𝓜 : Model 𝓤 𝓛.H)
+module _ (H : PlaceType) {M : Type 1} {𝓤 : Ura M} (𝓛 : Logic 𝓤) (𝓜 : Model 𝓤 𝓛.H)
     (𝓡 : Running 𝓤 𝓛.H 𝓜) where
   open H use {V}
 
@@ -199,7 +199,7 @@ module _ (H : HandleType) {M : Type 1} {𝓤 : Ura M} (𝓛 : Logic 𝓤) (𝓜 
       ∙ ap (λ (p : Ptr). vstruct (vcons (ptr_val p) vnil) ∷ []) e in
       let Cell = λ (ws : List Val). ‵ (cell_at full_share (R H).mir ws rb ro) in
       rewrite ! 2 Cell word refl $
-      -- [the value; what the fields own; the handle's cell; the open borrow, in three entries]
+      -- [the value; what the fields own; the place's cell; the open borrow, in three entries]
       first ! $ blocks ! $
       sets ! (of_opd ! (load ! (through ! refl (fld ! refl (stop !)))
       (look_in ! 2 (sub ! 0 refl (whole !))))) refl (tt, tt) $
@@ -226,7 +226,7 @@ lies : (R : RattleType) → IsSend R → (p : Ptr) (x : R.Denot) → Keyless (li
 lies R s (block_ptr b o) x = part_keyless R s full_share x b o
 lies R s null_ptr x = tt
 
-module _ (H : HandleType) where
+module _ (H : PlaceType) where
   pub sends : IsSend H.V → IsSend (R H)
   sends s =
       let pointer : IsSend RawPtr = search sendable in let S = shape (owning H) in

@@ -1,2 +1,2 @@
-mod HandleTypes
 mod Lending
+mod PlaceTypes

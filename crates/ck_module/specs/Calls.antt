@@ -5,10 +5,10 @@ use Rattle.ck_journal.specs.TokenStates.{IsAnswered, IsUnchanged}
 use Rattle.ck_script.specs.Lines.{meaning}
 use Rattle.ck_script.specs.Replies.{reply_line}
 use Rattle.ck_script.specs.declared.lines.Line.TheVariants as line
-use Rattle.ck_module.specs.Steps.{step_number}
+use Rattle.ck_module.specs.Outcomes.{outcome_number}
 use Rattle.ck_module.specs.declared.modules.Module.{Module}
-use Rattle.ck_module.specs.declared.steps.Step.{Step}
-use Rattle.ck_module.specs.declared.steps.Step.TheVariants as step
+use Rattle.ck_module.specs.declared.outcomes.Outcome.{Outcome}
+use Rattle.ck_module.specs.declared.outcomes.Outcome.TheVariants as outcome
 
 -- nothing that C can see has changed, and the journal has no less room
 pub record IsSame (old new : Module) : Type 0 where
@@ -23,36 +23,36 @@ pub record IsKept (old new : Module) (caller : ℕ) (c : Call) : Type 0 where
   pub text : new.text ≡ old.text
 
 -- the call was answered, or there was no memory for it
-abbrev pub IsCalled : ℕ → Call → Step → Module → Module → Type 0
-IsCalled caller c step.Answered old new = IsKept old new caller c
-IsCalled caller c step.NoCall old new = ⊥
-IsCalled caller c step.NoMemory old new = IsSame old new
+abbrev pub IsCalled : ℕ → Call → Outcome → Module → Module → Type 0
+IsCalled caller c outcome.Answered old new = IsKept old new caller c
+IsCalled caller c outcome.NoCall old new = ⊥
+IsCalled caller c outcome.NoMemory old new = IsSame old new
 
 -- the call that the line means was answered; or the line means none; or there was no memory
-abbrev pub IsLine : List ℕ → Step → Module → Module → Type 0
-IsLine bytes step.Answered old new =
+abbrev pub IsLine : List ℕ → Outcome → Module → Module → Type 0
+IsLine bytes outcome.Answered old new =
     (caller : ℕ) × (c : Call) × (meaning bytes ≡ Some (line.Called caller c))
     × IsKept old new caller c
-IsLine bytes step.NoCall old new =
+IsLine bytes outcome.NoCall old new =
     ((meaning bytes ≡ None) ⊎ (meaning bytes ≡ Some line.Skipped)) × (new ≡ old)
-IsLine bytes step.NoMemory old new = IsSame old new
+IsLine bytes outcome.NoMemory old new = IsSame old new
 
 -- the text of the reply was made; or there was no memory for it, and nothing is said of the text
-abbrev pub IsText : Step → Module → Module → Type 0
-IsText step.Answered old new =
+abbrev pub IsText : Outcome → Module → Module → Type 0
+IsText outcome.Answered old new =
     (new.token ≡ old.token) × (new.reply ≡ old.reply) × (new.text.items ≡ reply_line new.reply)
-IsText step.NoCall old new = ⊥
-IsText step.NoMemory old new = (new.token ≡ old.token) × (new.reply ≡ old.reply)
+IsText outcome.NoCall old new = ⊥
+IsText outcome.NoMemory old new = (new.token ≡ old.token) × (new.reply ≡ old.reply)
 
 -- ---- the same by the number that C is told
 
 abbrev pub IsCalledBy : ℕ → Call → ℕ → Module → Module → Type 0
 IsCalledBy caller c number old new =
-    (s : Step) × (number ≡ step_number s) × IsCalled caller c s old new
+    (s : Outcome) × (number ≡ outcome_number s) × IsCalled caller c s old new
 
 abbrev pub IsLineOf : List ℕ → ℕ → Module → Module → Type 0
 IsLineOf bytes number old new =
-    (s : Step) × (number ≡ step_number s) × IsLine bytes s old new
+    (s : Outcome) × (number ≡ outcome_number s) × IsLine bytes s old new
 
 abbrev pub IsTextOf : ℕ → Module → Module → Type 0
-IsTextOf number old new = (s : Step) × (number ≡ step_number s) × IsText s old new
+IsTextOf number old new = (s : Outcome) × (number ≡ outcome_number s) × IsText s old new

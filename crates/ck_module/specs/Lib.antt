@@ -2,7 +2,7 @@ pub mod Calls
 pub mod Copies
 pub mod Lives
 pub mod MessageCalls
+pub mod Outcomes
 pub mod Queries
 pub mod Replies
-pub mod Steps
 pub mod Templates

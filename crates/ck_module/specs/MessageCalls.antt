@@ -4,12 +4,12 @@ use Rattle.ck_journal.specs.declared.calls.Call.{Call}
 use Rattle.ck_journal.specs.Histories.{History}
 use Rattle.ck_journal.specs.Works.{IsBegun, IsDone, IsAhead}
 use Rattle.ck_module.specs.Calls.{IsCalled}
-use Rattle.ck_module.specs.Steps.{step_number}
+use Rattle.ck_module.specs.Outcomes.{outcome_number}
 use Rattle.ck_module.specs.declared.message_calls.MessageCall.{MessageCall}
 use Rattle.ck_module.specs.declared.message_calls.MessageCall.TheVariants as variant
 use Rattle.ck_module.specs.declared.modules.Module.{Module}
-use Rattle.ck_module.specs.declared.steps.Step.{Step}
-use Rattle.ck_module.specs.declared.steps.Step.TheVariants as step
+use Rattle.ck_module.specs.declared.outcomes.Outcome.{Outcome}
+use Rattle.ck_module.specs.declared.outcomes.Outcome.TheVariants as outcome
 
 -- the work was begun, by a token with this history, for the call that was given; or nothing changed
 abbrev pub IsBegin : History → MessageCall → MessageCall → Type 0
@@ -39,11 +39,11 @@ call_of (variant.Begun c w) = Some c
 call_of (variant.Done c w) = Some c
 
 -- the call was made; where there is none, nothing has changed
-abbrev pub IsMadeBy : ℕ → Option Call → Step → Module → Module → Type 0
+abbrev pub IsMadeBy : ℕ → Option Call → Outcome → Module → Module → Type 0
 IsMadeBy caller (Some c) made old new = IsCalled caller c made old new
-IsMadeBy caller None made old new = (made ≡ step.NoCall) × (new ≡ old)
+IsMadeBy caller None made old new = (made ≡ outcome.NoCall) × (new ≡ old)
 
 -- the same by the number that C is told
 abbrev pub IsMade : ℕ → Option Call → ℕ → Module → Module → Type 0
 IsMade caller c number old new =
-    (s : Step) × (number ≡ step_number s) × IsMadeBy caller c s old new
+    (s : Outcome) × (number ≡ outcome_number s) × IsMadeBy caller c s old new

@@ -9,7 +9,6 @@
 #![tactic(auto)]
 
 mod copies;
-mod handles;
 mod line_calls;
 mod lives;
 mod message_calls;
@@ -17,9 +16,10 @@ mod message_exports;
 mod modules;
 mod object_calls;
 mod operation_calls;
+mod outcomes;
+mod places;
 mod queries;
 mod reply_readers;
 mod search_calls;
 mod session_calls;
-mod steps;
 mod templates;

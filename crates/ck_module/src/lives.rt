@@ -9,8 +9,8 @@ ghost use Rattle.ck_module.specs.contracts.modules.Module.{the_row};
 ghost use Rattle.ck_module.specs.declared.modules.Module.{Module};
 ghost use Rattle.ck_token.specs.declared.cuts.Uncut.{Uncut};
 
-use crate::handles::Handle;
 use crate::modules::Module;
+use crate::places::TokenPlace;
 use ck_token::Uncut;
 use std::alloc::Global;
 
@@ -38,19 +38,19 @@ pub unsafe extern "C" fn ospreyrack_make(alloc: Global, at: *mut u8)
 
 /// Makes the token a new one, and gives back all memory that it has taken.
 #[unsafe(no_mangle)]
-pub extern "C" fn ospreyrack_reset(alloc: Global, handle: &mut Handle)
-    ensures { IsNew handle.new.value }
+pub extern "C" fn ospreyrack_reset(alloc: Global, place: &mut TokenPlace)
+    ensures { IsNew place.new.value }
 {
-    *handle.as_mut() = Module::new(alloc);
+    *place.as_mut() = Module::new(alloc);
 }
 
 /// Cuts the token's journal and gives 0; 1 where a session is open, 2 where there is no memory.
 #[unsafe(no_mangle)]
-pub extern "C" fn ospreyrack_cut(alloc: Global, handle: &mut Handle) -> u32
+pub extern "C" fn ospreyrack_cut(alloc: Global, place: &mut TokenPlace) -> u32
     ensures { (cut : Result (Unit {0}) Uncut) × (result ≡ cut_number cut)
-        × IsCut cut handle.old.value handle.new.value }
+        × IsCut cut place.old.value place.new.value }
 {
-    match handle.as_mut().cut(alloc) {
+    match place.as_mut().cut(alloc) {
         Ok(()) => 0,
         Err(Uncut::Session) => 1,
         Err(Uncut::Memory) => 2,
@@ -60,18 +60,18 @@ pub extern "C" fn ospreyrack_cut(alloc: Global, handle: &mut Handle) -> u32
 /// Makes room in the token's journal for this many more entries, and says whether there was memory
 /// for it.
 #[unsafe(no_mangle)]
-pub extern "C" fn ospreyrack_reserve(handle: &mut Handle, count: u64) -> bool
-    ensures room { result ≡ true → count ≤ handle.new.value.token.spare }
-    ensures same { IsSame handle.old.value handle.new.value }
+pub extern "C" fn ospreyrack_reserve(place: &mut TokenPlace, count: u64) -> bool
+    ensures room { result ≡ true → count ≤ place.new.value.token.spare }
+    ensures same { IsSame place.old.value place.new.value }
 {
-    handle.as_mut().token.reserve(count).is_ok()
+    place.as_mut().token.reserve(count).is_ok()
 }
 
 /// How many entries the token's journal has.
 #[unsafe(no_mangle)]
-pub extern "C" fn ospreyrack_entries(handle: &mut Handle) -> u64
-    ensures entries { result ≡ entry_count handle.old.value.token.history }
-    ensures unchanged { handle.new.value ≡ handle.old.value }
+pub extern "C" fn ospreyrack_entries(place: &mut TokenPlace) -> u64
+    ensures entries { result ≡ entry_count place.old.value.token.history }
+    ensures unchanged { place.new.value ≡ place.old.value }
 {
-    handle.as_mut().token.journal().len()
+    place.as_mut().token.journal().len()
 }

@@ -1,15 +1,12 @@
 ghost use Rattle.std.specs.Prelude.{◌≡◌};
-ghost use Rattle.ck_journal.specs.Works.{IsAhead};
-ghost use Rattle.ck_module.specs.Calls.{IsCalled};
 ghost use Rattle.ck_module.specs.MessageCalls.{IsBegin, IsMadeBy, IsTakenIn, IsWorkOf};
 ghost use Rattle.ck_module.specs.MessageCalls.{call_of, has_begun};
 ghost use Rattle.ck_module.specs.declared.message_calls.MessageCall.TheVariants as variant;
 
 use crate::modules::Module;
-use crate::steps::Step;
+use crate::outcomes::Outcome;
 use ck_journal::{Call, Work};
 use ck_token::Token;
-use ck_types::NoMemory;
 use std::alloc::Global;
 use std::mem;
 
@@ -28,6 +25,7 @@ pub enum MessageCall {
 }
 
 impl MessageCall {
+    /// No call. A function, since the proof of ospreyrack_message_make goes by its contract.
     pub(crate) fn new() -> MessageCall
         ensures { result ≡ variant.Empty }
     {
@@ -81,30 +79,21 @@ impl MessageCall {
 }
 
 impl Module {
-    /// Makes a call by work that is done for it, and keeps its reply.
-    pub(crate) fn call_after(&mut self, alloc: Global, caller: u32, call: Call, work: &Work) -> Step
-        requires { IsAhead self.old.token.history call work.now }
-        ensures { IsCalled caller call result self.old self.new }
-    {
-        match self.token.call_after(alloc, caller, call, Some(work)) {
-            Ok(reply) => {
-                self.reply = reply;
-                Step::Answered
-            }
-            Err(NoMemory) => Step::NoMemory,
-        }
-    }
-
     /// Makes a call with a message, by the work where that is done, and keeps its reply.
-    pub(crate) fn message_call(&mut self, alloc: Global, caller: u32, message: MessageCall) -> Step
+    pub(crate) fn message_call(
+        &mut self,
+        alloc: Global,
+        caller: u32,
+        message: MessageCall,
+    ) -> Outcome
         requires { IsWorkOf self.old.token.history message }
         ensures { IsMadeBy caller (call_of message) result self.old self.new }
     {
         match message {
-            MessageCall::Empty => Step::NoCall,
+            MessageCall::Empty => Outcome::NoCall,
             MessageCall::Given(call) => self.call(alloc, caller, call),
             MessageCall::Begun(call, _) => self.call(alloc, caller, call),
-            MessageCall::Done(call, work) => self.call_after(alloc, caller, call, &work),
+            MessageCall::Done(call, work) => self.call_after(alloc, caller, call, Some(&work)),
         }
     }
 }

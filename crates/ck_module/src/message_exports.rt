@@ -10,8 +10,8 @@ ghost use Rattle.ck_module.specs.contracts.message_calls.MessageCall.{the_row};
 ghost use Rattle.ck_module.specs.declared.message_calls.MessageCall.{MessageCall};
 ghost use Rattle.ck_module.specs.declared.message_calls.MessageCall.TheVariants as variant;
 
-use crate::handles::{Handle, MessageHandle};
 use crate::message_calls::MessageCall;
+use crate::places::{MessagePlace, TokenPlace};
 use crate::queries::room_of;
 use ck_journal::Call;
 use ck_types::{Bytes, NoMemory};
@@ -43,7 +43,7 @@ pub unsafe extern "C" fn ospreyrack_message_make(at: *mut u8)
 
 /// Takes the call away, and gives back the memory that it has taken.
 #[unsafe(no_mangle)]
-pub extern "C" fn ospreyrack_message_reset(message: &mut MessageHandle)
+pub extern "C" fn ospreyrack_message_reset(message: &mut MessagePlace)
     ensures { message.new.value ≡ variant.Empty }
 {
     message.as_mut().set(MessageCall::Empty);
@@ -56,7 +56,7 @@ pub extern "C" fn ospreyrack_message_reset(message: &mut MessageHandle)
 #[unsafe(no_mangle)]
 pub extern "C" fn ospreyrack_digest(
     alloc: Global,
-    message: &mut MessageHandle,
+    message: &mut MessagePlace,
     session: u64,
     bytes: &[u8],
     has_room: bool,
@@ -74,11 +74,11 @@ pub extern "C" fn ospreyrack_digest(
     }))
 }
 
-/// Gives C_DigestUpdate, with a copy of the piece.
+/// Gives C_DigestUpdate (PKCS #11 Base 3.0, Message digesting functions), with a copy of the piece.
 #[unsafe(no_mangle)]
 pub extern "C" fn ospreyrack_digest_update(
     alloc: Global,
-    message: &mut MessageHandle,
+    message: &mut MessagePlace,
     session: u64,
     bytes: &[u8],
 ) -> bool
@@ -95,7 +95,7 @@ pub extern "C" fn ospreyrack_digest_update(
 #[unsafe(no_mangle)]
 pub extern "C" fn ospreyrack_sign(
     alloc: Global,
-    message: &mut MessageHandle,
+    message: &mut MessagePlace,
     session: u64,
     bytes: &[u8],
     has_room: bool,
@@ -113,11 +113,11 @@ pub extern "C" fn ospreyrack_sign(
     }))
 }
 
-/// Gives C_SignUpdate, with a copy of the piece.
+/// Gives C_SignUpdate (PKCS #11 Base 3.0, Signing and MACing functions), with a copy of the piece.
 #[unsafe(no_mangle)]
 pub extern "C" fn ospreyrack_sign_update(
     alloc: Global,
-    message: &mut MessageHandle,
+    message: &mut MessagePlace,
     session: u64,
     bytes: &[u8],
 ) -> bool
@@ -134,7 +134,7 @@ pub extern "C" fn ospreyrack_sign_update(
 #[unsafe(no_mangle)]
 pub extern "C" fn ospreyrack_verify(
     alloc: Global,
-    message: &mut MessageHandle,
+    message: &mut MessagePlace,
     session: u64,
     bytes: &[u8],
     signature: &[u8],
@@ -162,11 +162,12 @@ fn verification(
     })
 }
 
-/// Gives C_VerifyUpdate, with a copy of the piece.
+/// Gives C_VerifyUpdate (PKCS #11 Base 3.0, Functions for verifying signatures and MACs), with a
+/// copy of the piece.
 #[unsafe(no_mangle)]
 pub extern "C" fn ospreyrack_verify_update(
     alloc: Global,
-    message: &mut MessageHandle,
+    message: &mut MessagePlace,
     session: u64,
     bytes: &[u8],
 ) -> bool
@@ -182,17 +183,17 @@ pub extern "C" fn ospreyrack_verify_update(
 
 /// Begins the work on the message, and says whether there is work to be done before the call.
 #[unsafe(no_mangle)]
-pub extern "C" fn ospreyrack_begin_work(handle: &mut Handle, message: &mut MessageHandle) -> bool
-    ensures begun { IsBegin handle.old.value.token.history message.old.value message.new.value }
+pub extern "C" fn ospreyrack_begin_work(place: &mut TokenPlace, message: &mut MessagePlace) -> bool
+    ensures begun { IsBegin place.old.value.token.history message.old.value message.new.value }
     ensures told { result ≡ has_begun message.new.value }
-    ensures unchanged { handle.new.value ≡ handle.old.value }
+    ensures unchanged { place.new.value ≡ place.old.value }
 {
-    message.as_mut().begin(&handle.as_mut().token)
+    message.as_mut().begin(&place.as_mut().token)
 }
 
 /// Takes in the bytes of the message, where the work on it has begun. It needs no token.
 #[unsafe(no_mangle)]
-pub extern "C" fn ospreyrack_take_in(message: &mut MessageHandle)
+pub extern "C" fn ospreyrack_take_in(message: &mut MessagePlace)
     ensures { IsTakenIn message.old.value message.new.value }
 {
     message.as_mut().take_in();
@@ -203,18 +204,15 @@ pub extern "C" fn ospreyrack_take_in(message: &mut MessageHandle)
 #[unsafe(no_mangle)]
 pub extern "C" fn ospreyrack_call(
     alloc: Global,
-    handle: &mut Handle,
+    place: &mut TokenPlace,
     caller: u32,
-    message: &mut MessageHandle,
+    message: &mut MessagePlace,
 ) -> u32
-    requires { IsWorkOf handle.old.value.token.history message.old.value }
+    requires { IsWorkOf place.old.value.token.history message.old.value }
     ensures made { IsMade caller (call_of message.old.value) result
-        handle.old.value handle.new.value }
+        place.old.value place.new.value }
     ensures empty { message.new.value ≡ variant.Empty }
 {
     let message = message.as_mut().take();
-    handle
-        .as_mut()
-        .message_call(alloc, caller, message)
-        .number()
+    place.as_mut().message_call(alloc, caller, message).number()
 }

@@ -1,12 +1,14 @@
-ghost use Rattle.std.specs.Prelude.{◌≡◌, ◌<◌, OnOk, false};
+ghost use Rattle.std.specs.Option.{option_copied};
+ghost use Rattle.std.specs.Prelude.{◌≡◌, ◌<◌, OnOk, IfSome, false};
+ghost use Rattle.ck_journal.specs.Works.{IsAhead};
 ghost use Rattle.ck_script.specs.Replies.{reply_line};
 ghost use Rattle.ck_module.specs.Calls.{IsCalled, IsLine, IsText};
 ghost use Rattle.ck_module.specs.Lives.{IsNew, IsCut};
-ghost use Rattle.ck_module.specs.declared.steps.Step.TheVariants as step;
+ghost use Rattle.ck_module.specs.declared.outcomes.Outcome.TheVariants as outcome;
 ghost use Rattle.ck_token.specs.Decisions.{may_run_out};
 
-use crate::steps::Step;
-use ck_journal::{Body, Call, Reply};
+use crate::outcomes::Outcome;
+use ck_journal::{Body, Call, Reply, Work};
 use ck_script::{Line, LineError, push_reply};
 use ck_token::{Token, Uncut};
 use ck_types::{Limits, NoMemory, Rv};
@@ -46,39 +48,56 @@ impl Module {
     }
 
     /// Makes a call, and keeps its reply.
-    pub(crate) fn call(&mut self, alloc: Global, caller: u32, call: Call) -> Step
+    pub(crate) fn call(&mut self, alloc: Global, caller: u32, call: Call) -> Outcome
         ensures called { IsCalled caller call result self.old self.new }
         ensures succeeds { 0 < self.old.token.spare
             → may_run_out self.old.token.limits self.old.token.history call ≡ false
-            → result ≡ step.Answered }
+            → result ≡ outcome.Answered }
     {
-        match self.token.call(alloc, caller, call) {
+        self.call_after(alloc, caller, call, None)
+    }
+
+    /// As `call`, with the work on the call's message where it is done.
+    pub(crate) fn call_after(
+        &mut self,
+        alloc: Global,
+        caller: u32,
+        call: Call,
+        work: Option<&Work>,
+    ) -> Outcome
+        requires { IfSome (option_copied work) (IsAhead self.old.token.history call) }
+        ensures called { IsCalled caller call result self.old self.new }
+        ensures succeeds { 0 < self.old.token.spare
+            → may_run_out self.old.token.limits self.old.token.history call ≡ false
+            → result ≡ outcome.Answered }
+    {
+        match self.token.call_after(alloc, caller, call, work) {
             Ok(reply) => {
                 self.reply = reply;
-                Step::Answered
+                Outcome::Answered
             }
-            Err(NoMemory) => Step::NoMemory,
+            Err(NoMemory) => Outcome::NoMemory,
         }
     }
 
     /// Makes the call of a line of a script, and keeps its reply.
-    pub(crate) fn line(&mut self, alloc: Global, line: &[u8]) -> Step
+    pub(crate) fn line(&mut self, alloc: Global, line: &[u8]) -> Outcome
         ensures { IsLine line.now result self.old self.new }
     {
         match Line::parse(alloc, line) {
             Ok(Line::Called { caller, call }) => self.call(alloc, caller, call),
-            Ok(Line::Skipped) | Err(LineError::Bad(_)) => Step::NoCall,
-            Err(LineError::Memory) => Step::NoMemory,
+            Ok(Line::Skipped) | Err(LineError::Bad(_)) => Outcome::NoCall,
+            Err(LineError::Memory) => Outcome::NoMemory,
         }
     }
 
     /// Makes the text of the reply, without a line end.
-    pub(crate) fn write_text(&mut self) -> Step
+    pub(crate) fn write_text(&mut self) -> Outcome
         ensures { IsText result self.old self.new }
     {
         match write_reply(&mut self.text, &self.reply) {
-            Ok(()) => Step::Answered,
-            Err(NoMemory) => Step::NoMemory,
+            Ok(()) => Outcome::Answered,
+            Err(NoMemory) => Outcome::NoMemory,
         }
     }
 

@@ -2,7 +2,7 @@ ghost use Rattle.ck_journal.specs.declared.calls.Call.TheVariants as call;
 ghost use Rattle.ck_module.specs.Calls.{IsCalledBy};
 ghost use Rattle.ck_module.specs.Queries.{room_of};
 
-use crate::handles::Handle;
+use crate::places::TokenPlace;
 use crate::queries::room_of;
 use ck_journal::Call;
 use ck_types::{Bytes, Mechanism};
@@ -12,7 +12,7 @@ use std::alloc::Global;
 #[unsafe(no_mangle)]
 pub extern "C" fn ospreyrack_digest_init(
     alloc: Global,
-    handle: &mut Handle,
+    place: &mut TokenPlace,
     caller: u32,
     session: u64,
     kind: u64,
@@ -20,41 +20,42 @@ pub extern "C" fn ospreyrack_digest_init(
 ) -> u32
     ensures { IsCalledBy caller
         (call.DigestInit session (record { kind = kind; parameter = parameter.now })) result
-        handle.old.value handle.new.value }
+        place.old.value place.new.value }
 {
     let parameter = Bytes::from_slice(alloc, parameter);
     let call = parameter.map(|parameter| Call::DigestInit {
         session,
         mechanism: Mechanism { kind, parameter },
     });
-    handle.call_with_lists(alloc, caller, call)
+    place.call_with_lists(alloc, caller, call)
 }
 
-/// C_DigestFinal. Without `has_room` only the length is asked for.
+/// C_DigestFinal (PKCS #11 Base 3.0, Message digesting functions). Without `has_room` only the
+/// length is asked for.
 #[unsafe(no_mangle)]
 pub extern "C" fn ospreyrack_digest_final(
     alloc: Global,
-    handle: &mut Handle,
+    place: &mut TokenPlace,
     caller: u32,
     session: u64,
     has_room: bool,
     room: u64,
 ) -> u32
     ensures { IsCalledBy caller (call.DigestFinal session (room_of has_room room)) result
-        handle.old.value handle.new.value }
+        place.old.value place.new.value }
 {
     let call = Call::DigestFinal {
         session,
         room: room_of(has_room, room),
     };
-    handle.call(alloc, caller, call)
+    place.call(alloc, caller, call)
 }
 
 /// C_SignInit (PKCS #11 Base 3.0, Signing and MACing functions). An empty parameter is none.
 #[unsafe(no_mangle)]
 pub extern "C" fn ospreyrack_sign_init(
     alloc: Global,
-    handle: &mut Handle,
+    place: &mut TokenPlace,
     caller: u32,
     session: u64,
     kind: u64,
@@ -63,7 +64,7 @@ pub extern "C" fn ospreyrack_sign_init(
 ) -> u32
     ensures { IsCalledBy caller
         (call.SignInit session (record { kind = kind; parameter = parameter.now }) key) result
-        handle.old.value handle.new.value }
+        place.old.value place.new.value }
 {
     let parameter = Bytes::from_slice(alloc, parameter);
     let call = parameter.map(|parameter| Call::SignInit {
@@ -71,27 +72,28 @@ pub extern "C" fn ospreyrack_sign_init(
         mechanism: Mechanism { kind, parameter },
         key,
     });
-    handle.call_with_lists(alloc, caller, call)
+    place.call_with_lists(alloc, caller, call)
 }
 
-/// C_SignFinal. Without `has_room` only the length is asked for.
+/// C_SignFinal (PKCS #11 Base 3.0, Signing and MACing functions). Without `has_room` only the
+/// length is asked for.
 #[unsafe(no_mangle)]
 pub extern "C" fn ospreyrack_sign_final(
     alloc: Global,
-    handle: &mut Handle,
+    place: &mut TokenPlace,
     caller: u32,
     session: u64,
     has_room: bool,
     room: u64,
 ) -> u32
     ensures { IsCalledBy caller (call.SignFinal session (room_of has_room room)) result
-        handle.old.value handle.new.value }
+        place.old.value place.new.value }
 {
     let call = Call::SignFinal {
         session,
         room: room_of(has_room, room),
     };
-    handle.call(alloc, caller, call)
+    place.call(alloc, caller, call)
 }
 
 /// C_VerifyInit (PKCS #11 Base 3.0, Functions for verifying signatures and MACs). An empty
@@ -99,7 +101,7 @@ pub extern "C" fn ospreyrack_sign_final(
 #[unsafe(no_mangle)]
 pub extern "C" fn ospreyrack_verify_init(
     alloc: Global,
-    handle: &mut Handle,
+    place: &mut TokenPlace,
     caller: u32,
     session: u64,
     kind: u64,
@@ -108,7 +110,7 @@ pub extern "C" fn ospreyrack_verify_init(
 ) -> u32
     ensures { IsCalledBy caller
         (call.VerifyInit session (record { kind = kind; parameter = parameter.now }) key) result
-        handle.old.value handle.new.value }
+        place.old.value place.new.value }
 {
     let parameter = Bytes::from_slice(alloc, parameter);
     let call = parameter.map(|parameter| Call::VerifyInit {
@@ -116,22 +118,22 @@ pub extern "C" fn ospreyrack_verify_init(
         mechanism: Mechanism { kind, parameter },
         key,
     });
-    handle.call_with_lists(alloc, caller, call)
+    place.call_with_lists(alloc, caller, call)
 }
 
-/// C_VerifyFinal.
+/// C_VerifyFinal (PKCS #11 Base 3.0, Functions for verifying signatures and MACs).
 #[unsafe(no_mangle)]
 pub extern "C" fn ospreyrack_verify_final(
     alloc: Global,
-    handle: &mut Handle,
+    place: &mut TokenPlace,
     caller: u32,
     session: u64,
     signature: &[u8],
 ) -> u32
     ensures { IsCalledBy caller (call.VerifyFinal session signature.now) result
-        handle.old.value handle.new.value }
+        place.old.value place.new.value }
 {
     let signature = Bytes::from_slice(alloc, signature);
     let call = signature.map(|signature| Call::VerifyFinal { session, signature });
-    handle.call_with_lists(alloc, caller, call)
+    place.call_with_lists(alloc, caller, call)
 }

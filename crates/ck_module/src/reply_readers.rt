@@ -7,7 +7,7 @@ ghost use Rattle.ck_module.specs.Replies.{bytes_in};
 ghost use Rattle.std.specs.Option.{option_copied};
 
 use crate::copies::copy_front;
-use crate::handles::Handle;
+use crate::places::TokenPlace;
 use ck_journal::{Answer, Body};
 
 /// A session's state (CK_STATE) and flags, as CK_SESSION_INFO has them.
@@ -40,20 +40,20 @@ pub struct QueryAnswer {
 
 /// The return code (CK_RV).
 #[unsafe(no_mangle)]
-pub extern "C" fn ospreyrack_code(handle: &mut Handle) -> u64
-    ensures code { result ≡ number_of handle.old.value.reply.rv }
-    ensures unchanged { handle.new.value ≡ handle.old.value }
+pub extern "C" fn ospreyrack_code(place: &mut TokenPlace) -> u64
+    ensures code { result ≡ number_of place.old.value.reply.rv }
+    ensures unchanged { place.new.value ≡ place.old.value }
 {
-    handle.as_mut().reply.rv.number()
+    place.as_mut().reply.rv.number()
 }
 
 /// The handle of a new session or object, else 0.
 #[unsafe(no_mangle)]
-pub extern "C" fn ospreyrack_handle(handle: &mut Handle) -> u64
-    ensures handle { result ≡ handle_in handle.old.value.reply.body }
-    ensures unchanged { handle.new.value ≡ handle.old.value }
+pub extern "C" fn ospreyrack_handle(place: &mut TokenPlace) -> u64
+    ensures handle { result ≡ handle_in place.old.value.reply.body }
+    ensures unchanged { place.new.value ≡ place.old.value }
 {
-    match handle.as_mut().reply.body {
+    match place.as_mut().reply.body {
         Body::Handle(new) => new,
         _ => 0,
     }
@@ -61,11 +61,11 @@ pub extern "C" fn ospreyrack_handle(handle: &mut Handle) -> u64
 
 /// A session's state and flags; zeros where the reply has none.
 #[unsafe(no_mangle)]
-pub extern "C" fn ospreyrack_session(handle: &mut Handle, out: &mut SessionInfo)
-    ensures session { out.new ≡ session_in handle.old.value.reply.body }
-    ensures unchanged { handle.new.value ≡ handle.old.value }
+pub extern "C" fn ospreyrack_session(place: &mut TokenPlace, out: &mut SessionInfo)
+    ensures session { out.new ≡ session_in place.old.value.reply.body }
+    ensures unchanged { place.new.value ≡ place.old.value }
 {
-    *out = session_in(&handle.as_mut().reply.body);
+    *out = session_in(&place.as_mut().reply.body);
 }
 
 fn session_in(body: &Body) -> SessionInfo
@@ -82,11 +82,11 @@ fn session_in(body: &Body) -> SessionInfo
 
 /// The token's flags and counts; zeros where the reply has none.
 #[unsafe(no_mangle)]
-pub extern "C" fn ospreyrack_token_info(handle: &mut Handle, out: &mut TokenInfo)
-    ensures token { out.new ≡ token_in handle.old.value.reply.body }
-    ensures unchanged { handle.new.value ≡ handle.old.value }
+pub extern "C" fn ospreyrack_token_info(place: &mut TokenPlace, out: &mut TokenInfo)
+    ensures token { out.new ≡ token_in place.old.value.reply.body }
+    ensures unchanged { place.new.value ≡ place.old.value }
 {
-    *out = token_in(&handle.as_mut().reply.body);
+    *out = token_in(&place.as_mut().reply.body);
 }
 
 fn token_in(body: &Body) -> TokenInfo
@@ -116,12 +116,12 @@ fn token_in(body: &Body) -> TokenInfo
 /// How many mechanisms the reply has. Their types, or as many of them as there is room for, are
 /// copied out.
 #[unsafe(no_mangle)]
-pub extern "C" fn ospreyrack_mechanisms(handle: &mut Handle, out: &mut [u64]) -> usize
-    ensures count { result ≡ length (mechanisms_in handle.old.value.reply.body) }
-    ensures copied { out.new ≡ filled_with (mechanisms_in handle.old.value.reply.body) out.old }
-    ensures unchanged { handle.new.value ≡ handle.old.value }
+pub extern "C" fn ospreyrack_mechanisms(place: &mut TokenPlace, out: &mut [u64]) -> usize
+    ensures count { result ≡ length (mechanisms_in place.old.value.reply.body) }
+    ensures copied { out.new ≡ filled_with (mechanisms_in place.old.value.reply.body) out.old }
+    ensures unchanged { place.new.value ≡ place.old.value }
 {
-    copy_front(mechanisms_in(&handle.as_mut().reply.body), out)
+    copy_front(mechanisms_in(&place.as_mut().reply.body), out)
 }
 
 fn mechanisms_in(body: &Body) -> &[u64]
@@ -136,12 +136,12 @@ fn mechanisms_in(body: &Body) -> &[u64]
 /// How many handles of found objects the reply has. They, or as many of them as there is room for,
 /// are copied out.
 #[unsafe(no_mangle)]
-pub extern "C" fn ospreyrack_handles(handle: &mut Handle, out: &mut [u64]) -> usize
-    ensures count { result ≡ length (handles_in handle.old.value.reply.body) }
-    ensures copied { out.new ≡ filled_with (handles_in handle.old.value.reply.body) out.old }
-    ensures unchanged { handle.new.value ≡ handle.old.value }
+pub extern "C" fn ospreyrack_handles(place: &mut TokenPlace, out: &mut [u64]) -> usize
+    ensures count { result ≡ length (handles_in place.old.value.reply.body) }
+    ensures copied { out.new ≡ filled_with (handles_in place.old.value.reply.body) out.old }
+    ensures unchanged { place.new.value ≡ place.old.value }
 {
-    copy_front(handles_in(&handle.as_mut().reply.body), out)
+    copy_front(handles_in(&place.as_mut().reply.body), out)
 }
 
 fn handles_in(body: &Body) -> &[u64]
@@ -155,11 +155,11 @@ fn handles_in(body: &Body) -> &[u64]
 
 /// The answer to the query of this index, counted from 0; unavailable where there is none.
 #[unsafe(no_mangle)]
-pub extern "C" fn ospreyrack_answer(handle: &mut Handle, index: usize, out: &mut QueryAnswer)
-    ensures answer { out.new ≡ answer_in handle.old.value.reply.body index }
-    ensures unchanged { handle.new.value ≡ handle.old.value }
+pub extern "C" fn ospreyrack_answer(place: &mut TokenPlace, index: usize, out: &mut QueryAnswer)
+    ensures answer { out.new ≡ answer_in place.old.value.reply.body index }
+    ensures unchanged { place.new.value ≡ place.old.value }
 {
-    *out = answer_in(&handle.as_mut().reply.body, index);
+    *out = answer_in(&place.as_mut().reply.body, index);
 }
 
 fn answer_in(body: &Body, index: usize) -> QueryAnswer
@@ -190,12 +190,12 @@ fn answer_at(body: &Body, index: usize) -> Option<&Answer>
 /// The length of the value that the query of this index is answered, and 0 where it isn't answered
 /// one. The value's bytes, or as many of them as there is room for, are copied out.
 #[unsafe(no_mangle)]
-pub extern "C" fn ospreyrack_value(handle: &mut Handle, index: usize, out: &mut [u8]) -> usize
-    ensures length { result ≡ length (value_in handle.old.value.reply.body index) }
-    ensures copied { out.new ≡ filled_with (value_in handle.old.value.reply.body index) out.old }
-    ensures unchanged { handle.new.value ≡ handle.old.value }
+pub extern "C" fn ospreyrack_value(place: &mut TokenPlace, index: usize, out: &mut [u8]) -> usize
+    ensures length { result ≡ length (value_in place.old.value.reply.body index) }
+    ensures copied { out.new ≡ filled_with (value_in place.old.value.reply.body index) out.old }
+    ensures unchanged { place.new.value ≡ place.old.value }
 {
-    copy_front(value_in(&handle.as_mut().reply.body, index), out)
+    copy_front(value_in(&place.as_mut().reply.body, index), out)
 }
 
 fn value_in(body: &Body, index: usize) -> &[u8]
@@ -209,11 +209,11 @@ fn value_in(body: &Body, index: usize) -> &[u8]
 
 /// The length of the digest or signature that the reply has or tells the length of, else 0.
 #[unsafe(no_mangle)]
-pub extern "C" fn ospreyrack_length(handle: &mut Handle) -> u64
-    ensures length { result ≡ length_in handle.old.value.reply.body }
-    ensures unchanged { handle.new.value ≡ handle.old.value }
+pub extern "C" fn ospreyrack_length(place: &mut TokenPlace) -> u64
+    ensures length { result ≡ length_in place.old.value.reply.body }
+    ensures unchanged { place.new.value ≡ place.old.value }
 {
-    match &handle.as_mut().reply.body {
+    match &place.as_mut().reply.body {
         Body::Length(length) => *length,
         Body::Bytes(bytes) => bytes.as_slice().len() as u64,
         _ => 0,
@@ -223,12 +223,12 @@ pub extern "C" fn ospreyrack_length(handle: &mut Handle) -> u64
 /// The length of the digest or signature that the reply has, and 0 where it has none. Its bytes, or
 /// as many of them as there is room for, are copied out.
 #[unsafe(no_mangle)]
-pub extern "C" fn ospreyrack_bytes(handle: &mut Handle, out: &mut [u8]) -> usize
-    ensures length { result ≡ length (bytes_in handle.old.value.reply.body) }
-    ensures copied { out.new ≡ filled_with (bytes_in handle.old.value.reply.body) out.old }
-    ensures unchanged { handle.new.value ≡ handle.old.value }
+pub extern "C" fn ospreyrack_bytes(place: &mut TokenPlace, out: &mut [u8]) -> usize
+    ensures length { result ≡ length (bytes_in place.old.value.reply.body) }
+    ensures copied { out.new ≡ filled_with (bytes_in place.old.value.reply.body) out.old }
+    ensures unchanged { place.new.value ≡ place.old.value }
 {
-    copy_front(bytes_in(&handle.as_mut().reply.body), out)
+    copy_front(bytes_in(&place.as_mut().reply.body), out)
 }
 
 fn bytes_in(body: &Body) -> &[u8]

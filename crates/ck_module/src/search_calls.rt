@@ -2,7 +2,7 @@ ghost use Rattle.ck_journal.specs.declared.calls.Call.TheVariants as call;
 ghost use Rattle.ck_module.specs.Calls.{IsCalledBy};
 ghost use Rattle.ck_module.specs.Templates.{template_of};
 
-use crate::handles::Handle;
+use crate::places::TokenPlace;
 use crate::templates::{TypeAndLength, template_of};
 use ck_journal::Call;
 use std::alloc::Global;
@@ -12,47 +12,47 @@ use std::alloc::Global;
 #[unsafe(no_mangle)]
 pub extern "C" fn ospreyrack_find_objects_init(
     alloc: Global,
-    handle: &mut Handle,
+    place: &mut TokenPlace,
     caller: u32,
     session: u64,
     attributes: &[TypeAndLength],
     values: &[u8],
 ) -> u32
     ensures { IsCalledBy caller (call.FindObjectsInit session
-        (template_of attributes.now values.now)) result handle.old.value handle.new.value }
+        (template_of attributes.now values.now)) result place.old.value place.new.value }
 {
     let template = template_of(alloc, attributes, values);
     let call = template.map(|template| Call::FindObjectsInit { session, template });
-    handle.call_with_lists(alloc, caller, call)
+    place.call_with_lists(alloc, caller, call)
 }
 
-/// C_FindObjects.
+/// C_FindObjects (PKCS #11 Base 3.0, Object management functions).
 #[unsafe(no_mangle)]
 pub extern "C" fn ospreyrack_find_objects(
     alloc: Global,
-    handle: &mut Handle,
+    place: &mut TokenPlace,
     caller: u32,
     session: u64,
     max: u64,
 ) -> u32
     ensures { IsCalledBy caller (call.FindObjects session max) result
-        handle.old.value handle.new.value }
+        place.old.value place.new.value }
 {
     let call = Call::FindObjects { session, max };
-    handle.call(alloc, caller, call)
+    place.call(alloc, caller, call)
 }
 
-/// C_FindObjectsFinal.
+/// C_FindObjectsFinal (PKCS #11 Base 3.0, Object management functions).
 #[unsafe(no_mangle)]
 pub extern "C" fn ospreyrack_find_objects_final(
     alloc: Global,
-    handle: &mut Handle,
+    place: &mut TokenPlace,
     caller: u32,
     session: u64,
 ) -> u32
     ensures { IsCalledBy caller (call.FindObjectsFinal session) result
-        handle.old.value handle.new.value }
+        place.old.value place.new.value }
 {
     let call = Call::FindObjectsFinal { session };
-    handle.call(alloc, caller, call)
+    place.call(alloc, caller, call)
 }

@@ -2,7 +2,7 @@ ghost use Rattle.std.specs.Prelude.{◌≡◌, ◌<◌};
 ghost use Rattle.ck_journal.specs.declared.calls.Call.TheVariants as call;
 ghost use Rattle.ck_module.specs.Calls.{IsCalledBy};
 
-use crate::handles::Handle;
+use crate::places::TokenPlace;
 use ck_journal::Call;
 use std::alloc::Global;
 
@@ -10,93 +10,98 @@ use std::alloc::Global;
 #[unsafe(no_mangle)]
 pub extern "C" fn ospreyrack_open_session(
     alloc: Global,
-    handle: &mut Handle,
+    place: &mut TokenPlace,
     caller: u32,
     flags: u64,
 ) -> u32
-    ensures { IsCalledBy caller (call.OpenSession flags) result handle.old.value handle.new.value }
+    ensures { IsCalledBy caller (call.OpenSession flags) result place.old.value place.new.value }
 {
     let call = Call::OpenSession { flags };
-    handle.call(alloc, caller, call)
+    place.call(alloc, caller, call)
 }
 
-/// C_CloseSession.
+/// C_CloseSession (PKCS #11 Base 3.0, Session management functions).
 #[unsafe(no_mangle)]
 pub extern "C" fn ospreyrack_close_session(
     alloc: Global,
-    handle: &mut Handle,
+    place: &mut TokenPlace,
     caller: u32,
     session: u64,
 ) -> u32
     ensures { IsCalledBy caller (call.CloseSession session) result
-        handle.old.value handle.new.value }
+        place.old.value place.new.value }
 {
     let call = Call::CloseSession { session };
-    handle.call(alloc, caller, call)
+    place.call(alloc, caller, call)
 }
 
-/// C_CloseAllSessions.
+/// C_CloseAllSessions (PKCS #11 Base 3.0, Session management functions).
 #[unsafe(no_mangle)]
 pub extern "C" fn ospreyrack_close_all_sessions(
     alloc: Global,
-    handle: &mut Handle,
+    place: &mut TokenPlace,
     caller: u32,
 ) -> u32
-    ensures { IsCalledBy caller call.CloseAllSessions result handle.old.value handle.new.value }
+    ensures { IsCalledBy caller call.CloseAllSessions result place.old.value place.new.value }
 {
-    handle.call(alloc, caller, Call::CloseAllSessions)
+    place.call(alloc, caller, Call::CloseAllSessions)
 }
 
-/// C_Logout.
+/// C_Logout (PKCS #11 Base 3.0, Session management functions).
 #[unsafe(no_mangle)]
 pub extern "C" fn ospreyrack_logout(
     alloc: Global,
-    handle: &mut Handle,
+    place: &mut TokenPlace,
     caller: u32,
     session: u64,
 ) -> u32
-    ensures { IsCalledBy caller (call.Logout session) result handle.old.value handle.new.value }
+    ensures { IsCalledBy caller (call.Logout session) result place.old.value place.new.value }
 {
     let call = Call::Logout { session };
-    handle.call(alloc, caller, call)
+    place.call(alloc, caller, call)
 }
 
-/// C_GetSessionInfo.
+/// C_GetSessionInfo (PKCS #11 Base 3.0, Session management functions).
 #[unsafe(no_mangle)]
 pub extern "C" fn ospreyrack_get_session_info(
     alloc: Global,
-    handle: &mut Handle,
+    place: &mut TokenPlace,
     caller: u32,
     session: u64,
 ) -> u32
     ensures { IsCalledBy caller (call.GetSessionInfo session) result
-        handle.old.value handle.new.value }
+        place.old.value place.new.value }
 {
     let call = Call::GetSessionInfo { session };
-    handle.call(alloc, caller, call)
+    place.call(alloc, caller, call)
 }
 
 /// C_GetTokenInfo (PKCS #11 Base 3.0, Slot and token management functions).
 #[unsafe(no_mangle)]
-pub extern "C" fn ospreyrack_get_token_info(alloc: Global, handle: &mut Handle, caller: u32) -> u32
-    ensures { IsCalledBy caller call.GetTokenInfo result handle.old.value handle.new.value }
+pub extern "C" fn ospreyrack_get_token_info(
+    alloc: Global,
+    place: &mut TokenPlace,
+    caller: u32,
+) -> u32
+    ensures { IsCalledBy caller call.GetTokenInfo result place.old.value place.new.value }
 {
-    handle.call(alloc, caller, Call::GetTokenInfo)
+    place.call(alloc, caller, Call::GetTokenInfo)
 }
 
-/// C_SessionCancel. Where the token's journal has room, the call isn't out of memory.
+/// C_SessionCancel (PKCS #11 Base 3.0, Session management functions). Where the token's
+/// journal has room, the call isn't out of memory.
 #[unsafe(no_mangle)]
 pub extern "C" fn ospreyrack_session_cancel(
     alloc: Global,
-    handle: &mut Handle,
+    place: &mut TokenPlace,
     caller: u32,
     session: u64,
     flags: u64,
 ) -> u32
     ensures called { IsCalledBy caller (call.SessionCancel session flags) result
-        handle.old.value handle.new.value }
-    ensures succeeds { 0 < handle.old.value.token.spare → result ≡ 0 }
+        place.old.value place.new.value }
+    ensures succeeds { 0 < place.old.value.token.spare → result ≡ 0 }
 {
     let call = Call::SessionCancel { session, flags };
-    handle.call(alloc, caller, call)
+    place.call(alloc, caller, call)
 }

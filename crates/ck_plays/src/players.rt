@@ -55,13 +55,8 @@ fn write_some<W: Sink>(writer: &mut W, bytes: &[u8]) -> Result<usize, PlayFault>
         → W.is_written writer.new (failed_write w)) }
 {
     match writer.write(bytes) {
-        Ok(count) => {
-            if count == 0 {
-                return Err(PlayFault::Write);
-            }
-            Ok(count)
-        }
-        Err(_) => Err(PlayFault::Write),
+        Ok(count) if count > 0 => Ok(count),
+        _ => Err(PlayFault::Write),
     }
 }
 
@@ -92,10 +87,9 @@ pub(crate) fn extend_open_line(
     if open_line.len().saturating_add(piece.len()) > LONGEST_LINE {
         return Err(PlayFault::Line(number, BadLine::TooLong));
     }
-    match open_line.extend_from_slice(piece) {
-        Ok(()) => Ok(()),
-        Err(_) => Err(PlayFault::Memory),
-    }
+    open_line
+        .extend_from_slice(piece)
+        .map_err(|_| PlayFault::Memory)
 }
 
 /// Answers a call and writes the reply.

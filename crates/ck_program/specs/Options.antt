@@ -1,4 +1,4 @@
--- What the program is asked to do by its words
+-- What the program is asked to do by its arguments
 use Rattle.std.specs.Prelude.{⊤, ◌≡◌, ◌⊎◌, ◌-◌, ◌&&◌, ℕ, List, [], ◌∷◌, Option, Some, None}
 use Rattle.std.specs.Prelude.{Result, Ok, Err, if◌then◌else◌, nat_le, codes}
 use Rattle.clap.specs.Words.{App, Rule, Text, IsAmong, fault_of, first_of, matches_of, new_app}
@@ -26,20 +26,21 @@ abbrev pub callers_in : Text → Option ℕ
 callers_in (digit ∷ []) = if nat_le 49 digit && nat_le digit 56 then Some (digit - 48) else None
 callers_in _ = None
 
--- the command takes the words, of which the first is the program's name; they ask for its help; or
--- it refuses them
+-- the command takes the arguments, of which the first is the program's name; they ask for its help;
+-- or it refuses them
 abbrev pub AreTaken : List Text → Type 0
-AreTaken words = fault_of program words ≡ []
+AreTaken arguments = fault_of program arguments ≡ []
 
 abbrev pub AskForHelp : List Text → Type 0
-AskForHelp words = IsAmong kind.DisplayHelp (fault_of program words)
+AskForHelp arguments = IsAmong kind.DisplayHelp (fault_of program arguments)
 
 abbrev pub AreRefused : List Text → Type 0
-AreRefused words = (k : ErrorKind) × IsAmong k (fault_of program words) × (k ≡ kind.DisplayHelp → ⊥)
+AreRefused arguments =
+    (k : ErrorKind) × IsAmong k (fault_of program arguments) × (k ≡ kind.DisplayHelp → ⊥)
 
 -- the text that they give the option, where they give it one
 abbrev pub callers_text : List Text → Option Text
-callers_text words = first_of (codes "callers") (matches_of program words)
+callers_text arguments = first_of (codes "callers") (matches_of program arguments)
 
 -- without a value the script is played line by line, with a number of callers by these callers in
 -- threads, and any other value is bad
@@ -53,7 +54,7 @@ abbrev pub IsHelp : Result Options ArgumentFault → Type 0
 IsHelp (Ok (option.Help text)) = ⊤
 IsHelp _ = ⊥
 
--- the fault of words that the command refuses, with what it says of them
+-- the fault of arguments that the command refuses, with what it says of them
 abbrev pub IsRefusal : ArgumentFault → Type 0
 IsRefusal (fault.Bad (bad.Refused text)) = ⊤
 IsRefusal _ = ⊥
@@ -62,9 +63,10 @@ abbrev pub IsRefused : Result Options ArgumentFault → Type 0
 IsRefused (Err f) = IsRefusal f
 IsRefused _ = ⊥
 
--- the words ask for this, or the answer is that there was no memory, of which nothing more is said
+-- the arguments ask for this, or the answer is that there was no memory, of which nothing more is
+-- said
 abbrev pub IsAskedBy : List Text → Result Options ArgumentFault → Type 0
-IsAskedBy words result = (AreTaken words × IsChosenBy (callers_text words) result)
-    ⊎ (AskForHelp words × IsHelp result)
-    ⊎ (AreRefused words × IsRefused result)
+IsAskedBy arguments result = (AreTaken arguments × IsChosenBy (callers_text arguments) result)
+    ⊎ (AskForHelp arguments × IsHelp result)
+    ⊎ (AreRefused arguments × IsRefused result)
     ⊎ (result ≡ Err fault.Memory)

@@ -34,7 +34,7 @@ fn callers_in(text: &str) -> Option<Callers>
     }
 }
 
-/// What the words that the command takes ask for.
+/// What the arguments that the command takes ask for.
 fn options_in(matches: &ArgMatches<'_>) -> Result<Options, ArgumentFault>
     ensures { IsChosenBy (first_value (found_of matches.now) (codes "callers")) result }
 {
@@ -55,7 +55,7 @@ fn reason_of(alloc: Global, error: &Error) -> Result<String, AllocError> {
     String::from_str(alloc, reason.trim_end())
 }
 
-/// The fault of words that the command refuses.
+/// The fault of arguments that the command refuses.
 fn refusal(alloc: Global, error: &Error) -> ArgumentFault
     ensures { IsRefusal result ⊎ (result ≡ ArgumentFault.Memory) }
 {
@@ -65,11 +65,11 @@ fn refusal(alloc: Global, error: &Error) -> ArgumentFault
     }
 }
 
-/// What the program is asked to do by its words, of which the first is its name.
-pub fn options_of(alloc: Global, words: &[String]) -> Result<Options, ArgumentFault>
-    ensures { IsAskedBy (map string_bytes words.now) result }
+/// What the program is asked to do by its arguments, of which the first is its name.
+pub fn options_of(alloc: Global, arguments: &[String]) -> Result<Options, ArgumentFault>
+    ensures { IsAskedBy (map string_bytes arguments.now) result }
 {
-    match command(alloc)?.try_get_matches_from(words) {
+    match command(alloc)?.try_get_matches_from(arguments) {
         Ok(matches) => options_in(&matches),
         Err(error) => match error.kind() {
             ErrorKind::DisplayHelp => match format!(in alloc; "{error}") {

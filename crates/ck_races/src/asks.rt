@@ -118,7 +118,7 @@ fn check_script<K: TokenId>(alloc: Global, script: &AskingScript<K>) -> anyhow::
     check_taken(script)?;
     let mut known = FIRST;
     for answer in script.replies() {
-        if let Answered::Status(status, seen) = answer {
+        if let Answered::Status { status, seen } = answer {
             expect(known <= *seen)?;
             check_status(alloc, status, state_after(*seen))?;
             known = *seen;

@@ -59,8 +59,8 @@ fn check_reply(reply: &Reply, entry: u64) -> anyhow::Result<()> {
 /// What was answered to a step agrees with its number.
 fn check_answer(alloc: Global, answer: &Answered) -> anyhow::Result<()> {
     match answer {
-        Answered::Reply(reply, seen) => check_reply(reply, *seen),
-        Answered::Status(status, seen) => check_status(alloc, status, info_after(*seen)),
+        Answered::Reply { reply, seen } => check_reply(reply, *seen),
+        Answered::Status { status, seen } => check_status(alloc, status, info_after(*seen)),
     }
 }
 
@@ -72,7 +72,7 @@ fn check_script<K: TokenId>(
 ) -> anyhow::Result<()> {
     check_taken(script)?;
     let answers = script.replies();
-    expect(matches!(answers.first(), Some(Answered::Reply(_, seen)) if *seen == entry))?;
+    expect(matches!(answers.first(), Some(Answered::Reply { seen, .. }) if *seen == entry))?;
     for answer in answers {
         check_answer(alloc, answer)?;
     }

@@ -49,6 +49,7 @@ use std::fs::Files;
 
 /// What callers do at once, besides races. Adds a line for each that passes.
 fn play_together<R: Runtime>(rt: R, text: &mut String) -> anyhow::Result<()> {
+    write!(text, "runs of each race, in either way: {}\n", runs::RUNS)?;
     asks::run_asks(rt)?;
     write!(text, "asks: {} passed\n", asks::RUNS)?;
     run_held_steps(rt)?;

@@ -17,7 +17,7 @@ use std::alloc::Global;
 use std::sync::Wait;
 
 /// How many times a race is run with all its calls in order, and as many with only the first ones.
-const RUNS: u64 = 100;
+pub(crate) const RUNS: u64 = 100;
 
 /// Calls, the first of which are made in an order of their callers.
 #[derive(Drop)]

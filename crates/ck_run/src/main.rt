@@ -31,12 +31,12 @@ use std::env::Env;
 use std::process::ExitCode;
 use std::{env, io};
 
-/// What the program is asked to do by the words that it was started with. Of these std has no
+/// What the program is asked to do by the arguments that it was started with. Of these std has no
 /// clause, and so neither has this.
 fn given_options<R: Env + Alloc<A = Global>>(rt: &R) -> Result<Options, ArgumentFault> {
     let alloc = rt.alloc();
-    let words: Vec<String> = env::args(rt)?.collect(alloc)?;
-    options_of(alloc, &words)
+    let arguments: Vec<String> = env::args(rt)?.collect(alloc)?;
+    options_of(alloc, &arguments)
 }
 
 fn main(rt: HostRuntime) -> ExitCode {

@@ -7,8 +7,8 @@ use std::alloc::Global;
 use std::process::Abort;
 use std::test::Fail;
 
-/// The words that the program is started with; a script; the read and the write that fail, 0 for
-/// none; what the program writes, and its status.
+/// The arguments of the program; a script; the read and the write that fail, 0 for none; what the
+/// program writes, and its status.
 type Play = (&'static str, &'static str, u64, u64, &'static str, u8);
 
 /// A script of two callers.
@@ -69,37 +69,37 @@ const PLAYS: [Play; 28] = [
     ("ck_run --callers 2 --callers 2", "", 0, 0, "", 2),
 ];
 
-fn words_of(alloc: Global, text: &str) -> Result<Vec<String>, Fail> {
-    let mut words = Vec::new(alloc);
+fn arguments_of(alloc: Global, text: &str) -> Result<Vec<String>, Fail> {
+    let mut arguments = Vec::new(alloc);
     for word in text.split_whitespace() {
-        words.push(String::from_str(alloc, word)?)?;
+        arguments.push(String::from_str(alloc, word)?)?;
     }
-    Ok(words)
+    Ok(arguments)
 }
 
 /// The status of the program.
 fn status_of<RT: Eprint + Runtime>(
     rt: RT,
     alloc: Global,
-    words: &[String],
+    arguments: &[String],
     script: &str,
     devices: Devices,
     writer: &mut MemorySink,
 ) -> u8 {
     let mut reader = devices.reader(script.as_bytes());
-    run::<Token, _, _, _>(rt, alloc, options_of(alloc, words), &mut reader, writer)
+    run::<Token, _, _, _>(rt, alloc, options_of(alloc, arguments), &mut reader, writer)
 }
 
 fn check_play<RT: Abort + Eprint + Runtime>(rt: RT, alloc: Global, play: Play) -> Result<(), Fail> {
-    let (words, script, read_fails_at, write_fails_at, written, status) = play;
+    let (arguments, script, read_fails_at, write_fails_at, written, status) = play;
     let devices = Devices {
         read_fails_at,
         write_fails_at,
         ..Devices::of(1)
     };
-    let words = words_of(alloc, words)?;
+    let arguments = arguments_of(alloc, arguments)?;
     let mut writer = devices.writer(alloc);
-    let came = status_of(rt, alloc, &words, script, devices, &mut writer);
+    let came = status_of(rt, alloc, &arguments, script, devices, &mut writer);
     assert!(&rt;
         writer.as_slice() == written.as_bytes() && came == status,
         "{play:?}: {came}"

@@ -1,9 +1,9 @@
-//! The texts of return codes, of faults, of bad arguments and of a stopped run.
+//! The texts of return codes, of faults, of bad arguments, of a stopped run and of other errors.
 use ck_plays::PlayFault;
 use ck_program::{ArgumentFault, BadArguments, ProgramFault, options_of};
-use ck_script::BadLine;
-use ck_token::Stopped;
-use ck_types::Rv;
+use ck_script::{BadLine, LineError};
+use ck_token::{CallError, Stopped, Uncut};
+use ck_types::{NoMemory, Rv, RvError};
 use std::alloc::Global;
 use std::fmt::Display;
 use std::process::Abort;
@@ -110,11 +110,11 @@ fn faults_have_their_texts(rt: HostRuntime) -> Result<(), Fail> {
     check_faults(&rt, rt.alloc(), &FAULTS)
 }
 
-/// Why these words aren't the program's arguments.
-fn reason_of(alloc: Global, words: &[&str]) -> Result<BadArguments, Fail> {
+/// Why these arguments are bad.
+fn reason_of(alloc: Global, arguments: &[&str]) -> Result<BadArguments, Fail> {
     let mut owned = Vec::new(alloc);
-    for word in words {
-        owned.push(String::from_str(alloc, word)?)?;
+    for argument in arguments {
+        owned.push(String::from_str(alloc, argument)?)?;
     }
     match options_of(alloc, &owned) {
         Err(ArgumentFault::Bad(reason)) => Ok(reason),
@@ -152,4 +152,18 @@ fn a_stopped_run_says_what_was_answered(rt: HostRuntime) -> Result<(), Fail> {
         &Stopped { answered: 3 },
         "out of memory after 3 calls",
     )
+}
+
+#[test]
+fn errors_have_their_texts(rt: HostRuntime) -> Result<(), Fail> {
+    let (rt, alloc) = (&rt, rt.alloc());
+    check_text(rt, alloc, &NoMemory, "out of memory")?;
+    check_text(rt, alloc, &Uncut::Session, "a session is open")?;
+    check_text(rt, alloc, &Uncut::Memory, "out of memory")?;
+    let refused = CallError::Refused(RvError::PinLocked);
+    check_text(rt, alloc, &refused, "CKR_PIN_LOCKED")?;
+    check_text(rt, alloc, &CallError::Memory, "out of memory")?;
+    let bad = LineError::Bad(BadLine::CallerAbove(2));
+    check_text(rt, alloc, &bad, "the caller is a number from 1 to 2")?;
+    check_text(rt, alloc, &LineError::Memory, "out of memory")
 }

@@ -1,5 +1,5 @@
-//! A token that threads share: one lock for its calls, and a board that answers what reads the
-//! token's state without the lock.
+//! A token that threads share: its calls are made under one lock, and its state is read off a board
+//! without the lock.
 #![tactic(auto)]
 
 mod gates;

@@ -17,6 +17,7 @@ use std::sync::Wait;
 /// see the token.
 #[derive(Drop)]
 pub struct Locked<K: TokenId, G: JournaledToken, R: Wait + Drop>
+// A field's type may rest only on bounds that its holder repeats.
 where
     BoardCopy<K>: Absorb<EntrySlot<K>, State = ()>,
 {
@@ -139,8 +140,7 @@ fn extend<K: TokenId, G: JournaledToken, W: Wait>(
     unreachable!()
 }
 
-/// Shows that the history is no shorter than another front of it. When the program runs, the first
-/// look finds it so.
+/// Shows that the history is no shorter than another front of it.
 fn show_front<K: TokenId, W: Wait>(rt: &W, other: &Front<K>, front: &Front<K>)
     ensures { IsFront other.now front.now }
 {
@@ -227,8 +227,7 @@ impl<K: TokenId, G: JournaledToken, R: Wait + Drop> Locked<K, G, R> {
         Some((work, self.known.front().duplicate()))
     }
 
-    /// Shows that the history has all entries of a front of it. When the program runs, the first
-    /// look finds it so.
+    /// Shows that the history has all entries of a front of it.
     pub(crate) fn show_front<W: Wait>(&self, rt: &W, front: &Front<K>)
         ensures { IsFront front.now self.now.history }
     {

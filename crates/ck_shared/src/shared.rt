@@ -175,7 +175,6 @@ impl<K: TokenId, G: JournaledToken, R: Wait + Drop> SharedToken<K, G, R> {
 
     /// Takes in the bytes of a long message that the call brings. The lock is held only while the
     /// work on it is begun. `None` where this saves nothing (`JournaledToken::work`).
-    #[inline(never)]
     pub fn take_in<W: Wait>(&self, rt: &W, call: &Call) -> Option<TakenMessage<K>>
         ensures { IfSome result (λ message. IsDone message.front call.now message.work) }
     {
@@ -186,7 +185,6 @@ impl<K: TokenId, G: JournaledToken, R: Wait + Drop> SharedToken<K, G, R> {
 
     /// One call of a caller, under the lock. Where its message is taken in, its bytes are taken in
     /// once more only if the operation has changed since.
-    #[inline(never)]
     pub fn call_with<W: Wait>(
         &self,
         rt: &W,

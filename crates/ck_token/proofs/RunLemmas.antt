@@ -3,9 +3,7 @@ use Rattle.std.proofs.Common.{◌≡◌, ℕ, suc, ◌+◌, ◌<◌, ◌≤◌, 
 use Rattle.std.proofs.Common.{get_or}
 use Rattle.std.proofs.Common.{refl, sym, ap, ◌∙◌, subst, arith, append_assoc, length-append}
 use Rattle.std.specs.List.{All}
-use Rattle.std.specs.Prelude.{reverse}
 use Rattle.std.proofs.Math.Seq.{get_or-append_seam}
-use Rattle.std.proofs.lemmas.List.{reverse-append, reverse-reverse}
 use Rattle.ck_types.specs.TokenLimits.{Ranges}
 use Rattle.ck_journal.specs.Answers.{IsLegal}
 use Rattle.ck_journal.specs.Histories.{History, ◌◁◌}
@@ -14,11 +12,11 @@ use Rattle.ck_token.proofs.DecisionLemmas.{free-call}
 use Rattle.ck_token.specs.Decisions.{takes_memory, may_run_out}
 use Rattle.ck_journal.specs.TokenStates.{TokenState, entry_of, after, HasAnswered, IsAnswered}
 
--- this number of calls of the list is answered, and the others are left, the last first
+-- this number of calls of the list is answered, and the others are left
 pub record Answers (old : TokenState) (calls : List (ℕ × Call)) (count : ℕ) (left : List (ℕ × Call))
     (new : TokenState) : Type 0 where
   pub answered : List (ℕ × Call)
-  pub parts : calls ≡ answered ++ reverse left
+  pub parts : calls ≡ answered ++ left
   pub counted : length answered ≡ count
   pub has : HasAnswered old new answered
   pub room : old.spare ≤ new.spare + count
@@ -31,12 +29,11 @@ after-last limits h [] c = refl
 after-last limits h (d ∷ calls) c = after-last limits (entry_of limits h d.0 d.1 ◁ h) calls c
 
 module _ (old : TokenState) (calls : List (ℕ × Call)) where
-  pub Answers-none : (left : List (ℕ × Call)) → left ≡ reverse calls
-      → IsLegal old.limits old.history
+  pub Answers-none : (left : List (ℕ × Call)) → calls ≡ left → IsLegal old.limits old.history
       → Answers old calls 0 left old
-  Answers-none left r legal = record {
+  Answers-none left all legal = record {
     answered = [];
-    parts = sym (ap reverse r ∙ reverse-reverse calls);
+    parts = all;
     counted = refl;
     has = record { limits = refl; history = refl; legal = legal };
     room = omega arith;
@@ -44,14 +41,13 @@ module _ (old : TokenState) (calls : List (ℕ × Call)) where
 
   pub Answers-more : (count : ℕ) (rest : List (ℕ × Call)) (c : ℕ × Call) (left : List (ℕ × Call))
       (token new : TokenState) (reply : _)
-      → left ≡ rest ++ c ∷ [] → Answers old calls count left token
+      → left ≡ c ∷ rest → Answers old calls count left token
       → IsAnswered token new c.0 c.1 reply
       → IsLegal new.limits new.history
       → token.spare ≤ new.spare + 1 → Answers old calls (count + 1) rest new
   Answers-more count rest c left token new reply l a step legal room = record {
     answered = a.answered ++ c ∷ [];
-    parts = a.parts ∙ ap (λ r. a.answered ++ r) (ap reverse l ∙ reverse-append rest (c ∷ []))
-        ∙ sym (append_assoc a.answered (c ∷ []) (reverse rest));
+    parts = a.parts ∙ ap (λ r. a.answered ++ r) l ∙ sym (append_assoc a.answered (c ∷ []) rest);
     counted = length-append a.answered (c ∷ []) ∙ ap (λ n. n + 1) a.counted;
     has = record {
       limits = step.limits ∙ a.has.limits;
@@ -66,20 +62,19 @@ module _ (old : TokenState) (calls : List (ℕ × Call)) where
   -- room and takes none
   pub Answers-free : (count : ℕ) (rest : List (ℕ × Call)) (c : ℕ × Call) (left : List (ℕ × Call))
       (token : TokenState)
-      → left ≡ rest ++ c ∷ [] → Answers old calls count left token → length calls ≤ old.spare
+      → left ≡ c ∷ rest → Answers old calls count left token → length calls ≤ old.spare
       → All (λ (c : ℕ × Call). takes_memory c.1 ≡ false) calls
       → (0 < token.spare) × (may_run_out token.limits token.history c.1 ≡ false)
   Answers-free count rest c left token l a enough free =
-      let parts : calls ≡ a.answered ++ (c ∷ reverse rest) =
-      a.parts ∙ ap (λ r. a.answered ++ r) (ap reverse l ∙ reverse-append rest (c ∷ [])) in
-      let sum : length calls ≡ length a.answered + suc (length (reverse rest)) =
-      ap length parts ∙ length-append a.answered (c ∷ reverse rest) in
+      let parts : calls ≡ a.answered ++ (c ∷ rest) = a.parts ∙ ap (λ r. a.answered ++ r) l in
+      let sum : length calls ≡ length a.answered + suc (length rest) =
+      ap length parts ∙ length-append a.answered (c ∷ rest) in
       let counted = a.counted in
       let room = a.room in (
         omega arith,
         free-call token.limits token.history c.1
             (subst (λ (d : ℕ × Call). takes_memory d.1 ≡ false)
             (ap (λ cs. get_or cs (length a.answered) c) parts
-            ∙ get_or-append_seam a.answered c (reverse rest) c)
+            ∙ get_or-append_seam a.answered c rest c)
             (free (length a.answered) c (omega arith))),
       )

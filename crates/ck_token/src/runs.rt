@@ -28,10 +28,8 @@ pub fn run(token: &mut Token, alloc: Global, calls: Vec<(u32, Call)>) -> Result<
 {
     // Tells the prover that the journal is legal before the first call.
     let _journal = token.journal();
-    let mut left = calls;
-    left.reverse();
     let mut answered = 0u64;
-    while let Some((caller, call)) = left.pop() {
+    for (caller, call) in calls {
         match make_call(token, alloc, caller, call) {
             Ok(()) => answered += 1,
             Err(NoMemory) => return Err(Stopped { answered }),

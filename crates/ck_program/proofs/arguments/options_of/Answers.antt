@@ -10,12 +10,12 @@ use Rattle.ck_program.proofs.arguments.options_of.Goals as goal
 
 pub returns-in-Ok : goal.returns-in-Ok
 returns-in-Ok c =
-    let words = map string_bytes c.args.words.now in
+    let arguments = map string_bytes c.args.arguments.now in
     let same = c.in_ok-command.ensures in
-    let taken = subst (λ (a : App). fault_of a words ≡ []) same
+    let taken = subst (λ (a : App). fault_of a arguments ≡ []) same
     (c.in-Ok.ensures.kinds (ap is_simple_and_free same)) in
     let rows = (c.in-Ok.ensures.matches (ap is_simple same)).0
-    ∙ ap (λ (a : App). matches_of a words) same in
+    ∙ ap (λ (a : App). matches_of a arguments) same in
     let text = first_value-rows (found_of c.in-Ok.matches) (codes "callers")
     ∙ ap (first_of (codes "callers")) rows in
     inl (
@@ -26,15 +26,15 @@ returns-in-Ok c =
 
 pub returns : goal.returns
 returns c =
-    let words = map string_bytes c.args.words.now in
+    let arguments = map string_bytes c.args.arguments.now in
     let same = c.in_ok-command.ensures in
     let kinds = c.in-Err.ensures.kinds (ap is_simple_and_free same) in
     elim kinds [
       | inl memory ↦ absurd (c.in_default.not-OutOfMemory (c.kind.ensures ∙ memory))
       | inr among ↦
-          let refused : AreRefused words = (
+          let refused : AreRefused arguments = (
             kind_of c.in-Err.error,
-            subst (λ (a : App). IsAmong (kind_of c.in-Err.error) (fault_of a words)) same among,
+            subst (λ (a : App). IsAmong (kind_of c.in-Err.error) (fault_of a arguments)) same among,
             λ is. c.in_default.not-DisplayHelp (c.kind.ensures ∙ is),
           ) in
           elim c.refusal.ensures [

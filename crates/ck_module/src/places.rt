@@ -7,7 +7,7 @@ ghost use Rattle.ck_module.specs.contracts.modules.Module.{the_row as module_row
 
 use crate::message_calls::MessageCall;
 use crate::modules::Module;
-use crate::steps::Step;
+use crate::outcomes::Outcome;
 use ck_journal::Call;
 use ck_types::NoMemory;
 use std::alloc::Global;
@@ -15,12 +15,12 @@ use std::marker::Model;
 
 /// What C holds of a token: where it lies. Contracts see the token that lies there.
 #[repr(C)]
-pub struct Handle {
+pub struct TokenPlace {
     at: *mut u8,
     pub ghost value: { Module } by { module_row.coded },
 }
 
-impl Model for Handle {
+impl Model for TokenPlace {
     ghost use Rattle.std.specs.Borrow.{full_share};
     ghost use Rattle.std.specs.Ptr.{lies_at};
     ghost use Rattle.ck_module.specs.contracts.modules.Module.{the_row};
@@ -28,12 +28,12 @@ impl Model for Handle {
     ghost also_owns = { λ h. lies_at the_row full_share h.at h.value };
 }
 
-impl Handle {
+impl TokenPlace {
     ghost use Rattle.std.specs.Prelude.{◌<◌};
     ghost use Rattle.std.specs.Borrow.{Lends};
     ghost use Rattle.ck_journal.specs.declared.calls.Call.{Call};
     ghost use Rattle.ck_module.specs.Calls.{IsCalledBy};
-    ghost use Rattle.ck_module.specs.contracts.handles.Handle.{the_row};
+    ghost use Rattle.ck_module.specs.contracts.places.TokenPlace.{the_row};
     ghost use Rattle.ck_token.specs.Decisions.{may_run_out};
 
     /// Lends the token. When the loan ends, what was written is the token that lies there.
@@ -58,7 +58,7 @@ impl Handle {
     {
         match call {
             Ok(call) => self.call(alloc, caller, call),
-            Err(NoMemory) => Step::NoMemory.number(),
+            Err(NoMemory) => Outcome::NoMemory.number(),
         }
     }
 
@@ -73,17 +73,17 @@ impl Handle {
     }
 }
 
-// SAFETY: a handle may go to another thread, as the token that lies there may.
-unsafe impl Send for Handle {}
+// SAFETY: a place may go to another thread, as the token that lies there may.
+unsafe impl Send for TokenPlace {}
 
 /// What C holds of a call with a message: where it lies. Contracts see the call that lies there.
 #[repr(C)]
-pub struct MessageHandle {
+pub struct MessagePlace {
     at: *mut u8,
     pub ghost value: { MessageCall } by { message_call_row.coded },
 }
 
-impl Model for MessageHandle {
+impl Model for MessagePlace {
     ghost use Rattle.std.specs.Borrow.{full_share};
     ghost use Rattle.std.specs.Ptr.{lies_at};
     ghost use Rattle.ck_module.specs.contracts.message_calls.MessageCall.{the_row};
@@ -91,9 +91,9 @@ impl Model for MessageHandle {
     ghost also_owns = { λ h. lies_at the_row full_share h.at h.value };
 }
 
-impl MessageHandle {
+impl MessagePlace {
     ghost use Rattle.std.specs.Borrow.{Lends};
-    ghost use Rattle.ck_module.specs.contracts.handles.MessageHandle.{the_row};
+    ghost use Rattle.ck_module.specs.contracts.places.MessagePlace.{the_row};
     ghost use Rattle.ck_module.specs.declared.message_calls.MessageCall.TheVariants as variant;
 
     /// Gives a call where there was memory for its lists, and says whether there was.
@@ -121,5 +121,5 @@ impl MessageHandle {
     }
 }
 
-// SAFETY: a handle may go to another thread, as the call that lies there may.
-unsafe impl Send for MessageHandle {}
+// SAFETY: a place may go to another thread, as the call that lies there may.
+unsafe impl Send for MessagePlace {}

@@ -1,8 +1,0 @@
-use Rattle.ck_module.specs.contracts.handles.Handle.as_mut.Key.{name}
-use Rattle.ck_module.proofs.HandleTypes.{handle}
-use Rattle.ck_module.proofs.Lending.{lends}
-use Rattle.ck_module.proofs.handles.Handle.as_mut.Statement.{statement}
-use Rattle.ck_module.proofs.handles.Handle.as_mut.Code.{unfolded}
-
-pub as_mut_spec : {M : Type 1} → statement M
-as_mut_spec 𝓤 𝓛 𝓜 𝓡 wired = lends handle 𝓛 𝓜 𝓡 name (unfolded 𝓤 𝓛.H 𝓜 𝓡 wired)
