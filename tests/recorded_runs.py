@@ -235,6 +235,9 @@ def limits_of_first_case(tests):
 def many_lines(tests):
     tests.check_file(TOO_MANY_LINES, ["t"], NAMED_LINES + b"t: 0 passed, 101 bad\n", b"", 1)
     tests.check_file(TOO_MANY_LINES, ["--replies", "t"], TOO_MANY_LINES, NAMED_LINES, 1)
+    first, _, _ = NAMED_LINES.partition(b"t: line 2")
+    errors = first + b"t: only counted: 100 more\n"
+    tests.check_file(TOO_MANY_LINES, ["--most", "1", "--replies", "t"], TOO_MANY_LINES, errors, 1)
     tests.end("of 101 bad lines 100 are named")
 
 
