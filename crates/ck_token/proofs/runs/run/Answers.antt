@@ -1,11 +1,16 @@
-use Rattle.std.proofs.Common.{refl, arith}
+use Rattle.std.proofs.Common.{sym, arith}
 use Rattle.std.specs.Vec.Iter.{into_iter_items}
 use Rattle.std.proofs.lemmas.Grind.{common_steps}
 use Rattle.ck_token.proofs.RunLemmas.{Answers-none, Answers-more, Answers-free}
 use Rattle.ck_token.proofs.runs.run.Goals as goal
 
 pub loop-caller-init : goal.loop-caller-init
-loop-caller-init c = (tt, tt, Answers-none _ _ _ refl c.journal-journal.ensures.legal)
+loop-caller-init c = (
+  tt,
+  tt,
+  Answers-none _ _ _ (sym c.into_iter-caller-iterator.ensures.into_iter_gives.0)
+      c.journal-journal.ensures.legal,
+)
 
 pub loop-caller-preserved : goal.loop-caller-preserved
 loop-caller-preserved c = (
