@@ -108,11 +108,12 @@ static void test_interfaces(void) {
     CHECK(is_interface(interface, "PKCS 11", 2, 40));
     EXPECT(CKR_OK, p11->C_GetInterface(vendor, &v1_0, &interface, 0));
     CHECK(is_interface(interface, "Vendor Ospreyrack", 1, 0));
-    CHECK(p11->C_GetInterface(other, NULL, &interface, 0) != CKR_OK);
-    CHECK(p11->C_GetInterface(standard, &v3_1, &interface, 0) != CKR_OK);
-    CHECK(p11->C_GetInterface(standard, &v2_0, &interface, 0) != CKR_OK);
-    CHECK(p11->C_GetInterface(vendor, &v2_40, &interface, 0) != CKR_OK);
-    CHECK(p11->C_GetInterface(NULL, NULL, &interface, CKF_INTERFACE_FORK_SAFE) != CKR_OK);
+    EXPECT(CKR_ARGUMENTS_BAD, p11->C_GetInterface(other, NULL, &interface, 0));
+    EXPECT(CKR_ARGUMENTS_BAD, p11->C_GetInterface(standard, &v3_1, &interface, 0));
+    EXPECT(CKR_ARGUMENTS_BAD, p11->C_GetInterface(standard, &v2_0, &interface, 0));
+    EXPECT(CKR_ARGUMENTS_BAD, p11->C_GetInterface(vendor, &v2_40, &interface, 0));
+    EXPECT(CKR_ARGUMENTS_BAD,
+           p11->C_GetInterface(NULL, NULL, &interface, CKF_INTERFACE_FORK_SAFE));
     EXPECT(CKR_ARGUMENTS_BAD, p11->C_GetInterface(NULL, NULL, NULL, 0));
     EXPECT(CKR_ARGUMENTS_BAD, p11->C_GetFunctionList(NULL));
     EXPECT(CKR_ARGUMENTS_BAD, p11->C_GetInterfaceList(NULL, NULL));
@@ -1826,6 +1827,16 @@ static void test_random(void) {
     end_token();
 }
 
+/* Nothing is written behind the bytes, also where their number isn't one of whole words. */
+static void check_random_lengths(CK_SESSION_HANDLE session) {
+    for (CK_ULONG count = 1; count <= 17; count++) {
+        uint8_t *out = guarded_new(24);
+        EXPECT(CKR_OK, p11->C_GenerateRandom(session, out, count));
+        CHECK(guarded_is_intact(out, 24, count));
+        guarded_free(out);
+    }
+}
+
 /* A line on standard error says that the bytes follow from the seed. */
 static void test_seeded_random(void) {
     char text[2000];
@@ -1837,6 +1848,7 @@ static void test_seeded_random(void) {
     CHECK(count > 0);
     check_random_bytes(session, 1000);
     check_random_bytes(session, 1);
+    check_random_lengths(session);
     end_token();
 }
 
@@ -1872,10 +1884,10 @@ static void write_file(const char *name, const char *text) {
         exit(2);
 }
 
-/* C_Initialize fails with one line that names the variable. */
+/* C_Initialize fails with one line that names the variable, of a long name its first 60 letters. */
 static void check_variable(const char *variable, const char *value, const char *part) {
     char text[2000], start[100];
-    snprintf(start, sizeof start, "ospreyrack: %s: ", variable);
+    snprintf(start, sizeof start, "ospreyrack: %.60s: ", variable);
     setenv(variable, value, 1);
     keep_errors();
     CK_RV code = p11->C_Initialize(NULL);
@@ -1895,19 +1907,39 @@ static void check_file_variable(const char *variable, const char *name, const ch
     check_variable(variable, value, part);
 }
 
+static void check_seed(const char *value) {
+    char part[100];
+    snprintf(part, sizeof part, ": the value is a decimal number below 2^64, and not %s\n", value);
+    check_variable("OSPREYRACK_SEED", value, part);
+}
+
 static void test_bad_variables(void) {
-    static const char *const seeds[] = {"", "x", "-1", "+1", " 1", "1 ", "0x10", "1.0",
+    static const char *const seeds[] = {"x", "-1", "+1", " 1", "1 ", "0x10", "1.0",
                                         "18446744073709551616"};
+    static const char *const known[] = {"OSPREYRACK_SEED", "OSPREYRACK_CUT", "OSPREYRACK_SCRIPT",
+                                        "OSPREYRACK_JOURNAL", "OSPREYRACK_TOKEN"};
+    static const char *const unknown[] = {
+        "OSPREYRACK_SEEDS", "OSPREYRACK_",
+        "OSPREYRACK_0123456789012345678901234567890123456789012345678901234567890",
+    };
     for (size_t i = 0; i < sizeof seeds / sizeof *seeds; i++)
-        check_variable("OSPREYRACK_SEED", seeds[i], "");
-    check_variable("OSPREYRACK_CUT", "", "");
-    check_variable("OSPREYRACK_CUT", "maybe", "");
-    check_variable("OSPREYRACK_CUT", "YES", "");
-    check_variable("OSPREYRACK_SCRIPT", "", "");
-    check_variable("OSPREYRACK_JOURNAL", "", "");
-    check_variable("OSPREYRACK_TOKEN", "", "");
-    check_variable("OSPREYRACK_SEEDS", "1", "");
-    check_variable("OSPREYRACK_", "1", "");
+        check_seed(seeds[i]);
+    for (size_t i = 0; i < sizeof known / sizeof *known; i++)
+        check_variable(known[i], "", ": the value is empty\n");
+    for (size_t i = 0; i < sizeof unknown / sizeof *unknown; i++)
+        check_variable(unknown[i], "1", ": there is no such variable\n");
+    check_variable("OSPREYRACK_CUT", "maybe", ": the value is yes or no, and not maybe\n");
+    check_variable("OSPREYRACK_CUT", "YES", ": the value is yes or no, and not YES\n");
+}
+
+/* The application may have cleared its environment by this. */
+static void test_no_environment(void) {
+    char **kept = environ;
+    environ = NULL;
+    CK_RV code = p11->C_Initialize(NULL);
+    environ = kept;
+    check_code(code, CKR_OK, "C_Initialize without an environment");
+    EXPECT(CKR_OK, p11->C_Finalize(NULL));
 }
 
 /* The application's mutex is given back, and its functions aren't called any more. */
@@ -2083,6 +2115,7 @@ static const struct test tests[] = {
     {"a child of a fork begins anew, and its parent goes on", test_fork},
     {"a child of a fork leaves the parent's file and its lock alone", test_fork_with_file},
     {"bad environment variables, and then none", test_bad_variables},
+    {"an environment that is NULL", test_no_environment},
     {"a bad environment variable and the application's mutex", test_bad_variable_and_mutexes},
     {"bad files in environment variables, and then none", test_bad_files},
     {"a file that is no journal is left as it is", test_no_journals},

@@ -485,8 +485,11 @@ class Tests:
         path = self.file("failed.cases")
         made = []
         for _ in range(2):
-            code, _ = self.initialize(SEED=1, JOURNAL=path, SCRIPT=self.file("absent"))
+            script = self.file("absent")
+            code, errors = self.initialize(SEED=1, JOURNAL=path, SCRIPT=script)
             self.checks.equal(code, GENERAL_ERROR, "C_Initialize with a script that isn't there")
+            self.checks.equal(errors, f"ospreyrack: OSPREYRACK_SCRIPT: {script}: the file can't be "
+                              "opened: No such file or directory\n", "the errors")
             made.append(self.random_of_start())
         self.checks.check(made[0] != made[1], "random bytes that follow from no seed")
         self.checks.equal(read(path), b"", "the journal")
@@ -832,12 +835,12 @@ class Tests:
                           and errors.count("\n") == 1, errors)
         self.check_calls(path, [*calls, f"1 DigestUpdate 1 {piece}"], [*replies, "0"])
 
-    def random_of_start(self, **variables):
+    def random_of_start(self, count=40, **variables):
         """The first random bytes behind a C_Initialize with these variables."""
-        out = (support.c_ubyte * 40)()
+        out = (support.c_ubyte * count)()
         self.begin(**variables)
         self.say_all(LOG_IN[:2])
-        code = self.module.call("GenerateRandom", support.c_ulong(1), out, support.c_ulong(40))
+        code = self.module.call("GenerateRandom", support.c_ulong(1), out, support.c_ulong(count))
         self.checks.equal(code, 0, "C_GenerateRandom")
         self.end()
         return bytes(out)
@@ -870,6 +873,7 @@ class Tests:
         """The bytes of a seed never change, and its number is decimal."""
         seven, ten, eleven = (self.random_of_start(SEED=seed) for seed in ["7", "010", "0000011"])
         self.checks.equal(seven.hex(), RANDOM_OF_SEVEN, "the random bytes of seed 7")
+        self.checks.equal(self.random_of_start(13, SEED=7), seven[:13], "the first 13 of them")
         self.checks.equal(ten, self.random_of_start(SEED=10), "the random bytes of seed 010")
         self.checks.equal(eleven, self.random_of_start(SEED=11), "the random bytes of seed 0000011")
         self.checks.equal(len({seven, ten, eleven}), 3, "different random bytes")
