@@ -18,6 +18,7 @@ import stat
 import subprocess
 import sys
 import tempfile
+import threading
 
 import support
 
@@ -290,13 +291,15 @@ class Tests:
         return code, read(self.file("errors")).decode()
 
     def initialize_without_errors(self, **variables):
-        """The code of C_Initialize where descriptor 2 is closed."""
+        """The code of C_Initialize where descriptor 2 is closed, and 0, which a file gets first."""
         sys.stderr.flush()
-        kept = os.dup(2)
+        kept = [(number, os.dup(number)) for number in [0, 2]]
+        os.close(0)
         os.close(2)
         code = self.module.initialize(**variables)
-        os.dup2(kept, 2)
-        os.close(kept)
+        for number, copy in kept:
+            os.dup2(copy, number)
+            os.close(copy)
         return code
 
     @contextlib.contextmanager
@@ -434,6 +437,21 @@ class Tests:
         self.end()
         self.checks.equal(read(path), b"1 InitToken 31323334 -> 0\n1 CloseAllSessions -> 0\n"
                           b"1 GetTokenInfo -> 0 404 64 0 0\n", "the file")
+
+    def test_callers(self):
+        """Threads are numbered from 1 to 8 in the order of their first calls, and then from 1."""
+        path = self.file("callers.cases")
+        self.begin(JOURNAL=path)
+        for _ in range(10):
+            thread = threading.Thread(target=self.module.say, args=["1 GetTokenInfo"])
+            thread.start()
+            thread.join()
+        self.end()
+        lines = read(path).decode().split("\n")
+        numbers = [int(line[0]) for line in lines if "GetTokenInfo" in line]
+        self.checks.equal(len(numbers), 10, "the calls in the file")
+        self.checks.equal(numbers[1:], [it % 8 + 1 for it in numbers[:-1]], "the callers' numbers")
+        support.audit(self.checks, self.ck_cases, path)
 
     def check_longest_comment(self, variable):
         """Of a script, or of the token's file: the longest comment, and one that is too long."""
@@ -941,9 +959,9 @@ class Tests:
 
 
 TESTS = [Tests.test_file, Tests.test_going_on, Tests.test_new_label, Tests.test_no_label,
-         Tests.test_script, Tests.test_only_reply, Tests.test_calls_beside, Tests.test_longest_line,
-         Tests.test_failed_start, Tests.test_bad_variable_and_file, Tests.test_cut_off,
-         Tests.test_changed, Tests.test_lacking_reply, Tests.test_two_processes,
+         Tests.test_script, Tests.test_only_reply, Tests.test_calls_beside, Tests.test_callers,
+         Tests.test_longest_line, Tests.test_failed_start, Tests.test_bad_variable_and_file,
+         Tests.test_cut_off, Tests.test_changed, Tests.test_lacking_reply, Tests.test_two_processes,
          Tests.test_second_run, Tests.test_fork, Tests.test_fork_that_stays, Tests.test_exec,
          Tests.test_unload, Tests.test_unload_with_functions, Tests.test_rights, Tests.test_kills,
          Tests.test_full, Tests.test_filling, Tests.test_filling_in_update, Tests.test_seed,
