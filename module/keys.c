@@ -26,8 +26,8 @@ static CK_RV generate_key(struct call call, CK_OBJECT_HANDLE *key) {
     uint8_t bytes[LONGEST_KEY];
     if (call.mechanism == NULL || key == NULL)
         return CKR_ARGUMENTS_BAD;
-    /* Checked here although make_call checks it too: before, the template is read and random bytes
-     * are drawn. */
+    /* Checked here although make_call checks it too: before that, the template is read and random
+     * bytes are drawn. */
     CK_RV code = check_call(&call);
     if (code != CKR_OK)
         return code;
