@@ -16,9 +16,9 @@ enum { CALLER = 1 };
 static struct token token;
 static struct message_call message_call;
 
-static CK_RV code_of(uint32_t step)
+static CK_RV code_of(uint32_t outcome)
 {
-    return step == ANSWERED ? CKR_OK : CKR_HOST_MEMORY;
+    return outcome == ANSWERED ? CKR_OK : CKR_HOST_MEMORY;
 }
 
 static CK_RV initialize(CK_VOID_PTR arguments)

@@ -60,6 +60,7 @@ CK_RV check_call(const struct call *call) {
         return CKR_MECHANISM_PARAM_INVALID;
     if (call->count > most_attributes || (call->attributes == NULL && call->count > 0))
         return CKR_ARGUMENTS_BAD;
+    /* Queries have rooms and no values. */
     if (call->name == GET_ATTRIBUTE_VALUE)
         return CKR_OK;
     return check_template(call->attributes, call->count);
@@ -92,10 +93,10 @@ bool add_reply(struct buffer *buffer) {
 uint32_t answer_line(const uint8_t *line, size_t length) {
     if (!reserve_entry(length))
         return NO_MEMORY;
-    uint32_t step = ospreyrack_line(&library.token, line, length);
-    if (step == ANSWERED)
+    uint32_t outcome = ospreyrack_line(&library.token, line, length);
+    if (outcome == ANSWERED)
         add_entry(line, length);
-    return step;
+    return outcome;
 }
 
 /* Makes the call whose line is written. A cancel goes by its arguments, since that can't be out of
@@ -112,9 +113,9 @@ static uint32_t call_by_line(const struct call *call) {
     const struct buffer *line = &library.line;
     if (!write_line(call, caller_number(), &library.line) || !reserve_entry(line->length))
         return NO_MEMORY;
-    uint32_t step = make_written_call(call);
-    if (step != ANSWERED)
-        return step;
+    uint32_t outcome = make_written_call(call);
+    if (outcome != ANSWERED)
+        return outcome;
     add_entry(line->bytes, line->length);
     if (call->label != NULL && ospreyrack_code(&library.token) == CKR_OK)
         set_label(call->label);
@@ -273,9 +274,9 @@ static uint32_t call_by_arguments(const struct call *call) {
     struct token *token = &library.token;
     uint32_t caller = caller_number();
     CK_ULONG session = call->session;
-    uint32_t step;
-    if (call->work != NULL && call_by_work(call, &step))
-        return step;
+    uint32_t outcome;
+    if (call->work != NULL && call_by_work(call, &outcome))
+        return outcome;
     switch (call->name) {
     case OPEN_SESSION:
         return ospreyrack_open_session(token, caller, call->flags);
@@ -325,9 +326,9 @@ static bool reserve_room(void) {
 /* The journal can be cut only where no session is open: after a call that needs none, or that was
  * refused since its session isn't open, or that has closed the last one. */
 static CK_RV make_checked_call(const struct call *call) {
-    uint32_t step = library.journal.is_kept ? call_by_line(call) : call_by_arguments(call);
+    uint32_t outcome = library.journal.is_kept ? call_by_line(call) : call_by_arguments(call);
     drop_long_lists();
-    if (step != ANSWERED)
+    if (outcome != ANSWERED)
         return CKR_HOST_MEMORY;
     if (library.journal.has_failed)
         return CKR_DEVICE_ERROR;

@@ -1,5 +1,5 @@
 /*
- * The words of the environment that configure the library, and its lines on standard error.
+ * The environment variables that configure the library, and its lines on standard error.
  */
 #include "module.h"
 
@@ -12,70 +12,74 @@
 #include <unistd.h>
 
 static const char prefix[] = "OSPREYRACK_";
-static const char script_word[] = "OSPREYRACK_SCRIPT";
-static const char journal_word[] = "OSPREYRACK_JOURNAL";
-static const char token_word[] = "OSPREYRACK_TOKEN";
-static const char seed_word[] = "OSPREYRACK_SEED";
-static const char cut_word[] = "OSPREYRACK_CUT";
+static const char script_variable[] = "OSPREYRACK_SCRIPT";
+static const char journal_variable[] = "OSPREYRACK_JOURNAL";
+static const char token_variable[] = "OSPREYRACK_TOKEN";
+static const char seed_variable[] = "OSPREYRACK_SEED";
+static const char cut_variable[] = "OSPREYRACK_CUT";
 
-static const char *const all_words[] = {script_word, journal_word, token_word, seed_word, cut_word};
+static const char *const all_variables[] = {
+    script_variable, journal_variable, token_variable, seed_variable, cut_variable,
+};
 
-bool report(const char *word, const char *format, ...) {
+bool report(const char *variable, const char *format, ...) {
     char message[8192];
     va_list arguments;
     va_start(arguments, format);
     vsnprintf(message, sizeof message, format, arguments);
     va_end(arguments);
-    dprintf(STDERR_FILENO, "ospreyrack: %s: %s\n", word, message);
+    dprintf(STDERR_FILENO, "ospreyrack: %s: %s\n", variable, message);
     return false;
 }
 
 static bool is_known(const char *name, size_t length) {
-    for (size_t i = 0; i < sizeof all_words / sizeof *all_words; i++) {
-        if (strlen(all_words[i]) == length && memcmp(name, all_words[i], length) == 0)
+    for (size_t i = 0; i < sizeof all_variables / sizeof *all_variables; i++) {
+        if (strlen(all_variables[i]) == length && memcmp(name, all_variables[i], length) == 0)
             return true;
     }
     return false;
 }
 
-/* A mistyped word would else do nothing, and nobody would be told. */
+/* A mistyped variable would else do nothing, and nobody would be told. */
 static bool check_names(void) {
     for (char **entry = environ; entry != NULL && *entry != NULL; entry++) {
         size_t length = strcspn(*entry, "=");
         if (strncmp(*entry, prefix, strlen(prefix)) != 0 || is_known(*entry, length))
             continue;
-        char name[64];
-        snprintf(name, sizeof name, "%.*s", (int)(length < 60 ? length : 60), *entry);
-        return report(name, "there is no such word");
+        enum { MOST_SHOWN = 60 };
+        char name[MOST_SHOWN + 1];
+        int shown = length < MOST_SHOWN ? (int)length : MOST_SHOWN;
+        snprintf(name, sizeof name, "%.*s", shown, *entry);
+        return report(name, "there is no such variable");
     }
     return true;
 }
 
-/* The value of a word, or NULL where it isn't set. */
-static bool read_word(const char *word, const char **value) {
-    *value = secure_getenv(word);
-    return *value == NULL || **value != '\0' || report(word, "the value is empty");
+/* The value of a variable, or NULL where it isn't set. */
+static bool read_variable(const char *variable, const char **value) {
+    *value = secure_getenv(variable);
+    return *value == NULL || **value != '\0' || report(variable, "the value is empty");
 }
 
 static bool read_cut(void) {
     const char *value;
-    if (!read_word(cut_word, &value))
+    if (!read_variable(cut_variable, &value))
         return false;
     library.cuts_journal = value == NULL || strcmp(value, "yes") == 0;
     return library.cuts_journal || strcmp(value, "no") == 0
-        || report(cut_word, "the value is yes or no, and not %s", value);
+        || report(cut_variable, "the value is yes or no, and not %s", value);
 }
 
 static bool read_seed(void) {
     const char *value;
-    if (!read_word(seed_word, &value))
+    if (!read_variable(seed_variable, &value))
         return false;
     if (value == NULL)
         return true;
     errno = 0;
     library.seed = strtoull(value, NULL, 10);
     if (strspn(value, "0123456789") != strlen(value) || errno != 0)
-        return report(seed_word, "the value is a decimal number below 2^64, and not %s", value);
+        return report(seed_variable, "the value is a decimal number below 2^64, and not %s", value);
     library.has_seed = true;
     return true;
 }
@@ -95,10 +99,10 @@ static bool expand_path(const char *path, struct buffer *expanded) {
 }
 
 static bool open_new_journal(const char *path) {
-    if (!open_journal(journal_word, path))
+    if (!open_journal(journal_variable, path))
         return false;
     if (library.journal.length > 0)
-        return report(journal_word, "%s: the file is there and isn't empty", path);
+        return report(journal_variable, "%s: the file is there and isn't empty", path);
     return begin_journal();
 }
 
@@ -106,30 +110,30 @@ static bool open_expanded_journal(const char *path) {
     struct buffer expanded = {0};
     bool is_good = expand_path(path, &expanded)
         ? open_new_journal((const char *)expanded.bytes)
-        : report(journal_word, "there is no memory for the name");
+        : report(journal_variable, "there is no memory for the name");
     buffer_free(&expanded);
     return is_good;
 }
 
 /* Opens the token's file, and answers what stands in it. */
 static bool open_token(const char *path, bool *is_new) {
-    if (!open_journal(token_word, path))
+    if (!open_journal(token_variable, path))
         return false;
     *is_new = is_new_journal();
-    return *is_new ? begin_journal() : answer_journal(path) && close_sessions(token_word);
+    return *is_new ? begin_journal() : answer_journal(path) && close_sessions(token_variable);
 }
 
 /* The script is for a token that has no calls yet. */
 static bool answer_files(const char *script, const char *journal, const char *token) {
     bool is_new = true;
     if (journal != NULL && token != NULL)
-        return report(journal_word, "OSPREYRACK_TOKEN is a journal: set only one of the two");
+        return report(journal_variable, "OSPREYRACK_TOKEN is a journal: set only one of the two");
     if (journal != NULL && !open_expanded_journal(journal))
         return false;
     if (token != NULL && !open_token(token, &is_new))
         return false;
     if (script != NULL && is_new
-        && !(answer_script(script_word, script) && close_sessions(script_word)))
+        && !(answer_script(script_variable, script) && close_sessions(script_variable)))
         return false;
     return write_first_journal();
 }
@@ -140,10 +144,10 @@ bool configure(void) {
     const char *token;
     if (getauxval(AT_SECURE) == 0 && !check_names())
         return false;
-    bool is_good = read_word(script_word, &script) && read_word(journal_word, &journal)
-        && read_word(token_word, &token) && read_cut() && read_seed()
-        && answer_files(script, journal, token);
+    bool is_good = read_variable(script_variable, &script)
+        && read_variable(journal_variable, &journal) && read_variable(token_variable, &token)
+        && read_cut() && read_seed() && answer_files(script, journal, token);
     if (is_good && library.has_seed)
-        report(seed_word, "keys and random bytes follow from this number: for tests only");
+        report(seed_variable, "keys and random bytes follow from this number: for tests only");
     return is_good;
 }

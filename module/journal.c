@@ -28,13 +28,14 @@ const char label_start[] = "# label ";
 static bool lock_file(struct journal *journal, const char *path) {
     struct stat status;
     if (fstat(journal->file, &status) != 0 || !S_ISREG(status.st_mode))
-        return report(journal->word, "%s: this is no regular file", path);
+        return report(journal->variable, "%s: this is no regular file", path);
     if (flock(journal->file, LOCK_EX | LOCK_NB) != 0)
-        return report(journal->word, "%s: %s", path,
+        return report(journal->variable, "%s: %s", path,
                       errno == EWOULDBLOCK ? "another process has locked the file"
                                            : strerror(errno));
+    /* Read again under the lock: before it another process may have added to the file. */
     if (fstat(journal->file, &status) != 0)
-        return report(journal->word, "%s: %s", path, strerror(errno));
+        return report(journal->variable, "%s: %s", path, strerror(errno));
     journal->length = status.st_size;
     return true;
 }
@@ -50,13 +51,13 @@ static int open_file(const char *path) {
     return moved;
 }
 
-bool open_journal(const char *word, const char *path) {
+bool open_journal(const char *variable, const char *path) {
     struct journal *journal = &library.journal;
     int file = open_file(path);
     if (file < 0)
-        return report(word, "%s: the file can't be opened: %s", path, strerror(errno));
+        return report(variable, "%s: the file can't be opened: %s", path, strerror(errno));
     journal->file = file;
-    journal->word = word;
+    journal->variable = variable;
     /* The child of a fork in between keeps the descriptor. */
     atomic_signal_fence(memory_order_seq_cst);
     journal->is_open = true;
@@ -75,7 +76,7 @@ bool begin_journal(void) {
     library.journal.length = 0;
     library.journal.is_kept = true;
     return buffer_add_text(&library.journal.text, header)
-        || report(library.journal.word, "there is no memory for the journal");
+        || report(library.journal.variable, "there is no memory for the journal");
 }
 
 bool reserve_entry(size_t length) {
@@ -126,7 +127,7 @@ static bool write_text(struct journal *journal, size_t length) {
     const char *reason = written < 0 ? strerror(errno) : "there is no room for it";
     const char *rest = truncate_file(journal) ? "" : ", and a part of it stays in the file";
     journal->has_failed = true;
-    return report(journal->word, "a call can't be written: %s%s", reason, rest);
+    return report(journal->variable, "a call can't be written: %s%s", reason, rest);
 }
 
 bool write_journal(void) {
@@ -144,7 +145,7 @@ bool write_journal(void) {
 bool write_first_journal(void) {
     const struct journal *journal = &library.journal;
     if (journal->is_open && !truncate_file(journal))
-        return report(journal->word, "the file can't be cut off: %s", strerror(errno));
+        return report(journal->variable, "the file can't be cut off: %s", strerror(errno));
     return write_journal();
 }
 

@@ -26,6 +26,8 @@ static CK_RV generate_key(struct call call, CK_OBJECT_HANDLE *key) {
     uint8_t bytes[LONGEST_KEY];
     if (call.mechanism == NULL || key == NULL)
         return CKR_ARGUMENTS_BAD;
+    /* Checked here although make_call checks it too: before that, the template is read and random
+     * bytes are drawn. */
     CK_RV code = check_call(&call);
     if (code != CKR_OK)
         return code;
@@ -51,9 +53,11 @@ CK_RV C_GenerateKey(CK_SESSION_HANDLE session, CK_MECHANISM_PTR mechanism,
 
 /* Checks the arguments of a function that is given only a session and bytes. */
 static CK_RV check_session(CK_SESSION_HANDLE session, const CK_BYTE *bytes, CK_ULONG length) {
-    const struct call call = {.name = GET_SESSION_INFO, .session = session};
-    if ((bytes == NULL && length > 0) || length >= LONGEST_MEMORY)
-        return CKR_ARGUMENTS_BAD;
+    const struct call call = {
+        .name = GET_SESSION_INFO,
+        .session = session,
+        .bytes = bytes_of(bytes, length, SIZE_MAX),
+    };
     return make_call(&call);
 }
 

@@ -5,8 +5,6 @@
  */
 #include "module.h"
 
-#include <string.h>
-
 CK_RV begin_operation(const struct call *call, CK_FLAGS kind) {
     const struct call cancel = {.name = SESSION_CANCEL, .session = call->session, .flags = kind};
     return answer(call->mechanism != NULL ? call : &cancel);
@@ -22,15 +20,15 @@ CK_RV answer_message(struct call call) {
 
 /* The token answers bytes only where there is room for all of them. */
 static CK_RV make_call_for_output(const struct call *call, CK_BYTE *output, CK_ULONG *length) {
-    uint8_t bytes[LONGEST_SIGNATURE];
     if (length == NULL)
         return CKR_ARGUMENTS_BAD;
     CK_RV code = make_call(call);
     if (code != CKR_OK && code != CKR_BUFFER_TOO_SMALL)
         return code;
-    size_t count = ospreyrack_bytes(&library.token, bytes, sizeof bytes);
-    if (output != NULL && count <= sizeof bytes && count <= call->room.length)
-        memcpy(output, bytes, count);
+    /* The application's length may be one that no memory has. */
+    CK_ULONG room = call->room.length < LONGEST_SIGNATURE ? call->room.length : LONGEST_SIGNATURE;
+    if (output != NULL)
+        ospreyrack_bytes(&library.token, output, room);
     *length = ospreyrack_length(&library.token);
     return code;
 }

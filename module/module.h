@@ -54,12 +54,12 @@ enum { LABEL_LENGTH = 32 };
 /* The journal file. */
 struct journal {
     bool is_open;
-    bool is_kept;       /* calls that are answered are added to it */
-    bool has_failed;    /* it couldn't be written, so no call is answered any more */
+    bool is_kept;         /* calls that are answered are added to it */
+    bool has_failed;      /* it couldn't be written, so no call is answered any more */
     int file;
-    off_t length;       /* how long the file is, without what is left to be written */
-    const char *word;   /* the word of the environment that names the file */
-    struct buffer text; /* what is left to be written */
+    off_t length;         /* how long the file is, without what is left to be written */
+    const char *variable; /* the environment variable that names the file */
+    struct buffer text;   /* what is left to be written */
 };
 
 /* Everything between C_Initialize and C_Finalize. It is read and written only under the lock, and
@@ -271,7 +271,7 @@ CK_RV enter_with_work(struct call *call);
 
 /* Makes the call that has work. Answers false, and makes none, where the work was begun before the
  * token was made anew or its journal was cut. */
-bool call_by_work(const struct call *call, uint32_t *step);
+bool call_by_work(const struct call *call, uint32_t *outcome);
 
 /* Gives back the memory of a call's work, where it has any. */
 void drop_work(struct call *call);
@@ -293,7 +293,7 @@ CK_RV answer_update(struct call call, CK_FLAGS kind);
 /* ---- The journal file: journal.c */
 
 /* Opens and locks the file. */
-bool open_journal(const char *word, const char *path);
+bool open_journal(const char *variable, const char *path);
 
 /* Begins the text of a new journal, where the file is empty or has only a part of its header. */
 bool is_new_journal(void);
@@ -325,19 +325,19 @@ void abandon_journal(void);
 /* ---- Scripts: scripts.c */
 
 /* Answers the lines of a script, or those of the journal file that is open. */
-bool answer_script(const char *word, const char *path);
+bool answer_script(const char *variable, const char *path);
 bool answer_journal(const char *path);
 
 /* Closes the sessions that they left open. */
-bool close_sessions(const char *word);
+bool close_sessions(const char *variable);
 
 /* ---- Configuration: configuration.c */
 
-/* Does what the words of the environment say. Where it can't, a line on standard error says why. */
+/* Does what the environment variables say. Where it can't, a line on standard error says why. */
 bool configure(void);
 
 /* Writes a line to standard error. Answers false, so that what fails can return it. */
-bool report(const char *word, const char *format, ...) __attribute__((format(printf, 2, 3)));
+bool report(const char *variable, const char *format, ...) __attribute__((format(printf, 2, 3)));
 
 /* ---- Random bytes: random.c */
 

@@ -12,17 +12,17 @@
 
 /* A file that is read. */
 struct source {
-    const char *word; /* the word of the environment that names it */
+    const char *variable; /* the environment variable that names it */
     const char *path;
-    bool is_journal;  /* a reply may be missing in it, and the end of the last line */
-    bool is_case;     /* it has limits or a reply, as every journal has */
+    bool is_journal;      /* a reply may be missing in it, and the end of the last line */
+    bool is_case;         /* it has limits or a reply, as every journal has */
     bool has_calls;
-    size_t number;    /* of the line that was last read */
-    off_t length;     /* of all lines with their ends */
+    size_t number;        /* of the line that was last read */
+    off_t length;         /* of all lines with their ends */
 };
 
 static bool report_line(const struct source *source, const char *reason) {
-    return report(source->word, "%s, line %zu: %s", source->path, source->number, reason);
+    return report(source->variable, "%s, line %zu: %s", source->path, source->number, reason);
 }
 
 static bool is_text(const uint8_t *line, size_t length, const char *text) {
@@ -92,10 +92,10 @@ static bool check_reply(const struct source *source, const uint8_t *given, size_
 static bool answer_call(struct source *source, const uint8_t *line, size_t length) {
     const uint8_t *at = memmem(line, length, arrow, strlen(arrow));
     size_t call_length = at == NULL ? length : (size_t)(at - line);
-    uint32_t step = answer_line(line, call_length);
-    if (step == NO_MEMORY)
+    uint32_t outcome = answer_line(line, call_length);
+    if (outcome == NO_MEMORY)
         return report_line(source, "there is no memory for the call");
-    if (step != ANSWERED)
+    if (outcome != ANSWERED)
         return report_line(source, "this is no call");
     source->has_calls = true;
     if (at == NULL)
@@ -133,7 +133,7 @@ static bool answer_text(struct source *source, const uint8_t *line, size_t lengt
 /* A file that nothing shows to be a journal is left as it is. It may be a script. */
 static bool check_case(const struct source *source) {
     return source->is_case
-        || report(source->word, "%s: this is no journal: it has neither limits nor a reply",
+        || report(source->variable, "%s: this is no journal: it has neither limits nor a reply",
                   source->path);
 }
 
@@ -165,7 +165,7 @@ static bool answer_lines(struct source *source, FILE *file) {
         is_good = answer_source_line(source, line, (size_t)length);
     }
     if (is_good && !feof(file))
-        is_good = report(source->word, "%s: the file can't be read: %s", source->path,
+        is_good = report(source->variable, "%s: the file can't be read: %s", source->path,
                          strerror(errno));
     free(line);
     return is_good;
@@ -173,15 +173,15 @@ static bool answer_lines(struct source *source, FILE *file) {
 
 static bool answer_file(struct source *source, FILE *file) {
     if (file == NULL)
-        return report(source->word, "%s: the file can't be opened: %s", source->path,
+        return report(source->variable, "%s: the file can't be opened: %s", source->path,
                       strerror(errno));
     bool is_good = answer_lines(source, file);
     fclose(file);
     return is_good;
 }
 
-bool answer_script(const char *word, const char *path) {
-    struct source source = {.word = word, .path = path};
+bool answer_script(const char *variable, const char *path) {
+    struct source source = {.variable = variable, .path = path};
     return answer_file(&source, fopen(path, "re"));
 }
 
@@ -196,7 +196,7 @@ static FILE *copy_of_journal(void) {
 
 /* The journal goes on behind the last line that has its end. */
 bool answer_journal(const char *path) {
-    struct source source = {.word = library.journal.word, .path = path, .is_journal = true};
+    struct source source = {.variable = library.journal.variable, .path = path, .is_journal = true};
     if (!answer_file(&source, copy_of_journal()) || !check_case(&source))
         return false;
     library.journal.length = source.length;
@@ -204,8 +204,8 @@ bool answer_journal(const char *path) {
     return true;
 }
 
-bool close_sessions(const char *word) {
+bool close_sessions(const char *variable) {
     static const char line[] = "1 CloseAllSessions";
     return answer_line((const uint8_t *)line, strlen(line)) == ANSWERED
-        || report(word, "there is no memory for the last call");
+        || report(variable, "there is no memory for the last call");
 }

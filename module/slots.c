@@ -38,8 +38,9 @@ CK_RV enter_slot(CK_SLOT_ID slot) {
 }
 
 void copy_padded(CK_UTF8CHAR *out, size_t length, const char *text) {
-    memset(out, ' ', length);
-    memcpy(out, text, strlen(text));
+    size_t count = strnlen(text, length);
+    memcpy(out, text, count);
+    memset(out + count, ' ', length - count);
 }
 
 CK_RV C_GetSlotList(CK_BBOOL with_token, CK_SLOT_ID_PTR slots, CK_ULONG_PTR count) {

@@ -6,7 +6,7 @@
  * - A pointer is never NULL, not even that of a list without elements.
  * - Lengths, and the rooms for values and texts, are in bytes; the room of a list is a number of
  *   elements.
- * - What a function that makes a call answers is one of `enum step`. The reply to the last call
+ * - What a function that makes a call answers is one of `enum outcome`. The reply to the last call
  *   that was answered stays in the token until the next one is, and is read by the functions that
  *   stand last here, which make no call.
  */
@@ -27,7 +27,7 @@ struct token {
 };
 
 /* What comes of a call. */
-enum step {
+enum outcome {
     ANSWERED = 0,  /* it was answered, and stands in the token's journal */
     NO_CALL = 1,   /* the line is empty, a comment or a bad one, or no call was given; nothing has
                       changed */
@@ -48,9 +48,9 @@ void ospreyrack_reset(struct token *token);
 
 /* What comes of a cut of the token's journal. */
 enum cut {
-    CUT = 0,          /* it has no entry now, and no later reply differs by it */
-    SESSION_OPEN = 1, /* a session is open, so nothing has changed */
-    NO_ROOM = 2,      /* there was no memory for it; nothing has changed */
+    CUT = 0,           /* it has no entry now, and no later reply differs by it */
+    SESSION_OPEN = 1,  /* a session is open, so nothing has changed */
+    CUT_NO_MEMORY = 2, /* there was no memory for it; nothing has changed */
 };
 
 uint32_t ospreyrack_cut(struct token *token);

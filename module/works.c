@@ -19,7 +19,8 @@ struct work {
 };
 
 /* Whether the message is long enough to be taken in before the call. Where only the length of
- * a digest or a signature is asked for, the message isn't needed. */
+ * a digest or a signature is asked for, the message isn't needed. The message is copied before the
+ * call is made, so the arguments are checked here, too. */
 static bool is_long(const struct call *call) {
     bool has_output = call->name == DIGEST || call->name == SIGN;
     return call->bytes.length >= SHORTEST_LONG_MESSAGE && (!has_output || call->room.has_room)
@@ -72,11 +73,11 @@ CK_RV enter_with_work(struct call *call) {
     return enter();
 }
 
-bool call_by_work(const struct call *call, uint32_t *step) {
+bool call_by_work(const struct call *call, uint32_t *outcome) {
     struct work *work = call->work;
     if (work->has_begun && work->journals != journals_begun)
         return false;
-    *step = ospreyrack_call(&library.token, caller_number(), &work->call);
+    *outcome = ospreyrack_call(&library.token, caller_number(), &work->call);
     return true;
 }
 

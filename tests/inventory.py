@@ -3,7 +3,8 @@
 
 inventory.txt beside this file lists all checks, by kind and name: edits that the prover must
 refuse, tests of the crates, of the scripts and of the module, files of recorded calls and of races,
-crates, and the lines by which `check` and module/tests/run start them. With the word `check`, or
+crates, and the lines by which `check` and module/tests/run start them, with their loops and the
+packages that `check` installs. With the word `check`, or
 none, this compares the list with what is there and looks whether the edits and files are as they
 are named elsewhere; the status is 1 where something is missing, isn't listed or is wrong. With the
 word `write` it writes the list.
@@ -38,6 +39,9 @@ C_CHECK = re.compile(r"\b(?:CHECK|EXPECT|check_?\w*)\(")
 PART = re.compile(r"^part ")
 STEP = re.compile(r"^(?:if |! )?(?:\w+=\S+ )*"
                   r"(?:try|play|tells|is_failure|run_\w+|check_\w+|compile\w*) ?(?!\S*\(\))")
+LOOP = re.compile(r"^for .*; do$")
+# A list of words in a shell script, or what is added to one, by its name.
+WORDS = re.compile(r"(\w+)\+?=\(([a-z][^)]*)\)")
 PYTHON_CHECK = re.compile(r"^(?:check\w*|expect|equal|run_client|audit|end)$")
 
 # The crates that are only there to test the others and to measure them.
@@ -228,6 +232,12 @@ def commands_of(path, form):
     return [line.strip() for line in lines if form.match(line.strip())]
 
 
+def words_of_check():
+    """The packages that `check` installs, each with the list in which it stands."""
+    return [f"{name} {word}" for name, words in WORDS.findall(text_of("check"))
+            for word in words.split()]
+
+
 def inventory():
     """All checks, as sorted lines."""
     kinds = {
@@ -247,7 +257,10 @@ def inventory():
         "table in Python": python_tables(),
         "client": clients(),
         "part of check": commands_of("check", PART),
+        "loop of check": commands_of("check", LOOP),
+        "word of check": words_of_check(),
         "step of module/tests/run": commands_of("module/tests/run", STEP),
+        "loop of module/tests/run": commands_of("module/tests/run", LOOP),
     }
     return sorted(f"{kind}: {name}" for kind, names in kinds.items() for name in names)
 

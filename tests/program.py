@@ -8,6 +8,7 @@ and the status is 1 where one failed. This needs Linux, which has the device /de
 """
 import os
 import resource
+import select
 import subprocess
 import sys
 import tempfile
@@ -133,6 +134,16 @@ NAMES = [
     (b"GetAttributeValue" + b"x" * 8, NO_CALL),
 ]
 
+# Lines that are written one after the other, each once the reply to the one before has come.
+DIALOGUE = [
+    (b"1 InitToken 31323334\n", b"0\n"),
+    (b"1 OpenSession 6\n", b"0 1\n"),
+    (b"# x\n1 GetTokenInfo\n", b"0 404 64 1 1\n"),
+]
+
+# The seconds in which a reply comes.
+SECONDS_OF_REPLY = 10
+
 # The seconds of work in which a line is judged, however long it is.
 SOON = 2
 
@@ -189,6 +200,26 @@ def scripts(tests):
     tests.check([], b"1 InitToken 31323334\n\n# x\n1 Nope\n", b"0\n",
                 b"ck_run: line 4: bad script: no call has this name\n", 1)
     tests.end("a script is played line by line")
+
+
+def reply_to(made, line):
+    """What a program writes after this line, or nothing where it doesn't or has ended."""
+    try:
+        made.stdin.write(line)
+    except BrokenPipeError:
+        return b""
+    is_written = select.select([made.stdout], [], [], SECONDS_OF_REPLY)[0]
+    return made.stdout.read(99) if is_written else b""
+
+
+def dialogue(tests):
+    with subprocess.Popen([tests.program], bufsize=0, stdin=subprocess.PIPE,
+                          stdout=subprocess.PIPE) as made:
+        for line, reply in DIALOGUE:
+            came = reply_to(made, line)
+            tests.expect(came == reply, f"{line}: {came}, and not {reply}")
+        made.kill()
+    tests.end("each line is answered before the next one comes")
 
 
 def check_bad_line(tests, line, reason):
@@ -335,6 +366,7 @@ def writers(tests):
 def main(program):
     tests = Tests(program)
     scripts(tests)
+    dialogue(tests)
     bad_lines(tests)
     names(tests)
     longest_lines(tests)

@@ -89,6 +89,9 @@ REPORTS = [
      b"t: 1 passed, 2 bad\n", 1),
     (b"limits 65 1 1 1\ncut -> entries 0\n",
      b"t: line 1: limits 65 1 1 1: " + BAD_LIMITS + b"\nt: 1 passed, 1 bad\n", 1),
+    # bad limits begin a new case, too
+    (b"1 InitToken 31323334 -> 0\nlimits 65 1 1 1\n1 GetTokenInfo -> 0 4 64 0 0\n",
+     b"t: line 2: limits 65 1 1 1: " + BAD_LIMITS + b"\nt: 2 passed, 1 bad\n", 1),
     (b"audit 65 1 1 1 -> legal\n",
      b"t: line 1: audit 65 1 1 1: " + BAD_LIMITS + b"\nt: 0 passed, 1 bad\n", 1),
     # more lines than are named
@@ -128,6 +131,14 @@ limits largest
 foo
 """
 
+# The limits of an audit are its own, whatever others a run is played with.
+AUDITED = b"""\
+1 InitToken 31323334 -> 0
+1 OpenSession 6 -> 0 1
+1 OpenSession 6 -> 0 2
+audit 1 9 9 9 -> entry 3 is wrong
+"""
+
 NO_CALL = b"t: line 6: foo: a line is a caller, a call and its arguments\n"
 
 # A run without limits of its own, and with the replies of a token that allows one session.
@@ -162,6 +173,9 @@ BEFORE_DIGEST = b"1 InitToken 31323334 -> 0\n1 OpenSession 6 -> 0 1\n1 DigestIni
 USAGE = b"\n\nUsage: ck_cases [OPTIONS] <FILE>..."
 MORE = b"\n\nFor more information, try '--help'.\n"
 
+BAD_OPTION = (b"error: invalid value for '--limits': " + BAD_LIMITS
+              + b", with commas between the numbers\n")
+
 # Bad arguments, and what is written of them.
 BAD_ARGUMENTS = [
     ([], b"error: the following required arguments were not provided:\n  <FILE>..."
@@ -170,16 +184,18 @@ BAD_ARGUMENTS = [
      b"error: invalid value 'x' for '--most <N>': invalid digit found in string" + MORE),
     (["--nothing", "t"], b"error: unexpected argument '--nothing' found"
      b"\n\n  tip: to pass '--nothing' as a value, use '-- --nothing'" + USAGE + MORE),
-    (["--limits", "65,1,1,1", "t"], b"error: invalid value for '--limits': " + BAD_LIMITS
-     + b", with commas between the numbers\n"),
-    (["--limits", "2 3 4 5", "t"], b"error: invalid value for '--limits': " + BAD_LIMITS
-     + b", with commas between the numbers\n"),
+    (["--limits", "65,1,1,1", "t"], BAD_OPTION),
+    (["--limits", "2 3 4 5", "t"], BAD_OPTION),
+    (["--limits", "1,2,3", "t"], BAD_OPTION),
+    (["--limits", "1,2,3,4,5", "t"], BAD_OPTION),
     (["--replies", "t", "t"], b"error: '--replies' takes one file\n"),
 ]
 
 # A file that isn't read, and why.
 BAD_FILES = [
     (b"a\n\xff", b"line 2 isn't text in UTF-8"),
+    (b"a\n1 Logout 1\r\n",
+     b"line 2 ends with a carriage return (CR LF), and lines end with a line feed only"),
     (b"1 Logout 1\r\n",
      b"line 1 ends with a carriage return (CR LF), and lines end with a line feed only"),
 ]
@@ -219,6 +235,7 @@ def limits(tests):
     tests.check_file(TWO_SESSIONS, ["--limits", "1,9,9,9", "--most", "1", "t"], report, b"", 1)
     for words, output in [("1,9,9,9", ONE_SESSION), ("largest", MOST_SESSIONS)]:
         tests.check_file(TWO_SESSIONS, ["--limits", words, "--replies", "t"], output, NO_CALL, 1)
+    tests.check_file(AUDITED, ["--limits", "2,9,9,9", "t"], b"t: 4 passed\n", b"", 0)
     tests.end("other limits, and replies that are written")
 
 

@@ -275,8 +275,8 @@ class Source:
         return reply
 
 
-def begin_session(checks, module, words):
-    checks.equal(module.initialize(**words), 0, "C_Initialize")
+def begin_session(checks, module, variables):
+    checks.equal(module.initialize(**variables), 0, "C_Initialize")
     checks.equal(module.say("1 InitToken 31323334"), "0", "C_InitToken")
     checks.equal(module.say("1 OpenSession 6"), "0 1", "C_OpenSession")
 
@@ -288,10 +288,10 @@ def find_all(module):
     return found
 
 
-def check_slow_sources(checks, source, words):
+def check_slow_sources(checks, source, variables):
     """All bytes come, in as many calls as are needed."""
     for interruptions, most in SLOW_SOURCES:
-        begin_session(checks, source.module, words(f"slow-{interruptions}-{most}"))
+        begin_session(checks, source.module, variables(f"slow-{interruptions}-{most}"))
         what = f"{interruptions} interruptions, {most} bytes at most"
         checks.equal(source.generate_random(interruptions, most, ALL), (0, VALUE),
                      f"C_GenerateRandom, {what}")
@@ -302,10 +302,10 @@ def check_slow_sources(checks, source, words):
         checks.equal(source.module.finalize(), 0, "C_Finalize")
 
 
-def check_broken_sources(checks, source, words):
+def check_broken_sources(checks, source, variables):
     """Without random bytes no key is made."""
     for calls, most in BROKEN_SOURCES:
-        begin_session(checks, source.module, words(f"broken-{calls}-{most}"))
+        begin_session(checks, source.module, variables(f"broken-{calls}-{most}"))
         what = f"{calls} calls give {most} bytes at most"
         code, _ = source.generate_random(0, most, calls)
         checks.equal(code, DEVICE_ERROR, f"C_GenerateRandom, {what}")
@@ -319,12 +319,12 @@ def check_broken_sources(checks, source, words):
 def test_random_source(checks, player):
     source = Source(player)
     with tempfile.TemporaryDirectory() as folder:
-        for kind, words in [
+        for kind, variables in [
                 ("typed", lambda name: {}),
                 ("by lines", lambda name: {"JOURNAL": os.path.join(folder, name)})]:
-            check_slow_sources(checks, source, words)
+            check_slow_sources(checks, source, variables)
             checks.end(f"random bytes that are interrupted, or come in parts, {kind}")
-            check_broken_sources(checks, source, words)
+            check_broken_sources(checks, source, variables)
             checks.end(f"without random bytes no key is made, {kind}")
 
 

@@ -37,8 +37,8 @@ class Client:
         self.folder = folder
         self.module = module
         self.journal = self.file(f"{name}.cases")
-        self.environment = {word: value for word, value in os.environ.items()
-                            if not word.startswith("OSPREYRACK_")}
+        self.environment = {variable: value for variable, value in os.environ.items()
+                            if not variable.startswith("OSPREYRACK_")}
         self.environment |= {"OSPREYRACK_TOKEN": self.journal, "OSPREYRACK_SEED": "1",
                              "HOME": folder, "LC_ALL": "C"}
 

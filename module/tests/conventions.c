@@ -1,7 +1,7 @@
 /*
  * The conventions of the C interface, which the token itself knows nothing of: pointers, lengths
  * and rooms, the order of initialization, the lists of functions, the application's lock, forks and
- * the words of the environment. Called with the module's file and a temporary folder, and with the
+ * the environment variables. Called with the module's file and a temporary folder, and with the
  * word `journals` where each token is to keep a journal there.
  */
 #include "support.h"
@@ -108,11 +108,12 @@ static void test_interfaces(void) {
     CHECK(is_interface(interface, "PKCS 11", 2, 40));
     EXPECT(CKR_OK, p11->C_GetInterface(vendor, &v1_0, &interface, 0));
     CHECK(is_interface(interface, "Vendor Ospreyrack", 1, 0));
-    CHECK(p11->C_GetInterface(other, NULL, &interface, 0) != CKR_OK);
-    CHECK(p11->C_GetInterface(standard, &v3_1, &interface, 0) != CKR_OK);
-    CHECK(p11->C_GetInterface(standard, &v2_0, &interface, 0) != CKR_OK);
-    CHECK(p11->C_GetInterface(vendor, &v2_40, &interface, 0) != CKR_OK);
-    CHECK(p11->C_GetInterface(NULL, NULL, &interface, CKF_INTERFACE_FORK_SAFE) != CKR_OK);
+    EXPECT(CKR_ARGUMENTS_BAD, p11->C_GetInterface(other, NULL, &interface, 0));
+    EXPECT(CKR_ARGUMENTS_BAD, p11->C_GetInterface(standard, &v3_1, &interface, 0));
+    EXPECT(CKR_ARGUMENTS_BAD, p11->C_GetInterface(standard, &v2_0, &interface, 0));
+    EXPECT(CKR_ARGUMENTS_BAD, p11->C_GetInterface(vendor, &v2_40, &interface, 0));
+    EXPECT(CKR_ARGUMENTS_BAD,
+           p11->C_GetInterface(NULL, NULL, &interface, CKF_INTERFACE_FORK_SAFE));
     EXPECT(CKR_ARGUMENTS_BAD, p11->C_GetInterface(NULL, NULL, NULL, 0));
     EXPECT(CKR_ARGUMENTS_BAD, p11->C_GetFunctionList(NULL));
     EXPECT(CKR_ARGUMENTS_BAD, p11->C_GetInterfaceList(NULL, NULL));
@@ -1826,6 +1827,16 @@ static void test_random(void) {
     end_token();
 }
 
+/* Nothing is written behind the bytes, also where their number isn't one of whole words. */
+static void check_random_lengths(CK_SESSION_HANDLE session) {
+    for (CK_ULONG count = 1; count <= 17; count++) {
+        uint8_t *out = guarded_new(24);
+        EXPECT(CKR_OK, p11->C_GenerateRandom(session, out, count));
+        CHECK(guarded_is_intact(out, 24, count));
+        guarded_free(out);
+    }
+}
+
 /* A line on standard error says that the bytes follow from the seed. */
 static void test_seeded_random(void) {
     char text[2000];
@@ -1837,6 +1848,7 @@ static void test_seeded_random(void) {
     CHECK(count > 0);
     check_random_bytes(session, 1000);
     check_random_bytes(session, 1);
+    check_random_lengths(session);
     end_token();
 }
 
@@ -1864,7 +1876,7 @@ static void test_seed_and_bad_call(void) {
     CHECK(memcmp(first, second, sizeof first) == 0);
 }
 
-/* ---- The words of the environment */
+/* ---- Environment variables */
 
 static void write_file(const char *name, const char *text) {
     FILE *file = fopen(path_of(name), "w");
@@ -1872,11 +1884,11 @@ static void write_file(const char *name, const char *text) {
         exit(2);
 }
 
-/* C_Initialize fails with one line that names the word. */
-static void check_word(const char *word, const char *value, const char *part) {
+/* C_Initialize fails with one line that names the variable, of a long name its first 60 letters. */
+static void check_variable(const char *variable, const char *value, const char *part) {
     char text[2000], start[100];
-    snprintf(start, sizeof start, "ospreyrack: %s: ", word);
-    setenv(word, value, 1);
+    snprintf(start, sizeof start, "ospreyrack: %.60s: ", variable);
+    setenv(variable, value, 1);
     keep_errors();
     CK_RV code = p11->C_Initialize(NULL);
     size_t count = read_errors(text, sizeof text);
@@ -1884,34 +1896,54 @@ static void check_word(const char *word, const char *value, const char *part) {
     check(strncmp(text, start, strlen(start)) == 0, text);
     check(strstr(text, part) != NULL, text);
     check(count > 0 && strchr(text, '\n') == text + count - 1, "the message is one line");
-    unsetenv(word);
-    check_code(p11->C_Initialize(NULL), CKR_OK, "C_Initialize without the bad word");
+    unsetenv(variable);
+    check_code(p11->C_Initialize(NULL), CKR_OK, "C_Initialize without the bad variable");
     end_token();
 }
 
-static void check_file_word(const char *word, const char *name, const char *part) {
+static void check_file_variable(const char *variable, const char *name, const char *part) {
     char value[4096];
     snprintf(value, sizeof value, "%s", path_of(name));
-    check_word(word, value, part);
+    check_variable(variable, value, part);
 }
 
-static void test_bad_words(void) {
-    static const char *const seeds[] = {"", "x", "-1", "+1", " 1", "1 ", "0x10", "1.0",
+static void check_seed(const char *value) {
+    char part[100];
+    snprintf(part, sizeof part, ": the value is a decimal number below 2^64, and not %s\n", value);
+    check_variable("OSPREYRACK_SEED", value, part);
+}
+
+static void test_bad_variables(void) {
+    static const char *const seeds[] = {"x", "-1", "+1", " 1", "1 ", "0x10", "1.0",
                                         "18446744073709551616"};
+    static const char *const known[] = {"OSPREYRACK_SEED", "OSPREYRACK_CUT", "OSPREYRACK_SCRIPT",
+                                        "OSPREYRACK_JOURNAL", "OSPREYRACK_TOKEN"};
+    static const char *const unknown[] = {
+        "OSPREYRACK_SEEDS", "OSPREYRACK_",
+        "OSPREYRACK_0123456789012345678901234567890123456789012345678901234567890",
+    };
     for (size_t i = 0; i < sizeof seeds / sizeof *seeds; i++)
-        check_word("OSPREYRACK_SEED", seeds[i], "");
-    check_word("OSPREYRACK_CUT", "", "");
-    check_word("OSPREYRACK_CUT", "maybe", "");
-    check_word("OSPREYRACK_CUT", "YES", "");
-    check_word("OSPREYRACK_SCRIPT", "", "");
-    check_word("OSPREYRACK_JOURNAL", "", "");
-    check_word("OSPREYRACK_TOKEN", "", "");
-    check_word("OSPREYRACK_SEEDS", "1", "");
-    check_word("OSPREYRACK_", "1", "");
+        check_seed(seeds[i]);
+    for (size_t i = 0; i < sizeof known / sizeof *known; i++)
+        check_variable(known[i], "", ": the value is empty\n");
+    for (size_t i = 0; i < sizeof unknown / sizeof *unknown; i++)
+        check_variable(unknown[i], "1", ": there is no such variable\n");
+    check_variable("OSPREYRACK_CUT", "maybe", ": the value is yes or no, and not maybe\n");
+    check_variable("OSPREYRACK_CUT", "YES", ": the value is yes or no, and not YES\n");
+}
+
+/* The application may have cleared its environment by this. */
+static void test_no_environment(void) {
+    char **kept = environ;
+    environ = NULL;
+    CK_RV code = p11->C_Initialize(NULL);
+    environ = kept;
+    check_code(code, CKR_OK, "C_Initialize without an environment");
+    EXPECT(CKR_OK, p11->C_Finalize(NULL));
 }
 
 /* The application's mutex is given back, and its functions aren't called any more. */
-static void test_bad_word_and_mutexes(void) {
+static void test_bad_variable_and_mutexes(void) {
     char text[2000];
     CK_INFO info;
     CK_C_INITIALIZE_ARGS arguments = mutex_arguments();
@@ -1957,7 +1989,7 @@ static void test_no_journals(void) {
     };
     for (size_t i = 0; i < sizeof files / sizeof *files; i++) {
         write_file(files[i].name, files[i].text);
-        check_file_word("OSPREYRACK_TOKEN", files[i].name, files[i].part);
+        check_file_variable("OSPREYRACK_TOKEN", files[i].name, files[i].part);
         check(has_length(files[i].name, strlen(files[i].text)), files[i].name);
     }
 }
@@ -1968,18 +2000,18 @@ static void test_bad_files(void) {
     write_file("bad_code", "1 InitToken 313233\n");
     write_file("no_journal", no_journal);
     mkdir(path_of("folder"), 0700);
-    check_file_word("OSPREYRACK_SCRIPT", "not_there", "not_there");
-    check_file_word("OSPREYRACK_SCRIPT", "bad_line", "line 4");
-    check_file_word("OSPREYRACK_SCRIPT", "bad_reply", "line 2: the reply is 0 1, and not 0 2");
-    check_file_word("OSPREYRACK_SCRIPT", "bad_code", "line 1");
-    check_file_word("OSPREYRACK_SCRIPT", "folder", "folder");
-    check_file_word("OSPREYRACK_JOURNAL", "not_there/journal", "not_there/journal");
-    check_file_word("OSPREYRACK_JOURNAL", "no_journal", "no_journal");
-    check_file_word("OSPREYRACK_JOURNAL", "folder", "folder");
-    check_file_word("OSPREYRACK_TOKEN", "folder", "folder");
+    check_file_variable("OSPREYRACK_SCRIPT", "not_there", "not_there");
+    check_file_variable("OSPREYRACK_SCRIPT", "bad_line", "line 4");
+    check_file_variable("OSPREYRACK_SCRIPT", "bad_reply", "line 2: the reply is 0 1, and not 0 2");
+    check_file_variable("OSPREYRACK_SCRIPT", "bad_code", "line 1");
+    check_file_variable("OSPREYRACK_SCRIPT", "folder", "folder");
+    check_file_variable("OSPREYRACK_JOURNAL", "not_there/journal", "not_there/journal");
+    check_file_variable("OSPREYRACK_JOURNAL", "no_journal", "no_journal");
+    check_file_variable("OSPREYRACK_JOURNAL", "folder", "folder");
+    check_file_variable("OSPREYRACK_TOKEN", "folder", "folder");
     CHECK(has_length("no_journal", sizeof no_journal - 1));
     setenv("OSPREYRACK_TOKEN", path_of("unused.cases"), 1);
-    check_file_word("OSPREYRACK_JOURNAL", "unused_too.cases", "OSPREYRACK_TOKEN");
+    check_file_variable("OSPREYRACK_JOURNAL", "unused_too.cases", "OSPREYRACK_TOKEN");
     CHECK(!is_there("unused_too.cases"));
     unsetenv("OSPREYRACK_TOKEN");
 }
@@ -2082,9 +2114,10 @@ static const struct test tests[] = {
     {"a thread that can't be cancelled can't be so after calls either", test_forbidden_cancel},
     {"a child of a fork begins anew, and its parent goes on", test_fork},
     {"a child of a fork leaves the parent's file and its lock alone", test_fork_with_file},
-    {"bad words of the environment, and then none", test_bad_words},
-    {"a bad word of the environment and the application's mutex", test_bad_word_and_mutexes},
-    {"bad files in words of the environment, and then none", test_bad_files},
+    {"bad environment variables, and then none", test_bad_variables},
+    {"an environment that is NULL", test_no_environment},
+    {"a bad environment variable and the application's mutex", test_bad_variable_and_mutexes},
+    {"bad files in environment variables, and then none", test_bad_files},
     {"a file that is no journal is left as it is", test_no_journals},
     {"no memory is lost, by C_Finalize or by a C_Initialize that fails", test_leaks},
 };

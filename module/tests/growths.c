@@ -1,8 +1,10 @@
 /*
  * Refuses each growth of memory in turn: the first allocation of a call, then the second, until a
  * call has no more of them. Each time the library and its token are new. The call must be answered
- * CKR_HOST_MEMORY, change nothing, and succeed when it is made again. Called with the module's file
- * and a temporary folder; linked with -rdynamic, so that the module allocates by these functions.
+ * CKR_HOST_MEMORY, change nothing, and succeed when it is made again. System calls on the journal
+ * file are refused, too. Called with the module's file and a temporary folder; linked with
+ * -rdynamic, so that the module allocates by these functions, and has its file locked, written and
+ * cut off by them.
  */
 #include "support.h"
 
@@ -13,7 +15,9 @@
 #include <stdio.h>
 #include <stdlib.h>
 #include <string.h>
+#include <sys/file.h>
 #include <sys/stat.h>
+#include <sys/syscall.h>
 #include <unistd.h>
 
 /* ---- Memory that is refused */
@@ -92,6 +96,42 @@ static void refuse_after(long allocations) {
 static bool stop_refusing(void) {
     left_to_refusal = -1;
     return is_refused;
+}
+
+/* ---- System calls that are refused, and a process that comes before this one */
+
+static const char added_line[] = "1 GetTokenInfo -> 0 4 64 0 0\n";
+
+static const char *added_file;    /* gets that line before the next lock is taken */
+static bool refuses_truncation;
+static size_t left_interruptions; /* of write */
+
+static void write_file(const char *path, const char *content, const char *mode) {
+    FILE *file = fopen(path, mode);
+    if (file == NULL || fputs(content, file) < 0 || fclose(file) != 0)
+        exit(2);
+}
+
+int flock(int file, int operation) {
+    if (added_file != NULL)
+        write_file(added_file, added_line, "a");
+    added_file = NULL;
+    return (int)syscall(SYS_flock, file, operation);
+}
+
+int ftruncate(int file, off_t length) {
+    if (!refuses_truncation)
+        return (int)syscall(SYS_ftruncate, file, length);
+    errno = EPERM;
+    return -1;
+}
+
+ssize_t write(int file, const void *bytes, size_t length) {
+    if (left_interruptions == 0)
+        return syscall(SYS_write, file, bytes, length);
+    left_interruptions--;
+    errno = EINTR;
+    return -1;
 }
 
 /* ---- Calls */
@@ -986,12 +1026,8 @@ static char script[4096];
 static char kept[4096];
 
 static void write_script(void) {
-    FILE *file = fopen(script, "w");
-    if (file == NULL)
-        exit(2);
-    fputs("1 InitToken 31323334\n1 OpenSession 6\n"
-          "1 CreateObject 1 0=0000000000000000,1=01,2=00,3=6c6162656c -> 0 1\n", file);
-    fclose(file);
+    write_file(script, "1 InitToken 31323334\n1 OpenSession 6\n"
+               "1 CreateObject 1 0=0000000000000000,1=01,2=00,3=6c6162656c -> 0 1\n", "w");
 }
 
 static off_t length_of(const char *path) {
@@ -1022,6 +1058,8 @@ static void begin_with_file(void) {
         exit(2);
 }
 
+/* The library's first allocations are for the token and for a call with a message. What else lacks
+ * memory is work on what the environment says. */
 static bool try_initialize(long number) {
     off_t length = length_of(journal);
     live_at_start = live_allocations;
@@ -1029,7 +1067,8 @@ static bool try_initialize(long number) {
     CK_RV code = p11->C_Initialize(NULL);
     bool was_refused = stop_refusing();
     if (was_refused && code != CKR_OK) {
-        check(code == CKR_HOST_MEMORY || code == CKR_GENERAL_ERROR, "C_Initialize without memory");
+        check_code(code, number < 2 ? CKR_HOST_MEMORY : CKR_GENERAL_ERROR,
+                   "C_Initialize without memory");
         check(length_of(journal) == length, "C_Initialize that fails leaves the file");
         check(live_allocations == live_at_start, "C_Initialize that fails gives all memory back");
         code = p11->C_Initialize(NULL);
@@ -1063,6 +1102,50 @@ static void test_initialize(void) {
     unsetenv("OSPREYRACK_SCRIPT");
 }
 
+/* ---- The journal file */
+
+/* C_Initialize is refused, and the file is as long as it was, or as another process left it. */
+static void check_refused(const char *variable, size_t length) {
+    setenv(variable, journal, 1);
+    CK_RV code = p11->C_Initialize(NULL);
+    unsetenv(variable);
+    check_code(code, CKR_GENERAL_ERROR, variable);
+    check(length_of(journal) == (off_t)length, "the file isn't written");
+    if (code == CKR_OK)
+        EXPECT(CKR_OK, p11->C_Finalize(NULL));
+}
+
+/* Another process adds to the file while this one waits for its lock. */
+static void test_file_of_another(void) {
+    unlink(journal);
+    added_file = journal;
+    check_refused("OSPREYRACK_JOURNAL", strlen(added_line));
+    CHECK(added_file == NULL);
+}
+
+/* The last line lacks its end, and can't be cut off. */
+static void test_refused_truncation(void) {
+    static const char content[] = "1 InitToken 31323334 -> 0\n1 OpenSess";
+    write_file(journal, content, "w");
+    refuses_truncation = true;
+    check_refused("OSPREYRACK_TOKEN", strlen(content));
+    refuses_truncation = false;
+}
+
+static void test_interrupted_write(void) {
+    struct result ignored;
+    unlink(journal);
+    setenv("OSPREYRACK_JOURNAL", journal, 1);
+    begin_library();
+    for (size_t count = 1; count <= 3; count++) {
+        left_interruptions = count;
+        EXPECT(CKR_OK, get_token_info(&ignored));
+        CHECK(left_interruptions == 0);
+    }
+    end_library();
+    unsetenv("OSPREYRACK_JOURNAL");
+}
+
 static const struct test tests[] = {
     {"each growth of 41 calls is refused, typed", test_typed},
     {"each growth of 41 calls is refused, by lines", test_by_lines},
@@ -1081,6 +1164,9 @@ static const struct test tests[] = {
      test_searches_by_lines},
     {"memory for 200,000 attributes is given back", test_many_attributes},
     {"a thread's first call without memory", test_first_call},
+    {"a file to which another process adds before it is locked", test_file_of_another},
+    {"a file whose last line can't be cut off", test_refused_truncation},
+    {"a call whose line is written after interruptions", test_interrupted_write},
 };
 
 /* The module's lines on standard error are for nobody here; those of the checks are written. */

@@ -1,4 +1,4 @@
-"""Tests of the journal file and of the other words of the environment: kills, cut files, changed
+"""Tests of the journal file and of the other environment variables: kills, cut files, changed
 files, full devices, forks, programs that are executed or have rights of another user, seeds, and
 memory over many calls.
 
@@ -18,6 +18,7 @@ import stat
 import subprocess
 import sys
 import tempfile
+import threading
 
 import support
 
@@ -116,10 +117,11 @@ def measure_line(path, line):
     print(resident_memory() - before, reply, flush=True)
 
 
-def environment_of(words):
-    environment = {word: value for word, value in os.environ.items()
-                   if not word.startswith("OSPREYRACK_")}
-    return environment | {f"OSPREYRACK_{word}": str(value) for word, value in words.items()}
+def environment_of(variables):
+    environment = {variable: value for variable, value in os.environ.items()
+                   if not variable.startswith("OSPREYRACK_")}
+    return environment | {f"OSPREYRACK_{variable}": str(value)
+                          for variable, value in variables.items()}
 
 
 def unload_and_load(path):
@@ -193,10 +195,10 @@ def live_as_child(act, written, end):
 class Worker:
     """A process that answers calls."""
 
-    def __init__(self, path, limit=None, **words):
+    def __init__(self, path, limit=None, **variables):
         self.process = subprocess.Popen(
             [sys.executable, os.path.abspath(__file__), "answer", path],
-            env=environment_of(words), text=True, stdin=subprocess.PIPE, stdout=subprocess.PIPE,
+            env=environment_of(variables), text=True, stdin=subprocess.PIPE, stdout=subprocess.PIPE,
             stderr=subprocess.PIPE, preexec_fn=lambda: limit_files(limit))
         self.code = self.read()
 
@@ -282,20 +284,22 @@ class Tests:
     def file(self, name):
         return os.path.join(self.folder, name)
 
-    def initialize(self, **words):
+    def initialize(self, **variables):
         """C_Initialize in this process: its code, and what it wrote to standard error."""
         with errors_in(self.file("errors")):
-            code = self.module.initialize(**words)
+            code = self.module.initialize(**variables)
         return code, read(self.file("errors")).decode()
 
-    def initialize_without_errors(self, **words):
-        """The code of C_Initialize where descriptor 2 is closed."""
+    def initialize_without_errors(self, **variables):
+        """The code of C_Initialize where descriptor 2 is closed, and 0, which a file gets first."""
         sys.stderr.flush()
-        kept = os.dup(2)
+        kept = [(number, os.dup(number)) for number in [0, 2]]
+        os.close(0)
         os.close(2)
-        code = self.module.initialize(**words)
-        os.dup2(kept, 2)
-        os.close(kept)
+        code = self.module.initialize(**variables)
+        for number, copy in kept:
+            os.dup2(copy, number)
+            os.close(copy)
         return code
 
     @contextlib.contextmanager
@@ -317,9 +321,9 @@ class Tests:
             os.close(kept)
             self.checks.equal(os.waitpid(child, 0)[1], 0, "the status of the child")
 
-    def begin(self, **words):
-        code, errors = self.initialize(**words)
-        self.checks.equal(code, 0, f"C_Initialize with {words}: {errors}")
+    def begin(self, **variables):
+        code, errors = self.initialize(**variables)
+        self.checks.equal(code, 0, f"C_Initialize with {variables}: {errors}")
 
     def end(self):
         self.checks.equal(self.module.finalize(), 0, "C_Finalize")
@@ -434,14 +438,29 @@ class Tests:
         self.checks.equal(read(path), b"1 InitToken 31323334 -> 0\n1 CloseAllSessions -> 0\n"
                           b"1 GetTokenInfo -> 0 404 64 0 0\n", "the file")
 
-    def check_longest_comment(self, word):
+    def test_callers(self):
+        """Threads are numbered from 1 to 8 in the order of their first calls, and then from 1."""
+        path = self.file("callers.cases")
+        self.begin(JOURNAL=path)
+        for _ in range(10):
+            thread = threading.Thread(target=self.module.say, args=["1 GetTokenInfo"])
+            thread.start()
+            thread.join()
+        self.end()
+        lines = read(path).decode().split("\n")
+        numbers = [int(line[0]) for line in lines if "GetTokenInfo" in line]
+        self.checks.equal(len(numbers), 10, "the calls in the file")
+        self.checks.equal(numbers[1:], [it % 8 + 1 for it in numbers[:-1]], "the callers' numbers")
+        support.audit(self.checks, self.ck_cases, path)
+
+    def check_longest_comment(self, variable):
         """Of a script, or of the token's file: the longest comment, and one that is too long."""
         for length, expected in [(LONGEST_LINE, 0), (LONGEST_LINE + 1, GENERAL_ERROR)]:
-            path = self.file(f"{word}-{length}")
+            path = self.file(f"{variable}-{length}")
             write(path, b"#" * length + b"\n1 InitToken 31323334 -> 0\n")
-            code, errors = self.initialize(**{word: path})
-            self.checks.equal(code, expected, f"C_Initialize with {word} of {length} bytes")
-            line = f"ospreyrack: OSPREYRACK_{word}: {path}, line 1: this is no call\n"
+            code, errors = self.initialize(**{variable: path})
+            self.checks.equal(code, expected, f"C_Initialize with {variable} of {length} bytes")
+            line = f"ospreyrack: OSPREYRACK_{variable}: {path}, line 1: this is no call\n"
             self.checks.equal(errors, "" if expected == 0 else line, "the errors")
             if code == 0:
                 self.end()
@@ -476,30 +495,34 @@ class Tests:
         support.audit(self.checks, self.ck_cases, path)
         self.begin(TOKEN=path)
         self.end()
-        for word in ["SCRIPT", "TOKEN"]:
-            self.check_longest_comment(word)
+        for variable in ["SCRIPT", "TOKEN"]:
+            self.check_longest_comment(variable)
 
     def test_failed_start(self):
         """A C_Initialize that fails leaves neither its seed nor its journal to the next one."""
         path = self.file("failed.cases")
         made = []
         for _ in range(2):
-            code, _ = self.initialize(SEED=1, JOURNAL=path, SCRIPT=self.file("absent"))
+            script = self.file("absent")
+            code, errors = self.initialize(SEED=1, JOURNAL=path, SCRIPT=script)
             self.checks.equal(code, GENERAL_ERROR, "C_Initialize with a script that isn't there")
+            self.checks.equal(errors, f"ospreyrack: OSPREYRACK_SCRIPT: {script}: the file can't be "
+                              "opened: No such file or directory\n", "the errors")
             made.append(self.random_of_start())
         self.checks.check(made[0] != made[1], "random bytes that follow from no seed")
         self.checks.equal(read(path), b"", "the journal")
 
-    def test_bad_word_and_file(self):
-        """A bad word beside a good file leaves the file as it is."""
+    def test_bad_variable_and_file(self):
+        """A bad variable beside a good file leaves the file as it is."""
         content = read(self.journal_of_some_calls())
         path = self.file("beside.cases")
-        for words in [{"SEED": "x"}, {"CUT": "maybe"}, {"OTHER": "1"}]:
+        for variables in [{"SEED": "x"}, {"CUT": "maybe"}, {"OTHER": "1"}]:
             write(path, content)
-            code, errors = self.initialize(TOKEN=path, **words)
+            code, errors = self.initialize(TOKEN=path, **variables)
             os.environ.pop("OSPREYRACK_OTHER", None)
-            self.checks.equal(code, GENERAL_ERROR, f"C_Initialize with {words}")
-            self.checks.check(errors.startswith(f"ospreyrack: OSPREYRACK_{[*words][0]}: "), errors)
+            self.checks.equal(code, GENERAL_ERROR, f"C_Initialize with {variables}")
+            start = f"ospreyrack: OSPREYRACK_{[*variables][0]}: "
+            self.checks.check(errors.startswith(start), errors)
             self.checks.equal(read(path), content, "the file")
 
     def test_cut_off(self):
@@ -612,12 +635,12 @@ class Tests:
         self.checks.equal(lines, expected, path)
         support.audit(self.checks, self.ck_cases, path)
 
-    def see_as_child(self, word, path):
+    def see_as_child(self, variable, path):
         """A child of a fork: what it sees without initialization, with its parent's file, and with
         one of its own."""
         seen = [self.module.say("1 GetTokenInfo"), self.module.say("1 CloseSession 1"),
                 str(path in open_files())]
-        code, errors = self.initialize(**{word: path})
+        code, errors = self.initialize(**{variable: path})
         seen += [f"{code:x}", errors.rstrip("\n")]
         code, errors = self.initialize(JOURNAL=self.file("child-%p.cases"))
         seen += [f"{code:x}{errors}", *self.say_all(LOG_IN), f"{self.module.finalize():x}"]
@@ -625,17 +648,18 @@ class Tests:
 
     def test_fork(self):
         """A child of a fork leaves its parent's file as it is, and its lock, too."""
-        for word in ["JOURNAL", "TOKEN"]:
-            path = self.file(f"parent-{word}.cases")
-            self.begin(**{word: path})
+        for variable in ["JOURNAL", "TOKEN"]:
+            path = self.file(f"parent-{variable}.cases")
+            self.begin(**{variable: path})
             replies = self.say_all(SOME_CALLS)
             before = read(path)
             self.checks.equal(open_files().count(path), 1, "the parent's descriptors of the file")
-            with self.child_of_fork(lambda: self.see_as_child(word, path)) as seen:
+            with self.child_of_fork(lambda: self.see_as_child(variable, path)) as seen:
                 self.checks.equal(
                     seen[:-1],
                     [f"{NOT_INITIALIZED:x}", f"{NOT_INITIALIZED:x}", "False", f"{GENERAL_ERROR:x}",
-                     f"ospreyrack: OSPREYRACK_{word}: {path}: another process has locked the file",
+                     f"ospreyrack: OSPREYRACK_{variable}: {path}: another process has locked the "
+                     "file",
                      "0", "0", "0 1", "0", "0", "0", "0", "0", "False"], "what the child saw")
                 self.checks.equal(read(path), before, "the parent's file")
                 self.check_locked(path)
@@ -719,27 +743,29 @@ class Tests:
         if made.startswith("0 "):
             raise LeftOut("no program gets rights of another user here")
 
-    def run_as_other_user(self, program, **words):
+    def run_as_other_user(self, program, **variables):
         """Whether the program has rights that its user doesn't have, and what C_Initialize
         answers."""
-        run = subprocess.run([program, self.file("module.so")], env=environment_of(words),
+        run = subprocess.run([program, self.file("module.so")], env=environment_of(variables),
                              user=OTHER_USER, group=OTHER_USER, extra_groups=[],
                              capture_output=True, text=True, timeout=60)
         return run.stdout.rstrip("\n") or run.stderr
 
     def test_rights(self):
-        """A program with rights that its user doesn't have passes over the words. A file for it
+        """A program with rights that its user doesn't have passes over the variables. A file for it
         would be made with these rights, wherever the user wants."""
         program, place = self.program_for_all(), self.file("place")
         os.mkdir(place)
         os.chmod(place, 0o777)
         self.give_rights(program)
-        all_words = [{"JOURNAL": os.path.join(place, "%p.cases")}, {"SEED": "none"}, {"OTHER": 1}]
-        for words in all_words:
-            self.checks.equal(self.run_as_other_user(program, **words), "1 0", f"with {words}")
+        all_variables = [{"JOURNAL": os.path.join(place, "%p.cases")}, {"SEED": "none"},
+                         {"OTHER": 1}]
+        for variables in all_variables:
+            self.checks.equal(self.run_as_other_user(program, **variables), "1 0",
+                              f"with {variables}")
         self.checks.equal(os.listdir(place), [], "the files that were made")
         os.chmod(program, 0o755)
-        codes = [self.run_as_other_user(program, **words) for words in all_words]
+        codes = [self.run_as_other_user(program, **variables) for variables in all_variables]
         self.checks.equal(codes, ["0 0", f"0 {GENERAL_ERROR}", f"0 {GENERAL_ERROR}"],
                           "the same without these rights")
         self.checks.equal(len(os.listdir(place)), 1, "the files that were made without them")
@@ -779,10 +805,10 @@ class Tests:
 
     def test_full(self):
         """A device that is full from the beginning: a clear line."""
-        for word in ["JOURNAL", "TOKEN"]:
-            code, errors = self.initialize(**{word: "/dev/full"})
-            self.checks.equal(code, GENERAL_ERROR, f"C_Initialize with {word}=/dev/full")
-            self.checks.check(errors.startswith(f"ospreyrack: OSPREYRACK_{word}: /dev/full: ")
+        for variable in ["JOURNAL", "TOKEN"]:
+            code, errors = self.initialize(**{variable: "/dev/full"})
+            self.checks.equal(code, GENERAL_ERROR, f"C_Initialize with {variable}=/dev/full")
+            self.checks.check(errors.startswith(f"ospreyrack: OSPREYRACK_{variable}: /dev/full: ")
                               and errors.count("\n") == 1, errors)
         worker = Worker(self.path, limit=100, JOURNAL=self.file("small.cases"))
         self.checks.equal(worker.code, f"{GENERAL_ERROR:x}", "C_Initialize with room for 100 bytes")
@@ -800,9 +826,11 @@ class Tests:
             self.checks.equal(worker.say("1 InitToken 31323334"), DEVICE_ERROR, "a later call")
             errors = worker.end()
             self.checks.equal(worker.last, "0", "C_Finalize")
-            self.checks.check(errors.startswith("ospreyrack: OSPREYRACK_TOKEN: ")
-                              and errors.count("\n") == 1, errors)
             content = read(path).decode()
+            # No byte of the line fits in where the lines before it fill the file.
+            reason = "File too large" if len(content) == limit else "there is no room for it"
+            self.checks.equal(errors, "ospreyrack: OSPREYRACK_TOKEN: a call can't be written: "
+                              f"{reason}\n", "the errors")
             self.checks.equal(content.count("1 GetTokenInfo -> 0 4 64 0 0\n"), len(replies) - 1,
                               "the answered calls in the file")
             self.checks.check(content.endswith("0\n") and len(content) <= limit, "whole lines")
@@ -827,12 +855,12 @@ class Tests:
                           and errors.count("\n") == 1, errors)
         self.check_calls(path, [*calls, f"1 DigestUpdate 1 {piece}"], [*replies, "0"])
 
-    def random_of_start(self, **words):
-        """The first random bytes behind a C_Initialize with these words."""
-        out = (support.c_ubyte * 40)()
-        self.begin(**words)
+    def random_of_start(self, count=40, **variables):
+        """The first random bytes behind a C_Initialize with these variables."""
+        out = (support.c_ubyte * count)()
+        self.begin(**variables)
         self.say_all(LOG_IN[:2])
-        code = self.module.call("GenerateRandom", support.c_ulong(1), out, support.c_ulong(40))
+        code = self.module.call("GenerateRandom", support.c_ulong(1), out, support.c_ulong(count))
         self.checks.equal(code, 0, "C_GenerateRandom")
         self.end()
         return bytes(out)
@@ -865,6 +893,7 @@ class Tests:
         """The bytes of a seed never change, and its number is decimal."""
         seven, ten, eleven = (self.random_of_start(SEED=seed) for seed in ["7", "010", "0000011"])
         self.checks.equal(seven.hex(), RANDOM_OF_SEVEN, "the random bytes of seed 7")
+        self.checks.equal(self.random_of_start(13, SEED=7), seven[:13], "the first 13 of them")
         self.checks.equal(ten, self.random_of_start(SEED=10), "the random bytes of seed 010")
         self.checks.equal(eleven, self.random_of_start(SEED=11), "the random bytes of seed 0000011")
         self.checks.equal(len({seven, ten, eleven}), 3, "different random bytes")
@@ -908,10 +937,10 @@ class Tests:
                       f"1 CreateObject {count + 1} 0=0000000000000000,1=01,2=00",
                       f"1 Login {count + 1} 1 7573657{count % 3}"]
         replies, held = [], []
-        for words in [{}, {"CUT": "yes"}, {"CUT": "no"},
+        for variables in [{}, {"CUT": "yes"}, {"CUT": "no"},
                       {"CUT": "yes", "JOURNAL": self.file("cut_yes.cases")},
                       {"CUT": "no", "JOURNAL": self.file("cut_no.cases")}]:
-            self.begin(**words)
+            self.begin(**variables)
             replies.append(self.say_all(lines))
             before = memory_in_use()
             self.end()
@@ -930,9 +959,9 @@ class Tests:
 
 
 TESTS = [Tests.test_file, Tests.test_going_on, Tests.test_new_label, Tests.test_no_label,
-         Tests.test_script, Tests.test_only_reply, Tests.test_calls_beside, Tests.test_longest_line,
-         Tests.test_failed_start, Tests.test_bad_word_and_file, Tests.test_cut_off,
-         Tests.test_changed, Tests.test_lacking_reply, Tests.test_two_processes,
+         Tests.test_script, Tests.test_only_reply, Tests.test_calls_beside, Tests.test_callers,
+         Tests.test_longest_line, Tests.test_failed_start, Tests.test_bad_variable_and_file,
+         Tests.test_cut_off, Tests.test_changed, Tests.test_lacking_reply, Tests.test_two_processes,
          Tests.test_second_run, Tests.test_fork, Tests.test_fork_that_stays, Tests.test_exec,
          Tests.test_unload, Tests.test_unload_with_functions, Tests.test_rights, Tests.test_kills,
          Tests.test_full, Tests.test_filling, Tests.test_filling_in_update, Tests.test_seed,

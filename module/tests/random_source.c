@@ -1,7 +1,8 @@
 /*
  * For cases.py, by LD_PRELOAD: getrandom hands out the bytes that the test has set, and then again
  * those of the system. It can be told to do so as the system seldom does: to fail, to be
- * interrupted, and to give fewer bytes than are asked for.
+ * interrupted, and to give fewer bytes than are asked for. With flags the bytes of the test are
+ * refused: the module is to wait until the system has good ones.
  */
 #include <errno.h>
 #include <stdint.h>
@@ -44,6 +45,10 @@ static ssize_t give_kept(void *out, size_t length) {
 }
 
 ssize_t getrandom(void *out, size_t length, unsigned flags) {
+    if (kept_length > 0 && flags != 0) {
+        errno = EINVAL;
+        return -1;
+    }
     if (left_interruptions > 0) {
         left_interruptions--;
         errno = EINTR;

@@ -243,12 +243,12 @@ class Module:
         function.restype = c_ulong
         return function(*arguments)
 
-    def initialize(self, **words):
-        """C_Initialize with words of the environment: initialize(SEED=1)."""
-        for word in ["SCRIPT", "JOURNAL", "TOKEN", "SEED", "CUT"]:
-            os.environ.pop("OSPREYRACK_" + word, None)
-        for word, value in words.items():
-            os.environ["OSPREYRACK_" + word] = str(value)
+    def initialize(self, **variables):
+        """C_Initialize with environment variables: initialize(SEED=1)."""
+        for variable in ["SCRIPT", "JOURNAL", "TOKEN", "SEED", "CUT"]:
+            os.environ.pop("OSPREYRACK_" + variable, None)
+        for variable, value in variables.items():
+            os.environ["OSPREYRACK_" + variable] = str(value)
         return self.call("Initialize", None)
 
     def finalize(self):
