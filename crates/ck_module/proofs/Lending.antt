@@ -32,7 +32,7 @@ use denote.RattleType.{RattleType}
 use denote.RawPtr.{Ptr, RawPtr, ptr_val, block_ptr, null_ptr, lies_at, in_a_block}
 use denote.Ref.{MutRef, mut_vals, mut_Tells}
 use denote.Signature.{plain, mut_ref_to}
-use denote.Outcomes.{nothing, opens, peeks}
+use denote.Steps.{nothing, opens, peeks}
 use denote.Struct.Field.{RawPtr-field}
 use denote.Struct.Laws.{RawPtr-laws}
 use denote.Struct.Owning.{Owning, row, shape, to, wholly}

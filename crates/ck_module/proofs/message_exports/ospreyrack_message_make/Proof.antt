@@ -21,7 +21,7 @@ use denote.Memory.{part_at}
 use denote.RawPtr.{Ptr, RawPtr, block_ptr, lies_at, room_at, in_a_block}
 use denote.RawPtr.{rawptr_vals, rawptr_Tells}
 use denote.Signature.{plain}
-use denote.Outcomes.{nothing, peeks, heard}
+use denote.Steps.{nothing, peeks, heard}
 use denote.Triple.Call.{calls_at}
 use denote.Triple.Clauses.{ensured, lasts}
 use denote.Triple.Spec.{triple_of}
