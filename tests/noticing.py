@@ -24,7 +24,7 @@ WRONG = {
     "a line more": 'right=$1; shift; "$right" "$@"; status=$?; echo; exit $status',
     "nothing on standard output": 'right=$1; shift; exec "$right" "$@" > /dev/null',
     "nothing on standard error": 'right=$1; shift; exec "$right" "$@" 2> /dev/null',
-    "no arguments": 'right=$1; exec "$right"',
+    "other arguments": 'right=$1; exec "$right" none',
 }
 
 NO_MEMORY = b"ck_run: out of memory\n"
