@@ -1,4 +1,5 @@
-//! A long message is taken in before its call where an operation takes it, and else not.
+//! A long message is taken in before its call where an operation takes it, and else not; and while
+//! it is, the lock is free.
 use crate::asks::expect;
 use crate::journals::check_audit;
 use crate::shared_work::{Shared, SharedWork, share_with};
@@ -38,7 +39,7 @@ impl<'a, K: TokenId, R: Runtime> Shared<'a, K, R> {
 pub(crate) fn run_long_messages<R: Runtime>(rt: R) -> anyhow::Result<()> {
     let alloc = rt.alloc();
     let token = Token::new(alloc, Limits::largest());
-    let (token, _outcome) = share_with(rt, token, 1, &SharedWork::LongMessages)?;
+    let (token, _outcome) = share_with(rt, token, 2, &SharedWork::LongMessages)?;
     check_audit(alloc, &token)?;
     Ok(())
 }

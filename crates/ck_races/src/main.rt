@@ -17,6 +17,7 @@ mod drawing_callers;
 mod drawn_calls;
 mod eight_scripts;
 mod files;
+mod free_locks;
 mod held_steps;
 mod journals;
 mod locked_calls;

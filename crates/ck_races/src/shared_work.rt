@@ -37,7 +37,8 @@ pub(crate) enum SharedWork<'a> {
     EightScripts,
     /// One caller makes calls under one lock. Then both callers are lost.
     CallsUnderLock,
-    /// Messages are taken in before a caller adds them to a digest.
+    /// Messages are taken in before a caller adds them to a digest, and while another takes the
+    /// lock.
     LongMessages,
 }
 
@@ -116,7 +117,10 @@ impl<'a, K: TokenId, R: Runtime> Shared<'a, K, R> {
             }
             SharedWork::EightScripts => replies = self.run_eight(callers)?,
             SharedWork::CallsUnderLock => self.call_under_lock(callers)?,
-            SharedWork::LongMessages => self.take_in_messages(callers)?,
+            SharedWork::LongMessages => {
+                self.take_in_messages(callers)?;
+                self.take_locks(callers)?;
+            }
         }
         Ok(Outcome { replies, retries })
     }
