@@ -50,7 +50,8 @@ use std::fs::Files;
 
 /// What callers do at once, besides races. Adds a line for each that passes.
 fn play_together<R: Runtime>(rt: R, text: &mut String) -> anyhow::Result<()> {
-    write!(text, "runs of each race, in either way: {}\n", runs::RUNS)?;
+    let runs = runs::RUNS;
+    write!(text, "runs of each race, in either way: {runs}\n")?;
     asks::run_asks(rt)?;
     write!(text, "asks: {} passed\n", asks::RUNS)?;
     run_held_steps(rt)?;
