@@ -1,7 +1,7 @@
 /*
  * Calls of the token: by lines where a journal file is kept, except cancels, and else by their
- * arguments where the token has a function for that. What is replied is read by the caller of
- * `make_call`.
+ * arguments where the token has a function for that. A call that has work is made by that. What is
+ * replied is read by the caller of `make_call`.
  */
 #include "module.h"
 
@@ -14,6 +14,9 @@ static const CK_ULONG longest_value = 1 << 30;
 
 /* From how many entries on the token's journal in memory is cut. */
 static const uint64_t cut_from = 1000;
+
+/* No cancel's line is longer: a caller, the call's name, a session and flags. */
+static const size_t longest_cancel = 64;
 
 uint64_t journals_begun;
 
@@ -99,10 +102,20 @@ uint32_t answer_line(const uint8_t *line, size_t length) {
     return outcome;
 }
 
-/* Makes the call whose line is written. A cancel goes by its arguments, since that can't be out of
- * memory where the token's journal has room. */
-static uint32_t make_written_call(const struct call *call) {
-    const struct buffer *line = &library.line;
+/* The line of a call: that of its work, or else one that is written now. NULL without memory. */
+static const struct buffer *line_of(const struct call *call) {
+    const struct buffer *line = line_of_work(call);
+    if (line != NULL)
+        return line;
+    return write_line(call, caller_number(), &library.line) ? &library.line : NULL;
+}
+
+/* Makes the call of a line. Work has read its line already. A cancel goes by its arguments, since
+ * that can't be out of memory where the token's journal has room. */
+static uint32_t make_written_call(const struct call *call, const struct buffer *line) {
+    uint32_t outcome;
+    if (call_by_work(call, &outcome))
+        return outcome;
     if (call->name == SESSION_CANCEL)
         return ospreyrack_session_cancel(&library.token, caller_number(), call->session,
                                          call->flags);
@@ -110,10 +123,10 @@ static uint32_t make_written_call(const struct call *call) {
 }
 
 static uint32_t call_by_line(const struct call *call) {
-    const struct buffer *line = &library.line;
-    if (!write_line(call, caller_number(), &library.line) || !reserve_entry(line->length))
+    const struct buffer *line = line_of(call);
+    if (line == NULL || !reserve_entry(line->length))
         return NO_MEMORY;
-    uint32_t outcome = make_written_call(call);
+    uint32_t outcome = make_written_call(call, line);
     if (outcome != ANSWERED)
         return outcome;
     add_entry(line->bytes, line->length);
@@ -275,7 +288,7 @@ static uint32_t call_by_arguments(const struct call *call) {
     uint32_t caller = caller_number();
     CK_ULONG session = call->session;
     uint32_t outcome;
-    if (call->work != NULL && call_by_work(call, &outcome))
+    if (call_by_work(call, &outcome))
         return outcome;
     switch (call->name) {
     case OPEN_SESSION:
@@ -317,10 +330,12 @@ static void drop_long_lists(void) {
 }
 
 /* Room in the token's journal for a call's entry, beside those of the cancels that may have to be
- * made. A call takes room for one entry at most (a clause of the token, not of its exports), and
- * one that found no memory takes none. */
+ * made, and for the line of a cancel. A call takes room for one entry at the most, and one that
+ * found no memory takes none. */
 static bool reserve_room(void) {
-    return library.updates == 0 || ospreyrack_reserve(&library.token, library.updates + 1);
+    return library.updates == 0
+        || (ospreyrack_reserve(&library.token, library.updates + 1)
+            && buffer_reserve(&library.line, longest_cancel));
 }
 
 /* The journal can be cut only where no session is open: after a call that needs none, or that was
@@ -349,10 +364,9 @@ CK_RV make_call(const struct call *call) {
     return make_checked_call(call);
 }
 
-/* There is room for the entry in the token's journal, and for the line in the buffers of lines and
- * of the file's text: these had the longer line of a piece before, and keep their room until
- * C_Finalize. If the cancel found no memory all the same, no later call is answered, so that
- * nobody finishes the message. */
+/* There is room for the entry in the token's journal, for its line, and in the file's text, which
+ * had the longer line of a piece before. Buffers keep their room until C_Finalize. If the cancel
+ * found no memory all the same, no later call is answered, so that nobody finishes the message. */
 void cancel_operation(CK_ULONG session, CK_FLAGS kind) {
     const struct call cancel = {.name = SESSION_CANCEL, .session = session, .flags = kind};
     if (!library.journal.has_failed && make_checked_call(&cancel) == CKR_HOST_MEMORY)

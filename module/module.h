@@ -269,8 +269,11 @@ bool write_line(const struct call *call, uint32_t caller, struct buffer *line);
  * lock is free. */
 CK_RV enter_with_work(struct call *call);
 
-/* Makes the call that has work. Answers false, and makes none, where the work was begun before the
- * token was made anew or its journal was cut. */
+/* The line of a call's work, where a journal file is kept. NULL where the call has no work that can
+ * be used. */
+const struct buffer *line_of_work(const struct call *call);
+
+/* Makes a call by its work. Answers false, and makes none, where it has none that can be used. */
 bool call_by_work(const struct call *call, uint32_t *outcome);
 
 /* Gives back the memory of a call's work, where it has any. */

@@ -170,6 +170,11 @@ bool ospreyrack_verify(struct message_call *call, uint64_t session, const uint8_
 bool ospreyrack_verify_update(struct message_call *call, uint64_t session, const uint8_t *bytes,
                               size_t length) NOT_NULL;
 
+/* Gives the call of a line of the script language, which stands here without its line end. Where
+ * the line means no call it answers false, too. */
+bool ospreyrack_message_line(struct message_call *call, const uint8_t *line,
+                             size_t length) NOT_NULL;
+
 /* Begins the work on a long message. Where there is none to be done before the call, it answers
  * false. */
 bool ospreyrack_begin_work(struct token *token, struct message_call *call);

@@ -1,7 +1,7 @@
 /*
  * Work on long messages: their bytes are copied and taken in while the lock is free, so that other
- * threads can call the token. Where a journal file is kept, calls go by lines, which are read and
- * answered under the lock.
+ * threads can call the token. Where a journal file is kept, the call's line is written then, too,
+ * and the call is that of the line.
  */
 #include "module.h"
 
@@ -13,6 +13,8 @@ enum { SHORTEST_LONG_MESSAGE = 4096 };
 
 struct work {
     struct message_call call;
+    bool has_line;      /* a journal file was kept, and the call is that of the line */
+    struct buffer line; /* the call's line, for the journal file */
     bool has_begun;
     uint64_t journals; /* how many journals had begun when the work was */
     max_align_t room[];
@@ -27,30 +29,37 @@ static bool is_long(const struct call *call) {
         && check_call(call) == CKR_OK;
 }
 
-/* Copies the call with its message. Answers false without memory. */
-static bool give_work(struct call *call) {
+/* Gives the place the call with a copy of its message, or the call of its line. Answers false
+ * without memory. */
+static bool give_call(struct work *work, const struct call *call, uint32_t caller) {
+    struct buffer *line = &work->line;
+    if (!work->has_line)
+        return give_message(&work->call, call);
+    return write_line(call, caller, line)
+        && ospreyrack_message_line(&work->call, line->bytes, line->length);
+}
+
+/* Makes the call's work, for a thread of this number. Answers false without memory. */
+static bool make_work(struct call *call, bool has_line, uint32_t caller) {
     struct work *work = malloc(sizeof *work + ospreyrack_message_size());
     if (work == NULL)
         return false;
-    *work = (struct work){.call.at = work->room};
+    *work = (struct work){.call.at = work->room, .has_line = has_line};
     ospreyrack_message_make(work->room);
     call->work = work;
-    return give_message(&work->call, call);
+    return give_call(work, call, caller);
 }
 
-/* Finds out whether calls are made by work: where a journal file is kept, they go by lines. */
-static CK_RV find_whether_by_work(bool *is_by_work) {
-    CK_RV code = enter();
-    if (code != CKR_OK)
-        return code;
-    *is_by_work = !library.journal.is_kept;
-    return leave(CKR_OK);
+/* Whether the work can be used. While the lock was free, another thread may have initialized the
+ * library anew, with a journal file or without one, or may have cut the token's journal. */
+static bool is_usable(const struct work *work) {
+    return work->has_line == library.journal.is_kept
+        && (!work->has_begun || work->journals == journals_begun);
 }
 
-/* Begins the work under the lock, and answers whether there is work to be done. Since the message
- * was copied, another thread may have initialized the library anew, with a journal file. */
+/* Begins the work under the lock, and answers whether there is work to be done. */
 static bool begin_work(struct work *work) {
-    if (library.journal.is_kept)
+    if (!is_usable(work))
         return false;
     work->journals = journals_begun;
     work->has_begun = ospreyrack_begin_work(&library.token, &work->call);
@@ -58,13 +67,13 @@ static bool begin_work(struct work *work) {
 }
 
 CK_RV enter_with_work(struct call *call) {
-    bool is_by_work = false;
-    CK_RV code = is_long(call) ? find_whether_by_work(&is_by_work) : CKR_OK;
-    if (code != CKR_OK)
+    CK_RV code = enter();
+    if (code != CKR_OK || !is_long(call))
         return code;
-    if (!is_by_work)
-        return enter();
-    call->lacks_memory = !give_work(call);
+    bool has_line = library.journal.is_kept;
+    uint32_t caller = caller_number();
+    leave(CKR_OK);
+    call->lacks_memory = !make_work(call, has_line, caller);
     code = enter();
     if (code != CKR_OK || call->lacks_memory || !begin_work(call->work))
         return code;
@@ -73,17 +82,25 @@ CK_RV enter_with_work(struct call *call) {
     return enter();
 }
 
+const struct buffer *line_of_work(const struct call *call) {
+    const struct work *work = call->work;
+    return work != NULL && work->has_line && is_usable(work) ? &work->line : NULL;
+}
+
 bool call_by_work(const struct call *call, uint32_t *outcome) {
     struct work *work = call->work;
-    if (work->has_begun && work->journals != journals_begun)
+    if (work == NULL || !is_usable(work))
         return false;
     *outcome = ospreyrack_call(&library.token, caller_number(), &work->call);
     return true;
 }
 
 void drop_work(struct call *call) {
-    if (call->work != NULL)
-        ospreyrack_message_reset(&call->work->call);
-    free(call->work);
+    struct work *work = call->work;
+    if (work == NULL)
+        return;
+    ospreyrack_message_reset(&work->call);
+    buffer_free(&work->line);
+    free(work);
     call->work = NULL;
 }

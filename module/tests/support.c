@@ -111,16 +111,20 @@ void keep_journals(const char *in_folder) {
     journal_folder = in_folder;
 }
 
-CK_SESSION_HANDLE begin_token(void) {
+CK_SESSION_HANDLE begin_token_with(CK_C_INITIALIZE_ARGS *arguments) {
     char path[4096];
     if (journal_folder != NULL) {
         snprintf(path, sizeof path, "%s/kept-%d.cases", journal_folder, journals++);
         setenv("OSPREYRACK_JOURNAL", path, 1);
     }
-    EXPECT(CKR_OK, p11->C_Initialize(NULL));
+    EXPECT(CKR_OK, p11->C_Initialize(arguments));
     if (journal_folder != NULL)
         unsetenv("OSPREYRACK_JOURNAL");
     return log_in();
+}
+
+CK_SESSION_HANDLE begin_token(void) {
+    return begin_token_with(NULL);
 }
 
 void end_token(void) {

@@ -54,11 +54,15 @@ extern CK_UTF8CHAR so_pin[4];
 extern CK_UTF8CHAR user_pin[4];
 extern CK_UTF8CHAR token_label[32];
 
-/* From now on `begin_token` lets each token keep a journal of its own in the folder. */
+/* From now on `begin_token` lets each token keep a journal of its own in the folder; or none, where
+ * that is NULL. */
 void keep_journals(const char *in_folder);
 
 /* Initializes the library and its token, and logs the user in. Answers a read/write session. */
 CK_SESSION_HANDLE begin_token(void);
+
+/* The same with these arguments of C_Initialize. */
+CK_SESSION_HANDLE begin_token_with(CK_C_INITIALIZE_ARGS *arguments);
 
 /* The same without C_Initialize. */
 CK_SESSION_HANDLE log_in(void);

@@ -1,5 +1,6 @@
 -- What a call that C asks for does to the token, to the reply and to the text beside it
-use Rattle.std.specs.Prelude.{◌≡◌, ◌≤◌, ℕ, ◌⊎◌, List, Option, Some, None}
+use Rattle.std.specs.Prelude.{◌≡◌, ◌≤◌, ◌+◌, ℕ, ◌⊎◌, List, Option, Some, None}
+use Rattle.ck_journal.specs.Answers.{IsLegal}
 use Rattle.ck_journal.specs.declared.calls.Call.{Call}
 use Rattle.ck_journal.specs.TokenStates.{IsAnswered, IsUnchanged}
 use Rattle.ck_script.specs.Lines.{meaning}
@@ -17,9 +18,12 @@ pub record IsSame (old new : Module) : Type 0 where
   pub reply : new.reply ≡ old.reply
   pub text : new.text ≡ old.text
 
--- the token has answered the call, and has entered it in its journal; the reply is kept
+-- the token has answered the call, and has entered it in its journal, whose history is legal; that
+-- took room for one entry at the most; the reply is kept
 pub record IsKept (old new : Module) (caller : ℕ) (c : Call) : Type 0 where
   pub answered : IsAnswered old.token new.token caller c new.reply
+  pub legal : IsLegal new.token.limits new.token.history
+  pub room : old.token.spare ≤ new.token.spare + 1
   pub text : new.text ≡ old.text
 
 -- the call was answered, or there was no memory for it

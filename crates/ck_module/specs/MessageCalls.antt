@@ -1,8 +1,10 @@
 -- What becomes of a call with a message that lies in C's memory
-use Rattle.std.specs.Prelude.{◌≡◌, ⊤, ℕ, Bool, true, false, Option, Some, None}
+use Rattle.std.specs.Prelude.{◌≡◌, ⊤, ℕ, Bool, true, false, List, Option, Some, None}
 use Rattle.ck_journal.specs.declared.calls.Call.{Call}
 use Rattle.ck_journal.specs.Histories.{History}
 use Rattle.ck_journal.specs.Works.{IsBegun, IsDone, IsAhead}
+use Rattle.ck_script.specs.Lines.{meaning}
+use Rattle.ck_script.specs.declared.lines.Line.TheVariants as line
 use Rattle.ck_module.specs.Calls.{IsCalled}
 use Rattle.ck_module.specs.Outcomes.{outcome_number}
 use Rattle.ck_module.specs.declared.message_calls.MessageCall.{MessageCall}
@@ -10,6 +12,12 @@ use Rattle.ck_module.specs.declared.message_calls.MessageCall.TheVariants as var
 use Rattle.ck_module.specs.declared.modules.Module.{Module}
 use Rattle.ck_module.specs.declared.outcomes.Outcome.{Outcome}
 use Rattle.ck_module.specs.declared.outcomes.Outcome.TheVariants as outcome
+
+-- the call that the line means was given
+abbrev pub IsGivenBy : List ℕ → MessageCall → Type 0
+IsGivenBy bytes new =
+    (caller : ℕ) × (c : Call) × (meaning bytes ≡ Some (line.Called caller c))
+    × (new ≡ variant.Given c)
 
 -- the work was begun, by a token with this history, for the call that was given; or nothing changed
 abbrev pub IsBegin : History → MessageCall → MessageCall → Type 0

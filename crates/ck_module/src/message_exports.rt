@@ -3,7 +3,7 @@ ghost use Rattle.std.specs.Borrow.{sem, full_share};
 ghost use Rattle.std.specs.Mem.{type_size};
 ghost use Rattle.std.specs.Ptr.{lies_at, room_at};
 ghost use Rattle.ck_journal.specs.declared.calls.Call.TheVariants as call;
-ghost use Rattle.ck_module.specs.MessageCalls.{IsBegin, IsMade, IsTakenIn, IsWorkOf};
+ghost use Rattle.ck_module.specs.MessageCalls.{IsBegin, IsGivenBy, IsMade, IsTakenIn, IsWorkOf};
 ghost use Rattle.ck_module.specs.MessageCalls.{call_of, has_begun};
 ghost use Rattle.ck_module.specs.Queries.{room_of};
 ghost use Rattle.ck_module.specs.contracts.message_calls.MessageCall.{the_row};
@@ -14,6 +14,7 @@ use crate::message_calls::MessageCall;
 use crate::places::{MessagePlace, TokenPlace};
 use crate::queries::room_of;
 use ck_journal::Call;
+use ck_script::Line;
 use ck_types::{Bytes, NoMemory};
 use std::alloc::Global;
 
@@ -177,6 +178,23 @@ pub extern "C" fn ospreyrack_verify_update(
 {
     let bytes = Bytes::from_slice(alloc, bytes);
     message.give(bytes.map(|bytes| Call::VerifyUpdate { session, bytes }))
+}
+
+/// Gives the call of a line of a script, which stands here without its line end. Where the line
+/// means no call, it gives none.
+#[unsafe(no_mangle)]
+pub extern "C" fn ospreyrack_message_line(
+    alloc: Global,
+    message: &mut MessagePlace,
+    line: &[u8],
+) -> bool
+    ensures given { result ≡ true → IsGivenBy line.now message.new.value }
+    ensures unchanged { result ≡ false → message.new.value ≡ message.old.value }
+{
+    match Line::parse(alloc, line) {
+        Ok(Line::Called { call, .. }) => message.give(Ok(call)),
+        Ok(Line::Skipped) | Err(_) => false,
+    }
 }
 
 // ---- its message is worked on, and the call is made

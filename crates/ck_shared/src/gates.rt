@@ -7,6 +7,8 @@ use std::sync::Wait;
 
 /// A shared token answers the calls of a run, each under its lock.
 impl<K: TokenId, G: JournaledToken, R: Wait + Drop> Gate<K> for SharedToken<K, G, R> {
+    // Inlined, as all that only hands a call on: each such function would copy it.
+    #[inline(always)]
     fn call<W: Wait>(
         &self,
         rt: &W,

@@ -138,6 +138,8 @@ impl<K: TokenId, G: JournaledToken, R: Wait + Drop> SharedToken<K, G, R> {
 
     /// One call of a caller, under the lock. The bytes of a long message are taken in while the
     /// lock is free.
+    // Inlined, as all that only hands a call on: each such function would copy it.
+    #[inline(always)]
     pub fn call<W: Wait>(
         &self,
         rt: &W,
