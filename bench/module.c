@@ -341,8 +341,7 @@ static void measure_all(struct worker *workers, unsigned threads)
     for (int i = 0; i < ALL_ROUNDS; i++)
         print_round(&rounds[i], workers, threads);
     if (threads > 1)
-        printf("longest wait for session info beside digests of 1 MiB: %.0f\n",
-               longest_wait(workers));
+        printf("longest wait beside digests of 1 MiB: %.0f\n", longest_wait(workers));
     create_objects(workers[0].session);
     print_round(&search, workers, threads);
 }

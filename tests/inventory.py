@@ -49,8 +49,9 @@ CRATES_OF_TESTS = ("ck_bench", "ck_races", "ck_run", "ck_threads")
 
 # The lines by which a script finds and counts what has failed; with the last one it ends.
 VERDICTS = {
-    "check": ['if "$@"; then', "failed=$((failed + 1))", "status=${PIPESTATUS[0]}",
-              'grep -q ": BAD EDIT: " "$said" && status=1', 'return "$status"',
+    "check": ['if "$@"; then', "failed=$((failed + 1))", 'return "${PIPESTATUS[0]}"',
+              'keep_output rt ci && ! grep -q ": BAD EDIT: " "$said"',
+              "keep_output module/tests/run || status=1", 'return "$status"',
               '[ "$failed" -eq 0 ]'],
     "module/tests/run": ['failed=$(grep -c "^FAILED" "$log" || true)',
                          '[ "$passed" -gt 0 ] && [ "$failed" -eq 0 ]'],

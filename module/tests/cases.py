@@ -55,12 +55,12 @@ def key_length(template):
 def reason_to_skip(line, reply):
     """Why a line can't be played through C, or None."""
     if line.startswith("cut") or line.startswith("audit"):
-        return "cut and audit"
+        return "cuts and audits"
     if reply.startswith("bad script"):
         return "bad lines"
     words = line.split(" ")
     if words[1] == "GenerateKey" and key_length(words[4]) != len(bytes_of(words[5])):
-        return "more or fewer random bytes than CKA_VALUE_LEN says"
+        return "keys of more or fewer random bytes than CKA_VALUE_LEN says"
     return None
 
 
@@ -337,8 +337,8 @@ def main():
     for path in sorted(glob.glob(os.path.join(support.DATA, "*.cases"))):
         play_file(checks, player, path, ck_cases, skipped)
     test_random_source(checks, player)
-    for reason, count in sorted(skipped.items()):
-        checks.leave_out(f"{count} lines", f"{reason}, which can't be played through C")
+    counts = ", ".join(f"{count} {reason}" for reason, count in sorted(skipped.items()))
+    checks.leave_out("what can't be played through C", counts)
     return checks.status()
 
 

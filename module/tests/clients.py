@@ -168,6 +168,21 @@ def use_java(client):
 
 def use_p11_kit(client):
     """p11-kit list-modules with a module file"""
+    options = configure_p11_kit(client)
+    client.run("p11-kit", "list-modules", contains="token: tok", **options)
+
+
+def use_p11_kit_proxy(client):
+    """p11-kit's proxy with a module file, and pkcs11-tool as its client"""
+    client.needs("pkcs11-tool", "opensc")
+    client.file("message", MESSAGE)
+    options = configure_p11_kit(client)
+    sign_through(client, "libp11-kit.so.0", **options)
+
+
+def configure_p11_kit(client):
+    """Prepares the token, and makes it known to p11-kit by a module file. Answers the options with
+    which programs are to be run."""
     client.needs("p11-kit", "p11-kit")
     client.prepare()
     os.makedirs(client.file("pkcs11/modules"))
@@ -175,12 +190,11 @@ def use_p11_kit(client):
     client.file("pkcs11/pkcs11.conf", "user-config: only\n")
     client.file("pkcs11/modules/ospreyrack.module", f"module: {module}\n")
     client.environment["XDG_CONFIG_HOME"] = client.folder
+    if os.getuid() != 0:
+        return {}
     # p11-kit doesn't look at a user's configuration where the user is root.
-    options = {}
-    if os.getuid() == 0:
-        subprocess.run(["chown", "-R", str(NOBODY), client.folder], check=True)
-        options = {"user": NOBODY, "group": NOBODY, "extra_groups": []}
-    client.run("p11-kit", "list-modules", contains="token: tok", **options)
+    subprocess.run(["chown", "-R", str(NOBODY), client.folder], check=True)
+    return {"user": NOBODY, "group": NOBODY, "extra_groups": []}
 
 
 def use_p11_kit_server(client):
@@ -191,13 +205,15 @@ def use_p11_kit_server(client):
     if not os.path.exists(remote):
         raise LeftOut("p11-kit-client.so isn't installed: apt-get install p11-kit-modules")
     client.prepare()
+    client.file("message", MESSAGE)
     socket = client.file("socket")
     with subprocess.Popen(["p11-kit", "server", "--foreground", "--provider", client.module,
                            "--name", socket, "pkcs11:token=tok"], env=client.environment,
                           stdout=subprocess.DEVNULL, stderr=subprocess.DEVNULL) as server:
         try:
             wait_for(socket)
-            use_remote(client, remote, socket)
+            client.environment["P11_KIT_SERVER_ADDRESS"] = f"unix:path={socket}"
+            sign_through(client, remote)
         finally:
             server.terminate()
 
@@ -210,16 +226,15 @@ def wait_for(path):
     raise Failed(f"{path} doesn't come")
 
 
-def use_remote(client, remote, socket):
-    client.environment["P11_KIT_SERVER_ADDRESS"] = f"unix:path={socket}"
-    tool = ["pkcs11-tool", "--module", remote, "--login", "--pin", USER_PIN]
-    client.file("message", MESSAGE)
+def sign_through(client, module, **options):
+    """pkcs11-tool makes a key and signs the file `message`, by a module that hands calls on."""
+    tool = ["pkcs11-tool", "--module", module, "--token-label", "tok", "--login", "--pin", USER_PIN]
     client.run(*tool, "--keygen", "--key-type", "GENERIC:32", "--label", "key", "--id", "01",
-               contains="Key generated")
+               contains="Key generated", **options)
     hmac = ["--mechanism", "SHA256-HMAC", "--id", "01", "--input-file", "message"]
-    client.run(*tool, "--sign", *hmac, "--output-file", "signature")
+    client.run(*tool, "--sign", *hmac, "--output-file", "signature", **options)
     client.run(*tool, "--verify", *hmac, "--signature-file", "signature",
-               contains="Signature is valid")
+               contains="Signature is valid", **options)
 
 
 def use_nss(client):
@@ -269,9 +284,9 @@ def use_openssl(client):
 
 
 CLIENTS = {"pkcs11_tool": use_pkcs11_tool, "p11tool": use_p11tool, "pykcs11": use_pykcs11,
-           "java": use_java, "p11_kit": use_p11_kit, "p11_kit_server": use_p11_kit_server,
-           "nss": use_nss, "pkcs11_dump": use_pkcs11_dump, "softhsm2_util": use_softhsm2_util,
-           "openssl": use_openssl}
+           "java": use_java, "p11_kit": use_p11_kit, "p11_kit_proxy": use_p11_kit_proxy,
+           "p11_kit_server": use_p11_kit_server, "nss": use_nss, "pkcs11_dump": use_pkcs11_dump,
+           "softhsm2_util": use_softhsm2_util, "openssl": use_openssl}
 RECORDED = ["pkcs11_tool", "pykcs11", "java"]
 
 # ---- All of them

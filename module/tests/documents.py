@@ -50,28 +50,54 @@ def run(command, folder, **environment):
                           timeout=60, env={**os.environ, **environment})
 
 
-def check_first_runs(checks, path, module, folder):
-    """Commands of pkcs11-tool, and the journal that they leave."""
-    commands = [it for it in block_with(path, "--init-token") if not it.startswith("module/build")]
+def check_commands(checks, path, text, module, folder):
+    """Commands of pkcs11-tool, in the first block with this text."""
+    commands = [it for it in block_with(path, text) if not it.startswith("module/build")]
     script = "set -e\n" + "\n".join(commands)
     script = script.replace("$PWD/module/out/libospreyrack.so", module)
     ran = run(script, folder)
+    checks.check(len(commands) > 1, f"{path}: commands are there")
     checks.equal(ran.returncode, 0, f"{path}: the commands: {ran.stderr[-300:]}")
-    shown = block_with(path, "InitToken 3132333435363738 -> 0")
+
+
+def check_journal(checks, path, text, journal):
+    """The lines of the first block with this text stand in the journal."""
+    shown = block_with(path, text)
     checks.check(len(shown) > 3, f"{path}: a journal is shown")
-    with open(os.path.join(folder, "token.cases")) as journal:
-        checks.check(stand_in_order(shown, journal.read()), f"{path}: the journal is as shown")
+    with open(journal, encoding="ascii") as file:
+        checks.check(stand_in_order(shown, file.read()), f"{path}: the journal is as shown")
+
+
+def check_first_runs(checks, path, module, folder):
+    """Commands of pkcs11-tool, and the journal that they leave."""
+    check_commands(checks, path, "--init-token", module, folder)
+    check_journal(checks, path, "InitToken 3132333435363738 -> 0",
+                  os.path.join(folder, "token.cases"))
+
+
+def write_prepare_script(folder):
+    """The script of docs/module.md that prepares a token."""
+    lines = block_with("docs/module.md", "1 InitToken 3132333435363738\n")
+    with open(os.path.join(folder, "prepare.script"), "w") as script:
+        script.write("\n".join(lines) + "\n")
 
 
 def check_prepared_token(checks, module, folder):
     """The script that prepares a token, and that its PIN and key are there."""
-    lines = block_with("docs/module.md", "1 InitToken 3132333435363738\n")
-    with open(os.path.join(folder, "prepare.script"), "w") as script:
-        script.write("\n".join(lines) + "\n")
+    write_prepare_script(folder)
     ran = run(f"pkcs11-tool --module {module} --login --pin 123456 --list-objects", folder,
               OSPREYRACK_SCRIPT="prepare.script")
     checks.equal(ran.returncode, 0, "the application on a prepared token")
     checks.check("a key" in ran.stdout, "the prepared key is there")
+
+
+def check_recording(checks, module, ck_cases, folder):
+    """The run that the page on recorded runs begins with, its journal, and that it is a case."""
+    page = "docs/recorded_runs.md"
+    write_prepare_script(folder)
+    check_commands(checks, page, "OSPREYRACK_JOURNAL=run.cases", module, folder)
+    check_journal(checks, page, "1 SignInit ", os.path.join(folder, "run.cases"))
+    support.audit(checks, ck_cases, os.path.join(folder, "run.cases"))
 
 
 def check_recorded_run(checks, ck_cases, folder):
@@ -198,6 +224,9 @@ def main():
     with tempfile.TemporaryDirectory() as folder:
         check_prepared_token(checks, module, folder)
     checks.end("the script of docs/module.md")
+    with tempfile.TemporaryDirectory() as folder:
+        check_recording(checks, module, ck_cases, folder)
+    checks.end("the run of docs/recorded_runs.md")
     return checks.status()
 
 
