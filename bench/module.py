@@ -11,10 +11,10 @@ info beside one that digests messages of 1 MiB: of these waits the median of the
 the longest of all is printed below it.
 
 The module may take no longer than SoftHSM, by one thread and by four. It may take no longer than
-NSS in the rows in which the token's call alone takes no longer than NSS's by one thread; these rows
-are judged by four threads, too. Its own share of a call without bytes may be at most 100 ns, and
-the wait at most 200 us. Where one isn't so, or SoftHSM or NSS isn't there to be compared, that is
-printed at the end, and the status is 1.
+NSS, by one thread and by four, in the rows in which the token's own call takes no longer than NSS's
+by one thread. Its own share of a call without bytes may be at most 100 ns, and the wait at most 200
+us. Where one isn't so, or SoftHSM or NSS isn't there to be compared, that is printed at the end,
+and the status is 1.
 """
 import collections
 import glob
@@ -127,8 +127,8 @@ def token_times():
 
 
 def rows_of_nss(times, token):
-    """The rows that are judged beside NSS: those in which the token's call alone takes no longer
-    than NSS's, by one thread."""
+    """The rows that are judged beside NSS: those in which the token's own call takes no longer than
+    NSS's, by one thread."""
     nss = times.get("NSS", {})
     return [name for name, time in token.items() if time <= nss.get(name, 0)]
 
@@ -142,15 +142,15 @@ def slower_than(times, peer, rows, threads):
 
 def faults_of(times, token):
     """What isn't as wanted. `times` has the times of the module and of its peers by one thread and
-    by four, and `token` those of the token's calls alone, by one thread."""
+    by four, and `token` those of the token's own calls by one thread."""
     for peer in PEERS:
         if peer not in times[1]:
             yield f"{peer} isn't there: not compared"
-    judged_by_nss = rows_of_nss(times[1], token)
+    beside_nss = rows_of_nss(times[1], token)
     for threads, measured in times.items():
         rounds = [name for name in measured["module"] if not name.startswith(WAIT)]
         yield from slower_than(measured, "SoftHSM", rounds, threads)
-        yield from slower_than(measured, "NSS", judged_by_nss, threads)
+        yield from slower_than(measured, "NSS", beside_nss, threads)
         if measured["module"].get(MEDIAN_WAIT, 0) > MOST_WAIT:
             yield f"{MEDIAN_WAIT}: more than {MOST_WAIT} ns"
 

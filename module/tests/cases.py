@@ -60,7 +60,7 @@ def reason_to_skip(line, reply):
         return "bad lines"
     words = line.split(" ")
     if words[1] == "GenerateKey" and key_length(words[4]) != len(bytes_of(words[5])):
-        return "keys of more or fewer random bytes than CKA_VALUE_LEN says"
+        return "generations of keys by more or fewer random bytes than CKA_VALUE_LEN says"
     return None
 
 
