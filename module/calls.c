@@ -15,9 +15,6 @@ static const CK_ULONG longest_value = 1 << 30;
 /* From how many entries on the token's journal in memory is cut. */
 static const uint64_t cut_from = 1000;
 
-/* No cancel's line is longer: a caller, the call's name, a session and flags. */
-static const size_t longest_cancel = 64;
-
 uint64_t journals_begun;
 
 /* Outside the library's state, since it is set without the lock. */
@@ -330,12 +327,9 @@ static void drop_long_lists(void) {
 }
 
 /* Room in the token's journal for a call's entry, beside those of the cancels that may have to be
- * made, and for the line of a cancel. A call takes room for one entry at the most, and one that
- * found no memory takes none. */
+ * made. A call takes room for one entry at the most, and one that found no memory takes none. */
 static bool reserve_room(void) {
-    return library.updates == 0
-        || (ospreyrack_reserve(&library.token, library.updates + 1)
-            && buffer_reserve(&library.line, longest_cancel));
+    return library.updates == 0 || ospreyrack_reserve(&library.token, library.updates + 1);
 }
 
 /* The journal can be cut only where no session is open: after a call that needs none, or that was
@@ -364,9 +358,11 @@ CK_RV make_call(const struct call *call) {
     return make_checked_call(call);
 }
 
-/* There is room for the entry in the token's journal, for its line, and in the file's text, which
- * had the longer line of a piece before. Buffers keep their room until C_Finalize. If the cancel
- * found no memory all the same, no later call is answered, so that nobody finishes the message. */
+/* There is room for the entry in the token's journal. There is room for its line in the buffer of
+ * lines, which had that of the operation's start (a buffer has room for 256 bytes at least), and in
+ * the file's text, which had the longer line of a piece before. Buffers keep their room until
+ * C_Finalize. If the cancel found no memory all the same, no later call is answered, so that nobody
+ * finishes the message. */
 void cancel_operation(CK_ULONG session, CK_FLAGS kind) {
     const struct call cancel = {.name = SESSION_CANCEL, .session = session, .flags = kind};
     if (!library.journal.has_failed && make_checked_call(&cancel) == CKR_HOST_MEMORY)

@@ -13,10 +13,9 @@ enum { SHORTEST_LONG_MESSAGE = 4096 };
 
 struct work {
     struct message_call call;
-    bool has_line;      /* a journal file was kept, and the call is that of the line */
+    bool has_line;      /* a journal file is kept, and the call is that of the line */
     struct buffer line; /* the call's line, for the journal file */
-    bool has_begun;
-    uint64_t journals; /* how many journals had begun when the work was */
+    uint64_t journals;  /* how many journals had begun when all this was so */
     max_align_t room[];
 };
 
@@ -40,30 +39,20 @@ static bool give_call(struct work *work, const struct call *call, uint32_t calle
 }
 
 /* Makes the call's work, for a thread of this number. Answers false without memory. */
-static bool make_work(struct call *call, bool has_line, uint32_t caller) {
+static bool make_work(struct call *call, bool has_line, uint64_t journals, uint32_t caller) {
     struct work *work = malloc(sizeof *work + ospreyrack_message_size());
     if (work == NULL)
         return false;
-    *work = (struct work){.call.at = work->room, .has_line = has_line};
+    *work = (struct work){.call.at = work->room, .has_line = has_line, .journals = journals};
     ospreyrack_message_make(work->room);
     call->work = work;
     return give_call(work, call, caller);
 }
 
-/* Whether the work can be used. While the lock was free, another thread may have initialized the
- * library anew, with a journal file or without one, or may have cut the token's journal. */
+/* Whether the work can be used: while the lock was free, no other thread has initialized the
+ * library anew or cut the token's journal. */
 static bool is_usable(const struct work *work) {
-    return work->has_line == library.journal.is_kept
-        && (!work->has_begun || work->journals == journals_begun);
-}
-
-/* Begins the work under the lock, and answers whether there is work to be done. */
-static bool begin_work(struct work *work) {
-    if (!is_usable(work))
-        return false;
-    work->journals = journals_begun;
-    work->has_begun = ospreyrack_begin_work(&library.token, &work->call);
-    return work->has_begun;
+    return work->journals == journals_begun;
 }
 
 CK_RV enter_with_work(struct call *call) {
@@ -71,11 +60,13 @@ CK_RV enter_with_work(struct call *call) {
     if (code != CKR_OK || !is_long(call))
         return code;
     bool has_line = library.journal.is_kept;
+    uint64_t journals = journals_begun;
     uint32_t caller = caller_number();
     leave(CKR_OK);
-    call->lacks_memory = !make_work(call, has_line, caller);
+    call->lacks_memory = !make_work(call, has_line, journals, caller);
     code = enter();
-    if (code != CKR_OK || call->lacks_memory || !begin_work(call->work))
+    if (code != CKR_OK || call->lacks_memory || !is_usable(call->work)
+        || !ospreyrack_begin_work(&library.token, &call->work->call))
         return code;
     leave(CKR_OK);
     ospreyrack_take_in(&call->work->call);
