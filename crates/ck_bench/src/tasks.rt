@@ -1,7 +1,7 @@
 //! What a caller of a shared token does while it is measured.
 use anyhow::{Context, bail, ensure};
 use ck_journal::{AttributeQuery, Body, Call, READ_WRITE, Reply};
-use ck_objects::{Attribute, DATA, Template};
+use ck_objects::{Attribute, Class, Template};
 use ck_shared::{Ask, Caller, CallerWork, Gate, Status, TokenId};
 use ck_types::{Bytes, Mechanism, NoMemory, Rv, SHA256, Sequence};
 use std::alloc::Global;
@@ -86,7 +86,7 @@ fn is_open(status: Option<Status>) -> bool {
 /// The creation of a data object with a label of 8 bytes.
 fn creation(alloc: Global, session: u64) -> Result<Call, NoMemory> {
     let template = Template::new(alloc)
-        .number(Attribute::Class, DATA)?
+        .class(Class::Data)?
         .bytes(Attribute::Label, b"a label ")?;
     Ok(Call::CreateObject { session, template })
 }

@@ -4,12 +4,12 @@ pub mod Asked
 pub mod Following
 pub mod KnownLemmas
 pub mod Lengths
+pub mod Making
+pub mod MakingCalls
 pub mod NewAccounts
 pub mod Opening
 pub mod Places
-pub mod Playing
 pub mod Prefixes
 pub mod Running
 pub mod Settling
 pub mod Taking
-pub mod Turning

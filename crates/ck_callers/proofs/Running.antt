@@ -1,4 +1,4 @@
--- Scripts that were run are scripts that were played
+-- What a run means for scripts of calls, and for scripts of steps
 use Rattle.std.proofs.Common.{Bool, true, false, List, [], ◌∷◌}
 use Rattle.std.specs.List.{AllZip}
 use Rattle.std.specs.Prelude.{MatchBool, vec_items}
@@ -6,12 +6,12 @@ use Rattle.ck_types.specs.TokenLimits.{Ranges}
 use Rattle.ck_journal.specs.declared.calls.Call.{Call}
 use Rattle.ck_journal.specs.declared.replies.Reply.{Reply}
 use Rattle.ck_callers.specs.Callers.{HasCalled}
-use Rattle.ck_callers.specs.Runs.{HasRun, IsPlayed, AreTaken}
+use Rattle.ck_callers.specs.Runs.{HasRun, AreMade, AreTaken}
 use Rattle.ck_callers.specs.Steps.{HasStepped, IsCall}
 use Rattle.ck_callers.specs.declared.scripts.Script.{Script}
 use Rattle.ck_callers.specs.declared.steps.Answered.{Answered}
 use Rattle.ck_callers.specs.declared.steps.Step.{Step}
-use Rattle.ck_callers.proofs.Playing.{played}
+use Rattle.ck_callers.proofs.MakingCalls.{made_calls}
 use Rattle.ck_callers.proofs.Taking.{taken}
 
 all_zip_weaker : {A B : Type 0} (P Q : A → B → Type 0) → ((x : A) (y : B) → P x y → Q x y)
@@ -27,12 +27,12 @@ match_weaker P Q R true then holds = then holds
 match_weaker P Q R false then holds = holds
 
 module _ {K : Type 0} (limits : Ranges) where
-  script_played : (old new : Script K Call Reply) → HasRun (HasCalled limits) (λ call. Unit {0}) old
+  script_made : (old new : Script K Call Reply) → HasRun (HasCalled limits) (λ call. Unit {0}) old
       new
-      → IsPlayed old new
-  script_played old new = match_weaker _ _ _ new.started (λ made. (
-    played limits old.caller (vec_items old.steps) (vec_items new.replies) new.outcome new.caller
-        made.0,
+      → AreMade old new
+  script_made old new = match_weaker _ _ _ new.started (λ made. (
+    made_calls limits old.caller (vec_items old.steps) (vec_items new.replies) new.outcome
+        new.caller made.0,
     made.1,
   ))
 
@@ -44,9 +44,9 @@ module _ {K : Type 0} (limits : Ranges) where
     made.1,
   ))
 
-  pub all_played : (old new : List (Script K Call Reply))
-      → AllZip (HasRun (HasCalled limits) (λ call. Unit {0})) old new → AllZip IsPlayed old new
-  all_played = all_zip_weaker (HasRun (HasCalled limits) (λ call. Unit {0})) IsPlayed script_played
+  pub all_made : (old new : List (Script K Call Reply))
+      → AllZip (HasRun (HasCalled limits) (λ call. Unit {0})) old new → AllZip AreMade old new
+  all_made = all_zip_weaker (HasRun (HasCalled limits) (λ call. Unit {0})) AreMade script_made
 
   pub all_taken : (old new : List (Script K Step Answered))
       → AllZip (HasRun (HasStepped limits) IsCall) old new → AllZip (AreTaken limits) old new

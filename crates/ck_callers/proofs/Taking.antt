@@ -15,17 +15,17 @@ use Rattle.ck_callers.specs.Asks.{call_of, reply_of}
 use Rattle.ck_callers.specs.Callers.{CallerState, HasCalled, entry_by}
 use Rattle.ck_callers.specs.declared.asks.Ask.{Ask}
 use Rattle.ck_callers.specs.declared.asks.Status.{Status}
-use Rattle.ck_callers.specs.Scripts.{entries_after, HasPlayed}
+use Rattle.ck_callers.specs.NextSteps.{EndsAt, HasMade}
+use Rattle.ck_callers.specs.Scripts.{entries_after, HasMadeCalls}
 use Rattle.ck_callers.specs.Steps.{HasAsked, HasStepped, HasTaken, IsCall, Rises, AreAnswersIn}
 use Rattle.ck_callers.specs.Steps.{calls_of, replies_of, front_at}
-use Rattle.ck_callers.specs.Turns.{EndsAt, HasMade}
 use Rattle.ck_callers.specs.declared.steps.Answered.{Answered}
 use Rattle.ck_callers.specs.declared.steps.Answered.TheVariants as answered
 use Rattle.ck_callers.specs.declared.steps.Step.{Step}
 use Rattle.ck_callers.specs.declared.steps.Step.TheVariants as step
 use Rattle.ck_callers.proofs.KnownLemmas.{longer_front}
 use Rattle.ck_callers.proofs.Places.{entry_at-front, front_at-front}
-use Rattle.ck_callers.proofs.Playing.{played_none, played_call}
+use Rattle.ck_callers.proofs.MakingCalls.{made_no_calls, made_call}
 
 -- ---- where no step is answered
 
@@ -41,7 +41,7 @@ taken_none : (limits : Ranges) (old : CallerState) (steps : List Step)
     (new : CallerState) → new ≡ old → EndsAt IsCall steps outcome
     → HasTaken limits old steps [] outcome new
 taken_none limits old steps outcome new same end = record {
-  calls = played_none old (λ call. Unit {0}) (calls_of steps) outcome new same
+  calls = made_no_calls old (λ call. Unit {0}) (calls_of steps) outcome new same
       (calls_end steps outcome end);
   numbers = ap (λ c. entry_count c.seen) (sym same);
   places = tt;
@@ -73,7 +73,7 @@ module _ (limits : Ranges) (old : CallerState) (now : CallerState) (n : ℕ)
     taken_call : HasTaken limits old (step.Call call ∷ steps) (answered.Reply reply n ∷ answers)
         outcome new
     taken_call = record {
-      calls = played_call limits old call reply now does (calls_of steps) (replies_of answers)
+      calls = made_call limits old call reply now does (calls_of steps) (replies_of answers)
           outcome new rest.calls;
       numbers = (rises_reply, rises_rest);
       places = (
@@ -90,8 +90,8 @@ module _ (limits : Ranges) (old : CallerState) (now : CallerState) (n : ℕ)
     same_number : now.number ≡ old.number
     same_number = ap (λ c. c.number) does.same
 
-    played_ask : HasPlayed old (calls_of steps) (replies_of answers) outcome new
-    played_ask =
+    made_beside_ask : HasMadeCalls old (calls_of steps) (replies_of answers) outcome new
+    made_beside_ask =
         let count : now.count ≡ old.count = ap (λ c. c.count) does.same in record {
           number = rest.calls.number ∙ same_number;
           count = omega (arith, rest.calls.count);
@@ -117,7 +117,7 @@ module _ (limits : Ranges) (old : CallerState) (now : CallerState) (n : ℕ)
         → HasTaken limits old (step.Ask ask ∷ steps) (answered.Status status n ∷ answers) outcome
         new
     taken_ask rises = record {
-      calls = played_ask;
+      calls = made_beside_ask;
       numbers = rises;
       places = (
         place_of_status,
@@ -140,7 +140,7 @@ module _ (limits : Ranges) (old : CallerState) (now : CallerState) (n : ℕ)
       )
 
 module _ (limits : Ranges) where
-  -- steps that were made in turn were taken
+  -- steps that were made one after the other were taken
   pub taken : (old : CallerState) (steps : List Step) (answers : List Answered)
       (outcome : Result (Unit {0}) NoMemory)
       (new : CallerState) → HasMade (HasStepped limits) IsCall old steps answers outcome new

@@ -2,9 +2,9 @@ pub mod Accounts
 pub mod Asks
 pub mod Callers
 pub mod KnownHistories
+pub mod NextSteps
 pub mod Rules
 pub mod Runs
 pub mod Scripts
 pub mod Shares
 pub mod Steps
-pub mod Turns

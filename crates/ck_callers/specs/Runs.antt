@@ -1,12 +1,12 @@
--- Scripts that were played
+-- Scripts that were run
 use Rattle.std.specs.Prelude.{◌≡◌, [], MatchBool, vec_items}
 use Rattle.ck_types.specs.TokenLimits.{Ranges}
 use Rattle.ck_journal.specs.declared.calls.Call.{Call}
 use Rattle.ck_journal.specs.declared.replies.Reply.{Reply}
 use Rattle.ck_callers.specs.Callers.{CallerState}
-use Rattle.ck_callers.specs.Scripts.{HasPlayed}
+use Rattle.ck_callers.specs.NextSteps.{HasMade}
+use Rattle.ck_callers.specs.Scripts.{HasMadeCalls}
 use Rattle.ck_callers.specs.Steps.{HasTaken}
-use Rattle.ck_callers.specs.Turns.{HasMade}
 use Rattle.ck_callers.specs.declared.scripts.Script.{Script}
 use Rattle.ck_callers.specs.declared.steps.Answered.{Answered}
 use Rattle.ck_callers.specs.declared.steps.Step.{Step}
@@ -18,10 +18,10 @@ IsLeft old new =
     × (vec_items new.replies ≡ []) × (new.outcome ≡ old.outcome)
 
 -- the caller of the script has made its calls in a thread, and none are left
-abbrev pub IsPlayed : {K : Type 0} → Script K Call Reply → Script K Call Reply → Type 0
-IsPlayed old new =
+abbrev pub AreMade : {K : Type 0} → Script K Call Reply → Script K Call Reply → Type 0
+AreMade old new =
     MatchBool new.started
-    (HasPlayed old.caller (vec_items old.steps) (vec_items new.replies) new.outcome new.caller
+    (HasMadeCalls old.caller (vec_items old.steps) (vec_items new.replies) new.outcome new.caller
     × (vec_items new.steps ≡ []))
     (IsLeft old new)
 

@@ -17,7 +17,7 @@ entries_after number (call ∷ calls) (reply ∷ replies) before =
 
 -- the caller has made the calls in their order, all of them or those before the first that found no
 -- memory: it goes on from all that it knew, and has one entry more for each reply
-pub record HasPlayed (old : CallerState) (calls : List Call) (replies : List Reply)
+pub record HasMadeCalls (old : CallerState) (calls : List Call) (replies : List Reply)
     (outcome : Result (Unit {0}) NoMemory) (new : CallerState) : Type 0 where
   pub number : new.number ≡ old.number
   pub count : new.count ≡ old.count + length replies

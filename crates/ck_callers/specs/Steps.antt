@@ -12,8 +12,8 @@ use Rattle.ck_callers.specs.Asks.{call_of, reply_of}
 use Rattle.ck_callers.specs.Callers.{CallerState, HasCalled, entry_by}
 use Rattle.ck_callers.specs.declared.asks.Ask.{Ask}
 use Rattle.ck_callers.specs.declared.asks.Status.{Status}
-use Rattle.ck_callers.specs.Scripts.{HasPlayed}
-use Rattle.ck_callers.specs.Turns.{EndsAt}
+use Rattle.ck_callers.specs.NextSteps.{EndsAt}
+use Rattle.ck_callers.specs.Scripts.{HasMadeCalls}
 use Rattle.ck_callers.specs.declared.steps.Answered.{Answered}
 use Rattle.ck_callers.specs.declared.steps.Answered.TheVariants as answered
 use Rattle.ck_callers.specs.declared.steps.Step.{Step}
@@ -86,7 +86,7 @@ Rises n (answered.Status None m ∷ answers) last = (n ≡ m) × Rises m answers
 pub record HasTaken (limits : Ranges) (old : CallerState) (steps : List Step)
     (answers : List Answered) (outcome : Result (Unit {0}) NoMemory) (new : CallerState)
     : Type 0 where
-  pub calls : HasPlayed old (calls_of steps) (replies_of answers) outcome new
+  pub calls : HasMadeCalls old (calls_of steps) (replies_of answers) outcome new
   pub numbers : Rises (entry_count old.seen) answers (entry_count new.seen)
   pub places : AreAnswersIn limits old.number new.seen steps answers
   pub end : EndsAt IsCall (drop (length answers) steps) outcome

@@ -287,7 +287,7 @@ impl<K: TokenId> Account<K> {
     }
 
     /// How many calls of the caller are counted.
-    pub fn count(&self) -> u64
+    pub(crate) fn count(&self) -> u64
         ensures { result ≡ self.now.count }
     {
         self.count

@@ -16,13 +16,13 @@ mod histories;
 mod identity;
 mod known_histories;
 mod ledgers;
+mod next_steps;
 mod openings;
 mod rules;
 mod runs;
 mod scripts;
 mod slots;
 mod steps;
-mod turns;
 
 pub use asks::{Ask, Status};
 pub use boards::BoardCopy;

@@ -1,15 +1,15 @@
 ghost use Rattle.std.specs.List.{AllZip};
 ghost use Rattle.std.specs.Prelude.{◌≡◌, ◌<◌, ◌≤◌, [], ◌∷◌, ◌++◌, vec_items, vec_len, vec_capacity};
 ghost use Rattle.std.specs.Thread.{IsSync};
-ghost use Rattle.ck_callers.specs.Runs.{HasRun, AreTaken, IsPlayed};
-ghost use Rattle.ck_callers.specs.Turns.{HasMade};
+ghost use Rattle.ck_callers.specs.NextSteps.{HasMade};
+ghost use Rattle.ck_callers.specs.Runs.{HasRun, AreTaken, AreMade};
 
 use crate::callers::Caller;
 use crate::gates::Gate;
 use crate::identity::TokenId;
+use crate::next_steps::NextStep;
 use crate::scripts::Script;
 use crate::steps::{Answered, Step};
-use crate::turns::Turn;
 use ck_types::NoMemory;
 use std::alloc::Global;
 use std::snapshot::Snapshot;
@@ -19,7 +19,7 @@ use std::thread::{Promise, Threads};
 use std::{mem, thread};
 
 /// Takes the steps in their order, up to the first that finds no memory.
-fn take_steps<K: TokenId, S: Turn<K, A>, A: Drop, G: Gate<K>, W: Wait>(
+fn take_steps<K: TokenId, S: NextStep<K, A>, A: Drop, G: Gate<K>, W: Wait>(
     rt: &W,
     alloc: Global,
     gate: &G,
@@ -38,8 +38,8 @@ fn take_steps<K: TokenId, S: Turn<K, A>, A: Drop, G: Gate<K>, W: Wait>(
     Ok(())
 }
 
-/// Plays a script.
-fn play_script<K: TokenId, S: Turn<K, A>, A: Drop, G: Gate<K>, W: Wait>(
+/// Runs a script that has a thread.
+fn run_started<K: TokenId, S: NextStep<K, A>, A: Drop, G: Gate<K>, W: Wait>(
     rt: &W,
     alloc: Global,
     gate: &G,
@@ -62,8 +62,8 @@ fn play_script<K: TokenId, S: Turn<K, A>, A: Drop, G: Gate<K>, W: Wait>(
     );
 }
 
-/// Plays a script where it has a thread. Else it stays as it is, without replies.
-fn run_script<K: TokenId, S: Turn<K, A>, A: Drop, G: Gate<K>, W: Wait>(
+/// Runs a script where it has a thread. Else it stays as it is, without replies.
+fn run_script<K: TokenId, S: NextStep<K, A>, A: Drop, G: Gate<K>, W: Wait>(
     rt: &W,
     alloc: Global,
     gate: &G,
@@ -76,7 +76,7 @@ fn run_script<K: TokenId, S: Turn<K, A>, A: Drop, G: Gate<K>, W: Wait>(
     script.replies.clear();
     script.started = has_thread.load(Ordering::SeqCst);
     if script.started {
-        play_script(rt, alloc, gate, &mut script);
+        run_started(rt, alloc, gate, &mut script);
     }
     script
 }
@@ -85,7 +85,7 @@ fn run_script<K: TokenId, S: Turn<K, A>, A: Drop, G: Gate<K>, W: Wait>(
 #[derive(Drop)]
 struct RunOf<K: TokenId, S: Drop, A: Drop>(Snapshot<Script<K, S, A>>);
 
-impl<K: TokenId, S: Turn<K, A>, A: Drop> Promise<Script<K, S, A>> for RunOf<K, S, A> {
+impl<K: TokenId, S: NextStep<K, A>, A: Drop> Promise<Script<K, S, A>> for RunOf<K, S, A> {
     ghost use Rattle.ck_callers.specs.Runs.{HasRun};
 
     ghost kept_by = { λ run script. HasRun S.does S.may_fail run.0.value script };
@@ -96,7 +96,7 @@ impl<K: TokenId, S: Turn<K, A>, A: Drop> Promise<Script<K, S, A>> for RunOf<K, S
 // handles of threads.
 fn run_all<
     K: TokenId + Send + Sync,
-    S: Turn<K, A> + Send,
+    S: NextStep<K, A> + Send,
     A: Drop + Send,
     G: Gate<K> + Sync,
     R: Threads + Wait + Sync,
@@ -129,7 +129,7 @@ fn run_all<
             let script = match run {
                 Ok(thread) => thread.join(rt),
                 Err(refused) => {
-                    // Only a call of the closure gives the script back, which isn't played then.
+                    // Only a call of the closure gives the script back, which isn't run then.
                     has_thread.store(false, Ordering::SeqCst);
                     (refused.value)()
                 }
@@ -149,7 +149,7 @@ pub fn run_scripts<K: TokenId + Send + Sync, G: Gate<K> + Sync, R: Threads + Wai
     gate: &G,
     scripts: Vec<Script<K>>,
 ) -> Vec<Script<K>>
-    ensures { AllZip IsPlayed scripts.items result.items }
+    ensures { AllZip AreMade scripts.items result.items }
 {
     run_all(rt, alloc, gate, scripts)
 }

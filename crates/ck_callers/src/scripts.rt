@@ -21,7 +21,7 @@ pub struct Script<K: TokenId, S: Drop = Call, A: Drop = Reply> {
 impl<K: TokenId, S: Drop, A: Drop> Script<K, S, A> {
     ghost use Rattle.std.specs.Prelude.{◌≡◌, [], false, Ok, IfOk, IfErr};
 
-    /// A script that is still to be played. Where there is no room for the replies, the caller and
+    /// A script that is still to be run. Where there is no room for the replies, the caller and
     /// the steps come back.
     pub fn new(
         alloc: Global,
@@ -47,7 +47,7 @@ impl<K: TokenId, S: Drop, A: Drop> Script<K, S, A> {
         }
     }
 
-    /// Whether it was played in a thread of its own: not before `run_scripts` or `run_steps`, nor
+    /// Whether it was run in a thread of its own: not before `run_scripts` or `run_steps`, nor
     /// where these could have no thread for it.
     pub fn started(&self) -> bool
         ensures { result ≡ self.now.started }
@@ -55,7 +55,7 @@ impl<K: TokenId, S: Drop, A: Drop> Script<K, S, A> {
         self.started
     }
 
-    /// The replies to the steps that were taken when the script was played, in their order.
+    /// The replies to the steps that were taken when the script was run, in their order.
     pub fn replies(&self) -> &[A]
         ensures { result.now ≡ self.now.replies.items }
     {

@@ -2,7 +2,7 @@ use crate::asks::{Ask, Status};
 use crate::callers::Caller;
 use crate::gates::Gate;
 use crate::identity::TokenId;
-use crate::turns::Turn;
+use crate::next_steps::NextStep;
 use ck_journal::{Call, Reply};
 use ck_types::NoMemory;
 use std::alloc::Global;
@@ -23,7 +23,7 @@ pub enum Answered {
     Status { status: Option<Status>, seen: u64 },
 }
 
-impl<K: TokenId> Turn<K, Reply> for Call {
+impl<K: TokenId> NextStep<K, Reply> for Call {
     ghost use Rattle.ck_callers.specs.Callers.{HasCalled};
 
     ghost does = { HasCalled K.limits };
@@ -41,7 +41,7 @@ impl<K: TokenId> Turn<K, Reply> for Call {
     }
 }
 
-impl<K: TokenId> Turn<K, Answered> for Step {
+impl<K: TokenId> NextStep<K, Answered> for Step {
     ghost use Rattle.ck_callers.specs.Steps.{HasStepped, IsCall};
 
     ghost does = { HasStepped K.limits };

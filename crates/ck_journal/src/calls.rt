@@ -60,7 +60,7 @@ pub enum Call {
     SessionCancel {
         session: u64,
         /// The kinds of operations that end: CKF_DIGEST (0x400), CKF_SIGN (0x800), CKF_VERIFY
-        /// (0x2000), or some of these together.
+        /// (0x2000), or some of these together (`OperationKind::flag`).
         flags: u64,
     },
     CreateObject {

@@ -64,7 +64,7 @@ impl EntryList {
         self.capacity - self.len
     }
 
-    /// The entry at this place, from 0.
+    /// The entry at this position, from 0.
     pub(crate) fn get(&self, index: usize) -> Option<&Entry>
         ensures { option_copied result ≡ slice_get self.now.items index }
     {
@@ -115,7 +115,7 @@ impl EntryList {
     {
         Entries {
             entries: self,
-            places: 0..self.len(),
+            positions: 0..self.len(),
         }
     }
 }
@@ -124,8 +124,8 @@ impl EntryList {
 #[derive(Drop)]
 pub struct Entries<'a> {
     entries: &'a EntryList,
-    /// The places of those that are left.
-    places: Range<usize>,
+    /// The positions of those that are left.
+    positions: Range<usize>,
 }
 
 impl<'a> Model for Entries<'a> {
@@ -135,9 +135,9 @@ impl<'a> Model for Entries<'a> {
     // the entries that are left
     ghost Value = { List Entry };
 
-    ghost view = { λ e. drop e.places.start e.entries.now.items };
+    ghost view = { λ e. drop e.positions.start e.entries.now.items };
 
-    ghost invariant = { λ e. e.places.end ≡ length e.entries.now.items };
+    ghost invariant = { λ e. e.positions.end ≡ length e.entries.now.items };
 }
 
 impl<'a> Iterator for Entries<'a> {
@@ -150,7 +150,7 @@ impl<'a> Iterator for Entries<'a> {
     ghost remaining = { item_count (λ e. e) };
 
     fn next(&mut self) -> Option<&'a Entry> {
-        let place = self.places.next()?;
-        self.entries.get(place)
+        let position = self.positions.next()?;
+        self.entries.get(position)
     }
 }

@@ -16,7 +16,7 @@ impl OperationKind {
 
     /// The flag by which C_SessionCancel names operations of the kind (CKF_DIGEST, CKF_SIGN,
     /// CKF_VERIFY; PKCS #11 Base 3.0, Session management functions).
-    fn flag(self) -> u64
+    pub fn flag(self) -> u64
         ensures { result ≡ kind_flag self }
     {
         match self {

@@ -37,7 +37,7 @@ impl Running {
     }
 
     /// The hash function.
-    pub fn hash(&self) -> Hash
+    pub(crate) fn hash(&self) -> Hash
         ensures { (hash : Hash) (message : List ℕ) → Holds hash self.now message → result ≡ hash }
     {
         match &self.hasher {

@@ -18,6 +18,11 @@ abbrev pub flag_bytes : Bool → List ℕ
 flag_bytes false = 0 ∷ []
 flag_bytes true = 1 ∷ []
 
+-- the number of a class: CKO_DATA or CKO_SECRET_KEY
+abbrev pub class_number : Class → ℕ
+class_number class.Data = 0
+class_number class.SecretKey = 4
+
 -- a value in a template is of a form: a flag is one byte 0 or 1, a number 8 bytes; a class is the
 -- number 0 or 4, a key type 16, and a key state 0 or 1
 abbrev pub is_of_form : Form → List ℕ → Bool

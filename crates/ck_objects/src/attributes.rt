@@ -1,7 +1,7 @@
 ghost use Rattle.std.specs.Prelude.{◌≡◌, Some, IfSome};
 ghost use Rattle.ck_objects.specs.declared.attributes.Class.TheVariants as class;
 
-use crate::forms::Form;
+use crate::forms::{DATA, Form, SECRET_KEY};
 
 /// An object's class (CK_OBJECT_CLASS; PKCS #11 Base 3.0, Object types): CKO_DATA or
 /// CKO_SECRET_KEY.
@@ -12,7 +12,18 @@ pub enum Class {
 }
 
 impl Class {
+    ghost use Rattle.ck_objects.specs.Attributes.{class_number};
     ghost use Rattle.ck_objects.specs.Records.{is_key_class};
+
+    /// The number of the class, as templates and objects have it.
+    pub(crate) fn number(self) -> u64
+        ensures { result ≡ class_number self }
+    {
+        match self {
+            Class::Data => DATA,
+            Class::SecretKey => SECRET_KEY,
+        }
+    }
 
     pub(crate) fn is_key(self) -> bool
         ensures { result ≡ is_key_class self }

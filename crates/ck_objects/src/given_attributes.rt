@@ -1,6 +1,6 @@
 use crate::attribute_values::AttributeValue;
-use crate::attributes::Attribute;
-use crate::forms::{GENERIC_SECRET, SECRET_KEY};
+use crate::attributes::{Attribute, Class};
+use crate::forms::GENERIC_SECRET;
 use crate::items::Item;
 use crate::templates::Template;
 use ck_types::{NoMemory, Sequence};
@@ -10,7 +10,7 @@ use std::alloc::Global;
 impl Template {
     ghost use Rattle.std.specs.Prelude.{◌≡◌, ◌++◌, ◌∷◌, [], IfOk};
     ghost use Rattle.ck_types.specs.Numbers.{number_bytes};
-    ghost use Rattle.ck_objects.specs.Attributes.{type_of, flag_bytes};
+    ghost use Rattle.ck_objects.specs.Attributes.{type_of, flag_bytes, class_number};
     ghost use Rattle.ck_objects.specs.declared.attributes.Attribute.TheVariants as attribute;
 
     /// A template that gives no attribute. It takes no memory.
@@ -35,7 +35,7 @@ impl Template {
         } ∷ record { kind = type_of attribute.Value; value = value.now } ∷ []) }
     {
         Template::new(alloc)
-            .number(Attribute::Class, SECRET_KEY)?
+            .class(Class::SecretKey)?
             .number(Attribute::KeyType, GENERIC_SECRET)?
             .bytes(Attribute::Value, value)
     }
@@ -64,8 +64,18 @@ impl Template {
         self.bytes(attribute, [u8::from(value)].as_slice())
     }
 
+    /// The template with one item more: the class (CKA_CLASS).
+    pub fn class(self, class: Class) -> Result<Template, NoMemory>
+        ensures { IfOk result (λ template. template.items ≡ self.items ++ record {
+          kind = type_of attribute.Class;
+          value = number_bytes (class_number class);
+        } ∷ []) }
+    {
+        self.number(Attribute::Class, class.number())
+    }
+
     /// The template with one item more: this attribute, with a number as its value (CK_ULONG), such
-    /// as `SECRET_KEY` for the class or `GENERIC_SECRET` for the key type.
+    /// as `GENERIC_SECRET` for the key type.
     pub fn number(self, attribute: Attribute, value: u64) -> Result<Template, NoMemory>
         ensures { IfOk result (λ template. template.items ≡ self.items
             ++ record { kind = type_of attribute; value = number_bytes value } ∷ []) }

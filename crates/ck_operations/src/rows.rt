@@ -17,7 +17,7 @@ pub(crate) fn find_operation(
     rows.iter().find(|row| row.is(kind, session))
 }
 
-fn place_of(rows: &[Operation], kind: OperationKind, session: u64) -> Option<usize>
+fn position_of(rows: &[Operation], kind: OperationKind, session: u64) -> Option<usize>
     ensures { result ≡ position (is_operation kind session) rows.now }
 {
     rows.iter().position(|row| row.is(kind, session))
@@ -38,8 +38,8 @@ pub(crate) fn add_piece(
       entries = entries;
     }) rows.old.items rows.new.items }
 {
-    if let Some(place) = place_of(rows, kind, session) {
-        let row = &mut rows[place];
+    if let Some(position) = position_of(rows, kind, session) {
+        let row = &mut rows[position];
         row.add_piece(bytes, ready, entries);
     }
 }

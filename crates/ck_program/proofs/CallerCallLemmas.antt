@@ -17,7 +17,7 @@ use Rattle.ck_journal.specs.Histories.{History, start}
 use Rattle.ck_journal.proofs.FrontLemmas.{front_trans}
 use Rattle.ck_callers.specs.Accounts.{AccountState}
 use Rattle.ck_callers.specs.Callers.{CallerState, IsSettled, are_all, new_caller}
-use Rattle.ck_callers.specs.Runs.{IsPlayed}
+use Rattle.ck_callers.specs.Runs.{AreMade}
 use Rattle.ck_callers.specs.Scripts.{entries_after}
 use Rattle.ck_callers.specs.declared.scripts.Script.{Script}
 use Rattle.ck_program.specs.CallerCalls.{calls_by, IsNewCaller, HasMadeAll, HasEntriesOf}
@@ -69,7 +69,7 @@ in_thread P Q false is holds = cc is
 
 -- a script that was played from its first call on
 pub played_all : {K : Type 0} (calls : List (ℕ × Call)) (old new : Script K Call Reply)
-    → IsUnplayed calls old → IsPlayed old new → IsPlayedAll calls new
+    → IsUnplayed calls old → AreMade old new → IsPlayedAll calls new
 played_all calls old new unplayed played started done =
     let p = (in_thread _ _ new.started started played).0 in
     let all = all_answered new.outcome (length (vec_items new.replies))
@@ -88,7 +88,7 @@ played_all calls old new unplayed played started done =
 
 -- so it is of all scripts
 pub all_played_all : {K : Type 0} (calls : List (ℕ × Call)) (old new : List (Script K Call Reply))
-    → AllZip IsPlayed old new → All (IsUnplayed calls) old → All (IsPlayedAll calls) new
+    → AllZip AreMade old new → All (IsUnplayed calls) old → All (IsPlayedAll calls) new
 all_played_all calls [] [] each unplayed = All-nil (IsPlayedAll calls)
 all_played_all calls [] (t ∷ new) each unplayed = absurd each
 all_played_all calls (s ∷ old) [] each unplayed = absurd each

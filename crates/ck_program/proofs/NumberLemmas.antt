@@ -12,8 +12,8 @@ use Rattle.ck_journal.specs.declared.calls.Call.{Call}
 use Rattle.ck_journal.specs.declared.replies.Reply.{Reply}
 use Rattle.ck_callers.specs.Accounts.{AccountState, new_account, new_accounts}
 use Rattle.ck_callers.specs.Callers.{CallerState, are_all, new_caller, new_callers}
-use Rattle.ck_callers.specs.Runs.{IsLeft, IsPlayed}
-use Rattle.ck_callers.specs.Scripts.{HasPlayed}
+use Rattle.ck_callers.specs.Runs.{IsLeft, AreMade}
+use Rattle.ck_callers.specs.Scripts.{HasMadeCalls}
 use Rattle.ck_callers.specs.declared.scripts.Script.{Script}
 use Rattle.ck_program.specs.CallerCalls.{numbers, script_numbers}
 
@@ -32,7 +32,7 @@ one_moved f g moved longer a left rest b all before next pushed same =
 -- a script keeps the number of its caller
 same_number : {K : Type 0} (old new : Script K Call Reply) (started : Bool)
     → MatchBool started
-    (HasPlayed old.caller (vec_items old.steps) (vec_items new.replies) new.outcome new.caller
+    (HasMadeCalls old.caller (vec_items old.steps) (vec_items new.replies) new.outcome new.caller
     × (vec_items new.steps ≡ []))
     (IsLeft old new)
     → new.caller.number ≡ old.caller.number
@@ -40,7 +40,7 @@ same_number old new true played = played.0.number
 same_number old new false left = ap (λ c. c.number) left.0
 
 -- so do all
-pub same_numbers : {K : Type 0} (old new : List (Script K Call Reply)) → AllZip IsPlayed old new
+pub same_numbers : {K : Type 0} (old new : List (Script K Call Reply)) → AllZip AreMade old new
     → script_numbers new ≡ script_numbers old
 same_numbers [] [] each = refl
 same_numbers [] (t ∷ new) each = absurd each

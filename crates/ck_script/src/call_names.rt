@@ -73,7 +73,7 @@ pub struct CallName(pub(crate) Function, &'static str);
 
 impl CallName {
     /// All calls of a script.
-    pub fn all() -> [CallName; 34]
+    pub(crate) fn all() -> [CallName; 34]
         ensures { map (λ name. (name.0, name.1.now)) result ≡ names }
     {
         [
@@ -115,14 +115,14 @@ impl CallName {
     }
 
     /// The name as a script has it.
-    pub fn text(self) -> &'static str
+    pub(crate) fn text(self) -> &'static str
         ensures { result.now ≡ self.1.now }
     {
         self.1
     }
 
     /// The call of this name.
-    pub fn of(text: &[u8]) -> Option<CallName>
+    pub(crate) fn of(text: &[u8]) -> Option<CallName>
         ensures { option_map (λ name. (name.0, name.1.now)) result ≡ row_named text.now }
     {
         name_among(&CallName::all(), text)

@@ -40,7 +40,7 @@ pub use try_calls::CallError;
 // What users of a token need of the crates below.
 pub use ck_journal::{
     Answer, AttributeQuery, Base, Body, Call, Entries, Entry, Journal, JournaledToken, KeptObject,
-    READ_WRITE, RW_SESSION, Reply, SERIAL_SESSION, TokenBoard, Work,
+    OperationKind, READ_WRITE, RW_SESSION, Reply, SERIAL_SESSION, TokenBoard, Work,
 };
 pub use ck_objects::{
     Attribute, AttributeValue, Class, DATA, Field, GENERIC_SECRET, Item, KeyState, Placement,

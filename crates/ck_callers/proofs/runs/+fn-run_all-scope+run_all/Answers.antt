@@ -8,7 +8,7 @@ use Rattle.ck_callers.proofs.runs.+fn-run_all-scope+run_all.Goals.{scope-in-Ok, 
 
 pub scope-returns : goal.scope-returns
 scope-returns g t c =
-    let Run = HasRun g.S.Turn.does g.S.Turn.may_fail in
+    let Run = HasRun g.S.NextStep.does g.S.NextStep.may_fail in
     let run : Run c.captures.script c.match-run.script = elim c.match-run.branch [
       | scope-in-Ok w ↦
           subst (Run c.captures.script) (sym w.script-is)

@@ -1,6 +1,6 @@
 use Rattle.std.proofs.Common.{length, sym, ap, ◌∙◌, arith}
 use Rattle.std.specs.Vec.Iter.{into_iter_items}
-use Rattle.ck_callers.proofs.Turning.{making_next, made_all, made_before}
+use Rattle.ck_callers.proofs.Making.{making_next, made_all, made_before}
 use Rattle.ck_callers.proofs.runs.take_steps.Goals as goal
 
 pub loop-step-preserved : goal.loop-step-preserved
@@ -8,7 +8,7 @@ loop-step-preserved g c =
     let left = ap length c.in-Some.ensures.steps.0 in (
       tt,
       tt,
-      making_next g.S.Turn.does g.S.Turn.may_fail c.args.caller.now c.args.steps.items
+      making_next g.S.NextStep.does g.S.NextStep.may_fail c.args.caller.now c.args.steps.items
           c.loop-step.replies.items
           (into_iter_items c.loop-step.step-iterator) c.loop-step.caller c.loop-step.invariant.2
           c.in-Some.step (into_iter_items c.next.new.self) c.in-Some.ensures.steps.0
@@ -26,7 +26,7 @@ loop-step-preserved g c =
 
 pub returns-in_err-reply : goal.returns-in_err-reply
 returns-in_err-reply g c =
-    made_before g.S.Turn.does g.S.Turn.may_fail c.args.caller.now c.args.steps.items
+    made_before g.S.NextStep.does g.S.NextStep.may_fail c.args.caller.now c.args.steps.items
     c.loop-step.replies.items
     (into_iter_items c.loop-step.step-iterator) c.loop-step.caller c.loop-step.invariant.2
     c.in-Some.step (into_iter_items c.next.new.self) c.in-Some.ensures.steps.0
@@ -35,7 +35,7 @@ returns-in_err-reply g c =
 
 pub returns : goal.returns
 returns g c =
-    made_all g.S.Turn.does g.S.Turn.may_fail c.args.caller.now c.args.steps.items
+    made_all g.S.NextStep.does g.S.NextStep.may_fail c.args.caller.now c.args.steps.items
     c.loop-step.replies.items
     (into_iter_items c.loop-step.step-iterator) c.loop-step.caller c.loop-step.invariant.2
     (sym c.loop-step.step-iterator.rest.ok.0 ∙ c.in-None.ensures.steps.0)

@@ -3,7 +3,7 @@ use Rattle.ck_operations.proofs.rows.add_piece.Goals as goal
 
 pub returns-in-Some : goal.returns-in-Some
 returns-in-Some c =
-    added-at c.args.kind c.args.session _ c.args.rows.now.items c.in-Some.place
+    added-at c.args.kind c.args.session _ c.args.rows.now.items c.in-Some.position
     c.index_mut-row.result.now _ (rw c.deref.ensures.value at c.in-Some.ensures)
     c.index_mut-row.ensures.value c.add_piece.ensures
 

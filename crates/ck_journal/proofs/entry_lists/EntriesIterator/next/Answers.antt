@@ -4,9 +4,9 @@ use Rattle.ck_journal.proofs.entry_lists.EntriesIterator.next.Goals as goal
 
 pub returns-clause-steps : goal.returns-clause-steps
 returns-clause-steps c =
-    let steps = c.in_ok-place.ensures.steps in
+    let steps = c.in_ok-position.ensures.steps in
     let items = c.self.inside.entries.now.items in
-    let start = c.self.inside.places.start in
+    let start = c.self.inside.positions.start in
     let ends = c.self.invariant in
     let within : start < length items = omega arith in
     rw (← c.self.view_is, steps.1.2)

@@ -9,8 +9,8 @@ use Rattle.ck_journal.specs.declared.calls.Call.{Call}
 use Rattle.ck_journal.specs.declared.replies.Reply.{Reply}
 use Rattle.ck_journal.proofs.FrontLemmas.{front_refl, front_trans}
 use Rattle.ck_callers.specs.Callers.{CallerState, HasCalled, entry_by}
-use Rattle.ck_callers.specs.Scripts.{entries_after, HasPlayed}
-use Rattle.ck_callers.specs.Turns.{EndsAt, HasMade}
+use Rattle.ck_callers.specs.NextSteps.{EndsAt, HasMade}
+use Rattle.ck_callers.specs.Scripts.{entries_after, HasMadeCalls}
 
 none_made : (MayFail : Call → Type 0) (calls : List Call) (outcome : Result (Unit {0}) NoMemory)
     → EndsAt MayFail calls outcome
@@ -26,11 +26,11 @@ one_more_made : (outcome : Result (Unit {0}) NoMemory) (m n : ℕ)
 one_more_made (Ok done) m n made = omega arith
 one_more_made (Err none) m n made = omega arith
 
-pub played_none : (old : CallerState) (MayFail : Call → Type 0) (calls : List Call)
+pub made_no_calls : (old : CallerState) (MayFail : Call → Type 0) (calls : List Call)
     (outcome : Result (Unit {0}) NoMemory) (new : CallerState) → new ≡ old
     → EndsAt MayFail calls outcome
-    → HasPlayed old calls [] outcome new
-played_none old MayFail calls outcome new same end =
+    → HasMadeCalls old calls [] outcome new
+made_no_calls old MayFail calls outcome new same end =
     let count : new.count ≡ old.count = ap (λ c. c.count) same in record {
       number = ap (λ c. c.number) same;
       count = omega arith;
@@ -49,11 +49,11 @@ module _ (limits : Ranges) (old : CallerState) (call : Call) (reply : Reply) (no
       ∷ entries_by old.number old.last
   own_one = ap (entries_by old.number) does.last ∙ does.own
 
-  pub played_call : (calls : List Call) (replies : List Reply)
+  pub made_call : (calls : List Call) (replies : List Reply)
       (outcome : Result (Unit {0}) NoMemory)
-      (new : CallerState) → HasPlayed now calls replies outcome new
-      → HasPlayed old (call ∷ calls) (reply ∷ replies) outcome new
-  played_call calls replies outcome new rest = record {
+      (new : CallerState) → HasMadeCalls now calls replies outcome new
+      → HasMadeCalls old (call ∷ calls) (reply ∷ replies) outcome new
+  made_call calls replies outcome new rest = record {
     number = rest.number ∙ does.number;
     count = omega (arith, rest.count, does.count);
     front = front_trans old.seen now.seen new.seen front_called rest.front;
@@ -64,15 +64,15 @@ module _ (limits : Ranges) (old : CallerState) (call : Call) (reply : Reply) (no
   }
 
 module _ (limits : Ranges) where
-  -- calls that were made in turn were played
-  pub played : (old : CallerState) (calls : List Call) (replies : List Reply)
+  -- calls that were made one after the other
+  pub made_calls : (old : CallerState) (calls : List Call) (replies : List Reply)
       (outcome : Result (Unit {0}) NoMemory)
       (new : CallerState) → HasMade (HasCalled limits) (λ call. Unit {0}) old calls replies outcome
       new
-      → HasPlayed old calls replies outcome new
-  played old calls [] outcome new made = played_none old (λ call. Unit {0}) calls outcome new made.0
-      made.1
-  played old [] (reply ∷ replies) outcome new made = absurd made
-  played old (call ∷ calls) (reply ∷ replies) outcome new made =
-      played_call limits old call reply made.0 made.1 calls replies outcome new
-      (played made.0 calls replies outcome new made.2)
+      → HasMadeCalls old calls replies outcome new
+  made_calls old calls [] outcome new made =
+      made_no_calls old (λ call. Unit {0}) calls outcome new made.0 made.1
+  made_calls old [] (reply ∷ replies) outcome new made = absurd made
+  made_calls old (call ∷ calls) (reply ∷ replies) outcome new made =
+      made_call limits old call reply made.0 made.1 calls replies outcome new
+      (made_calls made.0 calls replies outcome new made.2)

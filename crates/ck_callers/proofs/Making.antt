@@ -1,11 +1,11 @@
--- Turns of which some were made
+-- Steps of which some were made
 use Rattle.std.proofs.Common.{◌≡◌, List, [], ◌∷◌, ◌++◌, length, refl, sym, ap, ◌∙◌, subst}
 use Rattle.std.proofs.lemmas.List.{append-nil, nil_from_length}
 use mathlib.Core.List.{append_assoc}
 use Rattle.std.specs.Prelude.{Result, Ok, Err, IsErr}
 use Rattle.ck_types.specs.declared.memory.NoMemory.{NoMemory}
 use Rattle.ck_callers.specs.Callers.{CallerState}
-use Rattle.ck_callers.specs.Turns.{EndsAt, HasMade}
+use Rattle.ck_callers.specs.NextSteps.{EndsAt, HasMade}
 
 -- these replies were given, and these are left: whatever comes of them comes of all
 pub record IsMaking {S A : Type 0} (Does : CallerState → S → A → CallerState → Type 0)

@@ -7,17 +7,17 @@ use ck_types::NoMemory;
 use std::alloc::Global;
 use std::sync::Wait;
 
-/// What a caller does at a gate: a call, or a call or a question. `A` is what is answered.
-pub trait Turn<K: TokenId, A: Drop>: Drop {
+/// What a caller does next at a gate: a call, or a call or a question. `A` is what is answered.
+pub trait NextStep<K: TokenId, A: Drop>: Drop {
     ghost use Rattle.ck_callers.specs.Callers.{CallerState};
 
-    // what it does: the caller before it, the turn, what is answered, the caller after it
+    // what it does: the caller before it, the step, what is answered, the caller after it
     ghost does: { CallerState → Self → A → CallerState → Type 0 };
 
     // whether it may find no memory
     ghost may_fail: { Self → Type 0 };
 
-    /// Takes the turn at the gate, as this caller.
+    /// Takes the step at the gate, as this caller.
     fn make<G: Gate<K>, W: Wait>(
         self,
         rt: &W,

@@ -1,9 +1,9 @@
--- What a caller does in turn, whatever it is
+-- What a caller does step by step, whatever its steps are
 use Rattle.std.specs.Prelude.{◌≡◌, List, [], ◌∷◌, Result, Ok, Err}
 use Rattle.ck_types.specs.declared.memory.NoMemory.{NoMemory}
 use Rattle.ck_callers.specs.Callers.{CallerState}
 
--- what is left when it ends: nothing, or the turns from the one on that found no memory, which is
+-- what is left when it ends: nothing, or the steps from the one on that found no memory, which is
 -- one that may find none
 abbrev pub EndsAt : {S : Type 0} → (S → Type 0) → List S → Result (Unit {0}) NoMemory → Type 0
 EndsAt MayFail left (Ok done) = left ≡ []
