@@ -112,8 +112,11 @@ static void test_interfaces(void) {
     EXPECT(CKR_ARGUMENTS_BAD, p11->C_GetInterface(standard, &v3_1, &interface, 0));
     EXPECT(CKR_ARGUMENTS_BAD, p11->C_GetInterface(standard, &v2_0, &interface, 0));
     EXPECT(CKR_ARGUMENTS_BAD, p11->C_GetInterface(vendor, &v2_40, &interface, 0));
+    /* Without a name it is the standard's interface that is asked for. */
+    EXPECT(CKR_ARGUMENTS_BAD, p11->C_GetInterface(NULL, &v1_0, &interface, 0));
     EXPECT(CKR_ARGUMENTS_BAD,
            p11->C_GetInterface(NULL, NULL, &interface, CKF_INTERFACE_FORK_SAFE));
+    check(is_interface(interface, "Vendor Ospreyrack", 1, 0), "what is refused gives no interface");
     EXPECT(CKR_ARGUMENTS_BAD, p11->C_GetInterface(NULL, NULL, NULL, 0));
     EXPECT(CKR_ARGUMENTS_BAD, p11->C_GetFunctionList(NULL));
     EXPECT(CKR_ARGUMENTS_BAD, p11->C_GetInterfaceList(NULL, NULL));
@@ -199,18 +202,39 @@ static const char *const supported[] = {
 
 static const char *const parallel[] = {"C_GetFunctionStatus", "C_CancelFunction", NULL};
 
+static CK_RV refusal_of(const char *name) {
+    return is_one_of(name, parallel) ? CKR_FUNCTION_NOT_PARALLEL : CKR_FUNCTION_NOT_SUPPORTED;
+}
+
 static void test_unsupported(void) {
     begin_token();
     for (size_t i = 0; i < FUNCTIONS; i++) {
         const char *name = functions[i].name;
-        CK_RV expected = is_one_of(name, parallel) ? CKR_FUNCTION_NOT_PARALLEL
-                                                   : CKR_FUNCTION_NOT_SUPPORTED;
         if (!is_one_of(name, supported))
-            check_code(call_with_zeros(&functions[i]), expected, name);
+            check_code(call_with_zeros(&functions[i]), refusal_of(name), name);
     }
     CK_SLOT_ID slot = 7;
     EXPECT(CKR_NO_EVENT, p11->C_WaitForSlotEvent(CKF_DONT_BLOCK, &slot, NULL));
     EXPECT(CKR_FUNCTION_NOT_SUPPORTED, p11->C_WaitForSlotEvent(0, &slot, NULL));
+    CHECK(slot == 7);
+    end_token();
+}
+
+/* They answer the same to a session that is open, and write nothing to where they are pointed. */
+static void test_unsupported_in_session(void) {
+    enum { ROOM = 64 };
+    CK_SESSION_HANDLE session = begin_token();
+    uint8_t *memory = guarded_new(ROOM);
+    CK_ULONG at = (CK_ULONG)(uintptr_t)memory;
+    for (size_t i = 0; i < FUNCTIONS; i++) {
+        const char *name = functions[i].name;
+        if (is_one_of(name, supported))
+            continue;
+        any_function function = function_at(p11, functions[i].offset);
+        check_code(function(session, at, at, at, at, at, at, at, at), refusal_of(name), name);
+        check(guarded_is_intact(memory, ROOM, 0), name);
+    }
+    guarded_free(memory);
     end_token();
 }
 
@@ -306,6 +330,25 @@ static void test_bad_arguments(void) {
     arguments = (CK_C_INITIALIZE_ARGS){0};
     EXPECT(CKR_OK, p11->C_Initialize(&arguments));
     end_token();
+}
+
+/* The module makes no threads, and has a mutex of its own. */
+static void test_flags_of_initialize(void) {
+    const CK_FLAGS no_threads = CKF_LIBRARY_CANT_CREATE_OS_THREADS;
+    const CK_FLAGS flags[] = {no_threads, CKF_OS_LOCKING_OK, no_threads | CKF_OS_LOCKING_OK};
+    for (size_t i = 0; i < sizeof flags / sizeof *flags; i++) {
+        CK_C_INITIALIZE_ARGS arguments = {.flags = flags[i]};
+        EXPECT(CKR_OK, p11->C_Initialize(&arguments));
+        log_in();
+        end_token();
+        arguments = mutex_arguments();
+        arguments.flags = flags[i];
+        EXPECT(CKR_OK, p11->C_Initialize(&arguments));
+        log_in();
+        end_token();
+        check((mutexes > 0) == (flags[i] == no_threads), "whose mutex is used");
+        CHECK(destroyed == mutexes && (locks > 0) == (mutexes > 0) && locks == unlocks);
+    }
 }
 
 /* Calls every function but C_Finalize, and sees that the lock was taken and released for it. */
@@ -439,6 +482,9 @@ static void test_null_objects(void) {
     EXPECT(CKR_ARGUMENTS_BAD, p11->C_GenerateKey(session, NULL, &key, 1, &handle));
     EXPECT(CKR_ARGUMENTS_BAD, p11->C_GenerateKey(session, &generation, NULL, 1, &handle));
     EXPECT(CKR_ARGUMENTS_BAD, p11->C_GenerateKey(session, &generation, &key, 1, NULL));
+    CK_ATTRIBUTE lacking = {CKA_VALUE_LEN, NULL, sizeof key_length};
+    EXPECT(CKR_ATTRIBUTE_VALUE_INVALID,
+           p11->C_GenerateKey(session, &generation, &lacking, 1, &handle));
     EXPECT(CKR_OK, p11->C_GenerateKey(session, &generation, &key, 1, &handle));
     CHECK((handle & UINT32_MAX) == object + 1);
     end_token();
@@ -525,6 +571,9 @@ static void check_length_of_no_memory(CK_SESSION_HANDLE session, CK_ULONG given)
     EXPECT(CKR_ARGUMENTS_BAD, p11->C_SeedRandom(session, bytes, given));
     EXPECT(CKR_ARGUMENTS_BAD, p11->C_SetPIN(session, user_pin, given, user_pin, 4));
     EXPECT(CKR_ARGUMENTS_BAD, p11->C_SetPIN(session, user_pin, 4, user_pin, given));
+    EXPECT(CKR_ARGUMENTS_BAD, p11->C_InitPIN(session, user_pin, given));
+    EXPECT(CKR_ARGUMENTS_BAD, p11->C_InitToken(0, so_pin, given, token_label));
+    EXPECT(CKR_ARGUMENTS_BAD, p11->C_Login(session, CKU_USER, user_pin, given));
     EXPECT(CKR_MECHANISM_PARAM_INVALID, p11->C_SignInit(session, &bad_parameter, key));
     EXPECT(CKR_OK, p11->C_DigestInit(session, &sha256));
     EXPECT(CKR_ARGUMENTS_BAD, p11->C_Digest(session, bytes, given, out, &length));
@@ -565,6 +614,7 @@ static void test_most_attributes(void) {
     CK_OBJECT_HANDLE object = create_data(session, "label"), other = 0;
     CK_ATTRIBUTE *many = zeros_new(MOST_ATTRIBUTES + 1, sizeof *many);
     CK_ULONG more = MOST_ATTRIBUTES + 1;
+    CK_MECHANISM generation = mechanism_of(CKM_GENERIC_SECRET_KEY_GEN);
     for (CK_ULONG i = 0; i < more; i++)
         many[i] = (CK_ATTRIBUTE){CKA_LABEL, NULL, 77};
     EXPECT(CKR_ARGUMENTS_BAD, p11->C_GetAttributeValue(session, object, many, more));
@@ -572,6 +622,7 @@ static void test_most_attributes(void) {
     EXPECT(CKR_ARGUMENTS_BAD, p11->C_CopyObject(session, object, many, more, &other));
     EXPECT(CKR_ARGUMENTS_BAD, p11->C_CreateObject(session, many, more, &other));
     EXPECT(CKR_ARGUMENTS_BAD, p11->C_FindObjectsInit(session, many, more));
+    EXPECT(CKR_ARGUMENTS_BAD, p11->C_GenerateKey(session, &generation, many, more, &other));
     CHECK(many[0].ulValueLen == 77 && many[MOST_ATTRIBUTES].ulValueLen == 77);
     CK_RV code = p11->C_GetAttributeValue(session, object, many, MOST_ATTRIBUTES);
     check_code(code, has_journals ? CKR_HOST_MEMORY : CKR_OK, "the most attributes");
@@ -846,6 +897,31 @@ static void test_many_objects(void) {
     end_token();
 }
 
+/* ---- Places for what is answered */
+
+/* A call that is refused leaves them as they are. */
+static void test_refused_outputs(void) {
+    CK_SESSION_HANDLE session = begin_token(), opened = 77;
+    CK_OBJECT_HANDLE object = create_data(session, "label"), other = 77;
+    CK_MECHANISM generation = mechanism_of(CKM_GENERIC_SECRET_KEY_GEN);
+    CK_ULONG count = 77, size = 77;
+    CK_SESSION_INFO info = {.state = 77, .flags = 77};
+    EXPECT(CKR_SESSION_PARALLEL_NOT_SUPPORTED, p11->C_OpenSession(0, 0, NULL, NULL, &opened));
+    EXPECT(CKR_TEMPLATE_INCOMPLETE, p11->C_CreateObject(session, NULL, 0, &other));
+    EXPECT(CKR_OBJECT_HANDLE_INVALID, p11->C_CopyObject(session, object + 1, NULL, 0, &other));
+    EXPECT(CKR_TEMPLATE_INCOMPLETE, p11->C_GenerateKey(session, &generation, NULL, 0, &other));
+    EXPECT(CKR_OPERATION_NOT_INITIALIZED, p11->C_FindObjects(session, &other, 1, &count));
+    EXPECT(CKR_OBJECT_HANDLE_INVALID, p11->C_GetObjectSize(session, object + 1, &size));
+    EXPECT(CKR_SESSION_HANDLE_INVALID, p11->C_GetSessionInfo(session + 1, &info));
+    EXPECT(CKR_OPERATION_NOT_INITIALIZED, p11->C_Digest(session, bytes, 1, bytes, &count));
+    EXPECT(CKR_OPERATION_NOT_INITIALIZED, p11->C_DigestFinal(session, bytes, &count));
+    EXPECT(CKR_OPERATION_NOT_INITIALIZED, p11->C_Sign(session, bytes, 1, bytes, &count));
+    EXPECT(CKR_OPERATION_NOT_INITIALIZED, p11->C_SignFinal(session, bytes, &count));
+    CHECK(opened == 77 && other == 77 && count == 77 && size == 77);
+    CHECK(info.state == 77 && info.flags == 77);
+    end_token();
+}
+
 /* ---- Operations */
 
 static void test_cancel(void) {
@@ -985,6 +1061,10 @@ static void test_said_to_be_long(void) {
     EXPECT(CKR_SIGNATURE_LEN_RANGE, p11->C_VerifyFinal(session, out, most));
     EXPECT(CKR_OK, p11->C_Logout(session));
     EXPECT(CKR_PIN_INCORRECT, p11->C_Login(session, CKU_USER, out, most));
+    EXPECT(CKR_OK, p11->C_Login(session, CKU_SO, so_pin, 4));
+    EXPECT(CKR_PIN_LEN_RANGE, p11->C_InitPIN(session, out, most));
+    EXPECT(CKR_OK, p11->C_CloseSession(session));
+    EXPECT(CKR_PIN_INCORRECT, p11->C_InitToken(0, out, most, token_label));
     end_token();
 }
 
@@ -1150,6 +1230,9 @@ static void test_locks_of_messages(void) {
     CHECK(locks == before + 1);
     EXPECT(CKR_OK, p11->C_Sign(current_session, large, LONG_MESSAGE, NULL, &length));
     CHECK(locks == before + 2);
+    check_code(p11->C_Verify(current_session, large, LONG_MESSAGE, NULL, 32), CKR_ARGUMENTS_BAD,
+               "C_Verify of a long message without a signature");
+    CHECK(locks == before + 3);
     for (CK_ULONG given = 4095; given <= 4096; given++) {
         int expected = given < 4096 ? 1 : 3;
         before = locks;
@@ -1160,6 +1243,19 @@ static void test_locks_of_messages(void) {
         EXPECT(CKR_OK, p11->C_VerifyUpdate(current_session, large, given));
         CHECK(locks == before + 3 * expected);
     }
+    end_token();
+}
+
+/* The pieces of a search are one call for other threads. */
+static void test_lock_of_search(void) {
+    static CK_OBJECT_HANDLE handles[1500];
+    begin_with_mutexes();
+    for (int i = 0; i < 1500; i++)
+        create_data(current_session, "label");
+    EXPECT(CKR_OK, p11->C_FindObjectsInit(current_session, NULL, 0));
+    int before = locks;
+    EXPECT(CKR_OK, p11->C_FindObjects(current_session, handles, 1500, &length));
+    CHECK(length == 1500 && locks == before + 1);
     end_token();
 }
 
@@ -1357,6 +1453,7 @@ static CK_RV update_with_pieces(void) {
 static void check_finalized_at(int locks_before, CK_RV (*make)(void), const char *what) {
     begin_with_mutexes();
     begin_sha(CKM_SHA256);
+    length = sizeof result;
     locks_until_change = locks_before;
     change = finalize;
     check_code(make(), CKR_CRYPTOKI_NOT_INITIALIZED, what);
@@ -1374,6 +1471,8 @@ static void test_finalized_while_waiting(void) {
     check_finalized_at(1, finalize_again, "C_Finalize");
     for (int locks_before = 1; locks_before <= LOCKS_OF_PIECE; locks_before++)
         check_finalized_at(locks_before, digest_update_long, "C_DigestUpdate of a long piece");
+    for (int locks_before = 1; locks_before <= LOCKS_OF_PIECE; locks_before++)
+        check_finalized_at(locks_before, digest_long, "C_Digest of a long message");
     for (int locks_before = 1; locks_before <= 2 * LOCKS_OF_PIECE; locks_before++)
         check_finalized_at(locks_before, update_with_pieces, "C_DigestUpdate in pieces");
 }
@@ -1450,19 +1549,25 @@ static CK_RV create_null(CK_VOID_PTR_PTR mutex) {
     return CKR_OK;
 }
 
+static CK_RV unlock_null(CK_VOID_PTR mutex) {
+    (void)mutex;
+    return CKR_MUTEX_NOT_LOCKED;
+}
+
 static CK_RV lock_null(CK_VOID_PTR mutex) {
     if (locks_until_change > 0 && --locks_until_change == 0)
         change();
     return mutex == NULL ? CKR_OK : CKR_MUTEX_BAD;
 }
 
-/* What an application has as its mutex is its own affair. */
+/* What an application has as its mutex is its own affair. A call that was made is answered whatever
+ * the function for unlocking says. */
 static void test_mutex_that_is_null(void) {
     CK_C_INITIALIZE_ARGS arguments = {
         .CreateMutex = create_null,
         .DestroyMutex = destroy_any,
         .LockMutex = lock_null,
-        .UnlockMutex = destroy_any,
+        .UnlockMutex = unlock_null,
     };
     EXPECT(CKR_OK, p11->C_Initialize(&arguments));
     current_session = log_in();
@@ -1888,19 +1993,24 @@ static void test_seeded_random(void) {
     end_token();
 }
 
-/* The first random bytes of a seed, also behind a C_GenerateKey without a place for the handle. */
+/* The first random bytes of a seed, also behind a C_GenerateKey without a place for the handle and
+ * one with a bad attribute. */
 static void first_bytes_of_seed(bool is_behind_bad_call, CK_BYTE *out) {
     CK_MECHANISM generation = mechanism_of(CKM_GENERIC_SECRET_KEY_GEN);
     CK_ULONG key_length = 16;
-    CK_ATTRIBUTE key = {CKA_VALUE_LEN, &key_length, sizeof key_length};
+    CK_OBJECT_HANDLE handle = 0;
+    CK_ATTRIBUTE key[] = {{CKA_VALUE_LEN, &key_length, sizeof key_length}, {CKA_LABEL, NULL, 1}};
     setenv("OSPREYRACK_SEED", "5", 1);
     keep_errors();
     CK_SESSION_HANDLE session = begin_token();
     char text[2000];
     read_errors(text, sizeof text);
     unsetenv("OSPREYRACK_SEED");
-    if (is_behind_bad_call)
-        EXPECT(CKR_ARGUMENTS_BAD, p11->C_GenerateKey(session, &generation, &key, 1, NULL));
+    if (is_behind_bad_call) {
+        EXPECT(CKR_ARGUMENTS_BAD, p11->C_GenerateKey(session, &generation, key, 1, NULL));
+        EXPECT(CKR_ATTRIBUTE_VALUE_INVALID,
+               p11->C_GenerateKey(session, &generation, key, 2, &handle));
+    }
     EXPECT(CKR_OK, p11->C_GenerateRandom(session, out, 16));
     end_token();
 }
@@ -2034,20 +2144,28 @@ static void test_bad_files(void) {
     write_file("bad_line", "1 InitToken 31323334 -> 0\n\n# a comment\n1 OpenSession six\n");
     write_file("bad_reply", bad_reply);
     write_file("bad_code", "1 InitToken 313233\n");
+    write_file("long_reply", "1 GetMechanismList -> 0 252,251,250,262,261,260,272,271,270,282\n");
     write_file("no_journal", no_journal);
     mkdir(path_of("folder"), 0700);
     check_file_variable("OSPREYRACK_SCRIPT", "not_there", "not_there");
     check_file_variable("OSPREYRACK_SCRIPT", "bad_line", "line 4");
     check_file_variable("OSPREYRACK_SCRIPT", "bad_reply", "line 2: the reply is 0 1, and not 0 2");
-    check_file_variable("OSPREYRACK_SCRIPT", "bad_code", "line 1");
-    check_file_variable("OSPREYRACK_SCRIPT", "folder", "folder");
-    check_file_variable("OSPREYRACK_JOURNAL", "not_there/journal", "not_there/journal");
+    check_file_variable("OSPREYRACK_SCRIPT", "bad_code", "bad_code, line 1: the reply is a2\n");
+    /* The first 40 bytes of each reply are shown. */
+    check_file_variable("OSPREYRACK_SCRIPT", "long_reply", "line 1: the reply is "
+                        "0 250,251,252,255,256,257,260,261,262,27, and not "
+                        "0 252,251,250,262,261,260,272,271,270,28\n");
+    check_file_variable("OSPREYRACK_SCRIPT", "folder", "folder: the file can't be read: Is a "
+                        "directory\n");
+    check_file_variable("OSPREYRACK_JOURNAL", "not_there/journal", "not_there/journal: the file "
+                        "can't be opened: No such file or directory\n");
     check_file_variable("OSPREYRACK_JOURNAL", "no_journal", "no_journal");
     check_file_variable("OSPREYRACK_JOURNAL", "folder", "folder");
     check_file_variable("OSPREYRACK_TOKEN", "folder", "folder");
     CHECK(has_length("no_journal", sizeof no_journal - 1));
     setenv("OSPREYRACK_TOKEN", path_of("unused.cases"), 1);
-    check_file_variable("OSPREYRACK_JOURNAL", "unused_too.cases", "OSPREYRACK_TOKEN");
+    check_file_variable("OSPREYRACK_JOURNAL", "unused_too.cases",
+                        ": OSPREYRACK_TOKEN is a journal: set only one of the two\n");
     CHECK(!is_there("unused_too.cases"));
     unsetenv("OSPREYRACK_TOKEN");
 }
@@ -2089,7 +2207,10 @@ static const struct test tests[] = {
     {"the list of interfaces has those that are given by name", test_interface_list},
     {"the vendor interface takes a key to another state", test_vendor_interface},
     {"functions that aren't supported say so", test_unsupported},
+    {"functions that aren't supported say so in a session, and write nothing",
+     test_unsupported_in_session},
     {"bad arguments of C_Initialize", test_bad_arguments},
+    {"flags of C_Initialize", test_flags_of_initialize},
     {"the application's mutex functions are called in pairs, around every call",
      test_mutex_functions},
     {"an application's lock that fails", test_failing_lock},
@@ -2109,6 +2230,7 @@ static const struct test tests[] = {
     {"rooms of attributes: asked for, too small, exact, larger", test_attribute_rooms},
     {"each query of attributes is answered by itself", test_attribute_codes},
     {"searches that find 2,500 objects", test_many_objects},
+    {"a call that is refused leaves the places for its answers as they are", test_refused_outputs},
     {"operations end by C_SessionCancel, and by a NULL mechanism", test_cancel},
     {"digests of messages above 2^20 bytes", test_large_digests},
     {"signatures of messages above 2^20 bytes", test_large_signatures},
@@ -2119,6 +2241,7 @@ static const struct test tests[] = {
     {"only for a long message that is taken in the lock is taken three times",
      test_locks_of_messages},
     {"a long message is taken in while the lock is free", test_work_without_lock},
+    {"the lock is taken once for a search in pieces", test_lock_of_search},
     {"the work on a long message doesn't count for another token", test_work_of_another_token},
     {"a journal file is kept from the middle of a long message on, or isn't any more",
      test_journal_in_between},

@@ -3,8 +3,8 @@
  * call has no more of them. Each time the library and its token are new. The call must be answered
  * CKR_HOST_MEMORY, change nothing, and succeed when it is made again. System calls on the journal
  * file are refused, too. Called with the module's file and a temporary folder; linked with
- * -rdynamic, so that the module allocates by these functions, and has its file locked, written and
- * cut off by them.
+ * -rdynamic, so that the module allocates by these functions, has its file locked, written and cut
+ * off by them, and draws the system's random bytes by one of them.
  */
 #include "support.h"
 
@@ -16,6 +16,7 @@
 #include <stdlib.h>
 #include <string.h>
 #include <sys/file.h>
+#include <sys/random.h>
 #include <sys/stat.h>
 #include <sys/syscall.h>
 #include <unistd.h>
@@ -34,6 +35,16 @@ static bool refuses_all; /* and all behind that one */
 static bool is_refused;
 static long live_allocations;
 static long live_bytes;
+
+/* Whether the application's lock is taken, where `note_lock` is its function; and how many bytes
+ * the largest allocation has under it. */
+static bool is_locked;
+static size_t largest_under_lock;
+
+static void note_size(size_t size) {
+    if (is_locked && size > largest_under_lock)
+        largest_under_lock = size;
+}
 
 static bool refuses(void) {
     if (left_to_refusal < 0)
@@ -62,20 +73,24 @@ static void *uncounted(void *memory) {
 }
 
 void *malloc(size_t size) {
+    note_size(size);
     return refuses() ? NULL : counted(__libc_malloc(size));
 }
 
 void *calloc(size_t count, size_t size) {
+    note_size(count * size);
     return refuses() ? NULL : counted(__libc_calloc(count, size));
 }
 
 void *realloc(void *memory, size_t size) {
+    note_size(size);
     if (refuses())
         return NULL;
     return counted(__libc_realloc(uncounted(memory), size));
 }
 
 void *aligned_alloc(size_t alignment, size_t size) {
+    note_size(size);
     return refuses() ? NULL : counted(__libc_memalign(alignment, size));
 }
 
@@ -102,14 +117,22 @@ static bool stop_refusing(void) {
 
 static const char added_line[] = "1 GetTokenInfo -> 0 4 64 0 0\n";
 
-static const char *added_file;    /* gets that line before the next lock is taken */
+static const char *added_file;         /* gets that line before the next lock is taken */
 static bool refuses_truncation;
-static size_t left_interruptions; /* of write */
+static size_t left_interruptions;      /* of write */
+static size_t most_written = SIZE_MAX; /* by one call of write */
+static size_t writes;                  /* how often write was called */
+static size_t draws, draws_under_lock; /* of random bytes */
 
 static void write_file(const char *path, const char *content, const char *mode) {
     FILE *file = fopen(path, mode);
     if (file == NULL || fputs(content, file) < 0 || fclose(file) != 0)
         exit(2);
+}
+
+static off_t length_of(const char *path) {
+    struct stat status;
+    return stat(path, &status) == 0 ? status.st_size : 0;
 }
 
 int flock(int file, int operation) {
@@ -127,11 +150,18 @@ int ftruncate(int file, off_t length) {
 }
 
 ssize_t write(int file, const void *bytes, size_t length) {
+    writes++;
     if (left_interruptions == 0)
-        return syscall(SYS_write, file, bytes, length);
+        return syscall(SYS_write, file, bytes, length < most_written ? length : most_written);
     left_interruptions--;
     errno = EINTR;
     return -1;
+}
+
+ssize_t getrandom(void *out, size_t length, unsigned flags) {
+    draws++;
+    draws_under_lock += is_locked;
+    return syscall(SYS_getrandom, out, length, flags);
 }
 
 /* ---- Calls */
@@ -154,6 +184,7 @@ static CK_MECHANISM sha512 = {CKM_SHA512, NULL, 0};
 static CK_MECHANISM hmac = {CKM_SHA256_HMAC, NULL, 0};
 static CK_MECHANISM generation = {CKM_GENERIC_SECRET_KEY_GEN, NULL, 0};
 static const CK_FLAGS read_write = CKF_SERIAL_SESSION | CKF_RW_SESSION;
+static const struct vendor_functions *vendor;
 
 static CK_RV open_session(struct result *result) {
     return p11->C_OpenSession(0, read_write, NULL, NULL, &result->number);
@@ -271,6 +302,12 @@ static CK_RV set_attribute_value(struct result *result) {
 
 static CK_RV get_object_size(struct result *result) {
     return p11->C_GetObjectSize(session, object, &result->length);
+}
+
+static CK_RV set_key_state(struct result *result) {
+    enum { SUSPENDED = 5 };
+    (void)result;
+    return vendor->C_SetKeyState(session, key, SUSPENDED);
 }
 
 static CK_RV destroy_object(struct result *result) {
@@ -416,12 +453,6 @@ static CK_RV seed_random(struct result *result) {
     return code == CKR_RANDOM_SEED_NOT_SUPPORTED ? CKR_OK : code;
 }
 
-static CK_RV set_key_state(struct result *result) {
-    enum { SUSPENDED = 5 };
-    (void)result;
-    return vendor_functions()->C_SetKeyState(session, key, SUSPENDED);
-}
-
 typedef CK_RV (*call)(struct result *result);
 
 /* A call, and those that are made before it. */
@@ -449,6 +480,7 @@ static const struct growth growths[] = {
     {"C_CopyObject", copy_object, {NULL}},
     {"C_GetAttributeValue", get_attribute_value, {NULL}},
     {"C_SetAttributeValue", set_attribute_value, {NULL}},
+    {"C_SetKeyState", set_key_state, {NULL}},
     {"C_GetObjectSize", get_object_size, {NULL}},
     {"C_DestroyObject", destroy_object, {NULL}},
     {"C_FindObjectsInit", find_objects_init, {NULL}},
@@ -474,7 +506,6 @@ static const struct growth growths[] = {
     {"C_VerifyFinal", verify_final, {verify_init, verify_update}},
     {"C_GenerateRandom", generate_random, {NULL}},
     {"C_SeedRandom", seed_random, {NULL}},
-    {"C_SetKeyState", set_key_state, {NULL}},
 };
 
 enum { GROWTHS = sizeof growths / sizeof *growths, MOST_GROWTHS = 1000 };
@@ -625,6 +656,25 @@ static void test_by_lines(void) {
     setenv("OSPREYRACK_JOURNAL", journal, 1);
     for (size_t i = 0; i < GROWTHS; i++)
         check_growths(&growths[i]);
+    unsetenv("OSPREYRACK_JOURNAL");
+}
+
+/* What a call adds to the journal file is written when it is answered, and at once. */
+static void check_line(const struct growth *growth) {
+    struct result result;
+    memset(&result, 0, sizeof result);
+    begin(growth);
+    off_t length = length_of(journal);
+    writes = 0;
+    check_code(growth->make(&result), CKR_OK, growth->name);
+    check(writes == 1 && length_of(journal) > length, growth->name);
+    end_library();
+}
+
+static void test_lines(void) {
+    setenv("OSPREYRACK_JOURNAL", journal, 1);
+    for (size_t i = 0; i < GROWTHS; i++)
+        check_line(&growths[i]);
     unsetenv("OSPREYRACK_JOURNAL");
 }
 
@@ -932,6 +982,92 @@ static void test_verify_pieces_by_lines(void) {
     run_trials_by_lines(&verifying);
 }
 
+/* Updates of one and of two whole pieces: no piece is empty, and the journal in memory is cut again
+ * behind the last one. Each piece is one line. */
+static void check_whole_pieces(void) {
+    for (CK_ULONG count = 1; count <= 2; count++) {
+        CK_BYTE with[RESULT];
+        begin_messages();
+        long live_before = live_allocations;
+        writes = 0;
+        EXPECT(CKR_OK, operation->update(session, large, count * PIECE));
+        CHECK(writes == (has_journal ? count : 0));
+        EXPECT(CKR_OK, operation->finish(session, with));
+        check_cut(live_before);
+        end_library();
+    }
+}
+
+static void test_whole_pieces(void) {
+    trial = NULL;
+    operation = &digesting;
+    has_journal = false;
+    check_whole_pieces();
+    has_journal = true;
+    setenv("OSPREYRACK_JOURNAL", journal, 1);
+    check_whole_pieces();
+    unsetenv("OSPREYRACK_JOURNAL");
+}
+
+/* ---- What is done while the lock is free */
+
+static CK_RV note_lock(CK_VOID_PTR mutex) {
+    (void)mutex;
+    is_locked = true;
+    return CKR_OK;
+}
+
+static CK_RV note_unlock(CK_VOID_PTR mutex) {
+    (void)mutex;
+    is_locked = false;
+    return CKR_OK;
+}
+
+static void begin_with_notes(void) {
+    CK_C_INITIALIZE_ARGS mutexes = {
+        .CreateMutex = create_mutex,
+        .DestroyMutex = leave_mutex,
+        .LockMutex = note_lock,
+        .UnlockMutex = note_unlock,
+    };
+    EXPECT(CKR_OK, p11->C_Initialize(&mutexes));
+    session = log_in();
+    key = create_key(session, "Jefe");
+}
+
+/* The system may be long about its bytes. */
+static void test_random_without_lock(void) {
+    struct result result;
+    unsetenv("OSPREYRACK_SEED");
+    begin_with_notes();
+    setenv("OSPREYRACK_SEED", "1", 1);
+    draws = draws_under_lock = 0;
+    EXPECT(CKR_OK, generate_random(&result));
+    CHECK(draws > 0 && draws_under_lock == 0);
+    EXPECT(CKR_OK, p11->C_Finalize(NULL));
+}
+
+/* Under the lock the call with a long message needs no memory of the message's length. */
+static void test_copies_without_lock(void) {
+    static const struct growth long_calls[] = {
+        {"C_Digest", digest_long, {digest_init}},
+        {"C_DigestUpdate", digest_update_long, {digest_init}},
+        {"C_Sign", sign_long, {sign_init}},
+        {"C_SignUpdate", sign_update_long, {sign_init}},
+        {"C_Verify", verify_long, {begin_long_verify}},
+        {"C_VerifyUpdate", verify_update_long, {verify_init}},
+    };
+    struct result result;
+    for (size_t i = 0; i < sizeof long_calls / sizeof *long_calls; i++) {
+        begin_with_notes();
+        check_code(long_calls[i].before[0](&result), CKR_OK, long_calls[i].name);
+        largest_under_lock = 0;
+        check_code(long_calls[i].make(&result), CKR_OK, long_calls[i].name);
+        check(largest_under_lock < sizeof long_text, long_calls[i].name);
+        EXPECT(CKR_OK, p11->C_Finalize(NULL));
+    }
+}
+
 /* ---- A search that the module makes in pieces */
 
 enum { OBJECTS = 1500, FIRST_HANDLES = 1000 };
@@ -1055,11 +1191,6 @@ static void write_script(void) {
                "1 CreateObject 1 0=0000000000000000,1=01,2=00,3=6c6162656c -> 0 1\n", "w");
 }
 
-static off_t length_of(const char *path) {
-    struct stat status;
-    return stat(path, &status) == 0 ? status.st_size : 0;
-}
-
 /* The token of the script: it is initialized, and has one object. */
 static void check_token(void) {
     CK_OBJECT_HANDLE found[2] = {0};
@@ -1171,9 +1302,63 @@ static void test_interrupted_write(void) {
     unsetenv("OSPREYRACK_JOURNAL");
 }
 
+/* What the module writes to standard error goes to a file until `read_errors`. */
+static char errors[4096];
+static int hidden_errors = -1;
+
+static void keep_errors(void) {
+    int file = open(errors, O_WRONLY | O_CREAT | O_TRUNC, 0600);
+    hidden_errors = dup(STDERR_FILENO);
+    if (file < 0 || hidden_errors < 0 || dup2(file, STDERR_FILENO) < 0)
+        exit(2);
+    close(file);
+}
+
+static void read_errors(char *said, size_t room) {
+    dup2(hidden_errors, STDERR_FILENO);
+    close(hidden_errors);
+    FILE *file = fopen(errors, "r");
+    if (file == NULL)
+        exit(2);
+    said[fread(said, 1, room - 1, file)] = '\0';
+    fclose(file);
+}
+
+/* A line of which only a part can be written. Where that can't be cut off, standard error says
+ * so, and whoever goes on from the file drops it. */
+static void check_part(bool stays, const char *expected) {
+    struct result ignored;
+    char said[1000];
+    unlink(journal);
+    setenv("OSPREYRACK_JOURNAL", journal, 1);
+    begin_library();
+    off_t length = length_of(journal);
+    most_written = 5;
+    refuses_truncation = stays;
+    keep_errors();
+    EXPECT(CKR_DEVICE_ERROR, get_token_info(&ignored));
+    read_errors(said, sizeof said);
+    most_written = SIZE_MAX;
+    check(strcmp(said, expected) == 0, said);
+    EXPECT(CKR_DEVICE_ERROR, get_token_info(&ignored));
+    CHECK(length_of(journal) == length + (stays ? 5 : 0));
+    refuses_truncation = false;
+    end_library();
+    check_journal();
+    unsetenv("OSPREYRACK_JOURNAL");
+}
+
+static void test_parts(void) {
+    check_part(false, "ospreyrack: OSPREYRACK_JOURNAL: a call can't be written: there is no room "
+               "for it\n");
+    check_part(true, "ospreyrack: OSPREYRACK_JOURNAL: a call can't be written: there is no room "
+               "for it, and a part of it stays in the file\n");
+}
+
 static const struct test tests[] = {
     {"each growth of 43 calls is refused, typed", test_typed},
     {"each growth of 43 calls is refused, by lines", test_by_lines},
+    {"each call's line is written when it is answered, and at once", test_lines},
     {"each growth of C_Initialize is refused, with a script and a file", test_initialize},
     {"a digest in pieces without memory takes nothing or ends, typed", test_digest_pieces},
     {"a digest in pieces without memory takes nothing or ends, by lines",
@@ -1184,6 +1369,9 @@ static const struct test tests[] = {
     {"verifying in pieces without memory takes nothing or ends, typed", test_verify_pieces},
     {"verifying in pieces without memory takes nothing or ends, by lines",
      test_verify_pieces_by_lines},
+    {"updates of one and of two whole pieces", test_whole_pieces},
+    {"the system's random bytes are drawn while the lock is free", test_random_without_lock},
+    {"a long message is copied while the lock is free", test_copies_without_lock},
     {"a search whose second piece finds no memory gives the first, typed", test_searches},
     {"a search whose second piece finds no memory gives the first, by lines",
      test_searches_by_lines},
@@ -1192,6 +1380,7 @@ static const struct test tests[] = {
     {"a file to which another process adds before it is locked", test_file_of_another},
     {"a file whose last line can't be cut off", test_refused_truncation},
     {"a call whose line is written after interruptions", test_interrupted_write},
+    {"a line that is written in part, and a part that can't be cut off", test_parts},
 };
 
 /* The module's lines on standard error are for nobody here; those of the checks are written. */
@@ -1212,10 +1401,12 @@ int main(int count, char **arguments) {
     snprintf(journal, sizeof journal, "%s/growths.cases", folder);
     snprintf(script, sizeof script, "%s/growths.script", folder);
     snprintf(kept, sizeof kept, "%s/kept.cases", folder);
+    snprintf(errors, sizeof errors, "%s/errors", folder);
     memset(text, 'x', sizeof text);
     hide_lines_of_module();
     setenv("OSPREYRACK_SEED", "1", 1);
     load_module(arguments[1]);
+    vendor = vendor_functions();
     /* What the first calls of a process take stays. */
     begin_token();
     end_token();

@@ -23,6 +23,7 @@ import threading
 import support
 
 GENERAL_ERROR = 5
+ARGUMENTS_BAD = 7
 NOT_INITIALIZED = 0x190
 SEED_NOT_SUPPORTED = 0x120
 HOST_MEMORY = "2"
@@ -37,6 +38,13 @@ SOME_CALLS = LOG_IN + [
     "1 SignInit 1 251 4294967298", "1 Sign 1 6162 32", "1 Login 1 1 31", "1 GetTokenInfo",
     "1 FindObjectsInit 1 -", "1 FindObjects 1 9", "1 OpenSession 4",
 ]
+
+# How each journal begins that the module makes.
+HEADER = """\
+# The journal of an Ospreyrack token: its calls with their replies, in the order of answers.
+# The PINs and the values of keys stand in it as they are.
+limits largest
+"""
 
 # The first bytes of splitmix64 from the state 7. Runs with a seed may be kept as cases, so a seed's
 # bytes stay the same from version to version.
@@ -290,12 +298,14 @@ class Tests:
             code = self.module.initialize(**variables)
         return code, read(self.file("errors")).decode()
 
-    def initialize_without_errors(self, **variables):
-        """The code of C_Initialize where descriptor 2 is closed, and 0, which a file gets first."""
+    def initialize_without_errors(self, closed=(0, 2), **variables):
+        """The code of C_Initialize where descriptor 2 is closed, and others, which a file gets
+        first."""
+        sys.stdout.flush()
         sys.stderr.flush()
-        kept = [(number, os.dup(number)) for number in [0, 2]]
-        os.close(0)
-        os.close(2)
+        kept = [(number, os.dup(number)) for number in closed]
+        for number in closed:
+            os.close(number)
         code = self.module.initialize(**variables)
         for number, copy in kept:
             os.dup2(copy, number)
@@ -349,7 +359,7 @@ class Tests:
         """The form of the file."""
         path = self.journal_of_some_calls()
         content = read(path).decode()
-        self.checks.check(content.startswith("# "), "the file begins with comments")
+        self.checks.equal(content[:len(HEADER)], HEADER, "the first lines")
         self.checks.equal(content.count("limits largest\n"), 1, "lines of limits")
         label = f"# label {support.LABEL.hex()}\n"
         self.checks.equal(content.count(label), 1, "lines of the label")
@@ -359,6 +369,18 @@ class Tests:
         name = self.file(f"of-{os.getpid()}-and-{os.getpid()}.cases")
         self.checks.check(os.path.exists(name), "%p in the name is the process's number")
         self.end()
+        self.begin(TOKEN=self.file("of-%p.cases"))
+        self.end()
+        self.checks.check(os.path.exists(self.file("of-%p.cases")), "%p in a token's name is %p")
+
+    def test_mode(self):
+        """Only its owner reads and writes the file, whatever the process leaves to others."""
+        path = self.file("owned.cases")
+        before = os.umask(0)
+        self.begin(TOKEN=path)
+        os.umask(before)
+        self.end()
+        self.checks.equal(stat.S_IMODE(os.stat(path).st_mode), 0o600, "the file's mode")
 
     def test_going_on(self):
         """A token goes on from a file, with its label, its PINs and its objects."""
@@ -428,6 +450,25 @@ class Tests:
         self.end()
         support.audit(self.checks, self.ck_cases, path)
 
+    def test_script_and_journal(self):
+        """The calls of a script, with its label, stand in the file of the run."""
+        script, label = self.file("labelled.script"), b"of a script".ljust(32)
+        lines = ["1 InitToken 31323334 -> 0", f"# label {label.hex()}", "1 OpenSession 6 -> 0 1",
+                 "1 Login 1 1 75736572 -> 102", "1 Login 1 7 31323334 -> 103"]
+        write(script, "\n".join(lines).encode())
+        for variable in ["JOURNAL", "TOKEN"]:
+            path = self.file(f"of_script-{variable}.cases")
+            self.begin(SCRIPT=script, **{variable: path})
+            self.checks.equal(bytes(self.module.token_info()[1].label), label, "the label")
+            self.end()
+            expected = "\n".join([*lines, "1 CloseAllSessions -> 0",
+                                  "1 GetTokenInfo -> 0 404 64 0 0", ""])
+            self.checks.equal(read(path).decode(), HEADER + expected, "the file")
+            support.audit(self.checks, self.ck_cases, path)
+        self.begin(TOKEN=path)
+        self.checks.equal(bytes(self.module.token_info()[1].label), label, "the label, later")
+        self.end()
+
     def test_only_reply(self):
         """A reply alone shows that a file is a journal."""
         path = self.file("only_reply.cases")
@@ -480,6 +521,46 @@ class Tests:
                  "1 GetAttributeValue 1 1 - -> 0 -", ""]
         self.checks.equal(read(path).decode().split("\n")[-4:], lines, "the last lines")
         support.audit(self.checks, self.ck_cases, path)
+
+    def test_bad_pointers(self):
+        """A call without a place for its answer doesn't stand in the journal."""
+        path, one = self.file("bad_pointers.cases"), support.c_ulong(1)
+        data, no_bytes = (support.c_ubyte * 4)(), support.c_ulong(0)
+        flags = support.c_ulong(6)
+        self.begin(JOURNAL=path)
+        self.say_all(LOG_IN + ["1 CreateObject 1 0=0000000000000000,2=00", "1 DigestInit 1 250",
+                               "1 FindObjectsInit 1 -"])
+        before = read(path)
+        for name, arguments in [
+                ("GetSessionInfo", [one, None]), ("GetTokenInfo", [no_bytes, None]),
+                ("GetMechanismList", [no_bytes, None, None]), ("GetObjectSize", [one, one, None]),
+                ("OpenSession", [no_bytes, flags, None, None, None]),
+                ("CopyObject", [one, one, None, no_bytes, None]),
+                ("FindObjects", [one, data, no_bytes, None]),
+                ("Digest", [one, data, one, data, None]), ("DigestFinal", [one, data, None]),
+                ("GenerateRandom", [one, None, one]), ("SeedRandom", [one, None, one]),
+                ("InitToken", [no_bytes, data, support.c_ulong(4), None])]:
+            self.checks.equal(self.module.call(name, *arguments), ARGUMENTS_BAD, f"C_{name}")
+            self.checks.equal(read(path), before, f"the file behind C_{name}")
+        self.end()
+
+    def test_quiet(self):
+        """Calls write nothing to standard error, be they answered or refused."""
+        refused = ["1 SetPIN 1 626164 31323334", "1 InitPIN 1 31323334", "1 InitToken 31323334",
+                   "1 CreateObject 1 3=6162", "1 GenerateKey 1 350 161=0000000000000000",
+                   "1 GetAttributeValue 1 9 11:64", "1 DestroyObject 1 9", "1 Verify 1 61 62",
+                   "1 SetKeyState 1 9 1", "1 GetSessionInfo 9", "1 CloseSession 9"]
+        ends = ["1 SetPIN 1 75736572 31323334", "1 Logout 1", "1 CloseSession 2",
+                "1 Login 1 1 75736572", "1 Login 1 0 75736572", "1 Login 1 1 31323334",
+                "1 CloseAllSessions", "1 InitToken 31323335", "1 InitToken 31323334"]
+        for variables in [{}, {"TOKEN": self.file("quiet.cases")}]:
+            worker = Worker(self.path, **variables)
+            codes = [worker.say(line) for line in SOME_CALLS + refused][-len(refused):]
+            self.checks.check("0" not in codes, f"codes of calls that are refused: {codes}")
+            replies = [worker.say(line) for line in ends]
+            self.checks.equal(replies, ["0", "0", "0", "a0", "a0", "0", "0", "a0", "0"],
+                              "the last replies")
+            self.checks.equal(worker.end(), "", f"the errors with {variables}")
 
     def test_longest_line(self):
         """A line has at most 4,194,304 bytes, be it a call that is written or a comment."""
@@ -541,8 +622,11 @@ class Tests:
             rest = read(path)[len(kept):]
             expected = b"1 CloseAllSessions -> 0\n" if length >= len(header) else b""
             self.checks.equal(rest, expected, f"what follows the lines of {length} bytes")
-            is_told = "OSPREYRACK_TOKEN" in errors
-            self.checks.equal(is_told, length > len(header) and len(kept) < length,
+            number = len(kept.split(b"\n"))
+            dropped = (f"ospreyrack: OSPREYRACK_TOKEN: {path}, line {number}: the line has no end, "
+                       "so it wasn't answered, and is dropped\n")
+            is_told = length > len(header) and len(kept) < length
+            self.checks.equal(errors, dropped if is_told else "",
                               f"whether a dropped line is told of, at {length} bytes")
         support.audit(self.checks, self.ck_cases, path)
 
@@ -566,9 +650,10 @@ class Tests:
                 start = f"ospreyrack: OSPREYRACK_TOKEN: {path}, line {place + 1}: "
                 self.checks.check(errors.startswith(start) and errors.count("\n") == 1, errors)
                 self.checks.equal(read(path), content, "the file")
-        self.checks.equal(self.initialize_without_errors(TOKEN=path), GENERAL_ERROR,
-                          "C_Initialize without a standard error")
-        self.checks.equal(read(path), content, "the file, by a process without standard error")
+        for closed in [(0, 2), (2,), (1, 2), (0, 1, 2)]:
+            self.checks.equal(self.initialize_without_errors(closed, TOKEN=path), GENERAL_ERROR,
+                              f"C_Initialize where {closed} are closed")
+            self.checks.equal(read(path), content, f"the file, where {closed} are closed")
         self.begin(TOKEN=self.journal_of_some_calls())
         self.end()
 
@@ -808,11 +893,12 @@ class Tests:
         for variable in ["JOURNAL", "TOKEN"]:
             code, errors = self.initialize(**{variable: "/dev/full"})
             self.checks.equal(code, GENERAL_ERROR, f"C_Initialize with {variable}=/dev/full")
-            self.checks.check(errors.startswith(f"ospreyrack: OSPREYRACK_{variable}: /dev/full: ")
-                              and errors.count("\n") == 1, errors)
+            self.checks.equal(errors, f"ospreyrack: OSPREYRACK_{variable}: /dev/full: this is no "
+                              "regular file\n", "the errors")
         worker = Worker(self.path, limit=100, JOURNAL=self.file("small.cases"))
         self.checks.equal(worker.code, f"{GENERAL_ERROR:x}", "C_Initialize with room for 100 bytes")
         self.checks.check("OSPREYRACK_JOURNAL" in worker.end(), "no room for the file's header")
+        self.checks.equal(read(self.file("small.cases")), b"", "the file is left empty")
 
     def test_filling(self):
         """A device that becomes full: CKR_DEVICE_ERROR, and the file has whole lines."""
@@ -823,7 +909,10 @@ class Tests:
             while DEVICE_ERROR not in replies and len(replies) < 300:
                 replies.append(worker.say("1 GetTokenInfo"))
             self.checks.check(10 < len(replies) < 300, "the file becomes full")
-            self.checks.equal(worker.say("1 InitToken 31323334"), DEVICE_ERROR, "a later call")
+            for line in ["1 InitToken 31323334", "1 OpenSession 6", "1 GetSessionInfo 1",
+                         "1 CloseAllSessions", "1 DigestInit 1 250", "1 SessionCancel 1 400",
+                         "1 GetAttributeValue 1 1 3:9", "1 SetKeyState 1 1 1"]:
+                self.checks.equal(worker.say(line), DEVICE_ERROR, f"a later call: {line}")
             errors = worker.end()
             self.checks.equal(worker.last, "0", "C_Finalize")
             content = read(path).decode()
@@ -855,20 +944,49 @@ class Tests:
                           and errors.count("\n") == 1, errors)
         self.check_calls(path, [*calls, f"1 DigestUpdate 1 {piece}"], [*replies, "0"])
 
-    def random_of_start(self, count=40, **variables):
-        """The first random bytes behind a C_Initialize with these variables."""
+    def find_with_limit(self, name, limit=None):
+        """A search of 1,500 objects in a process whose file can't be longer: the number of handles
+        that C_FindObjects gives, the reply to the next one, and the file."""
+        path = self.file(name)
+        worker = Worker(self.path, limit=limit, TOKEN=path)
+        for line in LOG_IN + ["1 CreateObject 1 0=0000000000000000,2=00"] * 1500:
+            worker.say(line)
+        worker.say("1 FindObjectsInit 1 -")
+        found = worker.say("1 FindObjects 1 1500")
+        later = worker.say("1 FindObjects 1 9")
+        worker.end()
+        return found.count(",") + 1, later, read(path).decode()
+
+    def test_filling_in_search(self):
+        """A device that becomes full in a search: the handles that were found before are given."""
+        found, later, whole = self.find_with_limit("searched.cases")
+        self.checks.equal((found, later), (1500, "0 -"), "a search with room for all")
+        second = whole.index("1 FindObjects 1 500 -> ")
+        for limit in [second, second + 30]:
+            found, later, content = self.find_with_limit(f"searched-{limit}.cases", limit)
+            self.checks.equal((found, later), (1000, DEVICE_ERROR), "the first handles")
+            self.checks.equal(content, whole[:second], "the file ends with the first piece")
+
+    def draw(self, count):
+        """Random bytes in session 1."""
         out = (support.c_ubyte * count)()
-        self.begin(**variables)
-        self.say_all(LOG_IN[:2])
         code = self.module.call("GenerateRandom", support.c_ulong(1), out, support.c_ulong(count))
         self.checks.equal(code, 0, "C_GenerateRandom")
-        self.end()
         return bytes(out)
+
+    def random_of_start(self, count=40, **variables):
+        """The first random bytes behind a C_Initialize with these variables."""
+        self.begin(**variables)
+        self.say_all(LOG_IN[:2])
+        made = self.draw(count)
+        self.end()
+        return made
 
     def seeded_run(self, seed):
         code, errors = self.initialize(SEED=seed)
         self.checks.equal(code, 0, "C_Initialize with a seed")
-        self.checks.check(errors.startswith("ospreyrack: OSPREYRACK_SEED: "), "a seed is warned of")
+        self.checks.equal(errors, "ospreyrack: OSPREYRACK_SEED: keys and random bytes follow from "
+                          "this number: for tests only\n", "a seed is warned of")
         self.say_all(LOG_IN)
         values = []
         for count in range(3):
@@ -897,6 +1015,15 @@ class Tests:
         self.checks.equal(ten, self.random_of_start(SEED=10), "the random bytes of seed 010")
         self.checks.equal(eleven, self.random_of_start(SEED=11), "the random bytes of seed 0000011")
         self.checks.equal(len({seven, ten, eleven}), 3, "different random bytes")
+        self.begin(SEED=7)
+        self.say_all(LOG_IN)
+        key = self.module.say("1 GenerateKey 1 350 161=0b00000000000000,162=01,103=00")
+        value = self.module.say(f"1 GetAttributeValue 1 {key[2:]} 11:64")
+        self.checks.equal(value, f"0 ={seven[:11].hex()}", "the key's value")
+        drawn = [self.draw(count) for count in [3, 8, 1]]
+        self.end()
+        # Each draw begins with a new number of eight bytes.
+        self.checks.equal(drawn, [seven[16:19], seven[24:32], seven[32:33]], "what is drawn later")
 
     def run_memory(self, kind, cut, last):
         run = subprocess.run([sys.executable, os.path.abspath(__file__), kind, self.path],
@@ -958,14 +1085,17 @@ class Tests:
         self.checks.check(held[-1] < held[2] / 2, f"it is cut while a file is answered: {held}")
 
 
-TESTS = [Tests.test_file, Tests.test_going_on, Tests.test_new_label, Tests.test_no_label,
-         Tests.test_script, Tests.test_only_reply, Tests.test_calls_beside, Tests.test_callers,
-         Tests.test_longest_line, Tests.test_failed_start, Tests.test_bad_variable_and_file,
-         Tests.test_cut_off, Tests.test_changed, Tests.test_lacking_reply, Tests.test_two_processes,
+TESTS = [Tests.test_file, Tests.test_mode, Tests.test_going_on, Tests.test_new_label,
+         Tests.test_no_label, Tests.test_script, Tests.test_script_and_journal,
+         Tests.test_only_reply, Tests.test_calls_beside, Tests.test_callers,
+         Tests.test_bad_pointers, Tests.test_quiet, Tests.test_longest_line,
+         Tests.test_failed_start, Tests.test_bad_variable_and_file, Tests.test_cut_off,
+         Tests.test_changed, Tests.test_lacking_reply, Tests.test_two_processes,
          Tests.test_second_run, Tests.test_fork, Tests.test_fork_that_stays, Tests.test_exec,
          Tests.test_unload, Tests.test_unload_with_functions, Tests.test_rights, Tests.test_kills,
-         Tests.test_full, Tests.test_filling, Tests.test_filling_in_update, Tests.test_seed,
-         Tests.test_seeded_bytes, Tests.test_long_template, Tests.test_cut, Tests.test_memory]
+         Tests.test_full, Tests.test_filling, Tests.test_filling_in_update,
+         Tests.test_filling_in_search, Tests.test_seed, Tests.test_seeded_bytes,
+         Tests.test_long_template, Tests.test_cut, Tests.test_memory]
 
 
 def run_test(checks, test):
