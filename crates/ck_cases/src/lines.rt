@@ -11,7 +11,7 @@
 //! - `audit 1 9 9 9 -> entry 3 is wrong`: it finds that entry 3 is the first wrong one.
 use crate::limits::{LimitsError, limits_in};
 use ck_script::BadLine;
-use ck_types::Limits;
+use ck_token::Limits;
 use thiserror::Error;
 
 /// What stands between a step and what comes of it.
