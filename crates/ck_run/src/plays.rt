@@ -2,8 +2,7 @@
 use crate::devices::{Devices, check_script};
 use ck_plays::{PlayFault, play_with};
 use ck_script::{BadLine, LONGEST_LINE};
-use ck_token::Token;
-use ck_types::Limits;
+use ck_token::{Limits, Token};
 use std::alloc::Global;
 use std::process::Abort;
 use std::test::Fail;
