@@ -1,6 +1,8 @@
 #!/usr/bin/env python3
 """Writes contracts.md, the contracts of all public functions as they stand in crates/*/src, from
-the sources; or with the word `check` says whether the page is what it would write."""
+the sources; or with the word `check` says whether the page is what it would write, and whether the
+example of ck_token is the same wherever it stands."""
+import itertools
 import os
 import re
 import sys
@@ -17,6 +19,11 @@ page, and `./check` looks whether it is as the sources are. [proofs.md](proofs.m
 definitions mean that the clauses name; they stand in the `specs` folders. A function whose contract
 is its trait's isn't named here.
 """
+
+# The example of ck_token: the file in which it is run by a test, and those that show it, each with
+# what stands before its lines there.
+EXAMPLE = ("crates/ck_run/src/signing.rt", "")
+SHOWN = [("crates/ck_token/src/lib.rt", "//! "), ("docs/rust.md", "    ")]
 
 FUNCTION = re.compile(r'^( *)pub (?:const )?(?:unsafe )?(?:extern "C" )?fn (\w+)')
 TRAIT_FUNCTION = re.compile(r"^(    )fn (\w+)")
@@ -108,16 +115,49 @@ def page():
     return "\n".join(text)
 
 
-def main():
-    if sys.argv[1:] != ["check"]:
-        with open(PAGE, "w") as file:
-            file.write(page())
-        return 0
+def example_in(path, before):
+    """The lines of the function `sign` in a file; none where it isn't there whole."""
+    with open(os.path.join(CRATES, "..", path)) as file:
+        lines = [line[len(before):] for line in file.read().split("\n") if line.startswith(before)]
+    example = list(itertools.dropwhile(lambda line: not line.startswith("fn sign("), lines))
+    return example[:example.index("}") + 1] if "}" in example else []
+
+
+def difference(shown, run):
+    """Where the example that is shown isn't the one that is run, or None."""
+    if not shown or not run:
+        return "the function `sign` isn't there, or not in the test"
+    for number, (here, there) in enumerate(itertools.zip_longest(shown, run, fillvalue=""), 1):
+        if here != there:
+            return f"line {number} of it is `{here.strip()}`, and in the test `{there.strip()}`"
+    return None
+
+
+def check_examples():
+    """Whether the example is the same wherever it stands. Says where it isn't."""
+    run = example_in(*EXAMPLE)
+    found = [(path, difference(example_in(path, before), run)) for path, before in SHOWN]
+    for path, what in found:
+        print(f"{path}: the example is " + (
+            f"not that of {EXAMPLE[0]}: {what}" if what else "as it is run"))
+    return not any(what for _, what in found)
+
+
+def check_page():
     with open(PAGE) as file:
         is_same = file.read() == page()
     print("docs/contracts.md is " + ("as the sources are" if is_same else
                                      "not as the sources are: run python3 docs/contracts.py"))
-    return 0 if is_same else 1
+    return is_same
+
+
+def main():
+    if sys.argv[1:] == ["check"]:
+        results = [check_page(), check_examples()]
+        return 0 if all(results) else 1
+    with open(PAGE, "w") as file:
+        file.write(page())
+    return 0
 
 
 if __name__ == "__main__":

@@ -2,10 +2,8 @@
 //! caller under the lock.
 use crate::sections::Section;
 use ck_audit::{Verdict, audit_token};
-use ck_journal::{Call, Reply};
 use ck_shared::{Caller, CallerWork, Gate, Runtime, TokenId, share};
-use ck_token::Token;
-use ck_types::{Limits, NoMemory, Rv};
+use ck_token::{Call, Limits, NoMemory, Reply, Rv, Token};
 use std::alloc::Global;
 use std::io;
 use std::sync::Wait;

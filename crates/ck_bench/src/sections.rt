@@ -1,9 +1,8 @@
 //! A script in sections. A line `#measure NAME` begins one; the calls before the first line of this
 //! kind prepare the token. The callers of lines are passed over.
 use anyhow::bail;
-use ck_journal::Call;
 use ck_script::{Line, LineError};
-use ck_types::NoMemory;
+use ck_token::{Call, NoMemory};
 use std::alloc::Global;
 
 /// Calls that are measured together.

@@ -1,9 +1,10 @@
 //! What a caller of a shared token does while it is measured.
 use anyhow::{Context, bail, ensure};
-use ck_journal::{AttributeQuery, Body, Call, READ_WRITE, Reply};
-use ck_objects::{Attribute, Class, Template};
 use ck_shared::{Ask, Caller, CallerWork, Gate, Status, TokenId};
-use ck_types::{Bytes, Mechanism, NoMemory, Rv, SHA256, Sequence};
+use ck_token::{
+    Attribute, AttributeQuery, Body, Bytes, Call, Class, Mechanism, NoMemory, READ_WRITE, Reply,
+    Rv, SHA256, Sequence, Template,
+};
 use std::alloc::Global;
 use std::sync::Wait;
 use std::sync::atomic::{AtomicBool, Ordering};

@@ -3,10 +3,8 @@ ghost use Rattle.std.specs.Prelude.{◌≡◌, ◌≤◌, OnOk, length};
 ghost use Rattle.ck_journal.specs.Histories.{start, start_of};
 
 use crate::tasks::{Round, Task, Tasks};
-use ck_journal::Call;
 use ck_shared::{Runtime, share};
-use ck_token::Token;
-use ck_types::{Limits, Pin};
+use ck_token::{Call, Limits, Pin, Token};
 use std::alloc::Global;
 use std::time::Clock;
 

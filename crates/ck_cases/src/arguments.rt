@@ -1,7 +1,7 @@
 //! What the program's arguments ask for.
 use crate::cases::{MOST_FINDINGS, Output, PlayOptions};
 use crate::limits::{LimitsError, limits_in};
-use ck_types::Limits;
+use ck_token::Limits;
 use clap::error::ErrorKind;
 use clap::{Arg, ArgAction, ArgMatches, Command, value_parser};
 use std::alloc::{AllocError, Global};

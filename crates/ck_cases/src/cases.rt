@@ -1,5 +1,5 @@
-//! The cases of a file are played, line by line.
-use crate::case_errors::CaseError;
+//! The cases of a file are played, line by line. Out of memory is written with the text of
+//! `NoMemory`, so an `AllocError` becomes a `NoMemory` before it becomes an `anyhow::Error`.
 use crate::findings::Finding;
 use crate::limits::{LimitsError, LimitsLine};
 use crate::lines::{ARROW, BAD_SCRIPT, CaseLine, LineFault, Step};
@@ -8,8 +8,7 @@ use crate::reports::Report;
 use crate::retries::RetryingToken;
 use ck_audit::Verdict;
 use ck_script::{BadLine, Line, LineError};
-use ck_token::Uncut;
-use ck_types::Limits;
+use ck_token::{Limits, NoMemory, Uncut};
 use std::alloc::Global;
 use std::fmt;
 
@@ -81,12 +80,12 @@ impl<'a> Player<'a> {
     }
 
     /// Reports what is wrong with the line.
-    fn report(&mut self, finding: &Finding<'_>) -> Result<(), CaseError> {
+    fn report(&mut self, finding: &Finding<'_>) -> Result<(), NoMemory> {
         Ok(self.report.add(self.number, finding)?)
     }
 
     /// Adds a line to the file that is written again.
-    fn rewrite<T: fmt::Display>(&mut self, line: &T) -> Result<(), CaseError> {
+    fn rewrite<T: fmt::Display>(&mut self, line: &T) -> Result<(), NoMemory> {
         if let Some(text) = &mut self.rewritten {
             write!(text, "{line}\n")?;
         }
@@ -94,7 +93,7 @@ impl<'a> Player<'a> {
     }
 
     /// Adds the line of limits with which all cases are played, where they are given.
-    fn rewrite_limits(&mut self) -> Result<(), CaseError> {
+    fn rewrite_limits(&mut self) -> Result<(), NoMemory> {
         match self.limits {
             Some(limits) => self.rewrite(&LimitsLine(limits)),
             None => Ok(()),
@@ -102,10 +101,10 @@ impl<'a> Player<'a> {
     }
 
     /// Plays the next line.
-    fn play_line(&mut self, line: &str) -> Result<(), CaseError> {
+    fn play_line(&mut self, line: &str) -> anyhow::Result<()> {
         self.number = self.number.saturating_add(1);
         match CaseLine::of(line) {
-            CaseLine::Skipped => self.rewrite(&line),
+            CaseLine::Skipped => Ok(self.rewrite(&line)?),
             CaseLine::Limits(limits) => self.begin_case(line, limits),
             CaseLine::Step { step, recorded } => self.play_step(line, step, recorded),
         }
@@ -116,7 +115,7 @@ impl<'a> Player<'a> {
         &mut self,
         line: &str,
         limits: Result<Limits, LimitsError>,
-    ) -> Result<(), CaseError> {
+    ) -> anyhow::Result<()> {
         self.audit()?;
         self.has_begun = true;
         if let Err(error) = limits {
@@ -126,27 +125,23 @@ impl<'a> Player<'a> {
         let limits = self.limits.or(limits.ok()).unwrap_or(Limits::largest());
         self.token.start(self.alloc, limits);
         match self.limits {
-            Some(_) => self.rewrite_limits(),
-            None => self.rewrite(&line),
+            Some(_) => self.rewrite_limits()?,
+            None => self.rewrite(&line)?,
         }
+        Ok(())
     }
 
     /// Audits the journal of a case. That the journal of a token is legal is proved; this shows it
     /// of the program as it was built.
-    fn audit(&mut self) -> Result<(), CaseError> {
+    fn audit(&mut self) -> anyhow::Result<()> {
         match self.token.audit_own(self.alloc)? {
             Verdict::Legal => Ok(()),
-            Verdict::Wrong(entry) => self.report(&Finding::WrongEntry(entry)),
+            Verdict::Wrong(entry) => Ok(self.report(&Finding::WrongEntry(entry))?),
         }
     }
 
     /// Plays the step of a line.
-    fn play_step(
-        &mut self,
-        line: &str,
-        step: &str,
-        recorded: Option<&str>,
-    ) -> Result<(), CaseError> {
+    fn play_step(&mut self, line: &str, step: &str, recorded: Option<&str>) -> anyhow::Result<()> {
         if !self.has_begun {
             self.has_begun = true;
             self.rewrite_limits()?;
@@ -154,17 +149,17 @@ impl<'a> Player<'a> {
         match self.outcome_of(step)? {
             Outcome::Bad(fault) if !is_bad_script(recorded) => {
                 self.report(&Finding::Bad { text: step, fault })?;
-                self.rewrite(&line)
+                Ok(self.rewrite(&line)?)
             }
             outcome => {
                 let came = outcome.text(self.alloc)?;
-                self.judge(step, came.as_str(), recorded)
+                Ok(self.judge(step, came.as_str(), recorded)?)
             }
         }
     }
 
     /// Compares what came of a step with what is recorded, or writes it in place of that.
-    fn judge(&mut self, step: &str, came: &str, recorded: Option<&str>) -> Result<(), CaseError> {
+    fn judge(&mut self, step: &str, came: &str, recorded: Option<&str>) -> Result<(), NoMemory> {
         if let Some(text) = &mut self.rewritten {
             return Ok(write!(text, "{step}{ARROW}{came}\n")?);
         }
@@ -186,7 +181,7 @@ impl<'a> Player<'a> {
     }
 
     /// What comes of a step.
-    fn outcome_of(&mut self, step: &str) -> Result<Outcome, CaseError> {
+    fn outcome_of(&mut self, step: &str) -> anyhow::Result<Outcome> {
         match Step::of(step) {
             Step::Cut => {
                 self.audit()?;
@@ -200,29 +195,28 @@ impl<'a> Player<'a> {
         }
     }
 
-    fn cut(&mut self) -> Result<Outcome, CaseError> {
+    fn cut(&mut self) -> anyhow::Result<Outcome> {
         match self.token.cut(self.alloc)? {
             Ok(journal) => Ok(Outcome::Cut(journal.len())),
             Err(Uncut::Session) => Ok(Outcome::Uncut),
-            Err(Uncut::Memory) => Err(CaseError::Memory),
+            Err(Uncut::Memory) => Err(NoMemory.into()),
         }
     }
 
     /// Makes the call of a line of a script.
-    fn call(&mut self, text: &str) -> Result<Outcome, CaseError> {
+    fn call(&mut self, text: &str) -> anyhow::Result<Outcome> {
         match Line::parse(self.alloc, text.as_bytes()) {
             Ok(Line::Called { caller, call }) => {
                 Ok(Outcome::Replied(self.token.call(self.alloc, caller, &call)?))
             }
             Ok(Line::Skipped) => Ok(Outcome::Bad(LineFault::Script(BadLine::NoCall))),
             Err(LineError::Bad(reason)) => Ok(Outcome::Bad(LineFault::Script(reason))),
-            Err(LineError::Memory) => Err(CaseError::Memory),
+            Err(LineError::Memory) => Err(NoMemory.into()),
         }
     }
 
-    /// Ends the last case, and gives what came of the file.
-    fn finish(mut self) -> Result<Played, CaseError> {
-        self.audit()?;
+    /// What came of the file, whose last case has been audited.
+    fn finish(self) -> Result<Played, NoMemory> {
         let Player {
             alloc,
             token,
@@ -257,10 +251,11 @@ pub(crate) fn play_text(
     name: &str,
     text: &str,
     options: &PlayOptions,
-) -> Result<Played, CaseError> {
+) -> anyhow::Result<Played> {
     let mut player = Player::new(alloc, name, options);
     for line in text.lines() {
         player.play_line(line)?;
     }
-    player.finish()
+    player.audit()?;
+    Ok(player.finish()?)
 }

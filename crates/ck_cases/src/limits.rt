@@ -1,5 +1,5 @@
 //! Limits of a token as text.
-use ck_types::Limits;
+use ck_token::Limits;
 use std::fmt;
 use thiserror::Error;
 

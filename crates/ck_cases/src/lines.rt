@@ -7,11 +7,11 @@
 //! - `1 OpenSession E -> bad script: ..`: a line that is none of a script's, and why.
 //! - `cut -> entries 2`: the token's journal is cut, and this many entries are taken out.
 //! - `cut -> a session is open`: it isn't cut, and why.
-//! - `audit 1 9 9 9 -> entry 3 is wrong`: the journal is audited as one of a token of these limits,
-//!   and its first reply that isn't such a token's is that of this entry; or `-> legal`.
+//! - `audit 1 9 9 9 -> legal`: an audit under these limits finds the journal legal.
+//! - `audit 1 9 9 9 -> entry 3 is wrong`: it finds that entry 3 is the first wrong one.
 use crate::limits::{LimitsError, limits_in};
 use ck_script::BadLine;
-use ck_types::Limits;
+use ck_token::Limits;
 use thiserror::Error;
 
 /// What stands between a step and what comes of it.

@@ -4,7 +4,6 @@
 #![tactic(auto)]
 
 mod arguments;
-mod case_errors;
 mod cases;
 mod files;
 mod findings;

@@ -1,9 +1,8 @@
 //! What comes of a step.
-use crate::case_errors::CaseError;
 use crate::lines::{BAD_SCRIPT, LineFault};
 use ck_audit::Verdict;
-use ck_journal::Reply;
 use ck_script::reply_line;
+use ck_token::{NoMemory, Reply};
 use std::alloc::Global;
 
 /// What comes of a step.
@@ -21,7 +20,7 @@ pub(crate) enum Outcome {
 
 impl Outcome {
     /// The text that stands behind the arrow.
-    pub(crate) fn text(&self, alloc: Global) -> Result<String, CaseError> {
+    pub(crate) fn text(&self, alloc: Global) -> Result<String, NoMemory> {
         match self {
             Outcome::Replied(reply) => Ok(reply_line(alloc, reply)?),
             Outcome::Cut(entries) => Ok(format!(in alloc; "entries {entries}")?),

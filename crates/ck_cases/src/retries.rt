@@ -1,9 +1,7 @@
 //! A token whose calls, cuts and audits are made again where they find no memory.
-use crate::case_errors::CaseError;
+use anyhow::ensure;
 use ck_audit::{Verdict, audit, audit_token};
-use ck_journal::{Call, Journal, Reply};
-use ck_token::{Token, Uncut};
-use ck_types::Limits;
+use ck_token::{Call, Journal, Limits, NoMemory, Reply, Token, Uncut};
 use std::alloc::Global;
 
 /// A token, and how many times it found no memory. What found none must have left the journal as
@@ -12,6 +10,11 @@ use std::alloc::Global;
 pub(crate) struct RetryingToken {
     token: Token,
     retries: u64,
+}
+
+/// A copy of a call, or out of memory.
+fn copy_of(call: &Call) -> Result<Call, NoMemory> {
+    Ok(call.clone()?)
 }
 
 impl RetryingToken {
@@ -37,11 +40,12 @@ impl RetryingToken {
     }
 
     /// Counts a retry. The journal must have this many entries.
-    fn retry(&mut self, entries: u64) -> Result<(), CaseError> {
+    fn retry(&mut self, entries: u64) -> anyhow::Result<()> {
         let came = self.token.journal().len();
-        if came != entries {
-            return Err(CaseError::Entered { entries, came });
-        }
+        ensure!(
+            came == entries,
+            "out of memory, and the journal has {came} entries in place of {entries}"
+        );
         self.retries = self.retries.saturating_add(1);
         Ok(())
     }
@@ -52,17 +56,17 @@ impl RetryingToken {
         alloc: Global,
         caller: u32,
         call: &Call,
-    ) -> Result<Reply, CaseError> {
+    ) -> anyhow::Result<Reply> {
         let entries = self.token.journal().len();
-        if let Ok(reply) = self.token.call(alloc, caller, call.clone()?) {
+        if let Ok(reply) = self.token.call(alloc, caller, copy_of(call)?) {
             return Ok(reply);
         }
         self.retry(entries)?;
-        Ok(self.token.call(alloc, caller, call.clone()?)?)
+        Ok(self.token.call(alloc, caller, copy_of(call)?)?)
     }
 
-    /// Audits the journal as one of the token's own limits, as which it is legal.
-    pub(crate) fn audit_own(&mut self, alloc: Global) -> Result<Verdict, CaseError>
+    /// Audits the journal under the limits of its token, and finds it legal.
+    pub(crate) fn audit_own(&mut self, alloc: Global) -> anyhow::Result<Verdict>
         ensures { IfOk result (λ found. found ≡ verdict.Legal) }
     {
         let entries = self.token.journal().len();
@@ -73,8 +77,8 @@ impl RetryingToken {
         Ok(audit_token(alloc, &self.token)?)
     }
 
-    /// Audits the journal as one of a token of these limits.
-    pub(crate) fn audit(&mut self, alloc: Global, limits: Limits) -> Result<Verdict, CaseError> {
+    /// Audits the journal under these limits.
+    pub(crate) fn audit(&mut self, alloc: Global, limits: Limits) -> anyhow::Result<Verdict> {
         let entries = self.token.journal().len();
         if let Ok(verdict) = audit::<Token>(alloc, self.token.journal(), limits) {
             return Ok(verdict);
@@ -84,7 +88,7 @@ impl RetryingToken {
     }
 
     /// Cuts the journal, or says why it isn't cut.
-    pub(crate) fn cut(&mut self, alloc: Global) -> Result<Result<Journal, Uncut>, CaseError> {
+    pub(crate) fn cut(&mut self, alloc: Global) -> anyhow::Result<Result<Journal, Uncut>> {
         let entries = self.token.journal().len();
         match self.token.cut(alloc) {
             Err(Uncut::Memory) => {

@@ -1,5 +1,5 @@
 //! Texts of files as they are shown to a user: short, and with the names of return codes.
-use ck_types::Rv;
+use ck_token::Rv;
 use std::fmt;
 
 /// The most characters that are shown of a text.

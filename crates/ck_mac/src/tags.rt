@@ -3,7 +3,7 @@ ghost use Rattle.ck_types.specs.Checks.{check_of};
 ghost use Rattle.ck_mac.specs.Macs.{signature_error};
 ghost use Rattle.ck_mac.specs.Padding.{with_zeros};
 
-use ck_types::{RvError, constant_time_eq};
+use ck_types::{RvError, constant_time_eq, error_if};
 use std::marker::Model;
 
 /// The length in bytes of the longest digest.
@@ -60,13 +60,9 @@ impl Tag {
     pub fn check(&self, signature: &[u8]) -> Result<(), RvError>
         ensures { result ≡ check_of (signature_error self.now signature.now) }
     {
-        if signature.len() != self.len {
-            return Err(RvError::SignatureLenRange);
-        }
-        if !constant_time_eq(signature, self.bytes()) {
-            return Err(RvError::SignatureInvalid);
-        }
-        Ok(())
+        error_if(signature.len() != self.len, RvError::SignatureLenRange)?;
+        let is_same = constant_time_eq(signature, self.bytes());
+        error_if(!is_same, RvError::SignatureInvalid)
     }
 }
 

@@ -1,8 +1,6 @@
 //! Journals that no token has made, and one without entries.
 use ck_audit::{Verdict, audit};
-use ck_journal::{Body, Call, Entry, Journal, READ_WRITE, Reply};
-use ck_token::Token;
-use ck_types::{Limits, NoMemory, Pin, Rv};
+use ck_token::{Body, Call, Entry, Journal, Limits, NoMemory, Pin, READ_WRITE, Reply, Rv, Token};
 use std::alloc::Global;
 use std::test::Fail;
 

@@ -1,7 +1,6 @@
 //! Devices in memory, and what is written to them while a script is played.
 use ck_plays::{MemorySink, MemorySource, PlayFault, play_with};
-use ck_token::Token;
-use ck_types::Limits;
+use ck_token::{Limits, Token};
 use std::alloc::Global;
 use std::process::Abort;
 

@@ -2,8 +2,7 @@
 use crate::devices::{Devices, check_script};
 use ck_plays::{PlayFault, play_with};
 use ck_script::{BadLine, LONGEST_LINE};
-use ck_token::Token;
-use ck_types::Limits;
+use ck_token::{Limits, Token};
 use std::alloc::Global;
 use std::process::Abort;
 use std::test::Fail;
@@ -55,9 +54,9 @@ fn scripts_are_played(rt: HostRuntime) {
     }
 }
 
-/// How many bytes `a` a piece of a message has, and the replies where it is the whole message: the
-/// digest of a million (FIPS 180-2, appendix B.3), of the most that a piece may have, and the
-/// refusal of one byte more.
+/// How many bytes `a` a message has, which comes in one piece, and the replies. A million bytes
+/// give the digest of FIPS 180-2, appendix B.3. The next message has the most bytes that a piece
+/// may have, and the last one has a byte more and is refused.
 const MESSAGES: [(usize, &str); 3] = [
     (
         1_000_000,

@@ -2,8 +2,7 @@
 use ck_plays::PlayFault;
 use ck_program::{ArgumentFault, BadArguments, ProgramFault, options_of};
 use ck_script::{BadLine, LineError};
-use ck_token::{CallError, Stopped, Uncut};
-use ck_types::{NoMemory, Rv, RvError};
+use ck_token::{CallError, NoMemory, Rv, RvError, Stopped, Uncut};
 use std::alloc::Global;
 use std::fmt::Display;
 use std::process::Abort;

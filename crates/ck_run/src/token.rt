@@ -1,9 +1,9 @@
 //! What the cases of ck_cases don't show: of a token an empty journal, room for entries, runs, and
 //! that a long template is checked in time.
-use ck_journal::{Call, READ_WRITE};
-use ck_objects::{Attribute, AttributeValue, Item, Template};
-use ck_token::{Token, run};
-use ck_types::{Bytes, Limits, Mechanism, NoMemory, Pin, Rv, RvError, SHA256, Sequence};
+use ck_token::{
+    Attribute, AttributeValue, Bytes, Call, Item, Limits, Mechanism, NoMemory, Pin, READ_WRITE, Rv,
+    RvError, SHA256, Sequence, Template, Token, run,
+};
 use std::alloc::Global;
 use std::process::Abort;
 use std::test::Fail;

@@ -5,7 +5,7 @@ use Rattle.std.proofs.lemmas.List.Elements.{All-cons}
 use Rattle.ck_journal.specs.Histories.{History}
 use Rattle.ck_callers.specs.Callers.{CallerState, IsSettled}
 
--- where all that are left but one are settled, and so is that one, all are
+-- where the first of those that are left is settled, and so are the others, all are
 pub settled_next : (g h : History) (c : CallerState) (left rest all : List CallerState) → g ≡ h
     → left ≡ c ∷
     rest → IsSettled h c
@@ -21,7 +21,7 @@ pub settled_last : (g h : History) (left all : List CallerState) → g ≡ h →
 settled_last g h left all same none then =
     subst (λ x. All (IsSettled x) all) (sym same) (then (λ k d below. absurd (omega arith)))
 
--- where all that are left but one are so, and that one is, all are
+-- where it is so of the first of those that are left, and of the others, it is so of all
 pub all_next : {X : Type 0} (P : X → Type 0) (x : X) (left rest all : List X) → left ≡ x ∷ rest
     → P x → (All P left → All P all) → All P rest → All P all
 all_next P x left rest all is one then others =

@@ -307,6 +307,7 @@ impl Token {
             Call::SetPin { session, old, new } => self.set_pin(*session, *old, *new),
             Call::OpenSession { flags } => self.open_session(*flags),
             Call::CloseSession { session } => self.close_session(*session),
+            // C_CloseAllSessions is never refused.
             Call::CloseAllSessions => Ok(Decision::of_change(Change::CloseAllSessions)),
             Call::Login { session, user, pin } => self.login(*session, *user, *pin),
             Call::Logout { session } => self.logout(*session),

@@ -112,6 +112,8 @@ impl RvError {
     }
 
     /// The name that the standard gives the code.
+    // A match, since a derived `Display` formats each text in an arm of its own, which takes long
+    // to prove.
     fn name(&self) -> &'static str {
         match self {
             RvError::HostMemory => "CKR_HOST_MEMORY",

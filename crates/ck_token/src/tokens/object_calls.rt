@@ -107,9 +107,12 @@ impl Token {
 
     // ---- the calls
 
-    /// C_CreateObject. Checks: CKR_SESSION_HANDLE_INVALID (b3), those of
-    /// `Template::check_creation`, CKR_SESSION_READ_ONLY (b5), CKR_USER_NOT_LOGGED_IN (101),
-    /// CKR_DEVICE_MEMORY (31).
+    /// C_CreateObject. Checks: CKR_SESSION_HANDLE_INVALID (b3); of the template
+    /// (`Template::check_creation`) CKR_ATTRIBUTE_TYPE_INVALID (12) or
+    /// CKR_ATTRIBUTE_VALUE_INVALID (13) item by item, CKR_TEMPLATE_INCONSISTENT (d1),
+    /// CKR_TEMPLATE_INCOMPLETE (d0) without a class, 12 or CKR_ATTRIBUTE_READ_ONLY (10) item by
+    /// item, and for a key d0 without a key type or a value, 13 for the length of the value; then
+    /// CKR_SESSION_READ_ONLY (b5), CKR_USER_NOT_LOGGED_IN (101), CKR_DEVICE_MEMORY (31).
     pub(super) fn create_object(
         &self,
         alloc: Global,
@@ -128,8 +131,12 @@ impl Token {
     }
 
     /// C_GenerateKey. Checks: CKR_SESSION_HANDLE_INVALID (b3), CKR_MECHANISM_INVALID (70),
-    /// CKR_MECHANISM_PARAM_INVALID (71), those of `Template::check_generation`,
-    /// CKR_SESSION_READ_ONLY (b5), CKR_USER_NOT_LOGGED_IN (101), CKR_DEVICE_MEMORY (31).
+    /// CKR_MECHANISM_PARAM_INVALID (71); of the template (`Template::check_generation`)
+    /// CKR_ATTRIBUTE_TYPE_INVALID (12) or CKR_ATTRIBUTE_VALUE_INVALID (13) item by item,
+    /// CKR_TEMPLATE_INCONSISTENT (d1) for two values of one type or another class, 12 or
+    /// CKR_ATTRIBUTE_READ_ONLY (10) item by item, CKR_TEMPLATE_INCOMPLETE (d0),
+    /// CKR_KEY_SIZE_RANGE (62), CKR_ARGUMENTS_BAD (7); then CKR_SESSION_READ_ONLY (b5),
+    /// CKR_USER_NOT_LOGGED_IN (101), CKR_DEVICE_MEMORY (31).
     pub(super) fn generate_key(
         &self,
         alloc: Global,
@@ -173,7 +180,10 @@ impl Token {
     }
 
     /// C_CopyObject. Checks: CKR_SESSION_HANDLE_INVALID (b3), CKR_OBJECT_HANDLE_INVALID (82),
-    /// CKR_ACTION_PROHIBITED (1b), those of `Record::check_copy`, CKR_SESSION_READ_ONLY (b5),
+    /// CKR_ACTION_PROHIBITED (1b); of the template (`Record::check_copy`)
+    /// CKR_ATTRIBUTE_TYPE_INVALID (12) or CKR_ATTRIBUTE_VALUE_INVALID (13) item by item,
+    /// CKR_TEMPLATE_INCONSISTENT (d1), 12 or CKR_ATTRIBUTE_READ_ONLY (10) item by item, 10 where it
+    /// weakens a key, d1 where it makes a private object public; then CKR_SESSION_READ_ONLY (b5),
     /// CKR_USER_NOT_LOGGED_IN (101), CKR_DEVICE_MEMORY (31).
     pub(super) fn copy_object(
         &self,
@@ -220,8 +230,10 @@ impl Token {
     }
 
     /// C_SetAttributeValue. Checks: CKR_SESSION_HANDLE_INVALID (b3), CKR_OBJECT_HANDLE_INVALID
-    /// (82), CKR_SESSION_READ_ONLY (b5), CKR_ACTION_PROHIBITED (1b), those of
-    /// `Record::check_change`.
+    /// (82), CKR_SESSION_READ_ONLY (b5), CKR_ACTION_PROHIBITED (1b); of the template
+    /// (`Record::check_change`) CKR_ATTRIBUTE_TYPE_INVALID (12) or CKR_ATTRIBUTE_VALUE_INVALID (13)
+    /// item by item, CKR_TEMPLATE_INCONSISTENT (d1), 12 or CKR_ATTRIBUTE_READ_ONLY (10) item by
+    /// item, 10 where it weakens a key.
     pub(super) fn set_attribute_value(
         &self,
         alloc: Global,

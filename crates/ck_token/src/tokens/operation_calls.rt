@@ -184,8 +184,8 @@ impl Token {
     }
 
     /// C_SignInit and C_VerifyInit. Checks: CKR_SESSION_HANDLE_INVALID (b3), CKR_OPERATION_ACTIVE
-    /// (90), CKR_MECHANISM_INVALID (70), CKR_MECHANISM_PARAM_INVALID (71), those of
-    /// `check_usable_key`.
+    /// (90), CKR_MECHANISM_INVALID (70), CKR_MECHANISM_PARAM_INVALID (71), CKR_KEY_HANDLE_INVALID
+    /// (60), CKR_KEY_FUNCTION_NOT_PERMITTED (68) for the key's flag or its state.
     pub(super) fn hmac_init(
         &self,
         kind: OperationKind,
@@ -288,9 +288,12 @@ impl Token {
 
     // ---- messages
 
-    /// C_Digest and C_Sign, of a single-part message. Checks: those of `check_single_part`, and
-    /// then CKR_BUFFER_TOO_SMALL (150). Each reply ends the operation, except one that has only a
-    /// length. `ready` is as that of `Operation::tag_with`.
+    /// C_Digest and C_Sign, of a single-part message. Checks: CKR_SESSION_HANDLE_INVALID (b3),
+    /// CKR_OPERATION_NOT_INITIALIZED (91) where none is active or there was an update,
+    /// CKR_DATA_LEN_RANGE (21); of a signing CKR_KEY_HANDLE_INVALID (60),
+    /// CKR_KEY_FUNCTION_NOT_PERMITTED (68) for the key's state; then CKR_BUFFER_TOO_SMALL (150).
+    /// Each reply ends the operation, except one that has only a length. `ready` is as that of
+    /// `Operation::tag_with`.
     pub(super) fn finish_single_part(
         &self,
         alloc: Global,
@@ -318,8 +321,8 @@ impl Token {
         Ok(bytes_decision(alloc, kind, session, &tag)?)
     }
 
-    /// C_DigestUpdate, C_SignUpdate and C_VerifyUpdate. Checks: those of `check_active`, and
-    /// CKR_DATA_LEN_RANGE (21), which ends the operation.
+    /// C_DigestUpdate, C_SignUpdate and C_VerifyUpdate. Checks: CKR_SESSION_HANDLE_INVALID (b3),
+    /// CKR_OPERATION_NOT_INITIALIZED (91), CKR_DATA_LEN_RANGE (21), which ends the operation.
     pub(super) fn update(
         &self,
         kind: OperationKind,
@@ -336,9 +339,11 @@ impl Token {
         Ok(Decision::of_change(Change::AddPiece { kind, session }))
     }
 
-    /// C_DigestFinal and C_SignFinal, of a multiple-part message. Checks: those of `check_final`,
-    /// and then CKR_BUFFER_TOO_SMALL (150). Each reply ends the operation, except one that has only
-    /// a length.
+    /// C_DigestFinal and C_SignFinal, of a multiple-part message. Checks:
+    /// CKR_SESSION_HANDLE_INVALID (b3), CKR_OPERATION_NOT_INITIALIZED (91); of a signing
+    /// CKR_KEY_HANDLE_INVALID (60), CKR_KEY_FUNCTION_NOT_PERMITTED (68) for the key's state; then
+    /// CKR_BUFFER_TOO_SMALL (150). Each reply ends the operation, except one that has only a
+    /// length.
     pub(super) fn finish_multiple_part(
         &self,
         alloc: Global,
@@ -389,8 +394,11 @@ impl Token {
         operation.tag().check(signature)
     }
 
-    /// C_Verify. Checks: those of `check_verify`. Each reply ends the operation. `ready` is as that
-    /// of `Operation::tag_with`.
+    /// C_Verify. Checks: CKR_SESSION_HANDLE_INVALID (b3), CKR_OPERATION_NOT_INITIALIZED (91) where
+    /// none is active or there was an update, CKR_DATA_LEN_RANGE (21), CKR_KEY_HANDLE_INVALID (60),
+    /// CKR_KEY_FUNCTION_NOT_PERMITTED (68) for the key's state, CKR_SIGNATURE_LEN_RANGE (c1),
+    /// CKR_SIGNATURE_INVALID (c0). Each reply ends the operation. `ready` is as that of
+    /// `Operation::tag_with`.
     pub(super) fn verify(
         &self,
         session: u64,
@@ -413,7 +421,9 @@ impl Token {
         }
     }
 
-    /// C_VerifyFinal. Checks: those of `check_verify_final`. Each reply ends the operation.
+    /// C_VerifyFinal. Checks: CKR_SESSION_HANDLE_INVALID (b3), CKR_OPERATION_NOT_INITIALIZED (91),
+    /// CKR_KEY_HANDLE_INVALID (60), CKR_KEY_FUNCTION_NOT_PERMITTED (68) for the key's state,
+    /// CKR_SIGNATURE_LEN_RANGE (c1), CKR_SIGNATURE_INVALID (c0). Each reply ends the operation.
     pub(super) fn verify_final(&self, session: u64, signature: &[u8]) -> Result<Decision, Refused>
         ensures { IsDecision self.now.limits self.now.history
             (call.VerifyFinal session signature.now) result }

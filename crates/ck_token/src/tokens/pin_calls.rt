@@ -121,8 +121,10 @@ impl Token {
         Ok(Decision::of_change(Change::SetPin { owner, pin: new }))
     }
 
-    /// C_Login. Checks: CKR_SESSION_HANDLE_INVALID (b3), CKR_USER_TYPE_INVALID (103), those of
-    /// `check_login`.
+    /// C_Login. Checks: CKR_SESSION_HANDLE_INVALID (b3), CKR_USER_TYPE_INVALID (103),
+    /// CKR_USER_ALREADY_LOGGED_IN (100) or CKR_USER_ANOTHER_ALREADY_LOGGED_IN (104),
+    /// CKR_SESSION_READ_ONLY_EXISTS (b7), CKR_USER_PIN_NOT_INITIALIZED (102), CKR_PIN_LOCKED (a4),
+    /// CKR_PIN_INCORRECT (a0), CKR_DEVICE_MEMORY (31).
     pub(super) fn login(&self, session: u64, user: u64, pin: Pin) -> Result<Decision, Refused>
         ensures { IsDecision self.now.limits self.now.history (call.Login session user pin) result }
     {
