@@ -10,11 +10,9 @@ use crate::scripts::{add_script, check_taken};
 use crate::shared_work::{Shared, SharedWork, share_with};
 use crate::tokens::{cut_token, initialized_token};
 use anyhow::{Context, bail, ensure};
-use ck_journal::{Call, READ_WRITE};
 use ck_script::reply_line;
 use ck_shared::{Answered, Ask, Caller, News, Runtime, Script, Status, Step, TokenId, run_steps};
-use ck_token::Token;
-use ck_types::{Limits, NoMemory, Pin, Rv, UserType, mechanism_types};
+use ck_token::{Call, Limits, NoMemory, Pin, READ_WRITE, Rv, Token, UserType, mechanism_types};
 use std::alloc::Global;
 use std::mem;
 

@@ -2,9 +2,8 @@
 use crate::journals::CallerReplies;
 use crate::mix::{Handles, LONG, ROWS, SELDOM, SETS, call_of};
 use anyhow::ensure;
-use ck_journal::{Body, Reply};
 use ck_shared::{Ask, Caller, CallerWork, Gate, TokenId};
-use ck_types::Rv;
+use ck_token::{Body, Reply, Rv};
 use rand_core::{Rng, SeedableRng};
 use rand_xoshiro::Xoshiro256PlusPlus;
 use std::alloc::Global;

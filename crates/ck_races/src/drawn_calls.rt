@@ -6,10 +6,8 @@ use crate::journals::{CallerReplies, check_audit, check_replies, in_order_of_cal
 use crate::mix::Handles;
 use crate::tokens::cut_token;
 use anyhow::ensure;
-use ck_journal::Journal;
 use ck_shared::{Runtime, share};
-use ck_token::Token;
-use ck_types::Rv;
+use ck_token::{Journal, Rv, Token};
 use std::alloc::Global;
 
 /// What is called before the token is shared: it has PINs then, and nobody is logged in.

@@ -2,15 +2,15 @@
 //! one is held until that of the other is answered: where the lists were taken one after the other,
 //! it would come too late. The one that was first sees the other's session by asking only.
 use crate::asks::{await_status, check_ask, check_status, expect};
+use crate::gates::HeldGate;
 use crate::journals::check_audit;
-use crate::orders::{CallOrder, HeldGate};
+use crate::orders::CallOrder;
 use crate::scripts::{add_script, check_taken};
 use crate::shared_work::{Shared, SharedWork, share_with};
 use crate::tokens::initialized_token;
 use anyhow::ensure;
-use ck_journal::{Body, Call, READ_WRITE, Reply};
 use ck_shared::{Answered, Ask, Caller, Runtime, Script, Step, TokenId, run_steps};
-use ck_types::{NoMemory, Rv};
+use ck_token::{Body, Call, NoMemory, READ_WRITE, Reply, Rv};
 use std::alloc::Global;
 use std::mem;
 

@@ -3,10 +3,8 @@ use crate::races::{Race, RaceLine, compare};
 use crate::tokens::make_calls;
 use anyhow::{bail, ensure};
 use ck_audit::{Verdict, are_replies_of, audit_token};
-use ck_journal::{Journal, Reply};
 use ck_script::reply_line;
-use ck_token::Token;
-use ck_types::NoMemory;
+use ck_token::{Journal, NoMemory, Reply, Token};
 use std::alloc::Global;
 
 /// A caller's number, and the replies that it got, in the order of its calls.

@@ -4,10 +4,8 @@ use crate::asks::{check_ask, expect};
 use crate::journals::check_audit;
 use crate::shared_work::{Shared, SharedWork, share_with};
 use anyhow::Context;
-use ck_journal::{Call, READ_WRITE};
 use ck_shared::{Ask, Caller, Runtime, TokenId};
-use ck_token::Token;
-use ck_types::{Limits, Pin};
+use ck_token::{Call, Limits, Pin, READ_WRITE, Token};
 
 /// How many calls are made under one lock.
 const LOCKED: u64 = 3;

@@ -4,10 +4,8 @@ use crate::asks::expect;
 use crate::journals::check_audit;
 use crate::shared_work::{Shared, SharedWork, share_with};
 use anyhow::Context;
-use ck_journal::{Call, READ_WRITE};
 use ck_shared::{Caller, Runtime, TokenId};
-use ck_token::Token;
-use ck_types::{Bytes, Limits, Mechanism, NoMemory, Pin, SHA256};
+use ck_token::{Bytes, Call, Limits, Mechanism, NoMemory, Pin, READ_WRITE, SHA256, Token};
 
 /// From how many bytes on a message is long.
 const LONG: usize = 4096;

@@ -1,5 +1,5 @@
-//! What callers of a shared token do to one another. Files of races are played: lists of calls that
-//! callers make, with the replies that they get. Each race is played by threads of its callers,
+//! What callers of a shared token do to one another. The races of files are run: lists of calls
+//! that callers make, with the replies that they get. Each race is run by threads of its callers,
 //! with all calls in a set order and with only the first ones. Then callers ask for the state of a
 //! session while another logs in, two callers are held at their calls, one caller makes calls under
 //! one lock and the token is taken back without its callers, long messages are taken in before
@@ -18,6 +18,7 @@ mod drawn_calls;
 mod eight_scripts;
 mod files;
 mod free_locks;
+mod gates;
 mod held_steps;
 mod journals;
 mod locked_calls;
@@ -32,14 +33,13 @@ mod retries;
 mod runs;
 mod scripts;
 mod shared_work;
-mod taken_messages;
 mod tokens;
 mod words;
 
 use ck_shared::Runtime;
 use drawn_calls::make_drawn_calls;
 use eight_scripts::run_eight_scripts;
-use files::play_file;
+use files::run_file;
 use held_steps::run_held_steps;
 use locked_calls::run_locked_calls;
 use long_messages::run_long_messages;
@@ -49,7 +49,7 @@ use std::env::Env;
 use std::fs::Files;
 
 /// What callers do at once, besides races. Adds a line for each that passes.
-fn play_together<R: Runtime>(rt: R, text: &mut String) -> anyhow::Result<()> {
+fn run_together<R: Runtime>(rt: R, text: &mut String) -> anyhow::Result<()> {
     let runs = runs::RUNS;
     write!(text, "runs of each race, in either way: {runs}\n")?;
     asks::run_asks(rt)?;
@@ -67,9 +67,9 @@ fn play_together<R: Runtime>(rt: R, text: &mut String) -> anyhow::Result<()> {
     Ok(())
 }
 
-/// Plays the files that the arguments name and, where no word says otherwise, what callers do
+/// Runs the files that the arguments name and, where no word says otherwise, what callers do
 /// besides. Adds a line for each that passes.
-fn play_all<R: Env + Files + Runtime>(rt: R, text: &mut String) -> anyhow::Result<()> {
+fn run_all<R: Env + Files + Runtime>(rt: R, text: &mut String) -> anyhow::Result<()> {
     let mut is_alone = false;
     for word in env::args(&rt)?.skip(1) {
         match word.as_str() {
@@ -79,18 +79,18 @@ fn play_all<R: Env + Files + Runtime>(rt: R, text: &mut String) -> anyhow::Resul
                 return Ok(());
             }
             "reserved" => return make_reserved_calls(rt.alloc(), &mut reserved_token(rt.alloc())?),
-            name => play_file(rt, text, name, is_alone)?,
+            name => run_file(rt, text, name, is_alone)?,
         }
     }
     if is_alone {
         return Ok(());
     }
-    play_together(rt, text)
+    run_together(rt, text)
 }
 
 fn main(rt: HostRuntime) -> anyhow::Result<()> {
     let mut text = String::new(rt.alloc());
-    play_all(rt, &mut text)?;
+    run_all(rt, &mut text)?;
     print!(rt; "{text}")?;
     Ok(())
 }

@@ -1,9 +1,8 @@
 //! The mix of calls: what the callers draw from, and how a call is made of a drawn line.
 use crate::words::push_word;
 use anyhow::bail;
-use ck_journal::Call;
 use ck_script::{Line, LineError};
-use ck_types::NoMemory;
+use ck_token::{Call, NoMemory};
 use std::alloc::{AllocError, Global};
 use std::sync::atomic::{AtomicU64, Ordering};
 

@@ -1,10 +1,7 @@
-//! Orders of callers, and a gate that keeps one.
-use ck_journal::{Call, MOST_CALLERS, Reply};
-use ck_shared::{Ask, Caller, Gate, Status, TokenId};
-use ck_types::NoMemory;
+//! Orders of callers, by which calls are held.
+use ck_journal::MOST_CALLERS;
 use rand_core::Rng;
 use rand_xoshiro::Xoshiro256PlusPlus;
-use std::alloc::Global;
 use std::sync::Wait;
 use std::sync::atomic::{AtomicU64, Ordering};
 use std::time::Duration;
@@ -99,40 +96,6 @@ impl<'a> CallOrder<'a> {
         }
         self.made.store(LATE, Ordering::SeqCst);
         self.tell();
-    }
-}
-
-/// A gate that holds each call until it is the next one of an order, and until those that other
-/// callers make next have come too. What is asked isn't held.
-#[derive(Drop)]
-pub(crate) struct HeldGate<'a, G> {
-    gate: &'a G,
-    order: &'a CallOrder<'a>,
-}
-
-impl<'a, G> HeldGate<'a, G> {
-    /// A gate before another, which answers the calls.
-    pub(crate) fn new(gate: &'a G, order: &'a CallOrder<'a>) -> HeldGate<'a, G> {
-        HeldGate { gate, order }
-    }
-}
-
-impl<'a, K: TokenId, G: Gate<K>> Gate<K> for HeldGate<'a, G> {
-    fn call<W: Wait>(
-        &self,
-        rt: &W,
-        alloc: Global,
-        caller: &mut Caller<K>,
-        call: Call,
-    ) -> Result<Reply, NoMemory> {
-        self.order.hold(rt, caller.number());
-        let reply = self.gate.call(rt, alloc, caller, call);
-        self.order.count_made();
-        reply
-    }
-
-    fn status(&self, caller: &mut Caller<K>, ask: Ask) -> Option<Status> {
-        self.gate.status(caller, ask)
     }
 }
 

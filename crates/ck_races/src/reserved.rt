@@ -1,9 +1,7 @@
 //! Calls for which places in the journal are reserved, and which take no other memory.
 use crate::tokens::make_calls_of;
 use anyhow::ensure;
-use ck_journal::Call;
-use ck_token::Token;
-use ck_types::{Limits, Rv};
+use ck_token::{Call, KeyState, Limits, Rv, Token};
 use std::alloc::Global;
 
 /// The user is logged in, and has a key.
@@ -32,7 +30,7 @@ pub(crate) fn make_reserved_calls(alloc: Global, token: &mut Token) -> anyhow::R
         Call::SetKeyState {
             session,
             key,
-            state: 4,
+            state: KeyState::Destroyed.number(),
         },
         Call::DestroyObject {
             session,

@@ -4,9 +4,7 @@ use crate::journals::check_entries;
 use crate::races::{Race, RaceLine};
 use crate::tokens::prepared_token;
 use anyhow::ensure;
-use ck_journal::Call;
-use ck_token::{Stopped, Token, run};
-use ck_types::NoMemory;
+use ck_token::{Call, NoMemory, Stopped, Token, run};
 use std::alloc::Global;
 
 /// The calls of lines, each with its caller.

@@ -7,7 +7,7 @@ use crate::shared_work::{Shared, SharedWork, share_with};
 use crate::tokens::prepared_token;
 use anyhow::{Context, ensure};
 use ck_shared::{Caller, Runtime, TokenId, run_scripts};
-use ck_types::NoMemory;
+use ck_token::NoMemory;
 use std::alloc::Global;
 
 impl<'a, K: TokenId + Send + Sync, R: Runtime> Shared<'a, K, R> {

@@ -7,9 +7,8 @@ use crate::shared_work::{Shared, SharedWork, share_with};
 use crate::tokens::prepared_token;
 use anyhow::{bail, ensure};
 use ck_audit::are_same_replies;
-use ck_journal::Reply;
 use ck_shared::{Ask, Caller, Runtime, Status, TokenId};
-use ck_types::NoMemory;
+use ck_token::{NoMemory, Reply};
 use std::alloc::Global;
 
 /// What a caller knows, and what it is answered without the lock.
@@ -105,7 +104,9 @@ impl<'a, K: TokenId, R: Runtime> Shared<'a, K, R> {
             } else {
                 self.make((&mut *other, &mut *one), entries, line)?
             };
-            retries = retries.saturating_add(u64::from(is_again));
+            if is_again {
+                retries = retries.saturating_add(1);
+            }
             entries = entries.saturating_add(1);
         }
         Ok(retries)

@@ -1,16 +1,15 @@
 //! Runs of a race by callers in threads, with all calls in order and with only the first ones.
+use crate::gates::HeldGate;
 use crate::journals::{
     CallerReplies, check_audit, check_replies, check_token, in_order_of_callers,
 };
-use crate::orders::{CallOrder, HeldGate, reorder};
+use crate::orders::{CallOrder, reorder};
 use crate::races::{Race, RaceLine};
 use crate::shared_work::{SharedWork, share_with};
 use crate::tokens::{make_calls, prepared_token};
 use anyhow::ensure;
-use ck_journal::Reply;
 use ck_shared::{Caller, CallerWork, Gate, Runtime, TokenId, share};
-use ck_token::Token;
-use ck_types::NoMemory;
+use ck_token::{NoMemory, Reply, Token};
 use rand_core::SeedableRng;
 use rand_xoshiro::Xoshiro256PlusPlus;
 use std::alloc::Global;

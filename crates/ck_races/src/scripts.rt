@@ -1,13 +1,12 @@
 //! Callers make their calls by `run_scripts`, at a gate that holds each until it is the next one.
+use crate::gates::TakingGate;
 use crate::journals::CallerReplies;
 use crate::orders::CallOrder;
 use crate::races::{Race, RaceLine};
 use crate::shared_work::Shared;
-use crate::taken_messages::TakingGate;
 use anyhow::ensure;
-use ck_journal::Call;
 use ck_shared::{Caller, Runtime, Script, TokenId, run_scripts};
-use ck_types::NoMemory;
+use ck_token::{Call, NoMemory};
 use std::alloc::Global;
 use std::mem;
 

@@ -7,10 +7,8 @@ use crate::journals::CallerReplies;
 use crate::orders::CallOrder;
 use crate::races::Race;
 use anyhow::{bail, ensure};
-use ck_journal::{Call, Reply};
 use ck_shared::{Caller, Ends, NewIdentity, Runtime, SharedToken, TokenId};
-use ck_token::Token;
-use ck_types::NoMemory;
+use ck_token::{Call, NoMemory, Reply, Token};
 use std::alloc::Global;
 use std::marker::Brand;
 

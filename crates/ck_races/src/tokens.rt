@@ -3,8 +3,7 @@ ghost use Rattle.std.specs.Prelude.{◌≡◌, IfOk};
 ghost use Rattle.ck_journal.specs.Histories.{start, start_of};
 
 use crate::races::{Race, RaceLine, compare, line_in};
-use ck_token::Token;
-use ck_types::Limits;
+use ck_token::{Limits, Token};
 use std::alloc::Global;
 
 fn make_call(alloc: Global, token: &mut Token, line: &RaceLine) -> anyhow::Result<()> {

@@ -1,0 +1,173 @@
+//! Gates before a shared token. They hold calls until others have come, or do some work before a
+//! call.
+use crate::orders::CallOrder;
+use ck_shared::{Ask, Caller, Gate, SharedToken, Status, TokenId};
+use ck_token::{Call, JournaledToken, NoMemory, Reply};
+use std::alloc::Global;
+use std::sync::Wait;
+use std::sync::atomic::{AtomicBool, AtomicU64, Ordering};
+use std::time::Duration;
+
+/// How many times a `LockingGate` takes in a message.
+const MESSAGES: u32 = 30;
+
+/// How many times it takes the lock meanwhile, at the most.
+const MOST_LOCKS: u64 = 100_000_000;
+
+/// How many times a caller looks whether the other has taken the lock, and how long it sleeps
+/// between, in microseconds.
+const MOST_LOOKS: u32 = 1_000_000;
+
+const LONGEST_SLEEP: u64 = 20;
+
+/// A gate that holds each call until it is the next one of an order, and until those that other
+/// callers make next have come too. What is asked isn't held.
+#[derive(Drop)]
+pub(crate) struct HeldGate<'a, G> {
+    gate: &'a G,
+    order: &'a CallOrder<'a>,
+}
+
+impl<'a, G> HeldGate<'a, G> {
+    /// A gate before another, which answers the calls.
+    pub(crate) fn new(gate: &'a G, order: &'a CallOrder<'a>) -> HeldGate<'a, G> {
+        HeldGate { gate, order }
+    }
+}
+
+impl<'a, K: TokenId, G: Gate<K>> Gate<K> for HeldGate<'a, G> {
+    fn call<W: Wait>(
+        &self,
+        rt: &W,
+        alloc: Global,
+        caller: &mut Caller<K>,
+        call: Call,
+    ) -> Result<Reply, NoMemory> {
+        self.order.hold(rt, caller.number());
+        let reply = self.gate.call(rt, alloc, caller, call);
+        self.order.count_made();
+        reply
+    }
+
+    fn status(&self, caller: &mut Caller<K>, ask: Ask) -> Option<Status> {
+        self.gate.status(caller, ask)
+    }
+}
+
+/// A gate before a shared token that holds each call until it is the next one of an order. Before
+/// that, the bytes of a long message are taken in: so the calls of others come between the
+/// beginning of the work on it and the call.
+#[derive(Drop)]
+pub(crate) struct TakingGate<'a, K: TokenId, G: JournaledToken, R: Wait + Drop> {
+    token: &'a SharedToken<K, G, R>,
+    order: &'a CallOrder<'a>,
+}
+
+impl<'a, K: TokenId, G: JournaledToken, R: Wait + Drop> TakingGate<'a, K, G, R> {
+    /// A gate before a token, which answers the calls.
+    pub(crate) fn new(
+        token: &'a SharedToken<K, G, R>,
+        order: &'a CallOrder<'a>,
+    ) -> TakingGate<'a, K, G, R> {
+        TakingGate { token, order }
+    }
+}
+
+impl<'a, K: TokenId, G: JournaledToken, R: Wait + Drop> Gate<K> for TakingGate<'a, K, G, R> {
+    fn call<W: Wait>(
+        &self,
+        rt: &W,
+        alloc: Global,
+        caller: &mut Caller<K>,
+        call: Call,
+    ) -> Result<Reply, NoMemory> {
+        let message = self.token.take_in(rt, &call);
+        self.order.hold(rt, caller.number());
+        let reply = self.token.call_with(rt, alloc, caller, call, message);
+        self.order.count_made();
+        reply
+    }
+
+    fn status(&self, caller: &mut Caller<K>, ask: Ask) -> Option<Status> {
+        caller.status(ask)
+    }
+}
+
+/// A gate before a shared token. Before the call of a long message, the message is taken in again
+/// and again, from when another caller has taken the lock. Before any other call, the lock is taken
+/// again and again until then.
+#[derive(Drop)]
+pub(crate) struct LockingGate<'a, K: TokenId, G: JournaledToken, R: Wait + Drop> {
+    token: &'a SharedToken<K, G, R>,
+    locks: AtomicU64,
+    /// Whether all messages are taken in.
+    has_ended: AtomicBool,
+}
+
+impl<'a, K: TokenId, G: JournaledToken, R: Wait + Drop> LockingGate<'a, K, G, R> {
+    /// A gate before a token, which answers the calls.
+    pub(crate) fn new(token: &'a SharedToken<K, G, R>) -> LockingGate<'a, K, G, R> {
+        LockingGate {
+            token,
+            locks: AtomicU64::new(0),
+            has_ended: AtomicBool::new(false),
+        }
+    }
+
+    /// How many times the lock was taken.
+    pub(crate) fn locks(&self) -> u64 {
+        self.locks.load(Ordering::SeqCst)
+    }
+
+    /// Waits until the lock was taken.
+    fn await_lock<W: Wait>(&self, rt: &W) {
+        for _ in 0..MOST_LOOKS {
+            if self.locks() > 0 {
+                return;
+            }
+            let longest = Duration::from_micros(LONGEST_SLEEP);
+            self.locks.park_timeout(rt, 0, longest);
+        }
+    }
+
+    /// Takes in the message of a call again and again.
+    fn take_in<W: Wait>(&self, rt: &W, call: &Call) {
+        self.await_lock(rt);
+        for _ in 0..MESSAGES {
+            drop(self.token.take_in(rt, call));
+        }
+        self.has_ended.store(true, Ordering::SeqCst);
+    }
+
+    /// Takes the lock again and again, until all messages are taken in.
+    fn take_locks<W: Wait>(&self, rt: &W) {
+        for _ in 0..MOST_LOCKS {
+            if self.has_ended.load(Ordering::SeqCst) {
+                return;
+            }
+            drop(self.token.lock(rt));
+            self.locks.fetch_add(1, Ordering::SeqCst);
+        }
+    }
+}
+
+impl<'a, K: TokenId, G: JournaledToken, R: Wait + Drop> Gate<K> for LockingGate<'a, K, G, R> {
+    fn call<W: Wait>(
+        &self,
+        rt: &W,
+        alloc: Global,
+        caller: &mut Caller<K>,
+        call: Call,
+    ) -> Result<Reply, NoMemory> {
+        if call.brings_long_message() {
+            self.take_in(rt, &call);
+        } else {
+            self.take_locks(rt);
+        }
+        self.token.call(rt, alloc, caller, call)
+    }
+
+    fn status(&self, caller: &mut Caller<K>, ask: Ask) -> Option<Status> {
+        caller.status(ask)
+    }
+}
