@@ -174,10 +174,13 @@ static void test_order(void) {
     check_not_initialized();
     EXPECT(CKR_OK, p11->C_Initialize(NULL));
     EXPECT(CKR_CRYPTOKI_ALREADY_INITIALIZED, p11->C_Initialize(NULL));
+    CK_C_INITIALIZE_ARGS bad = {.LibraryParameters = (void *)token_label};
+    EXPECT(CKR_CRYPTOKI_ALREADY_INITIALIZED, p11->C_Initialize(&bad));
     EXPECT(CKR_ARGUMENTS_BAD, p11->C_Finalize(token_label));
     CK_SESSION_HANDLE session = log_in();
     EXPECT(CKR_OK, p11->C_Finalize(NULL));
     check_not_initialized();
+    EXPECT(CKR_CRYPTOKI_NOT_INITIALIZED, p11->C_Finalize(token_label));
     EXPECT(CKR_OK, p11->C_Initialize(NULL));
     EXPECT(CKR_SESSION_HANDLE_INVALID, p11->C_CloseSession(session));
     CK_TOKEN_INFO info;
@@ -215,7 +218,9 @@ static void test_unsupported(void) {
     }
     CK_SLOT_ID slot = 7;
     EXPECT(CKR_NO_EVENT, p11->C_WaitForSlotEvent(CKF_DONT_BLOCK, &slot, NULL));
+    EXPECT(CKR_NO_EVENT, p11->C_WaitForSlotEvent(CKF_DONT_BLOCK | 6, &slot, NULL));
     EXPECT(CKR_FUNCTION_NOT_SUPPORTED, p11->C_WaitForSlotEvent(0, &slot, NULL));
+    EXPECT(CKR_FUNCTION_NOT_SUPPORTED, p11->C_WaitForSlotEvent(6, &slot, NULL));
     CHECK(slot == 7);
     end_token();
 }
@@ -1633,6 +1638,8 @@ static void test_slots(void) {
     EXPECT(CKR_SLOT_ID_INVALID, p11->C_InitToken(1, so_pin, 4, token_label));
     EXPECT(CKR_OK, p11->C_GetSlotInfo(0, &slot));
     CHECK((slot.flags & CKF_TOKEN_PRESENT) != 0);
+    EXPECT(CKR_OK, p11->C_GetTokenInfo(0, &token));
+    check(token.ulSessionCount == 1, "without a slot no session is opened or closed");
     end_token();
 }
 
@@ -1962,6 +1969,7 @@ static void test_random(void) {
         check_random_bytes(session, count);
     EXPECT(CKR_SESSION_HANDLE_INVALID, p11->C_GenerateRandom(session + 1, first, 1));
     EXPECT(CKR_RANDOM_SEED_NOT_SUPPORTED, p11->C_SeedRandom(session, first, 4));
+    EXPECT(CKR_RANDOM_SEED_NOT_SUPPORTED, p11->C_SeedRandom(session, NULL, 0));
     EXPECT(CKR_SESSION_HANDLE_INVALID, p11->C_SeedRandom(session + 1, first, 4));
     guarded_free(first);
     guarded_free(second);

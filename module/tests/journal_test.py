@@ -409,6 +409,7 @@ class Tests:
             self.module.label = label
             self.begin(TOKEN=path)
             self.checks.equal(self.module.say("1 InitToken 31323334"), "0", "InitToken")
+            self.module.label = b"of a call that is refused".ljust(32)
             self.checks.equal(self.module.say("1 InitToken 3132333435"), "a0", "a wrong PIN")
             self.end()
             self.begin(TOKEN=path)
@@ -1014,6 +1015,7 @@ class Tests:
         self.checks.equal(self.random_of_start(13, SEED=7), seven[:13], "the first 13 of them")
         self.checks.equal(ten, self.random_of_start(SEED=10), "the random bytes of seed 010")
         self.checks.equal(eleven, self.random_of_start(SEED=11), "the random bytes of seed 0000011")
+        self.checks.equal(self.random_of_start(SEED=0), self.random_of_start(SEED=0), "those of 0")
         self.checks.equal(len({seven, ten, eleven}), 3, "different random bytes")
         self.begin(SEED=7)
         self.say_all(LOG_IN)
