@@ -7,7 +7,7 @@ use std::sync::Wait;
 
 /// A shared token answers the calls of a run, each under its lock.
 impl<K: TokenId, G: JournaledToken, R: Wait + Drop> Gate<K> for SharedToken<K, G, R> {
-    // Inlined, as all that only hands a call on: each such function would copy it.
+    // Inlined, since a function that only hands a call on would copy it.
     #[inline(always)]
     fn call<W: Wait>(
         &self,

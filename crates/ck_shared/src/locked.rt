@@ -236,7 +236,7 @@ impl<K: TokenId, G: JournaledToken, R: Wait + Drop> Locked<K, G, R> {
 
     /// One call of a caller. Where there is no memory for it, nothing has changed. Where the call
     /// may change the board, it may wait for those who still read an older copy.
-    // Inlined, as all that only hands a call on: each such function would copy it.
+    // Inlined, since a function that only hands a call on would copy it.
     #[inline(always)]
     pub fn step<W: Wait>(
         &mut self,

@@ -138,7 +138,7 @@ impl<K: TokenId, G: JournaledToken, R: Wait + Drop> SharedToken<K, G, R> {
 
     /// One call of a caller, under the lock. The bytes of a long message are taken in while the
     /// lock is free.
-    // Inlined, as all that only hands a call on: each such function would copy it.
+    // Inlined, since a function that only hands a call on would copy it.
     #[inline(always)]
     pub fn call<W: Wait>(
         &self,
