@@ -78,8 +78,10 @@ def build(folder):
 
 
 def play(library, words, text, growth, first=0):
-    """One run of a command. The growth of this number is refused, and all from the first on; 0 is
-    none."""
+    """One run of a command. Refuses the growth of number `growth`, and each from number `first` on;
+    0 is none."""
+    # Standard input, output and error, and descriptor 3, to which growths.c writes how many growths
+    # there were.
     files = [tempfile.TemporaryFile() for _ in range(4)]
     files[0].write(text)
     files[0].seek(0)
@@ -145,10 +147,17 @@ def is_case_right(ended, name, plain):
 
 def is_script_right(ended, plain):
     """All replies are written, or whole lines at their front."""
-    if ended.output == plain.output:
-        return ended.status == 0 or ended.errors == b"ck_run: out of memory\n"
+    if ended.status == 0:
+        return (ended.output, ended.errors) == (plain.output, b"")
     is_front = plain.output.startswith(ended.output) and ended.output[-1:] in (b"", b"\n")
-    return is_front and ended.status == 3 and ended.errors == b"ck_run: out of memory\n"
+    return is_front and (ended.status, ended.errors) == (3, b"ck_run: out of memory\n")
+
+
+def is_summary_right(ended, plain):
+    """The calls are summed up, or nothing is written."""
+    if ended.output == plain.output:
+        return ended.status == 0
+    return (ended.status, ended.output) == (3, b"") and ended.errors in THREAD_ERRORS
 
 
 def check_case(library, command, name, lines, passed, step):
@@ -173,45 +182,18 @@ def check_case(library, command, name, lines, passed, step):
     return len(numbers), retries, faults
 
 
-def check_script(library, name, lines, step):
-    """The same of the calls of the case as a script, of which nothing is made again."""
-    calls = calls_in(lines)
-    text = "".join(call + "\n" for call, _ in calls).encode()
-    plain = play(library, [SCRIPTS], text, 0)
-    replies = "".join(reply + "\n" for _, reply in calls).encode()
-    if (plain.status, plain.output) != (0, replies) or plain.growths == 0:
-        return 0, 0, [f"{name} as a script: {plain}"]
-    faults = []
-    numbers = range(1, plain.growths + 1, step)
-    for growth in numbers:
-        ended = play(library, [SCRIPTS], text, growth)
-        if not is_script_right(ended, plain):
-            faults.append(f"{name} as a script, growth {growth}: {ended}")
-    return len(numbers), 0, faults
-
-
-def is_summary_right(ended, plain):
-    """The calls are summed up, or nothing is written."""
-    if ended.output == plain.output:
-        return ended.status == 0
-    return (ended.status, ended.output) == (3, b"") and ended.errors in THREAD_ERRORS
-
-
-def check_threads(library, name, lines, step):
-    """The same of the calls of the case, those of each caller in a thread of its own."""
-    words = [SCRIPTS, "--callers", "8"]
-    calls = calls_in(lines)
-    text = "".join(call + "\n" for call, _ in calls).encode()
+def check_calls(library, words, name, text, output, is_right, step):
+    """The same of a script in place of a case, of which nothing is made again. Without a refused
+    growth this output is written."""
     plain = play(library, words, text, 0)
-    summary = b"entries %d\naudit ok\n" % len(calls)
-    if (plain.status, plain.output) != (0, summary) or plain.growths == 0:
-        return 0, 0, [f"{name} in threads: {plain}"]
+    if (plain.status, plain.output) != (0, output) or plain.growths == 0:
+        return 0, 0, [f"{name}: {plain}"]
     faults = []
     numbers = range(1, plain.growths + 1, step)
     for growth in numbers:
         ended = play(library, words, text, growth)
-        if not is_summary_right(ended, plain):
-            faults.append(f"{name} in threads, growth {growth}: {ended}")
+        if not is_right(ended, plain):
+            faults.append(f"{name}, growth {growth}: {ended}")
     return len(numbers), 0, faults
 
 
@@ -226,34 +208,49 @@ def check_reserved(library):
     return 0, 0, [f"reserved calls: {reserving}, {calling}, {refused}"]
 
 
+def checks_of_case(library, name, lines, step):
+    """What is checked of a case: functions, each with its arguments."""
+    yield check_case, library, [CASES], name, lines, len(lines) - 1, step
+    if lines[0] == LARGEST:
+        calls = calls_in(lines)
+        text = "".join(call + "\n" for call, _ in calls).encode()
+        replies = "".join(reply + "\n" for _, reply in calls).encode()
+        yield (check_calls, library, [SCRIPTS], f"{name} as a script", text, replies,
+               is_script_right, step)
+        summary = b"entries %d\naudit ok\n" % len(calls)
+        yield (check_calls, library, [SCRIPTS, "--callers", "8"], f"{name} in threads", text,
+               summary, is_summary_right, step)
+
+
+def checks_of_file(library, path, step):
+    for number, lines in cases_in(path):
+        yield from checks_of_case(library, f"{os.path.basename(path)}, line {number}", lines, step)
+
+
+def checks_of_races(library, races, step):
+    for number, lines in races:
+        name = f"{os.path.basename(RACES_DATA)}, line {number}"
+        yield check_case, library, [RACES, "alone"], name, lines, 1, step
+    if races:
+        yield check_reserved, library
+
+
 def main(paths, races, is_short=False):
     case_step, race_step = (4, 2) if is_short else (1, 1)
     pool = concurrent.futures.ThreadPoolExecutor(os.cpu_count())
     with tempfile.TemporaryDirectory() as folder, pool:
         library = build(folder)
-        checks = []
+        checks = list(checks_of_races(library, races, race_step))
         for path in paths:
-            step = 1 if path == GROWING else case_step
-            for number, lines in cases_in(path):
-                name = f"{os.path.basename(path)}, line {number}"
-                case = (library, [CASES], name, lines, len(lines) - 1, step)
-                checks.append(pool.submit(check_case, *case))
-                if lines[0] == LARGEST:
-                    checks.append(pool.submit(check_script, library, name, lines, step))
-                    checks.append(pool.submit(check_threads, library, name, lines, step))
-        for number, lines in races:
-            name = f"{os.path.basename(RACES_DATA)}, line {number}"
-            race = (library, [RACES, "alone"], name, lines, 1, race_step)
-            checks.append(pool.submit(check_case, *race))
-        if races:
-            checks.append(pool.submit(check_reserved, library))
-        results = [check.result() for check in checks]
+            checks += checks_of_file(library, path, 1 if path == GROWING else case_step)
+        results = [made.result() for made in [pool.submit(*check) for check in checks]]
     faults = [fault for _, _, of_case in results for fault in of_case]
     growths = sum(refused for refused, _, _ in results)
     retries = sum(made_again for _, made_again, _ in results)
     if growths < (LEAST_OF_SHORT if is_short else 1) or retries == 0:
         faults.append("too few growths were refused, or nothing was made again")
-    print("\n".join(faults))
+    for fault in faults:
+        print(fault)
     print(f"{growths} growths refused, {retries} times made again, {len(faults)} faults")
     return 1 if faults else 0
 

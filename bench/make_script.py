@@ -11,6 +11,7 @@ crowd: calls of one session among data objects of another, in sections that ck_b
 single-calls: calls of nine kinds with two objects, in such sections.
 """
 import itertools
+import re
 import sys
 
 SEARCHES = 200
@@ -75,8 +76,8 @@ def first_calls():
     yield f"1 CreateObject 1 {KEY}"
 
 
-# How often a label is read, and then changed, in a crowd: often enough that the growth of the
-# journal takes its part of the time, among few objects as among many.
+# How many times a label is read, and then changed, in a crowd: enough for the growth of the journal
+# to take its part of the time, among few objects as among many.
 LABEL_ROUNDS = 100_000
 
 
@@ -117,42 +118,42 @@ def crowd(objects):
 
 
 # The sections of `single_calls`: of each its name, for how many calls, or groups of them, its
-# figure is, and the calls of a round, by the next session and the next object. Each has 1,000
-# rounds.
+# figure is, and the calls of a round, by the handles of the next session and of the next object.
+# Each has 1,000 rounds.
 SINGLE_CALLS = [
-    ("session info", 1_000, lambda session, object: ["GetSessionInfo 1"]),
-    ("token info", 1_000, lambda session, object: ["GetTokenInfo"]),
+    ("session info", 1_000, lambda session, handle: ["GetSessionInfo 1"]),
+    ("token info", 1_000, lambda session, handle: ["GetTokenInfo"]),
     ("open and close, each", 2_000,
-     lambda session, object: ["OpenSession 6", f"CloseSession {session}"]),
-    ("get label", 1_000, lambda session, object: ["GetAttributeValue 1 1 3:8"]),
+     lambda session, handle: ["OpenSession 6", f"CloseSession {session}"]),
+    ("get label", 1_000, lambda session, handle: ["GetAttributeValue 1 1 3:8"]),
     (
         "create, get label and destroy (the three together)",
         1_000,
-        lambda session, object: [
+        lambda session, handle: [
             f"CreateObject 1 {DATA},3=61206c6162656c20",
-            f"GetAttributeValue 1 {object} 3:8",
-            f"DestroyObject 1 {object}",
+            f"GetAttributeValue 1 {handle} 3:8",
+            f"DestroyObject 1 {handle}",
         ],
     ),
     (
         "digest of 64 bytes (with its start)",
         1_000,
-        lambda session, object: ["DigestInit 1 250", f"Digest 1 {'07' * 64} 32"],
+        lambda session, handle: ["DigestInit 1 250", f"Digest 1 {'07' * 64} 32"],
     ),
     (
         "HMAC of 64 bytes (with its start)",
         1_000,
-        lambda session, object: ["SignInit 1 251 2", f"Sign 1 {'07' * 64} 32"],
+        lambda session, handle: ["SignInit 1 251 2", f"Sign 1 {'07' * 64} 32"],
     ),
     (
         "create and destroy a data object (both together)",
         1_000,
-        lambda session, object: [f"CreateObject 1 {DATA}", f"DestroyObject 1 {object}"],
+        lambda session, handle: [f"CreateObject 1 {DATA}", f"DestroyObject 1 {handle}"],
     ),
     (
         "create and destroy a key (both together)",
         1_000,
-        lambda session, object: [f"CreateObject 1 {KEY}", f"DestroyObject 1 {object}"],
+        lambda session, handle: [f"CreateObject 1 {KEY}", f"DestroyObject 1 {handle}"],
     ),
 ]
 
@@ -160,15 +161,15 @@ SINGLE_CALLS = [
 def single_calls():
     """Calls of a token with two objects, in sections that are measured, each of them ten times."""
     yield from first_calls()
-    session, object = 2, 3
+    session, handle = 2, 3
     for name, _, calls in SINGLE_CALLS:
         for _ in range(10):
             yield f"#measure {name}"
             for _ in range(1_000):
-                lines = calls(session, object)
+                lines = calls(session, handle)
                 yield from (f"1 {line}" for line in lines)
                 session += any(line.startswith("OpenSession") for line in lines)
-                object += any(line.startswith("CreateObject") for line in lines)
+                handle += any(line.startswith("CreateObject") for line in lines)
 
 
 ROUNDS = {"objects": object_rounds, "sessions": session_rounds}
@@ -187,5 +188,15 @@ def script(kind, count=0):
     return "".join(line + "\n" for line in lines)
 
 
+def main():
+    kind, *numbers = sys.argv[1:] or [""]
+    is_counted = kind != "single-calls"
+    if kind not in {**ROUNDS, **OBJECTS} or len(numbers) != is_counted:
+        sys.exit(__doc__)
+    if not all(re.fullmatch("[1-9][0-9]*", number) for number in numbers):
+        sys.exit(__doc__)
+    sys.stdout.write(script(kind, *map(int, numbers)))
+
+
 if __name__ == "__main__":
-    sys.stdout.write(script(sys.argv[1], *map(int, sys.argv[2:3])))
+    main()

@@ -29,14 +29,15 @@ from make_script import crowd_sections, script, searched_numbers
 
 SIZES = [1_000, 10_000, 100_000]
 OBJECT_COUNTS = [1_000, 10_000, 50_000]
-# A short run hardly differs from an empty one, so it is made often.
+# How many runs are made of a script, by its lines or its objects. A run of a short script hardly
+# differs from one of an empty script, so 301 of them are made.
 RUNS = {0: 301, 1_000: 301, 10_000: 101, 50_000: 21, 100_000: 21}
 MOST_GROWTH = 3
 CRATES = os.path.join(os.path.dirname(__file__), "..", "crates")
 PROGRAM = os.path.join(CRATES, "ck_run", "out", "ck_run")
 FIGURES_PROGRAM = os.path.join(CRATES, "ck_bench", "out", "ck_bench")
 
-# How often the program of the last figures is run; each time it makes several tries.
+# How many times the program of the last figures is run; each time it makes several tries.
 FIGURE_RUNS = 5
 
 # What is wanted of calls among 1,000 objects and among 100,000: the most nanoseconds, and the most

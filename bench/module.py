@@ -38,6 +38,7 @@ NSS_PARAMETERS = (
 )
 PEERS = ["SoftHSM", "NSS"]
 RUNS = 3
+# In nanoseconds.
 LARGEST_SHARE = 100
 MOST_WAIT = 200_000
 
@@ -72,10 +73,16 @@ def compile_client(folder):
 
 def compile_token(folder):
     """The token's calls as a module that does nothing else."""
-    toolchain = os.path.dirname(os.path.realpath(shutil.which("rt")))
+    rt = shutil.which("rt") or sys.exit("rt isn't there: it comes with the toolchain")
+    toolchain = os.path.dirname(os.path.realpath(rt))
     runtime = os.path.join(toolchain, "..", "c", "liblibc_c.a")
     words = ["-shared", "-fPIC", os.path.join(HERE, "token.c"), TOKEN_LIBRARY, runtime]
     return compile_c(os.path.join(folder, "token.so"), *words)
+
+
+def own_environment():
+    """The environment without the variables that the module reads."""
+    return {name: value for name, value in os.environ.items() if not name.startswith("OSPREYRACK_")}
 
 
 def soft_hsm_environment(folder):
@@ -89,8 +96,7 @@ def soft_hsm_environment(folder):
 
 def peers(folder):
     """The modules to measure: a name, a path, what stands behind it, and the environment."""
-    own = {name: value for name, value in os.environ.items() if not name.startswith("OSPREYRACK_")}
-    yield "module", MODULE, [], own
+    yield "module", MODULE, [], own_environment()
     for path in glob.glob("/usr/lib*/softhsm/libsofthsm2.so")[:1]:
         yield "SoftHSM", path, [], soft_hsm_environment(folder)
     for path in glob.glob("/usr/lib*/*/libsoftokn3.so")[:1]:
@@ -108,22 +114,22 @@ def measure(words, environment):
     waits = times.pop(WAIT, [])
     best = {name: min(runs) for name, runs in times.items()}
     if waits:
-        best |= {MEDIAN_WAIT: statistics.median(waits), LONGEST_WAIT: max(waits)}
+        best.update({MEDIAN_WAIT: statistics.median(waits), LONGEST_WAIT: max(waits)})
     return best
 
 
 def token_times():
     """The nanoseconds of a round's calls of the token alone."""
-    said = subprocess.check_output([BENCH, "alone"], input=script("single-calls"), text=True)
+    output = subprocess.check_output([BENCH, "alone"], input=script("single-calls"), text=True)
     best, count = {}, {}
-    for line in said.splitlines():
-        name, said_of = line.rsplit(": ", 1)
-        if calls := re.fullmatch(r"(\d+) calls, 0 refused", said_of):
+    for line in output.splitlines():
+        name, value = line.rsplit(": ", 1)
+        if calls := re.fullmatch(r"(\d+) calls, 0 refused", value):
             count[name] = int(calls[1])
-        elif (time := re.fullmatch(r"(\d+) ns", said_of)) and name in count:
+        elif (time := re.fullmatch(r"(\d+) ns", value)) and name in count:
             each = int(time[1]) / count[name]
             best[name] = min(best.get(name, float("inf")), each)
-    return {name: best[theirs] * calls for name, (theirs, calls) in TOKEN_CALLS.items()}
+    return {name: best[section] * calls for name, (section, calls) in TOKEN_CALLS.items()}
 
 
 def rows_of_nss(times, token):
@@ -166,9 +172,8 @@ def print_table(times, threads):
 
 def shares(client, folder):
     """The module's own share of each call, and how long the token's call takes."""
-    own = {name: value for name, value in os.environ.items() if not name.startswith("OSPREYRACK_")}
-    module = measure([client, MODULE, "few"], own)
-    token = measure([client, compile_token(folder), "few"], own)
+    module = measure([client, MODULE, "few"], own_environment())
+    token = measure([client, compile_token(folder), "few"], own_environment())
     for name, time in token.items():
         calls = TOKEN_CALLS[name][1]
         yield name, (module[name] - time) / calls, time / calls

@@ -2,6 +2,7 @@
 """Writes contracts.md, the contracts of all public functions as they stand in crates/*/src, from
 the sources; or with the word `check` says whether the page is what it would write, and whether the
 example of ck_token is the same wherever it stands."""
+import collections
 import itertools
 import os
 import re
@@ -25,9 +26,15 @@ is its trait's isn't named here.
 EXAMPLE = ("crates/ck_run/src/signing.rt", "")
 SHOWN = [("crates/ck_token/src/lib.rt", "//! "), ("docs/rust.md", "    ")]
 
-FUNCTION = re.compile(r'^( *)pub (?:const )?(?:unsafe )?(?:extern "C" )?fn (\w+)')
-TRAIT_FUNCTION = re.compile(r"^(    )fn (\w+)")
-OWNER = re.compile(r"^(pub )?(?:unsafe )?(impl|trait)\b(.*?)\s*\{?$")
+FUNCTION = re.compile(
+    r'^( *)(pub(?:\([a-z]+\))? )?(?:const )?(?:unsafe )?(?:extern "C" )?fn (\w+)')
+BLOCK = re.compile(r"^(?:pub(?:\([a-z]+\))? )?(?:unsafe )?(?:impl|trait)\b(.*?)\s*\{?$")
+# A line at the left side in which nothing begins.
+GOES_ON = re.compile(r"[ )}/#{]|where$")
+
+# A function: its name, with that of its type or trait; where its block begins, and the function
+# itself, by the numbers of the lines from 0; the spaces before it; and whether it is public.
+Function = collections.namedtuple("Function", "name block start indent is_public")
 
 
 def crates():
@@ -36,17 +43,19 @@ def crates():
         return [line.split(":")[0].split()[0] for line in file if ":" in line]
 
 
-def owner_of(line):
-    """The type or the trait whose functions follow, by its name."""
-    found = OWNER.match(line)
+def names_of_block(line):
+    """The trait that a block implements which begins in this line, or None, and the type or the
+    trait whose functions stand in it; both are None where no such block begins."""
+    found = BLOCK.match(line)
     if not found:
-        return None
-    name = found[3].strip()
+        return None, None
+    name = found[1].strip()
     if name.startswith("<"):
         ends = [at for at in range(len(name)) if name[:at].count("<") == name[:at].count(">") > 0]
         name = name[ends[0]:].strip() if ends else name
-    name = name.split(" where ")[0].split(" for ")[-1]
-    return re.split(r"[<:]", name)[0].strip()
+    names = [re.split("<|: ", it)[0].strip()
+             for it in name.split(" where ")[0].split(" for ")]
+    return (names[0] if len(names) > 1 else None), names[-1]
 
 
 def clauses_after(lines, start, indent):
@@ -79,21 +88,38 @@ def first_sentence(lines, start):
     return re.split(r"(?<=\.)\s", " ".join(comment) + " ")[0]
 
 
-def functions_in(path):
-    """The public functions of a file: their names, what they do, and their clauses."""
-    with open(path) as file:
-        lines = file.read().split("\n")
-    owner, is_public_trait = None, False
+def lines_of(path):
+    with open(path, encoding="utf-8") as file:
+        return file.read().split("\n")
+
+
+def blocks_of(lines):
+    """For each line of a file the number of the one in which its block begins."""
+    blocks = [0]
     for number, line in enumerate(lines):
-        if line and not line.startswith((" ", "}", "/", "#")):
-            owner, is_public_trait = owner_of(line), line.startswith("pub trait")
-        found = FUNCTION.match(line) or (is_public_trait and TRAIT_FUNCTION.match(line))
-        if not found:
-            continue
-        clauses = clauses_after(lines, number, found[1])
-        name = f"{owner}::{found[2]}" if found[1] and owner else found[2]
-        if clauses:
-            yield name, first_sentence(lines, number), clauses
+        blocks.append(number if line and not GOES_ON.match(line) else blocks[-1])
+    return blocks[1:]
+
+
+def functions_in(lines):
+    """The functions of a file's lines."""
+    for number, block in enumerate(blocks_of(lines)):
+        found = FUNCTION.match(lines[number])
+        if found:
+            _, owner = names_of_block(lines[block])
+            name = f"{owner}::{found[3]}" if found[1] and owner else found[3]
+            is_public = found[2] == "pub " or lines[block].startswith("pub trait ")
+            yield Function(name, block, number, found[1], is_public)
+
+
+def contracts_in(path):
+    """The public functions of a file with contracts: their names, what they do, and their
+    clauses."""
+    lines = lines_of(path)
+    for function in functions_in(lines):
+        clauses = clauses_after(lines, function.start, function.indent)
+        if function.is_public and clauses:
+            yield function.name, first_sentence(lines, function.start), clauses
 
 
 def files_of(crate):
@@ -105,7 +131,7 @@ def files_of(crate):
 def page():
     text = [HEAD]
     for crate in crates():
-        functions = [it for path in files_of(crate) for it in functions_in(path)]
+        functions = [it for path in files_of(crate) for it in contracts_in(path)]
         if not functions:
             continue
         text.append(f"## {crate}\n")

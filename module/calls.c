@@ -17,8 +17,9 @@ static const uint64_t cut_from = 1000;
 
 uint64_t journals_begun;
 
-/* Outside the library's state, since it is set without the lock. */
-static atomic_bool has_stopped;
+/* The token with the journal of this number in `journals_begun` answers no call any more. Outside
+ * the library's state, since it is set without the lock. */
+static _Atomic uint64_t stopped_journal;
 
 /* ---- Arguments */
 
@@ -347,8 +348,13 @@ static CK_RV make_checked_call(const struct call *call) {
     return code;
 }
 
+/* A token that has stopped begins no other journal: its journal is cut only at a call. */
+static bool has_stopped(void) {
+    return stopped_journal == journals_begun;
+}
+
 CK_RV make_call(const struct call *call) {
-    if (library.journal.has_failed || has_stopped)
+    if (library.journal.has_failed || has_stopped())
         return CKR_DEVICE_ERROR;
     CK_RV code = check_call(call);
     if (code != CKR_OK)
@@ -366,20 +372,20 @@ CK_RV make_call(const struct call *call) {
 void cancel_operation(CK_ULONG session, CK_FLAGS kind) {
     const struct call cancel = {.name = SESSION_CANCEL, .session = session, .flags = kind};
     if (!library.journal.has_failed && make_checked_call(&cancel) == CKR_HOST_MEMORY)
-        stop_answering();
+        stop_answering(journals_begun);
 }
 
-void stop_answering(void) {
-    has_stopped = true;
-}
-
-void begin_answering(void) {
-    has_stopped = false;
+/* Where a token is named that was finalized meanwhile, a later one may have stopped already. */
+void stop_answering(uint64_t journal) {
+    uint64_t stopped = stopped_journal;
+    while (stopped < journal
+           && !atomic_compare_exchange_weak(&stopped_journal, &stopped, journal))
+        ;
 }
 
 CK_RV ask_for_session(CK_ULONG session) {
     const struct call call = {.name = GET_SESSION_INFO, .session = session};
-    if (library.journal.is_kept || library.updates > 0 || has_stopped)
+    if (library.journal.is_kept || library.updates > 0 || has_stopped())
         return make_call(&call);
     if (ospreyrack_get_session_info(&library.token, caller_number(), session) != ANSWERED)
         return CKR_HOST_MEMORY;

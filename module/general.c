@@ -26,13 +26,13 @@ static CK_FUNCTION_LIST functions_2_40 = {
 #include <pkcs11f.h>
 };
 
-static struct vendor_functions vendor_functions = {
+static struct ospreyrack_functions vendor_functions = {
     .version = {1, 0},
     .C_SetKeyState = C_SetKeyState,
 };
 
 static char standard_name[] = "PKCS 11";
-static char vendor_name[] = "Vendor Ospreyrack";
+static char vendor_name[] = OSPREYRACK_INTERFACE;
 
 /* The first one of a name is its default. */
 static CK_INTERFACE interfaces[] = {
@@ -124,7 +124,6 @@ static CK_RV begin_token(void) {
     ospreyrack_make(token);
     ospreyrack_message_make(message);
     journals_begun++;
-    begin_answering();
     library.token.at = token;
     library.message.at = message;
     copy_padded(library.label, sizeof library.label, "");
@@ -158,8 +157,8 @@ static CK_RV initialize(const CK_C_INITIALIZE_ARGS *arguments) {
     library.is_initialized = code == CKR_OK;
     if (code != CKR_OK) {
         end_token();
-        library = (struct library){0};
         drop_lock();
+        library = (struct library){0};
     }
     return code;
 }

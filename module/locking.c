@@ -9,21 +9,24 @@
 
 #include <pthread.h>
 #include <sched.h>
+#include <stdlib.h>
 #include <sys/single_threaded.h>
 #include <unistd.h>
 
-/* Zeros where the module's own mutex is the lock. */
+/* C_Finalize may end the library while other threads are in the application's functions for this
+ * mutex. So it is destroyed by whoever is the last to use it. */
 struct application_lock {
     CK_VOID_PTR mutex;
     CK_DESTROYMUTEX destroy;
     CK_LOCKMUTEX lock;
     CK_UNLOCKMUTEX unlock;
+    size_t users; /* threads that wait for the mutex, have it or give it back */
 };
 
 struct library library;
 
+/* Held also where the users of an application's lock are counted. */
 static pthread_mutex_t own_mutex = PTHREAD_MUTEX_INITIALIZER;
-static struct application_lock application_lock;
 
 /* Never read. By it the memory of the parent stays reachable in the child of a fork, so that nobody
  * takes it for lost. */
@@ -80,18 +83,40 @@ void take_own_mutex(void) {
  * may finalize the library, and even initialize it anew. */
 static bool is_current(const struct application_lock *lock) {
     pthread_mutex_lock(&own_mutex);
-    bool is_same = library.is_initialized && application_lock.mutex == lock->mutex;
+    bool is_same = library.lock == lock;
     pthread_mutex_unlock(&own_mutex);
     return is_same;
 }
 
-static CK_RV enter_by_application(struct application_lock lock) {
-    if (lock.lock(lock.mutex) != CKR_OK)
-        return CKR_GENERAL_ERROR;
-    if (is_current(&lock))
-        return CKR_OK;
-    lock.unlock(lock.mutex);
-    return CKR_CRYPTOKI_NOT_INITIALIZED;
+static void destroy_lock(struct application_lock *lock) {
+    lock->destroy(lock->mutex);
+    free(lock);
+}
+
+/* A thread has come out of the mutex's functions. */
+static void end_use(struct application_lock *lock) {
+    pthread_mutex_lock(&own_mutex);
+    lock->users--;
+    bool is_last = lock->users == 0 && library.lock != lock;
+    pthread_mutex_unlock(&own_mutex);
+    if (is_last)
+        destroy_lock(lock);
+}
+
+static CK_RV enter_by_application(struct application_lock *lock) {
+    CK_RV code = lock->lock(lock->mutex) == CKR_OK ? CKR_OK : CKR_GENERAL_ERROR;
+    if (code == CKR_OK && !is_current(lock)) {
+        lock->unlock(lock->mutex);
+        code = CKR_CRYPTOKI_NOT_INITIALIZED;
+    }
+    if (code != CKR_OK)
+        end_use(lock);
+    return code;
+}
+
+static void leave_by_application(struct application_lock *lock) {
+    lock->unlock(lock->mutex);
+    end_use(lock);
 }
 
 CK_RV enter(void) {
@@ -100,18 +125,19 @@ CK_RV enter(void) {
         pthread_mutex_unlock(&own_mutex);
         return CKR_CRYPTOKI_NOT_INITIALIZED;
     }
-    if (application_lock.lock == NULL)
+    struct application_lock *lock = library.lock;
+    if (lock == NULL)
         return CKR_OK;
-    struct application_lock lock = application_lock;
+    lock->users++;
     pthread_mutex_unlock(&own_mutex);
     return enter_by_application(lock);
 }
 
 CK_RV leave(CK_RV code) {
-    if (application_lock.lock == NULL)
+    if (library.lock == NULL)
         pthread_mutex_unlock(&own_mutex);
     else
-        application_lock.unlock(application_lock.mutex);
+        leave_by_application(library.lock);
     return code;
 }
 
@@ -134,34 +160,36 @@ CK_RV open_lock(const CK_C_INITIALIZE_ARGS *arguments) {
     if (arguments == NULL || arguments->CreateMutex == NULL
         || (arguments->flags & CKF_OS_LOCKING_OK) != 0)
         return CKR_OK;
-    struct application_lock lock = {
+    struct application_lock *lock = malloc(sizeof *lock);
+    if (lock == NULL)
+        return CKR_HOST_MEMORY;
+    *lock = (struct application_lock){
         .destroy = arguments->DestroyMutex,
         .lock = arguments->LockMutex,
         .unlock = arguments->UnlockMutex,
     };
-    CK_RV code = arguments->CreateMutex(&lock.mutex);
+    CK_RV code = arguments->CreateMutex(&lock->mutex);
     if (code == CKR_OK)
-        application_lock = lock;
+        library.lock = lock;
+    else
+        free(lock);
     return code;
 }
 
 void drop_lock(void) {
-    if (application_lock.lock != NULL)
-        application_lock.destroy(application_lock.mutex);
-    application_lock = (struct application_lock){0};
+    if (library.lock != NULL)
+        destroy_lock(library.lock);
+    library.lock = NULL;
 }
 
 void close_library(void) {
-    struct application_lock lock = application_lock;
-    if (lock.lock != NULL)
+    struct application_lock *lock = library.lock;
+    if (lock != NULL)
         pthread_mutex_lock(&own_mutex);
     library = (struct library){0};
-    application_lock = (struct application_lock){0};
     pthread_mutex_unlock(&own_mutex);
-    if (lock.lock != NULL) {
-        lock.unlock(lock.mutex);
-        lock.destroy(lock.mutex);
-    }
+    if (lock != NULL)
+        leave_by_application(lock);
 }
 
 /* The parent may have been in the middle of a call in another thread, so its memory is neither used
@@ -171,7 +199,6 @@ static void begin_in_child(void) {
         close(library.journal.file);
     left_by_parent = library;
     library = (struct library){0};
-    application_lock = (struct application_lock){0};
     pthread_mutex_init(&own_mutex, NULL);
 }
 
@@ -182,7 +209,7 @@ static void begin_in_child(void) {
 __attribute__((destructor)) static void close_at_unload(void) {
     if (pthread_mutex_trylock(&own_mutex) != 0)
         return;
-    if (application_lock.lock == NULL)
+    if (library.lock == NULL)
         abandon_journal();
     pthread_mutex_unlock(&own_mutex);
 }

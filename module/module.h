@@ -23,6 +23,7 @@
 #include <pkcs11.h>
 #pragma GCC visibility pop
 
+#include "ospreyrack.h"
 #include "token.h"
 
 _Static_assert(sizeof(CK_ULONG) == 8 && sizeof(void *) == 8, "the module is for 64 bits");
@@ -66,6 +67,7 @@ struct journal {
  * in the child of a fork before it has threads. */
 struct library {
     bool is_initialized;
+    struct application_lock *lock; /* the application's; NULL: the module's own mutex is the lock */
     struct token token;
     struct message_call message; /* where a call with a message lies that is made without work */
     CK_UTF8CHAR label[LABEL_LENGTH];
@@ -102,10 +104,10 @@ void allow_cancel(int before);
  * mutex. */
 CK_RV open_lock(const CK_C_INITIALIZE_ARGS *arguments);
 
-/* Gives a lock back that isn't held. */
+/* Gives a lock back that no thread has used. */
 void drop_lock(void);
 
-/* Clears the library's state and gives the lock back, which is held. */
+/* Clears the library's state and releases the lock, which is given back once no thread uses it. */
 void close_library(void);
 
 /* From now on a child of a fork begins without initialization. Answers false without memory. */
@@ -225,11 +227,9 @@ CK_RV ask_for_session(CK_ULONG session);
  * no other call takes. */
 void cancel_operation(CK_ULONG session, CK_FLAGS kind);
 
-/* Lets no later call be answered until C_Finalize. It needs no lock. */
-void stop_answering(void);
-
-/* C_Initialize lets calls be answered again. */
-void begin_answering(void);
+/* Lets the token with the journal of this number in `journals_begun` answer no later call, where it
+ * is still there. Its journal mustn't be cut before. It needs no lock. */
+void stop_answering(uint64_t journal);
 
 /* As make_call, of a call that is answered a handle. */
 CK_RV make_call_for_handle(const struct call *call, CK_ULONG *handle);
@@ -366,13 +366,7 @@ CK_RV enter_slot(CK_SLOT_ID slot);
 /* Copies a text, and pads it with blanks. */
 void copy_padded(CK_UTF8CHAR *out, size_t length, const char *text);
 
-/* ---- The vendor interface */
-
-/* "Vendor Ospreyrack" 1.0. */
-struct vendor_functions {
-    CK_VERSION version;
-    CK_RV (*C_SetKeyState)(CK_SESSION_HANDLE session, CK_OBJECT_HANDLE key, CK_ULONG state);
-};
+/* ---- The vendor interface: ospreyrack.h */
 
 CK_RV C_SetKeyState(CK_SESSION_HANDLE session, CK_OBJECT_HANDLE key, CK_ULONG state);
 

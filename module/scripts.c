@@ -137,11 +137,13 @@ static bool check_case(const struct source *source) {
                   source->path);
 }
 
-/* A journal's last line lacks its end where the process was killed while it was written. */
+/* A journal's last line lacks its end where the process was killed while it was written: nobody got
+ * its answer. One that was answered, in a file that was edited, can't be told from it. */
 static bool drop_line(const struct source *source) {
     if (!check_case(source))
         return false;
-    report_line(source, "the line has no end, so it wasn't answered, and is dropped");
+    report_line(source, "the last line has no end, as a process that was killed leaves it: it is "
+                "dropped");
     return true;
 }
 

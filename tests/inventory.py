@@ -1,17 +1,23 @@
 #!/usr/bin/env python3
-"""Says where a check of the repository is gone.
+"""Says where a check of the repository is gone, or is another one than before.
 
-inventory.txt beside this file lists all checks, by kind and name: edits that the prover must
-refuse, tests of the crates, of the scripts and of the module, files of recorded calls and of races,
-crates, and the lines by which `check` and module/tests/run start them, with their loops and the
-packages that `check` installs. With the word `check`, or
-none, this compares the list with what is there and looks whether the edits and files are as they
-are named elsewhere; the status is 1 where something is missing, isn't listed or is wrong. With the
-word `write` it writes the list.
+No check can go or change without a line of inventory.txt, beside this file, that shows it. For the
+text of each file that checks the list has a digest: definitions that the contracts cite, edits that
+the prover must refuse, files of recorded calls and of races, files of programs, and the tests
+themselves. And it names the checks by
+their kinds, so that a reader sees which are gone: tests of the crates, of the scripts and of the
+module, crates, and the lines by which `check` and module/tests/run start them, with their loops and
+the packages that `check` installs.
+
+With the word `check`, or none, this compares the list with what is there, and looks whether the
+edits fit the sources and the files are as they are named elsewhere; the status is 1 where something
+is gone or changed, isn't listed or is wrong. With the word `write` it writes the list.
 """
 import ast
 import collections
+import functools
 import glob
+import hashlib
 import os
 import re
 import sys
@@ -21,31 +27,41 @@ ROOT = os.path.dirname(HERE)
 LIST = os.path.join(HERE, "inventory.txt")
 HEAD = "# The checks of this repository, by kind. `python3 tests/inventory.py write` writes this.\n"
 
-ARROW = " -> "
+sys.path.insert(0, os.path.join(ROOT, "docs"))
+import contracts
+
+# How many hexadecimal digits are listed of a digest by SHA-256.
+DIGITS = 16
+
 LAW_EDIT = re.compile(r"^\|[^|]*\| `(\w+)` \|", re.MULTILINE)
 # Comments of C and Rust; and strings and characters, in which none begin.
 COMMENT = re.compile(r"""//[^\n]*|/\*.*?\*/|"(?:[^"\\]|\\.)*"|'(?:[^'\\\n]|\\.)'""", re.DOTALL)
 RUST_TEST = re.compile(r"#\[test\]\s*(?:#\[[^\]]*\]\s*)*(?:pub(?:\([a-z]+\))? )?fn (\w+)")
 TEST_MODULE = re.compile(r"#\[cfg\(test\)\]\s*(?:pub(?:\([a-z]+\))? )?mod (\w+)")
-# Attributes by which a test may not be run, or may pass where it fails: all but that of a module of
-# tests.
+# Attributes by which a test may not be run, or may pass where it fails: all except that of a module
+# of tests.
 HINDRANCE = re.compile(r"#!?\[(?!cfg\(test\)\])\s*(?:cfg\w*|ignore|should_panic)\b[^\n]*")
 C_CONDITION = re.compile(r"^\s*#\s*(?:if|ifdef|ifndef)\b.*", re.MULTILINE)
-RUST_CHECK = re.compile(r"\b(?:(?:assert\w*|ensure|bail)!|expect\(|check_\w+\()")
 # A line of a table in C, by the text at its front.
 C_ENTRY = re.compile(r'^    \{"((?:[^"\\]|\\.)*)",', re.MULTILINE)
 C_TEST = re.compile(r'"(?:[^"\\]|\\.)*",\s*(test_\w+)\}')
-C_CHECK = re.compile(r"\b(?:CHECK|EXPECT|check_?\w*)\(")
 PART = re.compile(r"^part ")
 STEP = re.compile(r"^(?:if |! )?(?:\w+=\S+ )*"
                   r"(?:try|play|tells|is_failure|run_\w+|check_\w+|compile\w*) ?(?!\S*\(\))")
 LOOP = re.compile(r"^for .*; do$")
 # A list of words in a shell script, or what is added to one, by its name.
 WORDS = re.compile(r"(\w+)\+?=\(([a-z][^)]*)\)")
-PYTHON_CHECK = re.compile(r"^(?:check\w*|expect|equal|run_client|audit|end)$")
+# The name of a clause, and that of a ghost item of a block.
+LABEL = re.compile(r"(?:requires|ensures) (\w+) \{")
+GHOST = re.compile(r"    ghost (\w+)(?: =|:)")
 
-# The crates that are only there to test the others and to measure them.
-CRATES_OF_TESTS = ("ck_bench", "ck_races", "ck_run", "ck_threads")
+# The crates whose checks are listed: programs that test or measure the others, and ck_run, which
+# has the tests of the libraries.
+CRATES_OF_TESTS = ("ck_bench", "ck_cases", "ck_races", "ck_run", "ck_threads")
+
+# The other files that check.
+OTHER_TESTS = (
+    "module/tests/*", "bench/*", "tests/*.py", "check", ".ci/run", "docs/contracts.py")
 
 # The lines by which a script finds and counts what has failed; with the last one it ends.
 VERDICTS = {
@@ -63,14 +79,33 @@ def text_of(path):
         return file.read()
 
 
+@functools.lru_cache(maxsize=None)
 def code_of(path):
     """A file of C or Rust without its comments."""
     return COMMENT.sub(lambda it: "" if it[0].startswith("/") else it[0], text_of(path))
 
 
+def matching(pattern, is_kind):
+    """What there is of this pattern and kind, by its path from the repository's top."""
+    paths = glob.glob(os.path.join(glob.escape(ROOT), pattern), recursive=True)
+    return sorted(os.path.relpath(path, ROOT) for path in paths if is_kind(path))
+
+
 def files(pattern):
-    """The files and folders of this pattern, by their paths from the repository's top."""
-    return sorted(glob.glob(pattern, root_dir=ROOT))
+    return matching(pattern, os.path.isfile)
+
+
+def folders(pattern):
+    return matching(pattern, os.path.isdir)
+
+
+def with_digests(paths):
+    """Files, each with the front of the digest of its text."""
+    listed = []
+    for path in paths:
+        with open(os.path.join(ROOT, path), "rb") as file:
+            listed.append(f"{path} {hashlib.sha256(file.read()).hexdigest()[:DIGITS]}")
+    return listed
 
 
 # ---- What is there
@@ -81,7 +116,7 @@ def edits():
 
 
 def sources():
-    return sorted(glob.glob("crates/*/src/**/*.rt", root_dir=ROOT, recursive=True))
+    return files("crates/*/src/**/*.rt")
 
 
 def crate_tests():
@@ -94,11 +129,11 @@ def test_modules():
     return [f"{path} {name}" for path in sources() for name in TEST_MODULE.findall(code_of(path))]
 
 
-def rust_checks():
-    """How many checks each file has that is there only to test others."""
-    paths = [path for path in sources() if path.split("/")[1] in CRATES_OF_TESTS]
-    counts = [(path, len(RUST_CHECK.findall(code_of(path)))) for path in paths]
-    return [f"{path} {count} checks" for path, count in counts if count]
+def texts_of_tests():
+    """The files that check and are of no other kind."""
+    paths = {it.split()[0] for it in crate_tests()}
+    paths |= {path for path in sources() if path.split("/")[1] in CRATES_OF_TESTS}
+    return sorted(paths.union(*map(files, OTHER_TESTS)))
 
 
 def crates():
@@ -108,24 +143,9 @@ def crates():
 
 
 def program_files():
-    """What programs are given, and what they must write."""
-    return [path for name in ("args", "stdin", "stdout") for path in files(f"crates/*/{name}")]
-
-
-def recorded_runs():
-    """The files of cases, each with how many replies it records."""
-    return [f"{path} {sum(ARROW in line for line in text_of(path).split(chr(10)))} replies"
-            for path in files("crates/*/data/*.cases")]
-
-
-def races():
-    """The files of races, each with how many races and lines it has."""
-    found = []
-    for path in files("crates/*/data/*.races"):
-        lines = [line for line in text_of(path).split("\n") if line and not line.startswith("#")]
-        count = sum(line.startswith("race") for line in lines)
-        found.append(f"{path} {count} races in {len(lines)} lines")
-    return found
+    """What programs are given, what they must write, and how they must end."""
+    names = ("args", "stdin", "stdout", "status")
+    return [path for name in names for path in files(f"crates/*/{name}")]
 
 
 def c_files():
@@ -141,20 +161,14 @@ def c_entries():
     return [f"{path} {name}" for path in c_files() for name in C_ENTRY.findall(code_of(path))]
 
 
-def c_checks():
-    """How many checks each file has."""
-    counts = [(path, len(C_CHECK.findall(code_of(path)))) for path in c_files()]
-    return [f"{path} {count} checks" for path, count in counts if count]
-
-
 def python_files():
     return files("tests/*.py") + files("module/tests/*.py") + files("bench/growths.py")
 
 
 def names_in(node):
     """The names that code uses, with those of methods."""
-    named = {it.id for it in ast.walk(node) if isinstance(it, ast.Name)}
-    return named | {it.attr for it in ast.walk(node) if isinstance(it, ast.Attribute)}
+    return {it.id if isinstance(it, ast.Name) else it.attr for it in ast.walk(node)
+            if isinstance(it, (ast.Name, ast.Attribute))}
 
 
 def functions_of(tree):
@@ -190,35 +204,6 @@ def python_functions():
             for name in called_functions(ast.parse(text_of(path)))]
 
 
-def name_called(call):
-    return getattr(call.func, "attr", None) or getattr(call.func, "id", "")
-
-
-def python_checks():
-    """How many checks each script has."""
-    found = []
-    for path in python_files():
-        calls = [it for it in ast.walk(ast.parse(text_of(path))) if isinstance(it, ast.Call)]
-        count = sum(bool(PYTHON_CHECK.match(name_called(it))) for it in calls)
-        found += [f"{path} {count} checks"] * (count > 0)
-    return found
-
-
-def entries_of(value):
-    """How many entries a table has, and nothing of what is no table."""
-    if isinstance(value, ast.Dict):
-        return len(value.keys)
-    return len(value.elts) if isinstance(value, (ast.List, ast.Tuple)) else 0
-
-
-def python_tables():
-    """The tables of scripts, with how many entries each has."""
-    return [f"{path} {node.targets[0].id} {entries_of(node.value)} entries"
-            for path in python_files() for node in ast.parse(text_of(path)).body
-            if isinstance(node, ast.Assign) and isinstance(node.targets[0], ast.Name)
-            and entries_of(node.value)]
-
-
 def clients():
     """The clients of the module that are tried, by their names."""
     for node in ast.parse(text_of("module/tests/clients.py")).body:
@@ -242,20 +227,18 @@ def words_of_check():
 def inventory():
     """All checks, as sorted lines."""
     kinds = {
-        "edit that must fail": edits(),
+        "definition": with_digests(files("crates/*/specs/*.antt")),
+        "edit that must fail": with_digests(edits()),
         "test of a crate": crate_tests(),
         "module of tests": test_modules(),
-        "checks in Rust": rust_checks(),
+        "text of tests": with_digests(texts_of_tests()),
         "crate": crates(),
-        "file of a program": program_files(),
-        "recorded run": recorded_runs(),
-        "races": races(),
+        "file of a program": with_digests(program_files()),
+        "recorded run": with_digests(files("crates/*/data/*.cases")),
+        "races": with_digests(files("crates/*/data/*.races")),
         "test in C": c_tests(),
         "entry in C": c_entries(),
-        "checks in C": c_checks(),
         "function in Python": python_functions(),
-        "checks in Python": python_checks(),
-        "table in Python": python_tables(),
         "client": clients(),
         "part of check": commands_of("check", PART),
         "loop of check": commands_of("check", LOOP),
@@ -282,9 +265,81 @@ def texts_in(edit):
             yield path, old, text
 
 
+# The clauses of a function, or of a type with an invariant: its name, the names of those that have
+# one, and the function of a trait whose clauses it has, too.
+Clauses = collections.namedtuple("Clauses", "name labels of_trait")
+
+
+def ghosts_in(lines):
+    """The ghost items of each block of a file, by the line in which the block begins."""
+    ghosts = collections.defaultdict(set)
+    for line, block in zip(lines, contracts.blocks_of(lines)):
+        found = GHOST.match(line)
+        if found:
+            ghosts[block].add(found[1])
+    return ghosts
+
+
+def clauses_of_functions(lines, ghosts):
+    for function in contracts.functions_in(lines):
+        trait, _ = contracts.names_of_block(lines[function.block])
+        clauses = contracts.clauses_after(lines, function.start, function.indent)
+        labels = {found[1] for found in map(LABEL.match, clauses) if found}
+        of_trait = trait and f"{trait}::{function.name.split('::')[-1]}"
+        yield Clauses(function.name, labels | ghosts[function.block], of_trait)
+
+
+def clauses_of_types(lines, ghosts):
+    for block, names in ghosts.items():
+        if "invariant" in names:
+            yield Clauses(contracts.names_of_block(lines[block])[1], set(), None)
+
+
+@functools.lru_cache(maxsize=None)
+def clauses_of(crate):
+    """What a line `clause:` of the crate's edits may name."""
+    named = []
+    for path in files(f"crates/{crate}/src/**/*.rt"):
+        lines = text_of(path).split("\n")
+        ghosts = ghosts_in(lines)
+        named += [*clauses_of_functions(lines, ghosts), *clauses_of_types(lines, ghosts)]
+    return named
+
+
+@functools.lru_cache(maxsize=None)
+def labels_of_all():
+    """The names of the clauses of each function, by its name, whichever crate it is of."""
+    labels = collections.defaultdict(set)
+    for clauses in (it for crate in crates() for it in clauses_of(crate)):
+        labels[clauses.name] |= clauses.labels
+    return labels
+
+
+def labels_of(name, crate):
+    """The names of the clauses of this name, with those of the trait that the function is of."""
+    own = [it for it in clauses_of(crate) if it.name == name]
+    of_traits = [labels_of_all()[it.of_trait] for it in own if it.of_trait]
+    return set().union(*(it.labels for it in own), *of_traits)
+
+
+def clause_faults(edit):
+    """The line `clause:` names a function of the crate, or a type with an invariant, and maybe a
+    clause that it has."""
+    lines = [line.split(" ") for line in text_of(edit).split("\n") if line.startswith("clause:")]
+    if len(lines) != 1 or len(lines[0]) not in (2, 3):
+        yield f"{edit} has not one line clause: with one name or two"
+        return
+    _, name, *label = lines[0]
+    crate = edit.split("/")[1]
+    if name not in {it.name for it in clauses_of(crate)}:
+        yield f"{edit}: the crate has no function, and no type with an invariant, {name}"
+    elif not labels_of(name, crate).issuperset(label):
+        yield f"{edit}: {name} has no clause {label[0]}"
+
+
 def edit_faults(edit):
     lines = text_of(edit).split("\n")
-    for word in ("file", "clause", "old", "new"):
+    for word in ("file", "old", "new"):
         if not any(line.startswith(word + ": ") for line in lines):
             yield f"{edit} has no line {word}:"
             return
@@ -301,6 +356,7 @@ def edit_faults(edit):
         if old == new:
             yield f"{edit} changes nothing"
         changed[path] = source.replace(old, new)
+    yield from clause_faults(edit)
 
 
 def law_faults():
@@ -317,14 +373,14 @@ def law_faults():
 
 def crate_faults():
     """Each folder of crates/ is in crates.txt, and the other way round."""
-    folders = {os.path.basename(os.path.dirname(path)) for path in files("crates/*/")}
-    for name in sorted(folders ^ set(crates())):
-        yield f"crates/{name} " + ("isn't in crates.txt" if name in folders else "isn't there")
+    there = {os.path.basename(path) for path in folders("crates/*")}
+    for name in sorted(there ^ set(crates())):
+        yield f"crates/{name} " + ("isn't in crates.txt" if name in there else "isn't there")
 
 
 def argument_faults():
     """A program with a folder `data` is given each file of it."""
-    for folder in files("crates/*/data"):
+    for folder in folders("crates/*/data"):
         arguments = files(os.path.join(os.path.dirname(folder), "args"))
         given = [word for path in arguments for word in text_of(path).split()]
         there = os.listdir(os.path.join(ROOT, folder))
@@ -395,7 +451,7 @@ def check():
     with open(LIST, encoding="utf-8") as file:
         listed = collections.Counter(file.read().split("\n")[1:-1])
     there = collections.Counter(inventory())
-    said = [f"missing: {line}" for line in (listed - there).elements()]
+    said = [f"gone or changed: {line}" for line in (listed - there).elements()]
     said += [f"not listed: {line}" for line in (there - listed).elements()]
     said += [f"wrong: {fault}" for fault in faults()]
     for line in said:
@@ -403,7 +459,7 @@ def check():
     if said:
         print("python3 tests/inventory.py write lists what is there, where that is meant")
         return 1
-    print(f"tests/inventory.txt lists the {there.total()} checks that are there")
+    print(f"tests/inventory.txt lists the {sum(there.values())} checks that are there")
     return 0
 
 

@@ -1,20 +1,28 @@
 #!/usr/bin/env python3
-"""Tests of the tests of programs: program.py, recorded_runs.py and races.py beside this file, and
-bench/growths.py. Each must pass on a right program, and fail on one that is wrong in one thing.
+"""Tests of the tests of programs: program.py, rules.py, recorded_runs.py and races.py beside this
+file, and bench/growths.py. Each must pass on a right program, and fail on one that is wrong in one thing. And
+inventory.py must notice each change of a copy of the repository.
 
 The programs are those that `rt ci` leaves. This needs a C compiler, `cc`, as growths.py does.
 """
 import contextlib
+import glob
+import inspect
 import io
 import os
+import re
+import shutil
+import subprocess
 import sys
 import tempfile
 
 import program
 import races
 import recorded_runs
+import rules
 
-sys.path.insert(0, os.path.join(program.HERE, "..", "bench"))
+ROOT = os.path.dirname(program.HERE)
+sys.path.insert(0, os.path.join(ROOT, "bench"))
 import growths
 
 # Scripts that run the right program, `$1`, with all other words, and what is wrong in them.
@@ -26,6 +34,45 @@ WRONG = {
     "nothing on standard error": 'right=$1; shift; exec "$right" "$@" 2> /dev/null',
     "other arguments": 'right=$1; exec "$right" none',
 }
+
+# The tests of each program, with the class that keeps what comes of them.
+TESTS = {program: program.Tests, rules: program.Tests, recorded_runs: recorded_runs.Files,
+         races: recorded_runs.Files}
+
+# What is wrong in a program, and isn't there in one whose scripts have no faults.
+OF_FAULTS = {rules: ["nothing on standard error"]}
+
+# Tests of a file, to which it is all the same which program is there.
+OTHERS = (races.shapes,)
+
+EDITS = "crates/*/must-fail/*.edit"
+
+# Changes of the repository that its list of checks must show: what is changed, the first file of
+# this pattern that has such a text, and what stands there then. Without one the file is gone.
+CHANGES = [
+    ("an edit that is gone", EDITS, "", None),
+    ("an edit that is another one", EDITS, "new: .*", "new: none"),
+    ("another reply of a case", "crates/*/data/*.cases", " -> 0$", " -> 1"),
+    ("another definition", "crates/*/specs/*.antt", "^pub record ", "pub  record "),
+    ("another reply of a race", "crates/*/data/*.races", " -> 0$", " -> 1"),
+    ("another output", "crates/*/stdout", "1", "2"),
+    ("a part of check that is gone", "check", "^part .*\n", ""),
+    ("a condition of module/tests/run that is gone", "module/tests/run", " && \\[ -s .* \\]", ""),
+    ("a check in Rust that is gone", "crates/ck_run/src/*.rt", "^ *assert.*\n", ""),
+    ("a check in C that is gone", "module/tests/*.c", "^ *CHECK.*\n", ""),
+    ("a check in Python that compares nothing", "module/tests/*.py", "checks[.]equal", "str"),
+    ("another bound", "bench/growths.py", "^LEAST_OF_SHORT = .*", "LEAST_OF_SHORT = 0"),
+]
+
+# Changes that are wrong, also where the list shows them.
+WRONG_CHANGES = [
+    ("a clause of nothing", EDITS, "^clause: .*", "clause: nothing"),
+    ("an edit of a text that isn't there", EDITS, "^old: ", "old: nothing"),
+    ("an edit that changes nothing", EDITS, "^old: (.*)\nnew: .*", r"old: \1\nnew: \1"),
+    ("tests that aren't started", "check", "^part .* python3 tests/.*\n", ""),
+    ("a test that isn't run", "crates/ck_run/src/*.rt", "#.test.", "#[ignore] #[test]"),
+    ("a status that is always 0", "check", "^.*failed. -eq 0 .*\n", "true\n"),
+]
 
 NO_MEMORY = b"ck_run: out of memory\n"
 
@@ -70,10 +117,13 @@ WRONG_ENDS = [
     (is_case_right, ended(-1, b"")),
     (is_case_right, ended(1, b"", b"Error: line 1\n")),
     (is_script_right, ended(0, b"0\n")),
+    (is_script_right, ended(0, SCRIPT.output, NO_MEMORY)),
     (is_script_right, ended(3, b"0", NO_MEMORY)),
     (is_script_right, ended(3, b"0\nb3\n", NO_MEMORY)),
     (is_script_right, ended(3, b"0\n", b"ck_run: write fault\n")),
     (is_script_right, ended(-1, b"0\n", NO_MEMORY)),
+    (is_script_right, ended(1, SCRIPT.output, NO_MEMORY)),
+    (is_script_right, ended(-1, SCRIPT.output, NO_MEMORY)),
     (is_summary_right, ended(0, b"entries 1\naudit ok\n")),
     (is_summary_right, ended(3, SUMMARY.output, NO_MEMORY)),
     (is_summary_right, ended(3, b"entries 1\n", NO_MEMORY)),
@@ -81,29 +131,12 @@ WRONG_ENDS = [
 ]
 
 
-class Notices:
-    """What was tested, and how much of it was wrong."""
-
-    def __init__(self):
-        self.failed = 0
-        self.faults = []
-
-    def check(self, is_right, fault):
-        if not is_right:
-            self.faults.append(fault)
-
-    def end(self, name):
-        for fault in self.faults:
-            print(f"  {fault}", file=sys.stderr)
-        self.failed += bool(self.faults)
-        print(f"{'FAILED' if self.faults else 'passed'} noticing: {name}", flush=True)
-        self.faults = []
-
-
-def played(play, *words):
-    """What a test gives, whose lines aren't shown."""
-    with contextlib.redirect_stdout(io.StringIO()), contextlib.redirect_stderr(io.StringIO()):
-        return play(*words)
+@contextlib.contextmanager
+def unseen():
+    """What is written isn't shown. Gives what goes to standard output."""
+    with contextlib.redirect_stdout(io.StringIO()) as output:
+        with contextlib.redirect_stderr(io.StringIO()):
+            yield output
 
 
 def write_program(folder, text, right):
@@ -115,69 +148,154 @@ def write_program(folder, text, right):
     return path
 
 
-def status_of(kind, tests_of, path):
-    """The status of these tests of this program."""
-    tests = kind(path)
-    for test in tests_of:
-        played(test, tests)
-    return tests.status()
+def is_test(function, module):
+    """Whether this is a function of the module that is given its tests, and nothing else."""
+    return (inspect.isfunction(function) and function.__module__ == module.__name__
+            and [*inspect.signature(function).parameters] == ["tests"])
 
 
-def wrong_programs(notices):
-    sets = [
-        (program.Tests, [program.scripts, program.arguments], program.PROGRAM),
-        (recorded_runs.Files, [recorded_runs.reports, recorded_runs.arguments],
-         recorded_runs.PROGRAM),
-        (recorded_runs.Files, [races.orders, races.bad_lines], races.PROGRAM),
-    ]
+def tests_of(module):
+    return [it for it in vars(module).values() if is_test(it, module)]
+
+
+def words_of(module, test, path):
+    """How the lines begin that a test writes of this program."""
+    with unseen() as output:
+        test(TESTS[module](path))
+    return {line.split(" ")[0] for line in output.getvalue().splitlines()}
+
+
+def passes(words):
+    return bool(words) and words <= {"passed", "skipped"}
+
+
+def fails(words):
+    return bool(words) and "passed" not in words
+
+
+def judge(checks, module, path, is_right, what):
+    """Each test of the module by itself, except those that look at something else."""
+    for test in tests_of(module):
+        if test not in OTHERS:
+            words = words_of(module, test, path)
+            checks.expect(is_right(words), f"{test.__name__} of {module.__name__}.py {what}")
+
+
+def wrong_programs(checks):
     with tempfile.TemporaryDirectory() as folder:
-        for kind, tests_of, right in sets:
-            path = write_program(folder, RIGHT, right)
-            notices.check(status_of(kind, tests_of, path) == 0, f"{right} fails")
+        for module in TESTS:
+            path = write_program(folder, RIGHT, module.PROGRAM)
+            judge(checks, module, path, passes, "fails")
             for wrong, text in WRONG.items():
-                path = write_program(folder, text, right)
-                notices.check(status_of(kind, tests_of, path) == 1, f"{right} passes with {wrong}")
-    notices.end("programs that are wrong in one thing")
+                path = write_program(folder, text, module.PROGRAM)
+                is_right = passes if wrong in OF_FAULTS.get(module, []) else fails
+                judge(checks, module, path, is_right, f"ends otherwise with {wrong}")
+    checks.end("programs that are wrong in one thing")
 
 
-def idle_programs(notices):
-    for tests_of in (program, recorded_runs, races):
-        status = played(tests_of.main, "/bin/true")
-        notices.check(status == 1, f"{tests_of.__name__}.py passes on a program that does nothing")
-    notices.end("a program that does nothing")
+def idle_programs(checks):
+    for module in TESTS:
+        with unseen():
+            status = module.main("/bin/true")
+        checks.expect(status == 1, f"{module.__name__}.py passes on a program that does nothing")
+        judge(checks, module, "/bin/true", fails, "passes on a program that does nothing")
+    checks.end("a program that does nothing")
 
 
-def no_checks(notices):
+def no_checks(checks):
     tests = program.Tests("/bin/true")
-    played(tests.end, "no check")
-    notices.check(tests.status() == 1, "a test without a check passes")
-    notices.end("a test without a check")
+    with unseen():
+        tests.end("no check")
+    checks.expect(tests.status() == 1, "a test without a check passes")
+    checks.end("a test without a check")
 
 
-def ends(notices):
+def read(path):
+    with open(path, encoding="utf-8", newline="\n") as file:
+        return file.read()
+
+
+def write(path, text):
+    with open(path, "w", encoding="utf-8", newline="\n") as file:
+        file.write(text)
+
+
+def change(copy, pattern, old, new):
+    """Changes a file of a copy as `CHANGES` says. Gives its path there, and its text before."""
+    paths = sorted(glob.glob(os.path.join(copy, pattern)))
+    path = next(path for path in paths if re.search(old, read(path), re.MULTILINE))
+    text = read(path)
+    if new is None:
+        os.remove(path)
+    else:
+        write(path, re.sub(old, new, text, count=1, flags=re.MULTILINE))
+    return path, text
+
+
+def say_of_checks(copy, *words):
+    """What inventory.py of a copy of the repository says: its status, and its text."""
+    run = subprocess.run([sys.executable, os.path.join(copy, "tests", "inventory.py"), *words],
+                         capture_output=True, timeout=program.SECONDS, text=True)
+    return run.returncode, run.stdout + run.stderr
+
+
+def check_change(checks, copy, front, what, *change_of):
+    """A change is told by lines that begin so. One that is wrong is so where it is listed, too."""
+    path, text = change(copy, *change_of)
+    listed = os.path.join(copy, "tests", "inventory.txt")
+    list_before = read(listed)
+    if front == "wrong: ":
+        say_of_checks(copy, "write")
+    status, said = say_of_checks(copy)
+    lines = [line for line in said.splitlines() if line.startswith(front)]
+    is_told = any(os.path.relpath(path, copy) in line for line in lines)
+    checks.expect(status == 1 and is_told, f"{what}: status {status}, {said}")
+    write(path, text)
+    write(listed, list_before)
+
+
+def changes(checks):
+    with tempfile.TemporaryDirectory() as folder:
+        copy = os.path.join(folder, "copy")
+        shutil.copytree(ROOT, copy, ignore=shutil.ignore_patterns(".git", "out", "__pycache__"))
+        status, said = say_of_checks(copy)
+        checks.expect(status == 0, f"a copy of the repository: {said}")
+        for what in CHANGES:
+            check_change(checks, copy, "gone or changed: ", *what)
+        for what in WRONG_CHANGES:
+            check_change(checks, copy, "wrong: ", *what)
+        status, said = say_of_checks(copy)
+        checks.expect(status == 0, f"the copy as it was: {said}")
+    checks.end("changes of checks")
+
+
+def ends(checks):
     for is_right, end in RIGHT_ENDS:
-        notices.check(is_right(end), f"{end} is refused")
+        checks.expect(is_right(end), f"{end} is refused")
     for is_right, end in WRONG_ENDS:
-        notices.check(not is_right(end), f"{end} passes")
-    notices.end("how a program ends whose growth is refused")
+        checks.expect(not is_right(end), f"{end} passes")
+    checks.end("how a program ends whose growth is refused")
 
 
-def refused_growths(notices):
-    notices.check(played(growths.main, [], []) == 1, "no case passes")
+def refused_growths(checks):
     cases = os.path.join(growths.CRATES, "ck_cases", "data", "first.cases")
     growths.CASES = growths.SCRIPTS = growths.RACES = "/bin/true"
-    notices.check(played(growths.main, [cases], []) == 1, "a program that does nothing passes")
-    notices.end("refused growths of a program that does nothing")
+    with unseen():
+        without_cases, idle = growths.main([], []), growths.main([cases], [])
+    checks.expect(without_cases == 1, "no case passes")
+    checks.expect(idle == 1, "a program that does nothing passes")
+    checks.end("refused growths of a program that does nothing")
 
 
 def main():
-    notices = Notices()
-    wrong_programs(notices)
-    idle_programs(notices)
-    no_checks(notices)
-    ends(notices)
-    refused_growths(notices)
-    return 1 if notices.failed else 0
+    checks = program.Checks("noticing")
+    wrong_programs(checks)
+    idle_programs(checks)
+    no_checks(checks)
+    ends(checks)
+    refused_growths(checks)
+    changes(checks)
+    return checks.status()
 
 
 if __name__ == "__main__":

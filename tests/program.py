@@ -68,13 +68,14 @@ BAD_ARGUMENTS = [
     (["script.txt"], b"unexpected argument 'script.txt' found" + USAGE),
     (["--callers", "2", "script.txt"], b"unexpected argument 'script.txt' found" + USAGE),
     # the byte ff
-    (["\udcff"], b"they can't be read"),
+    (["\udcff"], b"an argument isn't text in UTF-8"),
 ]
 
-TOO_MANY_SPACES = b"a space too many stands in the line, whose words stand between single spaces"
+TOO_MANY_SPACES = (b"there are two spaces in a row, or one at an end of the line: "
+                   b"single spaces separate its words")
 BYTE_ORDER_MARK = b"a byte order mark stands before the line"
 CARRIAGE_RETURN = b"a carriage return stands at the end of the line"
-TAB = b"a tab stands in the line, whose words stand between single spaces"
+TAB = b"there is a tab in the line: single spaces separate its words"
 NOT_DECIMAL = b"a number is written in decimal digits"
 NO_CALL = b"no call has this name"
 
@@ -148,39 +149,22 @@ SECONDS_OF_REPLY = 10
 SOON = 2
 
 
-class Tests:
-    """The tests of one program. A test ends with its line."""
+class Checks:
+    """Checks of one name, and the line of each test."""
 
-    def __init__(self, program, name="program"):
-        self.program = os.path.abspath(program)
+    def __init__(self, name):
         self.name = name
         self.failed = 0
         self.checked = 0
         self.faults = []
-
-    def run(self, words, script, **files):
-        """What the program writes to standard output and to standard error, and its status."""
-        files = {"stdout": subprocess.PIPE, "stderr": subprocess.PIPE, **files}
-        if "stdin" not in files:
-            files["input"] = script
-        ended = subprocess.run([self.program, *words], timeout=SECONDS, **files)
-        return ended.stdout, ended.stderr, ended.returncode
 
     def expect(self, is_right, fault):
         self.checked += 1
         if not is_right:
             self.faults.append(fault)
 
-    def check(self, words, script, output, errors, status, **files):
-        """The program writes this and ends so."""
-        made = self.run(words, script, **files)
-        shown = script if len(script or b"") < 200 else f"a script of {len(script)} bytes"
-        came = f"{made[0]!r:.300} {made[1]!r:.300} {made[2]}"
-        wanted = f"{output!r:.300} {errors!r:.300} {status}"
-        self.expect(made == (output, errors, status),
-                    f"{words} {shown} {files}: {came}, and not {wanted}")
-
     def end(self, name):
+        """Ends a test, and writes its line. A test without a check fails."""
         self.expect(self.checked > 0, "nothing was checked")
         for fault in self.faults:
             print(f"  {fault}", file=sys.stderr)
@@ -190,6 +174,34 @@ class Tests:
 
     def status(self):
         return 1 if self.failed else 0
+
+
+class Tests(Checks):
+    """The tests of one program."""
+
+    def __init__(self, program, name="program"):
+        super().__init__(name)
+        self.program = os.path.abspath(program)
+
+    def run(self, words, script, **files):
+        """What the program writes to standard output and to standard error, and its status."""
+        files = {"stdout": subprocess.PIPE, "stderr": subprocess.PIPE, **files}
+        if "stdin" not in files:
+            files["input"] = script
+        try:
+            ended = subprocess.run([self.program, *words], timeout=SECONDS, **files)
+        except subprocess.TimeoutExpired:
+            return b"", b"", f"no end in {SECONDS} seconds"
+        return ended.stdout, ended.stderr, ended.returncode
+
+    def check(self, words, script, output, errors, status, **files):
+        """The program writes this and ends so."""
+        made = self.run(words, script, **files)
+        shown = script if len(script or b"") < 200 else f"a script of {len(script)} bytes"
+        came = f"{made[0]!r:.300} {made[1]!r:.300} {made[2]}"
+        wanted = f"{output!r:.300} {errors!r:.300} {status}"
+        self.expect(made == (output, errors, status),
+                    f"{words} {shown} {files}: {came}, and not {wanted}")
 
 
 def scripts(tests):
@@ -202,23 +214,23 @@ def scripts(tests):
     tests.end("a script is played line by line")
 
 
-def reply_to(made, line):
+def reply_to(process, line):
     """What a program writes after this line, or nothing where it doesn't or has ended."""
     try:
-        made.stdin.write(line)
+        process.stdin.write(line)
     except BrokenPipeError:
         return b""
-    is_written = select.select([made.stdout], [], [], SECONDS_OF_REPLY)[0]
-    return made.stdout.read(99) if is_written else b""
+    is_written = select.select([process.stdout], [], [], SECONDS_OF_REPLY)[0]
+    return process.stdout.read(99) if is_written else b""
 
 
 def dialogue(tests):
     with subprocess.Popen([tests.program], bufsize=0, stdin=subprocess.PIPE,
-                          stdout=subprocess.PIPE) as made:
+                          stdout=subprocess.PIPE) as process:
         for line, reply in DIALOGUE:
-            came = reply_to(made, line)
+            came = reply_to(process, line)
             tests.expect(came == reply, f"{line}: {came}, and not {reply}")
-        made.kill()
+        process.kill()
     tests.end("each line is answered before the next one comes")
 
 
@@ -292,11 +304,11 @@ def most_threads(tests, words, script):
     with tempfile.TemporaryFile() as file:
         file.write(script)
         file.seek(0)
-        made = subprocess.Popen([tests.program, *words], stdin=file, stdout=subprocess.DEVNULL)
-        while made.poll() is None:
-            most = max(most, len(os.listdir(f"/proc/{made.pid}/task")))
+        process = subprocess.Popen([tests.program, *words], stdin=file, stdout=subprocess.DEVNULL)
+        while process.poll() is None:
+            most = max(most, len(os.listdir(f"/proc/{process.pid}/task")))
             if time.monotonic() > end:
-                made.kill()
+                process.kill()
     return most
 
 

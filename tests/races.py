@@ -125,7 +125,8 @@ BAD_LINES = [
     ("1 Nope -> 0", ": no call has this name"),
     ("1 Logout -> 0", ": Logout takes 1 argument"),
     ("1  " + CALL,
-     ": a space too many stands in the line, whose words stand between single spaces"),
+     ": there are two spaces in a row, or one at an end of the line: "
+     "single spaces separate its words"),
     (" # x", " has no call"),
     ("sessions 0", ": " + SESSIONS),
     ("sessions 65", ": " + SESSIONS),

@@ -8,6 +8,7 @@ status is 1 where one failed.
 """
 import hashlib
 import os
+import resource
 import sys
 import tempfile
 
@@ -170,6 +171,16 @@ MOST_SHOWN = 80
 DIGEST = hashlib.sha512(b"abc").hexdigest().encode()
 BEFORE_DIGEST = b"1 InitToken 31323334 -> 0\n1 OpenSession 6 -> 0 1\n1 DigestInit 1 270 -> 0\n"
 
+# A case with 64 objects of a million bytes, which end with the session.
+LARGE_CASE = b"".join([
+    b"1 InitToken 31323334 -> 0\n1 OpenSession 6 -> 0 1\n",
+    b"1 CreateObject 1 0=0000000000000000,11=", b"61" * 1_000_000, b" -> 0 1\n",
+    *(b"1 CopyObject 1 1 - -> 0 %d\n" % number for number in range(2, 65))])
+LARGE_CASE_LINES = 66
+
+# The bytes of an address space that has room for these objects once. An audit makes them again.
+ROOM = 100_000_000
+
 USAGE = b"\n\nUsage: ck_cases [OPTIONS] <FILE>..."
 MORE = b"\n\nFor more information, try '--help'.\n"
 
@@ -189,6 +200,8 @@ BAD_ARGUMENTS = [
     (["--limits", "1,2,3", "t"], BAD_OPTION),
     (["--limits", "1,2,3,4,5", "t"], BAD_OPTION),
     (["--replies", "t", "t"], b"error: '--replies' takes one file\n"),
+    # the byte ff
+    (["\udcff"], b"error: an argument isn't text in UTF-8\n"),
 ]
 
 # A file that isn't read, and why.
@@ -285,6 +298,16 @@ def long_texts(tests):
     tests.end("texts of 80 characters and of more are shortened")
 
 
+def audits(tests):
+    short = {"preexec_fn": lambda: resource.setrlimit(resource.RLIMIT_AS, (ROOM, ROOM))}
+    ended = LARGE_CASE + b"1 CloseAllSessions -> 0\n"
+    report = b"t: %d passed\n" % (LARGE_CASE_LINES + 1)
+    for next_case in (b"", b"limits largest\n"):
+        tests.check_file(ended + next_case, ["t"], report, b"", 0, **short)
+        tests.check_file(LARGE_CASE + next_case, ["t"], b"t: out of memory\n", b"", 1, **short)
+    tests.end("the last case and one before it are audited, and find no memory for it")
+
+
 def arguments(tests):
     for words in (["--help"], ["-h"], ["t", "--help"]):
         tests.check_file(b"foo", words, HELP, b"", 0)
@@ -318,6 +341,7 @@ def main(program):
     limits_of_first_case(tests)
     many_lines(tests)
     long_texts(tests)
+    audits(tests)
     arguments(tests)
     bad_files(tests)
     full_device(tests)

@@ -16,7 +16,6 @@ import support
 SO_PIN = "12345678"
 USER_PIN = "userpin"
 MESSAGE = b"what do ya want for nothing?"
-HMAC = "5bdcc146bf60754e6a042426089575c75a003f089d2739839dec58b964ec3843"
 SHA256_OF_ABC = "ba7816bf8f01cfea414140de5dae2223b00361a396177a9cb410ff61f20015ad"
 NOBODY = 65534
 
@@ -37,10 +36,8 @@ class Client:
         self.folder = folder
         self.module = module
         self.journal = self.file(f"{name}.cases")
-        self.environment = {variable: value for variable, value in os.environ.items()
-                            if not variable.startswith("OSPREYRACK_")}
-        self.environment |= {"OSPREYRACK_TOKEN": self.journal, "OSPREYRACK_SEED": "1",
-                             "HOME": folder, "LC_ALL": "C"}
+        self.environment = support.environment_of({"TOKEN": self.journal, "SEED": 1})
+        self.environment.update({"HOME": folder, "LC_ALL": "C"})
 
     def file(self, name, content=None):
         path = os.path.join(self.folder, name)

@@ -9,6 +9,8 @@
 #include <limits.h>
 #include <pthread.h>
 #include <sanitizer/lsan_interface.h>
+#include <sched.h>
+#include <stdatomic.h>
 #include <stdio.h>
 #include <stdlib.h>
 #include <string.h>
@@ -142,7 +144,7 @@ static void test_interface_list(void) {
 
 static void test_vendor_interface(void) {
     CK_MECHANISM hmac = mechanism_of(CKM_SHA256_HMAC);
-    const struct vendor_functions *vendor = vendor_functions();
+    const struct ospreyrack_functions *vendor = vendor_functions();
     EXPECT(CKR_CRYPTOKI_NOT_INITIALIZED, vendor->C_SetKeyState(1, 1, 5));
     CK_SESSION_HANDLE session = begin_token();
     CK_OBJECT_HANDLE key = create_key(session, "Jefe");
@@ -153,6 +155,50 @@ static void test_vendor_interface(void) {
     EXPECT(CKR_ACTION_PROHIBITED, vendor->C_SetKeyState(session, key, 5));
     EXPECT(CKR_KEY_HANDLE_INVALID, vendor->C_SetKeyState(session, 0, 1));
     EXPECT(CKR_SESSION_HANDLE_INVALID, vendor->C_SetKeyState(0, key, 1));
+    end_token();
+}
+
+/* A key in pre-activation. */
+static CK_OBJECT_HANDLE create_inactive_key(CK_SESSION_HANDLE session) {
+    CK_OBJECT_CLASS class = CKO_SECRET_KEY;
+    CK_KEY_TYPE type = CKK_GENERIC_SECRET;
+    CK_ULONG state = OSPREYRACK_PRE_ACTIVATION;
+    CK_OBJECT_HANDLE key = 0;
+    CK_ATTRIBUTE template[] = {
+        {CKA_CLASS, &class, sizeof class},
+        {CKA_KEY_TYPE, &type, sizeof type},
+        {CKA_OSPREYRACK_KEY_STATE, &state, sizeof state},
+        {CKA_VALUE, user_pin, sizeof user_pin},
+    };
+    EXPECT(CKR_OK, p11->C_CreateObject(session, template, 4, &key));
+    return key;
+}
+
+static void check_key_state(CK_SESSION_HANDLE session, CK_OBJECT_HANDLE key, CK_ULONG expected,
+                            CK_RV signing) {
+    CK_MECHANISM hmac = mechanism_of(CKM_SHA256_HMAC);
+    CK_ULONG state = 77;
+    CK_ATTRIBUTE query = {CKA_OSPREYRACK_KEY_STATE, &state, sizeof state};
+    EXPECT(CKR_OK, p11->C_GetAttributeValue(session, key, &query, 1));
+    CHECK(state == expected);
+    EXPECT(signing, p11->C_SignInit(session, &hmac, key));
+}
+
+/* Through all states by their names in the header, in an order that the token lets a key take. */
+static void test_key_states(void) {
+    static const CK_ULONG later[] = {OSPREYRACK_SUSPENDED, OSPREYRACK_DEACTIVATED,
+                                     OSPREYRACK_COMPROMISED, OSPREYRACK_DESTROYED};
+    const struct ospreyrack_functions *vendor = vendor_functions();
+    CK_SESSION_HANDLE session = begin_token();
+    CK_OBJECT_HANDLE key = create_inactive_key(session);
+    check_key_state(session, key, OSPREYRACK_PRE_ACTIVATION, CKR_KEY_FUNCTION_NOT_PERMITTED);
+    EXPECT(CKR_OK, vendor->C_SetKeyState(session, key, OSPREYRACK_ACTIVE));
+    check_key_state(session, key, OSPREYRACK_ACTIVE, CKR_OK);
+    EXPECT(CKR_OK, p11->C_SessionCancel(session, CKF_SIGN));
+    for (size_t i = 0; i < sizeof later / sizeof *later; i++) {
+        EXPECT(CKR_OK, vendor->C_SetKeyState(session, key, later[i]));
+        check_key_state(session, key, later[i], CKR_KEY_FUNCTION_NOT_PERMITTED);
+    }
     end_token();
 }
 
@@ -248,12 +294,30 @@ static void test_unsupported_in_session(void) {
 static int mutexes, locks, unlocks, destroyed, created_code, locked_code, depth;
 
 /* At the last of this many locks the application's function makes this change, as another thread
- * would that has the lock before. */
-static int locks_until_change;
+ * would that has the lock before; or behind the last of this many unlocks, before anybody waits. */
+static int locks_until_change, unlocks_until_change;
 static void (*change)(void);
 
-/* The last of this many locks fails. */
+/* The last of this many locks fails, and before that this change is made. */
 static int locks_until_failure;
+static void (*change_at_failure)(void);
+
+/* How many of the application's functions are making a change. */
+static int inside;
+
+static void make_change(void (*made)(void)) {
+    inside++;
+    made();
+    inside--;
+}
+
+static CK_RV fail_lock(void) {
+    void (*made)(void) = change_at_failure;
+    change_at_failure = NULL;
+    if (made != NULL)
+        make_change(made);
+    return CKR_MUTEX_BAD;
+}
 
 /* How long this thread had worked at each lock and unlock, in nanoseconds. Only the time of its own
  * work counts, however many threads want the processor. */
@@ -279,7 +343,8 @@ static CK_RV create_mutex(CK_VOID_PTR_PTR mutex) {
 }
 
 static CK_RV destroy_mutex(CK_VOID_PTR mutex) {
-    check(mutex == &mutexes && depth == 0, "DestroyMutex is given the mutex, unlocked");
+    check(mutex == &mutexes && depth == 0 && inside == 0,
+          "DestroyMutex is given the mutex, unlocked, and no other function has it");
     destroyed++;
     return CKR_OK;
 }
@@ -288,10 +353,10 @@ static CK_RV lock_mutex(CK_VOID_PTR mutex) {
     if (locked_code != CKR_OK)
         return (CK_RV)locked_code;
     if (locks_until_failure > 0 && --locks_until_failure == 0)
-        return CKR_MUTEX_BAD;
+        return fail_lock();
     check(mutex == &mutexes && depth == 0, "LockMutex is given the mutex, unlocked");
     if (locks_until_change > 0 && --locks_until_change == 0)
-        change();
+        make_change(change);
     depth++;
     locks++;
     note_time();
@@ -303,6 +368,8 @@ static CK_RV unlock_mutex(CK_VOID_PTR mutex) {
     check(mutex == &mutexes && depth == 1, "UnlockMutex is given the mutex, locked");
     depth--;
     unlocks++;
+    if (unlocks_until_change > 0 && --unlocks_until_change == 0)
+        make_change(change);
     return CKR_OK;
 }
 
@@ -1037,6 +1104,12 @@ static void test_signature_lengths(void) {
         EXPECT(CKR_OK, p11->C_VerifyUpdate(session, bytes, 5));
         EXPECT(expected, p11->C_VerifyFinal(session, signature, given));
     }
+    signature[63] ^= 1;
+    EXPECT(CKR_OK, p11->C_VerifyInit(session, &hmac, key));
+    EXPECT(CKR_SIGNATURE_INVALID, p11->C_Verify(session, bytes, 5, signature, 64));
+    EXPECT(CKR_OK, p11->C_VerifyInit(session, &hmac, key));
+    EXPECT(CKR_OK, p11->C_VerifyUpdate(session, bytes, 5));
+    EXPECT(CKR_SIGNATURE_INVALID, p11->C_VerifyFinal(session, signature, 64));
     end_token();
 }
 
@@ -1088,6 +1161,12 @@ static void change_at_lock(int number, void (*made)(void)) {
     change = made;
 }
 
+/* Before this lock, while nobody waits for it. */
+static void change_before_lock(int number, void (*made)(void)) {
+    unlocks_until_change = number - 1;
+    change = made;
+}
+
 static void change_at_call(void (*made)(void)) {
     change_at_lock(3, made);
 }
@@ -1106,23 +1185,25 @@ static void digest_in_short_pieces(CK_BYTE *digest) {
     EXPECT(CKR_OK, p11->C_DigestFinal(current_session, digest, &length));
 }
 
-/* C_Digest of the long message, whose operation was begun with SHA-512, and by the change anew with
- * SHA-256. The change comes at this lock. */
-static void check_digest_at(int lock, void (*made)(void)) {
+/* C_Digest of the long message, whose operation was begun with SHA-512, and is by a change begun
+ * anew with SHA-256. */
+static void check_changed_digest(void) {
     CK_BYTE digest[64], expected[64];
-    begin_sha(CKM_SHA512);
-    change_at_lock(lock, made);
     length = sizeof digest;
     EXPECT(CKR_OK, p11->C_Digest(current_session, large, LONG_MESSAGE, digest, &length));
-    CHECK(locks_until_change == 0 && length == 32);
+    CHECK(locks_until_change == 0 && unlocks_until_change == 0 && length == 32);
     begin_sha(CKM_SHA256);
     digest_in_short_pieces(expected);
     CHECK(memcmp(digest, expected, 32) == 0);
 }
 
+/* The change comes before the second lock, and then before the third one. */
 static void check_digest_with(void (*made)(void)) {
-    for (int lock = 2; lock <= 3; lock++)
-        check_digest_at(lock, made);
+    for (int lock = 2; lock <= 3; lock++) {
+        begin_sha(CKM_SHA512);
+        change_before_lock(lock, made);
+        check_changed_digest();
+    }
 }
 
 static CK_BYTE result[64];
@@ -1295,7 +1376,9 @@ static void check_digest_between(const char *before, void (*made)(void)) {
     for (int lock = 2; lock <= 3; lock++) {
         keep_journals(before);
         begin_with_mutexes();
-        check_digest_at(lock, made);
+        begin_sha(CKM_SHA512);
+        change_before_lock(lock, made);
+        check_changed_digest();
         end_token();
     }
 }
@@ -1316,6 +1399,11 @@ static void test_work_of_another_operation(void) {
     fill_large();
     begin_with_mutexes();
     check_digest_with(begin_operation_anew);
+    for (int lock = 2; lock <= 3; lock++) {
+        begin_sha(CKM_SHA512);
+        change_at_lock(lock, begin_operation_anew);
+        check_changed_digest();
+    }
     end_token();
 }
 
@@ -1344,6 +1432,9 @@ static void test_piece_in_between(void) {
 
 enum { LOCKS_OF_PIECE = 3 };
 
+/* A key of the current session that signs and verifies. */
+static CK_OBJECT_HANDLE current_key;
+
 static CK_RV digest_piece(void) {
     return p11->C_Digest(current_session, large, PIECE, result, &length);
 }
@@ -1352,13 +1443,33 @@ static CK_RV digest_update_piece(void) {
     return p11->C_DigestUpdate(current_session, large, PIECE);
 }
 
-static void note_times(CK_RV (*make)(void), const char *what) {
+static CK_RV sign_piece(void) {
+    return p11->C_Sign(current_session, large, PIECE, result, &length);
+}
+
+static CK_RV sign_update_piece(void) {
+    return p11->C_SignUpdate(current_session, large, PIECE);
+}
+
+static CK_RV verify_piece(void) {
+    return p11->C_Verify(current_session, large, PIECE, result, 32);
+}
+
+static CK_RV verify_update_piece(void) {
+    return p11->C_VerifyUpdate(current_session, large, PIECE);
+}
+
+static void note_times(CK_RV (*make)(void), CK_RV expected, const char *what) {
+    CK_MECHANISM hmac = mechanism_of(CKM_SHA256_HMAC);
     begin_sha(CKM_SHA256);
+    EXPECT(CKR_OK, p11->C_SignInit(current_session, &hmac, current_key));
+    EXPECT(CKR_OK, p11->C_VerifyInit(current_session, &hmac, current_key));
     length = sizeof result;
     times_noted = 0;
-    check_code(make(), CKR_OK, what);
+    check_code(make(), expected, what);
     check(times_noted == 2 * LOCKS_OF_PIECE, what);
-    EXPECT(CKR_OK, p11->C_SessionCancel(current_session, CKF_DIGEST));
+    CK_FLAGS all = CKF_DIGEST | CKF_SIGN | CKF_VERIFY;
+    EXPECT(CKR_OK, p11->C_SessionCancel(current_session, all));
 }
 
 static long long least(long long one, long long other) {
@@ -1367,11 +1478,11 @@ static long long least(long long one, long long other) {
 
 /* The piece is copied and taken in between the three locks, and not under the last. The least of
  * a few times counts, since another system may have the processor in the middle of one. */
-static void check_work_without_lock(CK_RV (*make)(void), const char *what) {
+static void check_work_without_lock(CK_RV (*make)(void), CK_RV expected, const char *what) {
     enum { TRIES = 5 };
     long long without_lock = LLONG_MAX, under_lock = LLONG_MAX;
     for (int i = 0; i < TRIES; i++) {
-        note_times(make, what);
+        note_times(make, expected, what);
         without_lock = least(without_lock, times[2] - times[1] + times[4] - times[3]);
         under_lock = least(under_lock, times[5] - times[4]);
     }
@@ -1381,8 +1492,14 @@ static void check_work_without_lock(CK_RV (*make)(void), const char *what) {
 static void test_work_without_lock(void) {
     fill_large();
     begin_with_mutexes();
-    check_work_without_lock(digest_piece, "C_Digest");
-    check_work_without_lock(digest_update_piece, "C_DigestUpdate");
+    current_key = create_key(current_session, "Jefe");
+    check_work_without_lock(digest_piece, CKR_OK, "C_Digest");
+    check_work_without_lock(digest_update_piece, CKR_OK, "C_DigestUpdate");
+    check_work_without_lock(sign_piece, CKR_OK, "C_Sign");
+    check_work_without_lock(sign_update_piece, CKR_OK, "C_SignUpdate");
+    memset(result, 0, sizeof result);
+    check_work_without_lock(verify_piece, CKR_SIGNATURE_INVALID, "C_Verify");
+    check_work_without_lock(verify_update_piece, CKR_OK, "C_VerifyUpdate");
     end_token();
 }
 
@@ -1417,21 +1534,70 @@ static void test_lock_that_fails_between(void) {
     CHECK(locks_before > LOCKS_OF_PIECE && locks_before < 100);
 }
 
-/* The next piece is none of the new token, although its session has the same handle, and has an
- * operation. */
-static void test_update_and_another_token(void) {
+/* An update whose token is finalized between its pieces, and the digest of the new token, which has
+ * an operation with SHA-256. */
+static void check_ended_update(void) {
     CK_BYTE digest[64], expected[64];
-    fill_large();
-    begin_with_mutexes();
-    begin_sha(CKM_SHA512);
-    locks_until_change = LOCKS_OF_PIECE + 1;
-    change = begin_anew;
     EXPECT(CKR_CRYPTOKI_NOT_INITIALIZED, p11->C_DigestUpdate(current_session, large, LARGE));
-    CHECK(locks_until_change == 0);
+    CHECK(locks_until_change == 0 && unlocks_until_change == 0);
     digest_in_short_pieces(digest);
     begin_sha(CKM_SHA256);
     digest_in_short_pieces(expected);
     CHECK(length == 32 && memcmp(digest, expected, 32) == 0);
+}
+
+/* The next piece is none of the new token, although its session has the same handle, and has an
+ * operation. */
+static void test_update_and_another_token(void) {
+    fill_large();
+    begin_with_mutexes();
+    begin_sha(CKM_SHA512);
+    change_at_lock(LOCKS_OF_PIECE + 1, begin_anew);
+    check_ended_update();
+    for (int lock = LOCKS_OF_PIECE + 1; lock <= 2 * LOCKS_OF_PIECE; lock++) {
+        begin_sha(CKM_SHA512);
+        change_before_lock(lock, begin_anew);
+        check_ended_update();
+    }
+    end_token();
+}
+
+static CK_RV update_with_pieces(void) {
+    return p11->C_DigestUpdate(current_session, large, LARGE);
+}
+
+static CK_RV ask_for_session(void) {
+    CK_SESSION_INFO info;
+    return p11->C_GetSessionInfo(current_session, &info);
+}
+
+/* The new token has an update whose lock fails, too. */
+static void begin_anew_and_fail(void) {
+    begin_anew();
+    locks_until_failure = LOCKS_OF_PIECE + 1;
+    EXPECT(CKR_GENERAL_ERROR, update_with_pieces());
+    EXPECT(CKR_DEVICE_ERROR, ask_for_session());
+}
+
+/* An update whose lock fails once this change has put another token in place of its own. */
+static void check_failing_lock_behind(void (*made)(void), CK_RV expected) {
+    begin_with_mutexes();
+    begin_sha(CKM_SHA256);
+    locks_until_failure = LOCKS_OF_PIECE + 1;
+    change_at_failure = made;
+    EXPECT(CKR_GENERAL_ERROR, update_with_pieces());
+    CHECK(locks_until_failure == 0 && change_at_failure == NULL);
+    EXPECT(expected, ask_for_session());
+    end_token();
+}
+
+/* Only the token that has a message with a hole answers no call any more. */
+static void test_failing_lock_and_another_token(void) {
+    fill_large();
+    check_failing_lock_behind(begin_anew, CKR_OK);
+    check_failing_lock_behind(begin_anew_and_fail, CKR_DEVICE_ERROR);
+    begin_with_mutexes();
+    EXPECT(CKR_OK, ask_for_session());
     end_token();
 }
 
@@ -1441,17 +1607,8 @@ static void finalize(void) {
     EXPECT(CKR_OK, p11->C_Finalize(NULL));
 }
 
-static CK_RV ask_for_session(void) {
-    CK_SESSION_INFO info;
-    return p11->C_GetSessionInfo(current_session, &info);
-}
-
 static CK_RV finalize_again(void) {
     return p11->C_Finalize(NULL);
-}
-
-static CK_RV update_with_pieces(void) {
-    return p11->C_DigestUpdate(current_session, large, LARGE);
 }
 
 /* At the last of this many locks of a call. */
@@ -1480,6 +1637,152 @@ static void test_finalized_while_waiting(void) {
         check_finalized_at(locks_before, digest_long, "C_Digest of a long message");
     for (int locks_before = 1; locks_before <= 2 * LOCKS_OF_PIECE; locks_before++)
         check_finalized_at(locks_before, update_with_pieces, "C_DigestUpdate in pieces");
+}
+
+/* Behind the last of this many unlocks of a call, in the application's function. */
+static void check_finalized_behind(int unlocks_before, CK_RV (*make)(void), CK_RV expected,
+                                   const char *what) {
+    begin_with_mutexes();
+    begin_sha(CKM_SHA256);
+    length = sizeof result;
+    unlocks_until_change = unlocks_before;
+    change = finalize;
+    check_code(make(), expected, what);
+    check(unlocks_until_change == 0 && depth == 0 && locks == unlocks && destroyed == 1, what);
+    check_code(p11->C_Finalize(NULL), CKR_CRYPTOKI_NOT_INITIALIZED, what);
+}
+
+static void test_finalized_while_unlocking(void) {
+    fill_large();
+    check_finalized_behind(1, ask_for_session, CKR_OK, "C_GetSessionInfo");
+    for (int unlock = 1; unlock <= LOCKS_OF_PIECE; unlock++) {
+        CK_RV expected = unlock < LOCKS_OF_PIECE ? CKR_CRYPTOKI_NOT_INITIALIZED : CKR_OK;
+        check_finalized_behind(unlock, digest_long, expected, "C_Digest of a long message");
+    }
+}
+
+/* A call that has waited for the lock of a token isn't made by the next one, also where the
+ * application has the same mutex for both. */
+static void check_anew_at(int locks_before, CK_RV (*make)(void), const char *what) {
+    begin_with_mutexes();
+    begin_sha(CKM_SHA256);
+    length = sizeof result;
+    change_at_lock(locks_before, begin_anew);
+    check_code(make(), CKR_CRYPTOKI_NOT_INITIALIZED, what);
+    check(locks_until_change == 0 && depth == 0, what);
+    check_code(digest_update_long(), CKR_OK, what);
+    end_token();
+}
+
+static void test_initialized_while_waiting(void) {
+    fill_large();
+    check_anew_at(1, ask_for_session, "C_GetSessionInfo");
+    check_anew_at(1, finalize_again, "C_Finalize");
+    for (int locks_before = 1; locks_before <= LOCKS_OF_PIECE; locks_before++)
+        check_anew_at(locks_before, digest_long, "C_Digest of a long message");
+}
+
+/* ---- Threads that wait in a function of the application's for a mutex */
+
+/* A mutex, and how many threads are in LockMutex for it. */
+struct waited_mutex {
+    pthread_mutex_t mutex;
+    atomic_int waiting;
+};
+
+static const struct waiting_call {
+    const char *what;
+    CK_RV (*make)(void);
+} waiting_calls[] = {
+    {"C_GetSessionInfo", ask_for_session},
+    {"C_Finalize", finalize_again},
+    {"C_Digest of a long message", digest_long},
+};
+
+enum { WAITING = sizeof waiting_calls / sizeof *waiting_calls };
+
+static pthread_t waiting_threads[WAITING];
+static bool starts_waiting; /* when the mutex is next locked */
+static atomic_int given_back;
+
+static void *make_waiting_call(void *which) {
+    const struct waiting_call *call = &waiting_calls[*(int *)which];
+    check_code(call->make(), CKR_CRYPTOKI_NOT_INITIALIZED, call->what);
+    return NULL;
+}
+
+/* Until all of them are in LockMutex, and then long enough for them to sleep there. */
+static void start_waiting(struct waited_mutex *waited) {
+    static int numbers[WAITING];
+    const struct timespec moment = {.tv_nsec = 20000000};
+    starts_waiting = false;
+    for (int i = 0; i < WAITING; i++) {
+        numbers[i] = i;
+        if (pthread_create(&waiting_threads[i], NULL, make_waiting_call, &numbers[i]) != 0)
+            exit(2);
+    }
+    while (waited->waiting < WAITING)
+        sched_yield();
+    nanosleep(&moment, NULL);
+}
+
+static CK_RV create_waited(CK_VOID_PTR_PTR mutex) {
+    struct waited_mutex *waited = zeros_new(1, sizeof *waited);
+    pthread_mutex_init(&waited->mutex, NULL);
+    *mutex = waited;
+    return CKR_OK;
+}
+
+/* A mutex that a thread waits for stays, so that the thread ends. */
+static CK_RV destroy_waited(CK_VOID_PTR mutex) {
+    struct waited_mutex *waited = mutex;
+    bool is_free = waited->waiting == 0;
+    check(is_free, "no thread waits for the mutex that DestroyMutex is given");
+    given_back++;
+    if (!is_free)
+        return CKR_MUTEX_BAD;
+    pthread_mutex_destroy(&waited->mutex);
+    free(waited);
+    return CKR_OK;
+}
+
+static CK_RV lock_waited(CK_VOID_PTR mutex) {
+    struct waited_mutex *waited = mutex;
+    waited->waiting++;
+    pthread_mutex_lock(&waited->mutex);
+    waited->waiting--;
+    if (starts_waiting)
+        start_waiting(waited);
+    return CKR_OK;
+}
+
+static CK_RV unlock_waited(CK_VOID_PTR mutex) {
+    struct waited_mutex *waited = mutex;
+    pthread_mutex_unlock(&waited->mutex);
+    return CKR_OK;
+}
+
+/* C_Finalize has the mutex when the others begin to wait for it. The last of them gives it back. */
+static void test_threads_that_wait(void) {
+    CK_C_INITIALIZE_ARGS arguments = {
+        .CreateMutex = create_waited,
+        .DestroyMutex = destroy_waited,
+        .LockMutex = lock_waited,
+        .UnlockMutex = unlock_waited,
+    };
+    fill_large();
+    current_session = begin_token_with(&arguments);
+    begin_sha(CKM_SHA256);
+    length = sizeof result;
+    given_back = 0;
+    starts_waiting = true;
+    EXPECT(CKR_OK, p11->C_Finalize(NULL));
+    for (int i = 0; i < WAITING; i++)
+        CHECK(pthread_join(waiting_threads[i], NULL) == 0);
+    CHECK(given_back == 1);
+    EXPECT(CKR_CRYPTOKI_NOT_INITIALIZED, ask_for_session());
+    begin_token();
+    end_token();
 }
 
 /* Two mutexes of the application, one after the other, each with how often it is locked. */
@@ -2214,6 +2517,7 @@ static const struct test tests[] = {
     {"interfaces by name, by version, and by neither", test_interfaces},
     {"the list of interfaces has those that are given by name", test_interface_list},
     {"the vendor interface takes a key to another state", test_vendor_interface},
+    {"a key goes through all states by their names", test_key_states},
     {"functions that aren't supported say so", test_unsupported},
     {"functions that aren't supported say so in a session, and write nothing",
      test_unsupported_in_session},
@@ -2242,7 +2546,8 @@ static const struct test tests[] = {
     {"operations end by C_SessionCancel, and by a NULL mechanism", test_cancel},
     {"digests of messages above 2^20 bytes", test_large_digests},
     {"signatures of messages above 2^20 bytes", test_large_signatures},
-    {"signatures of 63, 64 and 65 bytes are verified", test_signature_lengths},
+    {"signatures of 63, 64 and 65 bytes are verified, and one with a wrong bit",
+     test_signature_lengths},
     {"PINs, parameters, messages and signatures that are said to have 2^47 - 1 bytes",
      test_said_to_be_long},
     {"a long message is taken in as it was when the call was made", test_changed_messages},
@@ -2260,7 +2565,13 @@ static const struct test tests[] = {
      test_lock_that_fails_between},
     {"a piece of an update isn't taken by another token", test_update_and_another_token},
     {"sessions are closed between the pieces of an update", test_update_and_closed_sessions},
+    {"an application's lock that fails where another token has come between",
+     test_failing_lock_and_another_token},
     {"the library is finalized while a call waits for the lock", test_finalized_while_waiting},
+    {"the library is finalized while a call gives the lock back", test_finalized_while_unlocking},
+    {"the library is initialized anew while a call waits for the lock",
+     test_initialized_while_waiting},
+    {"the library is finalized while threads wait for the lock", test_threads_that_wait},
     {"a call has waited for a mutex that isn't the library's any more", test_another_mutex},
     {"an update has waited for a mutex that isn't the library's any more",
      test_update_and_another_mutex},

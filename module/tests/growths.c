@@ -19,6 +19,7 @@
 #include <sys/random.h>
 #include <sys/stat.h>
 #include <sys/syscall.h>
+#include <sys/wait.h>
 #include <unistd.h>
 
 /* ---- Memory that is refused */
@@ -184,7 +185,7 @@ static CK_MECHANISM sha512 = {CKM_SHA512, NULL, 0};
 static CK_MECHANISM hmac = {CKM_SHA256_HMAC, NULL, 0};
 static CK_MECHANISM generation = {CKM_GENERIC_SECRET_KEY_GEN, NULL, 0};
 static const CK_FLAGS read_write = CKF_SERIAL_SESSION | CKF_RW_SESSION;
-static const struct vendor_functions *vendor;
+static const struct ospreyrack_functions *vendor;
 
 static CK_RV open_session(struct result *result) {
     return p11->C_OpenSession(0, read_write, NULL, NULL, &result->number);
@@ -305,9 +306,8 @@ static CK_RV get_object_size(struct result *result) {
 }
 
 static CK_RV set_key_state(struct result *result) {
-    enum { SUSPENDED = 5 };
     (void)result;
-    return vendor->C_SetKeyState(session, key, SUSPENDED);
+    return vendor->C_SetKeyState(session, key, OSPREYRACK_SUSPENDED);
 }
 
 static CK_RV destroy_object(struct result *result) {
@@ -1258,6 +1258,51 @@ static void test_initialize(void) {
     unsetenv("OSPREYRACK_SCRIPT");
 }
 
+/* ---- Growths of C_Initialize with the application's mutex functions */
+
+static int mutexes_made, mutexes_destroyed;
+
+static CK_RV note_made(CK_VOID_PTR_PTR mutex) {
+    mutexes_made++;
+    return create_mutex(mutex);
+}
+
+static CK_RV note_destroyed(CK_VOID_PTR mutex) {
+    mutexes_destroyed++;
+    return leave_mutex(mutex);
+}
+
+/* Answers whether an allocation was refused. */
+static bool try_mutexes(long number) {
+    CK_C_INITIALIZE_ARGS arguments = {
+        .CreateMutex = note_made,
+        .DestroyMutex = note_destroyed,
+        .LockMutex = leave_mutex,
+        .UnlockMutex = leave_mutex,
+    };
+    live_at_start = live_allocations;
+    mutexes_made = mutexes_destroyed = 0;
+    refuse_after(number);
+    CK_RV code = p11->C_Initialize(&arguments);
+    bool was_refused = stop_refusing();
+    check_code(code, was_refused ? CKR_HOST_MEMORY : CKR_OK, "C_Initialize with mutexes");
+    if (code == CKR_OK)
+        EXPECT(CKR_OK, p11->C_Finalize(NULL));
+    check(mutexes_made == mutexes_destroyed, "each mutex is destroyed");
+    check(live_allocations == live_at_start, "all memory is given back");
+    return was_refused;
+}
+
+/* A seed's line on standard error would take memory that isn't the module's. */
+static void test_mutexes(void) {
+    long number = 0;
+    unsetenv("OSPREYRACK_SEED");
+    while (number < MOST_GROWTHS && try_mutexes(number))
+        number++;
+    setenv("OSPREYRACK_SEED", "1", 1);
+    CHECK(number > 2 && number < MOST_GROWTHS && mutexes_made == 1);
+}
+
 /* ---- The journal file */
 
 /* C_Initialize is refused, and the file is as long as it was, or as another process left it. */
@@ -1355,11 +1400,55 @@ static void test_parts(void) {
                "for it, and a part of it stays in the file\n");
 }
 
+/* ---- The end of a process */
+
+static char other_file[4096];
+static int journal_descriptor;
+
+/* The C library writes what is left in streams behind the end of each library. By then the file is
+ * closed, and another one has its descriptor, in which the call's line has no place. */
+static ssize_t call_behind_end(void *cookie, const char *bytes, size_t length) {
+    struct result ignored;
+    (void)cookie, (void)bytes, (void)length;
+    int other = open(other_file, O_RDWR | O_CREAT | O_TRUNC, 0600);
+    if (other != journal_descriptor)
+        _exit(2);
+    CK_RV code = get_token_info(&ignored);
+    _exit(code == CKR_DEVICE_ERROR && length_of(other_file) == 0 ? 0 : 1);
+}
+
+static void end_as_child(void) {
+    struct result ignored;
+    const cookie_io_functions_t functions = {.write = call_behind_end};
+    journal_descriptor = open(other_file, O_RDWR | O_CREAT, 0600);
+    close(journal_descriptor);
+    FILE *stream = fopencookie(NULL, "w", functions);
+    if (stream == NULL || fputs("text", stream) < 0 || p11->C_Initialize(NULL) != CKR_OK
+        || get_token_info(&ignored) != CKR_OK)
+        _exit(3);
+    exit(4);
+}
+
+static void test_call_behind_end(void) {
+    int status = -1;
+    unlink(journal);
+    setenv("OSPREYRACK_JOURNAL", journal, 1);
+    fflush(NULL);
+    pid_t child = fork();
+    if (child == 0)
+        end_as_child();
+    waitpid(child, &status, 0);
+    check(WIFEXITED(status) && WEXITSTATUS(status) == 0, "a call behind the library's end");
+    check_journal();
+    unsetenv("OSPREYRACK_JOURNAL");
+}
+
 static const struct test tests[] = {
     {"each growth of 43 calls is refused, typed", test_typed},
     {"each growth of 43 calls is refused, by lines", test_by_lines},
     {"each call's line is written when it is answered, and at once", test_lines},
     {"each growth of C_Initialize is refused, with a script and a file", test_initialize},
+    {"each growth of C_Initialize is refused, with the application's mutexes", test_mutexes},
     {"a digest in pieces without memory takes nothing or ends, typed", test_digest_pieces},
     {"a digest in pieces without memory takes nothing or ends, by lines",
      test_digest_pieces_by_lines},
@@ -1381,6 +1470,7 @@ static const struct test tests[] = {
     {"a file whose last line can't be cut off", test_refused_truncation},
     {"a call whose line is written after interruptions", test_interrupted_write},
     {"a line that is written in part, and a part that can't be cut off", test_parts},
+    {"a call behind the library's end writes nothing to another file", test_call_behind_end},
 };
 
 /* The module's lines on standard error are for nobody here; those of the checks are written. */
@@ -1402,6 +1492,7 @@ int main(int count, char **arguments) {
     snprintf(script, sizeof script, "%s/growths.script", folder);
     snprintf(kept, sizeof kept, "%s/kept.cases", folder);
     snprintf(errors, sizeof errors, "%s/errors", folder);
+    snprintf(other_file, sizeof other_file, "%s/other", folder);
     memset(text, 'x', sizeof text);
     hide_lines_of_module();
     setenv("OSPREYRACK_SEED", "1", 1);

@@ -125,13 +125,6 @@ def measure_line(path, line):
     print(resident_memory() - before, reply, flush=True)
 
 
-def environment_of(variables):
-    environment = {variable: value for variable, value in os.environ.items()
-                   if not variable.startswith("OSPREYRACK_")}
-    return environment | {f"OSPREYRACK_{variable}": str(value)
-                          for variable, value in variables.items()}
-
-
 def unload_and_load(path):
     """Unloads the library in the middle of its work, and begins with it anew."""
     module = support.Module(path)
@@ -206,8 +199,8 @@ class Worker:
     def __init__(self, path, limit=None, **variables):
         self.process = subprocess.Popen(
             [sys.executable, os.path.abspath(__file__), "answer", path],
-            env=environment_of(variables), text=True, stdin=subprocess.PIPE, stdout=subprocess.PIPE,
-            stderr=subprocess.PIPE, preexec_fn=lambda: limit_files(limit))
+            env=support.environment_of(variables), text=True, stdin=subprocess.PIPE,
+            stdout=subprocess.PIPE, stderr=subprocess.PIPE, preexec_fn=lambda: limit_files(limit))
         self.code = self.read()
 
     def read(self):
@@ -471,7 +464,7 @@ class Tests:
         self.end()
 
     def test_only_reply(self):
-        """A reply alone shows that a file is a journal."""
+        """One reply is enough to show that a file is a journal."""
         path = self.file("only_reply.cases")
         write(path, b"1 InitToken 31323334 -> 0\n")
         self.begin(TOKEN=path)
@@ -624,8 +617,8 @@ class Tests:
             expected = b"1 CloseAllSessions -> 0\n" if length >= len(header) else b""
             self.checks.equal(rest, expected, f"what follows the lines of {length} bytes")
             number = len(kept.split(b"\n"))
-            dropped = (f"ospreyrack: OSPREYRACK_TOKEN: {path}, line {number}: the line has no end, "
-                       "so it wasn't answered, and is dropped\n")
+            dropped = (f"ospreyrack: OSPREYRACK_TOKEN: {path}, line {number}: the last line has no "
+                       "end, as a process that was killed leaves it: it is dropped\n")
             is_told = length > len(header) and len(kept) < length
             self.checks.equal(errors, dropped if is_told else "",
                               f"whether a dropped line is told of, at {length} bytes")
@@ -789,8 +782,8 @@ class Tests:
         """A library that is unloaded without C_Finalize leaves no lock on its file."""
         path = self.file("unloaded.cases")
         run = subprocess.run([sys.executable, os.path.abspath(__file__), "unload", self.path],
-                             env=environment_of({"TOKEN": path}), capture_output=True, text=True,
-                             timeout=60)
+                             env=support.environment_of({"TOKEN": path}), capture_output=True,
+                             text=True, timeout=60)
         self.checks.equal(run.stdout, f"0 0 0 1\n{NOT_INITIALIZED} 0 0 2 0\n", "the replies")
         self.checks.equal(run.stderr, "", "the errors")
         support.audit(self.checks, self.ck_cases, path)
@@ -800,7 +793,7 @@ class Tests:
         path = self.file("unloaded_with_functions.cases")
         run = subprocess.run(
             [sys.executable, os.path.abspath(__file__), "unload_with_functions", self.path],
-            env=environment_of({"TOKEN": path}), capture_output=True, text=True, timeout=60)
+            env=support.environment_of({"TOKEN": path}), capture_output=True, text=True, timeout=60)
         self.checks.equal(run.stdout, f"0 0\n1 {GENERAL_ERROR}\n", "the replies")
         self.checks.equal(run.stderr, f"ospreyrack: OSPREYRACK_TOKEN: {path}: another process has "
                           "locked the file\n", "the errors")
@@ -832,9 +825,10 @@ class Tests:
     def run_as_other_user(self, program, **variables):
         """Whether the program has rights that its user doesn't have, and what C_Initialize
         answers."""
-        run = subprocess.run([program, self.file("module.so")], env=environment_of(variables),
-                             user=OTHER_USER, group=OTHER_USER, extra_groups=[],
-                             capture_output=True, text=True, timeout=60)
+        run = subprocess.run([program, self.file("module.so")],
+                             env=support.environment_of(variables), user=OTHER_USER,
+                             group=OTHER_USER, extra_groups=[], capture_output=True, text=True,
+                             timeout=60)
         return run.stdout.rstrip("\n") or run.stderr
 
     def test_rights(self):
@@ -844,17 +838,18 @@ class Tests:
         os.mkdir(place)
         os.chmod(place, 0o777)
         self.give_rights(program)
-        all_variables = [{"JOURNAL": os.path.join(place, "%p.cases")}, {"SEED": "none"},
-                         {"OTHER": 1}]
+        all_variables = [{"JOURNAL": os.path.join(place, "%p.cases")},
+                         {"TOKEN": os.path.join(place, "token.cases")}, {"SEED": "none"},
+                         {"SCRIPT": os.path.join(place, "none")}, {"CUT": "none"}, {"OTHER": 1}]
         for variables in all_variables:
             self.checks.equal(self.run_as_other_user(program, **variables), "1 0",
                               f"with {variables}")
         self.checks.equal(os.listdir(place), [], "the files that were made")
         os.chmod(program, 0o755)
         codes = [self.run_as_other_user(program, **variables) for variables in all_variables]
-        self.checks.equal(codes, ["0 0", f"0 {GENERAL_ERROR}", f"0 {GENERAL_ERROR}"],
+        self.checks.equal(codes, ["0 0"] * 2 + [f"0 {GENERAL_ERROR}"] * 4,
                           "the same without these rights")
-        self.checks.equal(len(os.listdir(place)), 1, "the files that were made without them")
+        self.checks.equal(len(os.listdir(place)), 2, "the files that were made without them")
 
     def kill_once(self, path, draw):
         """A process that is killed in the middle of calls. Answers how many were answered."""
@@ -1029,8 +1024,8 @@ class Tests:
 
     def run_memory(self, kind, cut, last):
         run = subprocess.run([sys.executable, os.path.abspath(__file__), kind, self.path],
-                             env=environment_of({"CUT": cut}), capture_output=True, text=True,
-                             timeout=200)
+                             env=support.environment_of({"CUT": cut}), capture_output=True,
+                             text=True, timeout=200)
         grown, reply = run.stdout.split()
         self.checks.equal(reply, last, "the last reply")
         return int(grown)
@@ -1108,6 +1103,8 @@ def run_test(checks, test):
             test(Tests(checks, sys.argv[1], sys.argv[2], folder))
     except LeftOut as reason:
         return checks.leave_out(name, reason)
+    except (OSError, ValueError, subprocess.SubprocessError) as fault:
+        checks.check(False, repr(fault))
     checks.end(name)
 
 

@@ -35,8 +35,8 @@ void load_module(const char *path) {
     p11 = interface->pFunctionList;
 }
 
-const struct vendor_functions *vendor_functions(void) {
-    static CK_UTF8CHAR name[] = "Vendor Ospreyrack";
+const struct ospreyrack_functions *vendor_functions(void) {
+    static CK_UTF8CHAR name[] = OSPREYRACK_INTERFACE;
     CK_INTERFACE *interface = NULL;
     EXPECT(CKR_OK, p11->C_GetInterface(name, NULL, &interface, 0));
     return interface->pFunctionList;

@@ -11,6 +11,8 @@
 
 #include <pkcs11.h>
 
+#include "../ospreyrack.h"
+
 /* ---- The module */
 
 /* Its functions, once it is loaded. */
@@ -23,12 +25,7 @@ void load_module(const char *path);
 void *exported(const char *name);
 
 /* The functions of the interface "Vendor Ospreyrack". */
-struct vendor_functions {
-    CK_VERSION version;
-    CK_RV (*C_SetKeyState)(CK_SESSION_HANDLE session, CK_OBJECT_HANDLE key, CK_ULONG state);
-};
-
-const struct vendor_functions *vendor_functions(void);
+const struct ospreyrack_functions *vendor_functions(void);
 
 /* ---- Checks */
 

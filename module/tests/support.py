@@ -58,6 +58,16 @@ def audit(checks, program, path):
                  f"{path} by ck_cases: {played.stdout[-300:]}{played.stderr[-300:]}")
 
 
+def environment_of(variables):
+    """The environment with these variables for the module, and with no others for it:
+    environment_of({"SEED": 1})."""
+    environment = {variable: value for variable, value in os.environ.items()
+                   if not variable.startswith("OSPREYRACK_")}
+    environment.update({f"OSPREYRACK_{variable}": str(value)
+                        for variable, value in variables.items()})
+    return environment
+
+
 # ---- The types of the standard
 
 UNAVAILABLE = 2**64 - 1

@@ -345,8 +345,7 @@ static void *sign_long_messages(void *argument) {
 }
 
 static void *disturb(void *argument) {
-    enum { SUSPENDED = 5, ACTIVE = 1 };
-    const struct vendor_functions *vendor = vendor_functions();
+    const struct ospreyrack_functions *vendor = vendor_functions();
     int number = *(int *)argument;
     for (int round = 0; round < 20 * long_rounds(); round++) {
         CK_SESSION_HANDLE session = moving_session, opened = 0;
@@ -355,10 +354,10 @@ static void *disturb(void *argument) {
             p11->C_SessionCancel(session, CKF_SIGN);
             break;
         case 1:
-            vendor->C_SetKeyState(shared[0], shared_key, SUSPENDED);
+            vendor->C_SetKeyState(shared[0], shared_key, OSPREYRACK_SUSPENDED);
             break;
         case 2:
-            vendor->C_SetKeyState(shared[0], shared_key, ACTIVE);
+            vendor->C_SetKeyState(shared[0], shared_key, OSPREYRACK_ACTIVE);
             break;
         default:
             if (p11->C_CloseSession(session) != CKR_OK)
@@ -368,7 +367,7 @@ static void *disturb(void *argument) {
         }
     }
     if (--disturbers == 0)
-        vendor->C_SetKeyState(shared[0], shared_key, ACTIVE);
+        vendor->C_SetKeyState(shared[0], shared_key, OSPREYRACK_ACTIVE);
     return NULL;
 }
 
@@ -449,7 +448,27 @@ static void run_threads(void *(*first)(void *), void *(*second)(void *)) {
         pthread_join(started[i], NULL);
 }
 
-/* ---- Tests. The library stays initialized from the first to the last. */
+/* ---- C_Finalize beside calls */
+
+static atomic_int finalized;
+
+static void *ask_until_end(void *ignored) {
+    CK_TOKEN_INFO info;
+    CK_RV code = CKR_OK;
+    while (code == CKR_OK)
+        code = p11->C_GetTokenInfo(0, &info);
+    EXPECT(CKR_CRYPTOKI_NOT_INITIALIZED, code);
+    return ignored;
+}
+
+static void *finalize(void *ignored) {
+    CK_RV code = p11->C_Finalize(NULL);
+    check(code == CKR_OK || code == CKR_CRYPTOKI_NOT_INITIALIZED, "C_Finalize");
+    finalized += code == CKR_OK;
+    return ignored;
+}
+
+/* ---- Tests. The library stays initialized from the first to the last but one. */
 
 static void test_initialize(void) {
     run_threads(initialize, initialize);
@@ -526,6 +545,17 @@ static void test_logins(void) {
     end_token();
 }
 
+/* A second C_Initialize can't have the journal of the first. */
+static void test_finalize(void) {
+    unsetenv("OSPREYRACK_JOURNAL");
+    for (int round = 0; round < rounds; round++) {
+        initialized = finalized = 0;
+        initialize(NULL);
+        run_threads(ask_until_end, finalize);
+        CHECK(initialized == 1 && finalized == 1);
+    }
+}
+
 static const struct test tests[] = {
     {"threads initialize at once, and one of them does it", test_initialize},
     {"threads in sessions of their own", test_own_sessions},
@@ -538,6 +568,7 @@ static const struct test tests[] = {
     {"long messages are signed where operations, sessions and keys change", test_disturbed_signing},
     {"threads make calls, and others fork", test_forks},
     {"threads log in and out; C_Finalize", test_logins},
+    {"threads finalize the library, and others make calls", test_finalize},
 };
 
 int main(int count, char **arguments) {

@@ -79,6 +79,7 @@ fn replay<G: JournaledToken>(
 {
     for entry in journal.iter() {
         if !repeat_call(&mut token, alloc, entry)? {
+            // The token has just entered this call, so its journal's length is the entry's number.
             return Ok(Verdict::Wrong(token.journal().len()));
         }
     }

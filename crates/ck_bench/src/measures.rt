@@ -76,7 +76,7 @@ fn measure_section<R: CpuClock + Print, T: Target>(
     Ok(write_time(rt, name, time, is_timed)?)
 }
 
-/// Makes the calls of each section, and writes the same of all of them.
+/// Measures each section, one after the other.
 fn measure_all<R: CpuClock + Print, T: Target>(
     rt: &R,
     alloc: Global,

@@ -35,6 +35,7 @@ fn add_call(sections: &mut [Section], call: Call) -> Result<(), NoMemory> {
 fn add_line<'a>(
     alloc: Global,
     sections: &mut Vec<Section<'a>>,
+    number: u64,
     text: &'a str,
 ) -> anyhow::Result<()> {
     if let Some(name) = text.strip_prefix("#measure ") {
@@ -44,16 +45,18 @@ fn add_line<'a>(
         Ok(Line::Skipped) => Ok(()),
         Ok(Line::Called { call, .. }) => Ok(add_call(sections, call)?),
         Err(LineError::Memory) => Err(NoMemory.into()),
-        Err(LineError::Bad(reason)) => bail!("a line is bad: {reason}"),
+        Err(LineError::Bad(reason)) => bail!("line {number}: {reason}"),
     }
 }
 
 /// The sections of a script.
 pub(crate) fn sections_in<'a>(alloc: Global, text: &'a str) -> anyhow::Result<Vec<Section<'a>>> {
     let mut sections = Vec::new(alloc);
+    let mut number = 0u64;
     begin(alloc, &mut sections, "first calls")?;
     for line in text.lines() {
-        add_line(alloc, &mut sections, line)?;
+        number = number.saturating_add(1);
+        add_line(alloc, &mut sections, number, line)?;
     }
     Ok(sections)
 }

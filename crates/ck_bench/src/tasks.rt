@@ -71,17 +71,11 @@ struct Client<'a, K: TokenId, G: Gate<K>, R: Wait + Clock> {
 
 /// Whether what was asked says that a read/write session is open.
 fn is_open(status: Option<Status>) -> bool {
-    match status {
-        Some(
-            Status::Reply(
-                Reply {
-                    rv: Rv::Ok,
-                    body: Body::Session { flags, .. },
-                },
-            ),
-        ) => { flags == READ_WRITE }
-        _ => false,
-    }
+    matches!(
+        status,
+        Some(Status::Reply(Reply { rv: Rv::Ok, body: Body::Session { flags, .. } }))
+            if flags == READ_WRITE
+    )
 }
 
 /// The creation of a data object with a label of 8 bytes.

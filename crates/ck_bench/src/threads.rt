@@ -63,9 +63,9 @@ fn measure_tasks<R: Clock + Print + Runtime>(
 ///   changes the token.
 /// - Changes: each of four makes a hundredth of `asks`, and one makes as many as these together, so
 ///   that both journals grow alike.
-/// - Digests of a long message, by one caller and by each of four.
-/// - Beside another that digests, one waits for the lock, and one only reads the clock: for what
-///   that takes the system has interrupted it.
+/// - Digests of a long message: `asks / 100_000 + 1` by one caller, and by each of four.
+/// - Beside another that digests, one waits for the lock `asks / 40` times, and one only reads the
+///   clock `asks / 20` times: for what that takes the system has interrupted it.
 pub(crate) fn measure_together<R: Clock + Print + Runtime>(
     rt: R,
     alloc: Global,

@@ -3,7 +3,7 @@ use Rattle.std.proofs.Common.{◌≡◌, ℕ, ◌+◌, ◌-◌, ◌<◌, ◌≤�
 use Rattle.std.proofs.Common.{slice_set}
 use Rattle.std.proofs.Common.{Bool, true, false, if◌then◌else◌, refl, sym, ap, ◌∙◌, arith}
 use Rattle.ck_types.specs.TokenLimits.{Ranges}
-use Rattle.ck_journal.specs.Boards.{LeavesBoard, board_of}
+use Rattle.ck_journal.specs.Boards.{BoardStays, board_of}
 use Rattle.ck_journal.specs.Callers.{call_counts}
 use Rattle.ck_journal.specs.Fronts.{IsFront}
 use Rattle.ck_journal.specs.Histories.{History, ◌◁◌, entry_count, followed_by}
@@ -40,7 +40,7 @@ keeps_itself limits h g f back = ap (board_of limits) (sym (front_same h g f bac
 
 keeps_later : (limits : Ranges) (changed before g : History) (e : Entry)
     → KeepsBoard limits changed before
-    → LeavesBoard e.call → IsFront changed g → (later : List Entry)
+    → BoardStays e.call → IsFront changed g → (later : List Entry)
     → e ◁ before ≡ followed_by g later
     → board_of limits g ≡ board_of limits (e ◁ before)
 keeps_later limits changed before g e keeps leaves f [] is = ap (board_of limits) (sym is)
@@ -57,7 +57,7 @@ module _ (number : ℕ) (leaves : Bool) (before h : History) (next : HasNext num
     front-further g f = front_trans g before h f front-next
 
     -- at an entry that leaves it
-    pub keeps_next : (limits : Ranges) (changed : History) → LeavesBoard next.entry.call
+    pub keeps_next : (limits : Ranges) (changed : History) → BoardStays next.entry.call
         → KeepsBoard limits changed before
         → KeepsBoard limits changed h
     keeps_next limits changed same keeps g f later =

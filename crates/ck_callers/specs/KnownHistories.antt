@@ -1,7 +1,7 @@
 -- What is known of a history beside its entries: since when its board is the same
 use Rattle.std.specs.Prelude.{◌≡◌, ℕ, ◌≤◌, ◌<◌, ◌^◌, Bool, IsTrue}
 use Rattle.ck_types.specs.TokenLimits.{Ranges}
-use Rattle.ck_journal.specs.Boards.{LeavesBoard, board_of}
+use Rattle.ck_journal.specs.Boards.{BoardStays, board_of}
 use Rattle.ck_journal.specs.Fronts.{IsFront}
 use Rattle.ck_journal.specs.Histories.{History, ◌◁◌, entry_count}
 use Rattle.ck_journal.specs.declared.calls.Entry.{Entry}
@@ -21,11 +21,12 @@ KeepsBoard limits changed history =
 abbrev pub Covers : KnownState → History → Type 0
 Covers k shown = IsFront k.changed shown × IsFront shown k.history
 
--- the history ends with an entry of this caller, whose call leaves the board or may change it
-pub record HasNext (number : ℕ) (leaves : Bool) (before h : History) : Type 0 where
+-- the history ends with an entry of this caller, whose call leaves the board as it is, or may
+-- change it
+pub record HasNext (number : ℕ) (keeps_board : Bool) (before h : History) : Type 0 where
   pub entry : Entry
   pub next : h ≡ entry ◁ before
   pub caller : entry.caller ≡ number
   pub range : (1 ≤ number) × (number ≤ 8)
   pub room : entry_count h < 2 ^ 64
-  pub same_board : IsTrue leaves → LeavesBoard entry.call
+  pub same_board : IsTrue keeps_board → BoardStays entry.call

@@ -20,7 +20,7 @@ pub enum Ask {
 }
 
 /// What is answered to a question: the reply that the call would get, or the types of all
-/// mechanisms (CK_MECHANISM_TYPE) in rising order.
+/// mechanisms (CK_MECHANISM_TYPE) in ascending order.
 #[derive(Drop)]
 pub enum Status {
     Reply(Reply),

@@ -93,8 +93,8 @@ impl<K: TokenId> Absorb<EntrySlot<K>> for BoardCopy<K> {
         slot: &EntrySlot<K>,
         _other: &BoardCopy<K>,
     ) -> Result<(), AllocError> {
-        if let Some(place) = slot.place.try_lock()
-            && let Some(new) = &*place
+        if let Some(content) = slot.content.try_lock()
+            && let Some(new) = &*content
         {
             *self = new.duplicate();
         }

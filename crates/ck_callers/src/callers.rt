@@ -152,7 +152,8 @@ impl<K: TokenId> Caller<K> {
     }
 
     /// Shows that a history which goes on from what the caller knows has no entries of the caller
-    /// except those of its calls. The books are those of that history. Nothing changes.
+    /// except those of its calls. The books are those of that history. A step of the proof; it
+    /// takes `&mut`, as std's ledgers do, and changes nothing.
     pub fn compare(&mut self, books: &mut CallBooks<K>)
         ensures settled { (h : History) → books.old ≡ call_counts h
             → IsFront self.old.seen h → IsSettled h self.old }

@@ -48,6 +48,7 @@ impl NewHistory {
         ensures entries { result.seen.log ≡ [] }
         ensures head { result.head ≡ head_of result.seen.book }
     {
+        // A book has two words. The first is the length of the history; the second isn't used.
         let (seen, mut first, _second) = Seen::open(Start::alone(), 0, 0);
         NewHistory {
             head: Word::tracked(0, &mut first),
@@ -154,6 +155,7 @@ impl<K: HistoryId> Front<K> {
         // Tells the prover that the other front is one of the same book.
         let mut both = self.seen.again();
         both.learn(&other.seen);
+        // What the step adds, and that it makes no word. Both take no bytes.
         let mut offer: Offer<Entry, u64, LengthOfLog, Nothing> = both.plain::<Nothing, Entry, Add>(
             entry,
         );

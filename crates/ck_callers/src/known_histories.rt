@@ -10,8 +10,8 @@ use crate::identity::TokenId;
 use ck_journal::MOST_CALLERS;
 use std::marker::Model;
 
-/// A place for each caller that a token may have.
-const PLACES: usize = MOST_CALLERS as usize;
+/// How many callers a token may have.
+const COUNTS: usize = MOST_CALLERS as usize;
 
 /// A history with how many calls of each caller it has, and a front of it since which no entry has
 /// changed the board. Contracts see the two histories.
@@ -19,7 +19,7 @@ const PLACES: usize = MOST_CALLERS as usize;
 pub struct KnownHistory<K: TokenId> {
     front: Front<K>,
     changed: Front<K>,
-    calls: [u64; PLACES],
+    calls: [u64; COUNTS],
 }
 
 impl<K: TokenId> Model for KnownHistory<K> {
@@ -41,11 +41,11 @@ impl<K: TokenId> Model for KnownHistory<K> {
 }
 
 /// The front that ends with the last change of the board: the one before, where the newest call
-/// leaves the board.
-fn last_change<K: TokenId>(before: &Front<K>, front: &Front<K>, leaves: bool) -> Front<K>
-    ensures { result ≡ (if leaves then before.now else front.now) }
+/// leaves the board as it is.
+fn last_change<K: TokenId>(before: &Front<K>, front: &Front<K>, keeps_board: bool) -> Front<K>
+    ensures { result ≡ (if keeps_board then before.now else front.now) }
 {
-    if leaves {
+    if keeps_board {
         before.duplicate()
     } else {
         front.duplicate()
@@ -61,7 +61,7 @@ impl<K: TokenId> KnownHistory<K> {
         KnownHistory {
             front: front.duplicate(),
             changed: front.duplicate(),
-            calls: [0; PLACES],
+            calls: [0; COUNTS],
         }
     }
 
@@ -116,15 +116,15 @@ impl<K: TokenId> KnownHistory<K> {
     }
 
     /// Goes on to a front with one entry more, which is that of a call of this caller. Where
-    /// `leaves` is set the call leaves the board as it is.
-    pub fn follow(&mut self, front: &Front<K>, caller: u32, leaves: bool)
-        requires { HasNext caller leaves self.old.history front.now }
+    /// `keeps_board` is set the call leaves the board as it is.
+    pub fn follow(&mut self, front: &Front<K>, caller: u32, keeps_board: bool)
+        requires { HasNext caller keeps_board self.old.history front.now }
         ensures history { self.new.history ≡ front.now }
         ensures changed { self.new.changed
-            ≡ (if leaves then self.old.changed else front.now) }
+            ≡ (if keeps_board then self.old.changed else front.now) }
     {
         self.calls[(caller - 1) as usize] += 1;
-        self.changed = last_change(&self.changed, front, leaves);
+        self.changed = last_change(&self.changed, front, keeps_board);
         self.front = front.duplicate();
     }
 }

@@ -23,6 +23,7 @@ impl<K: TokenId, const N: u64> Ledger for CallerLedger<K, N> {
 /// The ledgers of the callers 1 to 8, which no type stands for yet. Contracts see their names.
 #[derive(Drop)]
 pub struct NewLedgers {
+    // A field for each caller, as `CallBooks` has them.
     one: Blank,
     two: Blank,
     three: Blank,
@@ -251,7 +252,8 @@ impl<K: TokenId> CallBooks<K> {
         }
     }
 
-    /// Shows that the books have as many calls of the caller as its account. It changes nothing.
+    /// Shows that the books have as many calls of the caller as its account. A step of the proof;
+    /// it takes `&mut`, as std's ledgers do, and changes nothing.
     pub(crate) fn compare(&mut self, account: &mut Account<K>)
         ensures range { (1 ≤ account.old.number) × (account.old.number ≤ 8) }
         ensures same { account.old.count ≡ slice_index self.old (account.old.number - 1) }

@@ -22,7 +22,8 @@ use std::sync::Wait;
 /// What a shared token has beside the token, and its callers, before the first call.
 #[derive(Drop)]
 pub struct Opened<K: TokenId, R: Wait + Drop>
-// A field's type may rest only on bounds that its holder repeats.
+// `impl Absorb for BoardCopy` gives this bound. The prover wants it repeated, since a field's type
+// needs it.
 where
     BoardCopy<K>: Absorb<EntrySlot<K>>,
 {
@@ -110,8 +111,12 @@ impl<K: TokenId, R: Wait + Drop> Opened<K, R> {
     ) -> Result<Opened<K, R>, NoMemory>
         requires board { board ≡ board_of K.limits (start K.base) }
         requires callers { (1 ≤ callers) × (callers ≤ 8) × (callers ≡ K.callers) }
+
+        // `K` stands for the names of this identity.
         requires history { identity.history.seen.book ≡ K.book }
         requires ledgers { (n : ℕ) → K.ledger n ≡ name_of identity.ledgers n }
+
+        // Nothing has been called yet, and the board is that of the base.
         ensures books { IfOk result (λ opened. opened.books ≡ no_calls) }
         ensures history { IfOk result (λ opened. opened.known.history ≡ start K.base) }
         ensures changed { IfOk result (λ opened. opened.known.changed ≡ start K.base) }

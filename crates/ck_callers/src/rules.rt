@@ -22,7 +22,7 @@ impl Rule<Entry, u64> for LengthOfLog {
     ghost moves = { λ ask before after answer. Unit {0} };
 }
 
-/// Callers trade nothing.
+/// What a caller gains by a step beside the entry: nothing.
 pub struct Nothing;
 
 impl Gain<Entry, u64> for Nothing {

@@ -68,11 +68,10 @@ fn run_script<K: TokenId, S: NextStep<K, A>, A: Drop, G: Gate<K>, W: Wait>(
     alloc: Global,
     gate: &G,
     has_thread: &AtomicBool,
-    script: Script<K, S, A>,
+    mut script: Script<K, S, A>,
 ) -> Script<K, S, A>
     ensures { HasRun S.does S.may_fail script result }
 {
-    let mut script = script;
     script.replies.clear();
     script.started = has_thread.load(Ordering::SeqCst);
     if script.started {
@@ -129,7 +128,8 @@ fn run_all<
             let script = match run {
                 Ok(thread) => thread.join(rt),
                 Err(refused) => {
-                    // Only a call of the closure gives the script back, which isn't run then.
+                    // The closure has the script, and gives it back only when it is called. Without
+                    // a thread it doesn't run it.
                     has_thread.store(false, Ordering::SeqCst);
                     (refused.value)()
                 }

@@ -69,8 +69,8 @@ impl<K: TokenId, S: Drop, A: Drop> Script<K, S, A> {
         (self.caller, self.replies)
     }
 
-    /// Where it is not `Ok`, the step after those that were answered is a call that found no
-    /// memory, and those after it were not taken.
+    /// How the run ended. `Err`: the step after those that were answered is a call that found no
+    /// memory, and it and the later steps weren't taken. Before the run it is `Ok`.
     pub fn outcome(&self) -> Result<(), NoMemory>
         ensures { result ≡ self.now.outcome }
     {

@@ -9,20 +9,20 @@ use ck_types::NoMemory;
 use std::alloc::Global;
 use std::sync::{Arc, Mutex};
 
-/// A place for the board after a call. It is made before the call is answered, and filled
+/// A slot for the board after a call. It is made before the call is answered, and filled
 /// afterwards. It has two handles: one is appended to the board's operations. Only the thread that
-/// holds the token's lock uses them, so nobody waits for the lock of the place.
+/// holds the token's lock uses them, so nobody waits for the slot's own lock.
 #[derive(Drop)]
 pub struct EntrySlot<K: TokenId> {
-    pub(crate) place: Arc<Mutex<Option<BoardCopy<K>>>>,
+    pub(crate) content: Arc<Mutex<Option<BoardCopy<K>>>>,
 }
 
 impl<K: TokenId> EntrySlot<K> {
     /// The two handles of a slot that isn't filled. No clause can name what lies under its lock.
     pub fn vacant(alloc: Global) -> Result<(EntrySlot<K>, EntrySlot<K>), NoMemory> {
-        let place = Arc::new(alloc, Mutex::new(None))?;
-        let other = Arc::try_clone(&place)?;
-        Ok((EntrySlot { place }, EntrySlot { place: other }))
+        let content = Arc::new(alloc, Mutex::new(None))?;
+        let other = Arc::try_clone(&content)?;
+        Ok((EntrySlot { content }, EntrySlot { content: other }))
     }
 
     /// Fills the slot with the board after a call and the history that it is of, without memory.
@@ -31,8 +31,8 @@ impl<K: TokenId> EntrySlot<K> {
     pub fn fill(&self, board: TokenBoard, known: &KnownHistory<K>)
         requires { board ≡ board_of K.limits known.now.history }
     {
-        if let Some(mut place) = self.place.try_lock() {
-            *place = Some(BoardCopy::new(board, known));
+        if let Some(mut content) = self.content.try_lock() {
+            *content = Some(BoardCopy::new(board, known));
         }
     }
 }

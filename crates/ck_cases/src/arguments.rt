@@ -1,11 +1,15 @@
 //! What the program's arguments ask for.
-use crate::cases::{MOST_FINDINGS, Output, PlayOptions};
+use crate::cases::{Output, PlayOptions};
 use crate::limits::{LimitsError, limits_in};
 use ck_token::Limits;
 use clap::error::ErrorKind;
 use clap::{Arg, ArgAction, ArgMatches, Command, value_parser};
 use std::alloc::{AllocError, Global};
+use std::io;
 use thiserror::Error;
+
+/// The most findings of a file that are written, where no other number is given.
+const MOST_FINDINGS: &str = "100";
 
 /// What stands at the end of the help.
 const EXAMPLE: &str = "\
@@ -50,6 +54,8 @@ pub(crate) enum Request<'a> {
 pub(crate) enum ArgumentError {
     #[error("error: out of memory\n")]
     Memory,
+    #[error("error: an argument isn't text in UTF-8\n")]
+    NotText,
     #[error("{0}")]
     Command(clap::Error),
     #[error("error: invalid value for '--limits': {0}, with commas between the numbers\n")]
@@ -61,6 +67,15 @@ pub(crate) enum ArgumentError {
 impl From<AllocError> for ArgumentError {
     fn from(_error: AllocError) -> ArgumentError {
         ArgumentError::Memory
+    }
+}
+
+impl From<io::Error> for ArgumentError {
+    fn from(error: io::Error) -> ArgumentError {
+        match error.kind() {
+            io::ErrorKind::OutOfMemory => ArgumentError::Memory,
+            _ => ArgumentError::NotText,
+        }
     }
 }
 
@@ -81,7 +96,7 @@ fn command<'a>(alloc: Global) -> Result<Command<'a>, AllocError> {
         .long("most")
         .value_name("N")
         .value_parser(value_parser!(u64))
-        .default_value("100")
+        .default_value(MOST_FINDINGS)
         .help("Name at most N lines of a file that differ or are bad; the others only count");
     let replies = Arg::new(alloc, "replies")
         .long("replies")
@@ -98,10 +113,10 @@ fn command<'a>(alloc: Global) -> Result<Command<'a>, AllocError> {
 
 /// The limits of the option, where it is given.
 fn limits_of(matches: &ArgMatches<'_>) -> Result<Option<Limits>, LimitsError> {
-    match matches.get_str("limits") {
-        Some(text) => Ok(Some(limits_in(text, ',')?)),
-        None => Ok(None),
-    }
+    matches
+        .get_str("limits")
+        .map(|text| limits_in(text, ','))
+        .transpose()
 }
 
 /// What is to be written.
@@ -121,7 +136,8 @@ fn request_in<'a>(alloc: Global, matches: &ArgMatches<'a>) -> Result<Request<'a>
         return Err(ArgumentError::Files);
     }
     let names = Vec::from_slice(alloc, names)?;
-    let most = matches.get_one("most").unwrap_or(MOST_FINDINGS);
+    // The option has a default, which clap has read.
+    let most = matches.get_one("most").unwrap_or(u64::MAX);
     let options = PlayOptions {
         limits,
         most,

@@ -12,9 +12,6 @@ use ck_token::{Limits, NoMemory, Uncut};
 use std::alloc::Global;
 use std::fmt;
 
-/// The most findings of a file that are written, where no other number is given.
-pub(crate) const MOST_FINDINGS: u64 = 100;
-
 /// What is written of a file.
 #[derive(Clone, Copy)]
 pub(crate) enum Output {
@@ -125,7 +122,7 @@ impl<'a> Player<'a> {
         let limits = self.limits.or(limits.ok()).unwrap_or(Limits::largest());
         self.token.start(self.alloc, limits);
         match self.limits {
-            Some(_) => self.rewrite_limits()?,
+            Some(limits) => self.rewrite(&LimitsLine(limits))?,
             None => self.rewrite(&line)?,
         }
         Ok(())

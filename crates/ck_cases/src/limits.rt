@@ -1,16 +1,16 @@
 //! Limits of a token as text.
 use ck_token::Limits;
+use std::error::Error;
 use std::fmt;
-use thiserror::Error;
 
 /// The word for the largest limits.
 const LARGEST: &str = "largest";
 
-/// The largest of each limit, for the text of what limits are.
+/// Why a text isn't limits.
 #[derive(Clone, Copy, Debug)]
-pub(crate) struct LargestLimits;
+pub(crate) struct LimitsError;
 
-impl fmt::Display for LargestLimits {
+impl fmt::Display for LimitsError {
     fn fmt<W: fmt::Write>(&self, f: &mut fmt::Formatter<W>) -> fmt::Result {
         let largest = Limits::largest();
         let sessions = largest.sessions();
@@ -19,23 +19,21 @@ impl fmt::Display for LargestLimits {
         let logins = largest.logins();
         write!(
             f,
-            "1 to {sessions} sessions open at once, 1 to {openings} openings of sessions, \
+            "limits are the word {LARGEST}, or four numbers: \
+            1 to {sessions} sessions open at once, 1 to {openings} openings of sessions, \
             1 to {creations} creations of objects and 1 to {logins} logins of the user"
         )
     }
 }
 
-/// Why a text isn't limits.
-#[derive(Clone, Copy, Debug, Error)]
-#[error("limits are the word largest, or four numbers: {0}")]
-pub(crate) struct LimitsError(LargestLimits);
+impl Error for LimitsError {}
 
 /// The limits of four numbers, or of the word `largest`.
 pub(crate) fn limits_in(text: &str, separator: char) -> Result<Limits, LimitsError> {
     if text == LARGEST {
         return Ok(Limits::largest());
     }
-    numbers_in(text, separator).ok_or(LimitsError(LargestLimits))
+    numbers_in(text, separator).ok_or(LimitsError)
 }
 
 /// The limits of four numbers.

@@ -1,6 +1,7 @@
 //! Plays files of recorded calls, compares the replies that come with those that are recorded, and
 //! audits the journals. A line is written for each line that differs or is bad, and one that counts
-//! the lines of the file. What finds no memory is done again, and the count says how many times.
+//! the lines of the file. A call, a cut or an audit that finds no memory is made again, and the
+//! count says how many times.
 #![tactic(auto)]
 
 mod arguments;
@@ -24,7 +25,7 @@ use std::fs::Files;
 use std::process::ExitCode;
 use std::{env, io};
 
-/// Plays the file of this name.
+/// Plays the lines of the file of this name, which has these bytes.
 fn play_bytes<R: Print + Eprint + AllocGlobal>(
     rt: &R,
     name: &str,
@@ -85,23 +86,33 @@ fn play_files<R: Files + Print + Eprint + AllocGlobal>(
     Ok(worst)
 }
 
+/// The arguments that the program was started with.
+fn given_arguments<R: Env + AllocGlobal>(rt: &R) -> Result<Vec<String>, ArgumentError> {
+    Ok(env::args(rt)?.collect(rt.alloc())?)
+}
+
+/// Writes why the arguments ask for nothing.
+fn report_argument_error<R: Eprint>(rt: &R, error: &ArgumentError) -> io::Result<Status> {
+    eprint!(rt; "{error}")?;
+    match error {
+        ArgumentError::Memory => Ok(Status::Wrong),
+        _ => Ok(Status::BadInput),
+    }
+}
+
 /// Does what the arguments ask for.
 fn run<R: Env + Files + Print + Eprint + AllocGlobal>(rt: &R) -> io::Result<Status> {
-    let alloc = rt.alloc();
-    let arguments: Vec<String> = env::args(rt)?.collect(alloc)?;
-    match request_of(alloc, &arguments) {
+    let arguments = match given_arguments(rt) {
+        Ok(arguments) => arguments,
+        Err(error) => return report_argument_error(rt, &error),
+    };
+    match request_of(rt.alloc(), &arguments) {
         Ok(Request::Play { names, options }) => play_files(rt, &names, &options),
         Ok(Request::Help(text)) => {
             print!(rt; "{text}")?;
             Ok(Status::Right)
         }
-        Err(error) => {
-            eprint!(rt; "{error}")?;
-            match error {
-                ArgumentError::Memory => Ok(Status::Wrong),
-                _ => Ok(Status::BadInput),
-            }
-        }
+        Err(error) => report_argument_error(rt, &error),
     }
 }
 

@@ -47,7 +47,8 @@ impl fmt::Display for NamedReply<'_> {
     }
 }
 
-/// The first character, from 1, that two texts don't share, where it may not be shown.
+/// The first character, from 1, that two texts don't share, where the shortened texts may not show
+/// it.
 pub(crate) fn hidden_difference(one: &str, other: &str) -> Option<usize> {
     let same = one
         .chars()

@@ -20,7 +20,7 @@ use Rattle.ck_journal.specs.declared.calls.Entry.{Entry}
 use Rattle.ck_journal.specs.declared.replies.Body.TheVariants as body
 use Rattle.ck_journal.specs.declared.replies.Reply.{Reply}
 use Rattle.ck_journal.specs.Answers.{answer, flags_of_token, ok, refusal, unless}
-use Rattle.ck_journal.specs.Boards.{BoardState, board_of, login_status, LeavesBoard}
+use Rattle.ck_journal.specs.Boards.{BoardState, board_of, login_status, BoardStays}
 use Rattle.ck_journal.specs.Histories.{History, ◌◁◌, done, is_ok, is_wrong_pin}
 use Rattle.ck_journal.specs.Effects.{effects_of, effects}
 use Rattle.ck_journal.specs.Pins.{about, is_about, is_user, tries}
@@ -152,7 +152,7 @@ module _ (h : History) (e : Entry) (l : (effects_of (Some e.call)).sessions ≡ 
   board-stays : (limits : Ranges) → board_of limits (e ◁ h) ≡ board_of limits h
   board-stays limits = rw (rows-stay, status-stays) refl
 
--- a call that may change neither sessions, the login nor PINs leaves the board
-pub leaves : (c : Call) → (effects_of (Some c)).sessions ≡ false → LeavesBoard c
-leaves c l limits h e same =
+-- a call that may change neither sessions, the login nor PINs leaves the board as it is
+pub stays : (c : Call) → (effects_of (Some c)).sessions ≡ false → BoardStays c
+stays c l limits h e same =
     board-stays h e (subst (λ x. (effects_of (Some x)).sessions ≡ false) (sym same) l) limits

@@ -126,8 +126,8 @@ allowed-after (Some code) a b same = refl
 module _ (h g : History) (a : Alike h g) where
   pub view-alike : view_of g ≡ view_of h
   view-alike =
-      ap (λ u. record { logged_in = is_user user.User u; logins = user_logins g }) a.who
-      ∙ ap (λ n. record { logged_in = is_user user.User (login h); logins = n }) a.logged_in
+      ap (λ u. record { is_user_in = is_user user.User u; logins = user_logins g }) a.who
+      ∙ ap (λ n. record { is_user_in = is_user user.User (login h); logins = n }) a.logged_in
 
   pub open_sessions-alike : open_sessions g ≡ open_sessions h
   open_sessions-alike =

@@ -53,9 +53,9 @@ module _ (e : Entry) (h : History) where
   module _ (l : (effects e).sessions ≡ false) where
     pub view_of-left : view_of (e ◁ h) ≡ view_of h
     view_of-left =
-        ap (λ u. record { logged_in = is_user user.User u; logins = user_logins (e ◁ h) })
+        ap (λ u. record { is_user_in = is_user user.User u; logins = user_logins (e ◁ h) })
         (login-left e h l)
-        ∙ ap (λ n. record { logged_in = is_user user.User (login h); logins = n })
+        ∙ ap (λ n. record { is_user_in = is_user user.User (login h); logins = n })
         (user_logins-left e h l)
 
   module _ (lo : (effects e).objects ≡ false) (ls : (effects e).sessions ≡ false) where

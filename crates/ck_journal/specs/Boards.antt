@@ -35,7 +35,7 @@ board_of limits h =
     }
 
 -- whatever its reply, the call leaves the board as it is
-abbrev pub LeavesBoard : Call → Type 0
-LeavesBoard c =
+abbrev pub BoardStays : Call → Type 0
+BoardStays c =
     (limits : Ranges) (h : History) (e : Entry) → e.call ≡ c
     → board_of limits (e ◁ h) ≡ board_of limits h

@@ -1,5 +1,5 @@
 -- What an entry may change, roughly, for proofs and for what a board shows. The code mirrors the
--- marks of sessions (`Call::leaves_board`); no answer depends on the table.
+-- marks of sessions (`Call::keeps_board`); no answer depends on the table.
 use Rattle.std.specs.Prelude.{Bool, true, false, Option, Some, ◌||◌, is_some}
 use Rattle.ck_journal.specs.declared.calls.Call.{Call}
 use Rattle.ck_journal.specs.declared.calls.Call.TheVariants as call

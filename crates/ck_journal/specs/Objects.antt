@@ -51,11 +51,11 @@ abbrev pub is_user_in : History → Bool
 is_user_in h = is_user user.User (login h)
 
 abbrev pub view_of : History → View
-view_of h = record { logged_in = is_user_in h; logins = user_logins h }
+view_of h = record { is_user_in = is_user_in h; logins = user_logins h }
 
 -- an object with these attributes is visible where it is public or the normal user is logged in
 abbrev pub is_visible_with : View → List Item → Bool
-is_visible_with view attributes = not (is_set attributes attribute.Private) || view.logged_in
+is_visible_with view attributes = not (is_set attributes attribute.Private) || view.is_user_in
 
 -- the handle of a public object is its number, that of a private one its number and 2^32 for each
 -- login of the user so far

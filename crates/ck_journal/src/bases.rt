@@ -5,7 +5,7 @@ use std::alloc::Global;
 /// A token object as a journal starts with it.
 #[derive(Clone, Drop)]
 pub struct KeptObject {
-    /// Its place among all creations of objects, from 1.
+    /// The count of the objects created up to it, its own creation included.
     pub number: u64,
     pub attributes: Record,
 }

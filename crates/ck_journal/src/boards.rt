@@ -8,8 +8,8 @@ use crate::session_flags::is_read_write;
 use ck_types::{MOST_SESSIONS, Rv, RvError, SessionState, TokenFlags, UserType};
 use std::marker::Model;
 
-/// A place for each session that a token may have open.
-const PLACES: usize = MOST_SESSIONS as usize;
+/// How many sessions a board has room for.
+const ROWS: usize = MOST_SESSIONS as usize;
 
 /// Who is logged in, and what C_GetTokenInfo says of the PINs.
 #[derive(Clone, Copy, Debug, PartialEq, Eq)]
@@ -25,7 +25,7 @@ pub struct LoginStatus {
 
 /// What C_GetSessionInfo and C_GetTokenInfo (PKCS #11 Base 3.0, Session management functions, Slot
 /// and token management functions) read of a token. A copy of it answers them as the token did when
-/// the board was made. It asks for no memory: it has a place for each of the 64 sessions that a
+/// the board was made. It takes no memory: it has a row for each of the 64 sessions that a
 /// token may have open. A token answers the two calls by itself, without a board: it looks only at
 /// the session that is asked for.
 #[derive(Debug, Drop)]
@@ -33,8 +33,8 @@ pub struct TokenBoard {
     limit: u64,
     status: LoginStatus,
     /// The handles and flags of the open sessions, in the order of their openings, in the first
-    /// `count` places.
-    rows: [(u64, u64); PLACES],
+    /// `count` rows.
+    rows: [(u64, u64); ROWS],
     count: usize,
 }
 
@@ -94,7 +94,7 @@ impl TokenBoard {
         TokenBoard {
             limit,
             status,
-            rows: [(0, 0); PLACES],
+            rows: [(0, 0); ROWS],
             count: 0,
         }
     }

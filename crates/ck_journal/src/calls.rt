@@ -244,7 +244,7 @@ const LONG_MESSAGE: usize = 4096;
 
 impl Call {
     ghost use Rattle.std.specs.Prelude.{◌≡◌, not, Some, IsTrue};
-    ghost use Rattle.ck_journal.specs.Boards.{LeavesBoard};
+    ghost use Rattle.ck_journal.specs.Boards.{BoardStays};
     ghost use Rattle.ck_journal.specs.Effects.{effects_of};
     ghost use Rattle.ck_journal.specs.Works.{operation_of, taken_bytes, brings_long_message};
 
@@ -293,11 +293,11 @@ impl Call {
         self.taken_bytes().len() >= LONG_MESSAGE
     }
 
-    /// Whether the call, whatever its reply, leaves what a `TokenBoard` has of a token: the open
-    /// sessions with their flags, the login, whether there are PINs, and the wrong tries.
-    pub fn leaves_board(&self) -> bool
+    /// Whether the call, whatever its reply, changes nothing of what a `TokenBoard` has of a token:
+    /// the open sessions with their flags, the login, whether there are PINs, and the wrong tries.
+    pub fn keeps_board(&self) -> bool
         ensures kind { result ≡ not (effects_of (Some self.now)).sessions }
-        ensures leaves { IsTrue result → LeavesBoard self.now }
+        ensures stays { IsTrue result → BoardStays self.now }
     {
         !self.is_about_sessions()
     }

@@ -90,16 +90,14 @@ impl EntryList {
         ensures room { OnOk result (self.old.spare < self.new.spare) }
         ensures spare { self.old.spare ≤ self.new.spare }
     {
-        let Some(capacity) = self.capacity.checked_add(SEGMENT) else {
-            return Err(NoMemory);
-        };
+        let capacity = self.capacity.checked_add(SEGMENT).ok_or(NoMemory)?;
         let alloc = *self.segments.allocator();
         self.segments.push(Vec::with_capacity(alloc, SEGMENT)?)?;
         self.capacity = capacity;
         Ok(())
     }
 
-    /// Adds an entry where there is room for it, and takes no memory.
+    /// Adds an entry. There must be room for it; this takes no memory.
     pub(crate) fn push_reserved(&mut self, entry: Entry)
         requires { 0 < self.old.spare }
         ensures items { self.new.items ≡ self.old.items ++ entry ∷ [] }

@@ -84,7 +84,7 @@ impl Journal {
         self.entries.spare() as u64
     }
 
-    /// Adds an entry where there is room for it, and takes no memory.
+    /// Adds an entry. There must be room for it; this takes no memory.
     pub fn push_reserved(&mut self, entry: Entry)
         requires { 0 < self.old.spare }
         ensures history { self.new.history ≡ entry ◁ self.old.history }

@@ -4,12 +4,12 @@
 
 mod bases;
 mod boards;
+mod call_constructors;
 mod calls;
 mod cuts;
 mod entry_lists;
 mod journals;
 pub mod laws;
-mod made_calls;
 mod operations;
 mod replies;
 mod session_flags;

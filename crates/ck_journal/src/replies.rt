@@ -27,15 +27,15 @@ pub enum Body {
         state: SessionState,
         flags: u64,
     },
-    /// The token's flags, the most sessions that may be open at once, and how many sessions and how
-    /// many read/write sessions are open (CK_TOKEN_INFO).
+    /// CK_TOKEN_INFO: the token's flags, how many sessions may be open at once (ulMaxSessionCount),
+    /// and how many sessions (ulSessionCount) and read/write sessions (ulRwSessionCount) are open.
     Token {
         flags: TokenFlags,
         limit: u64,
         sessions: u64,
         rw_sessions: u64,
     },
-    /// The types of all mechanisms of the token, in rising order.
+    /// The types of all mechanisms of the token, in ascending order.
     Mechanisms(Sequence<u64>),
     /// One answer for each query, in their order.
     Attributes(Sequence<Answer>),

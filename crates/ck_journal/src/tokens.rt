@@ -33,8 +33,9 @@ pub trait JournaledToken: Drop {
         ensures limits { IfOk result (λ token. (state token).limits ≡ limits) }
         ensures history { IfOk result (λ token. (state token).history ≡ start base) };
 
-    /// Answers a call and enters it in the journal. Where there is no memory for it, the call isn't
-    /// in the journal, and the limits and the history are as they were.
+    /// Answers a call and enters it in the journal. `caller` is a number of the application's
+    /// choice. It stands in the entry, and no reply depends on it. Where there is no memory for the
+    /// call, it isn't in the journal, and the limits and the history are as they were.
     fn call(&mut self, alloc: Global, caller: u32, call: Call) -> Result<Reply, NoMemory>
         ensures answered { IfOk result (λ reply.
             IsAnswered (state self.old) (state self.new) caller call reply) }

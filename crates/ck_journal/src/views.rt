@@ -7,7 +7,7 @@ use ck_objects::{Attribute, Record};
 /// What each login of the user adds to the handles of private objects.
 const LOGIN_STEP: u64 = 0x1_0000_0000;
 
-/// The number of the object that a handle of `View::handle` is of: the handle modulo 2^32.
+/// The number of the object that has this handle (`View::handle`): the handle modulo 2^32.
 pub fn number_of_handle(handle: u64) -> u64
     ensures { result ≡ number_of_handle handle }
 {
@@ -18,7 +18,7 @@ pub fn number_of_handle(handle: u64) -> u64
 /// many times the user has logged in so far.
 #[derive(Clone, Copy, Debug, PartialEq, Eq)]
 pub struct View {
-    pub logged_in: bool,
+    pub is_user_in: bool,
     pub logins: u64,
 }
 

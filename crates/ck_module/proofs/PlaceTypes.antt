@@ -4,8 +4,8 @@ use Rattle.ck_module.specs.declared.places.TokenPlace.{TokenPlace}
 use Rattle.ck_module.specs.declared.places.MessagePlace.{MessagePlace}
 use Rattle.ck_module.specs.contracts.places.TokenPlace as token-place-type
 use Rattle.ck_module.specs.contracts.places.MessagePlace as message-place-type
-use Rattle.ck_module.specs.contracts.message_calls.MessageCall.{the_row as message_call_row}
-use Rattle.ck_module.specs.contracts.modules.Module.{the_row as module_row}
+use Rattle.ck_foreign.specs.contracts.message_calls.MessageCall.{the_row as message_call_row}
+use Rattle.ck_foreign.specs.contracts.modules.Module.{the_row as module_row}
 use Rattle.ck_module.proofs.Lending.{PlaceType}
 
 abbrev pub token_place : PlaceType

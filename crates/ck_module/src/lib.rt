@@ -8,18 +8,12 @@
 //! message is given first, with a copy of it, and `ospreyrack_call` makes it.
 #![tactic(auto)]
 
-mod copies;
 mod line_calls;
 mod lives;
-mod message_calls;
 mod message_exports;
-mod modules;
 mod object_calls;
 mod operation_calls;
-mod outcomes;
 mod places;
-mod queries;
 mod reply_readers;
 mod search_calls;
 mod session_calls;
-mod templates;

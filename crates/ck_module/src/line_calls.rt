@@ -1,9 +1,9 @@
 ghost use Rattle.std.specs.Prelude.{◌≡◌, length};
-ghost use Rattle.ck_module.specs.Calls.{IsLineOf, IsTextOf};
-ghost use Rattle.ck_module.specs.Copies.{filled_with};
+ghost use Rattle.ck_foreign.specs.Calls.{IsLineOf, IsTextOf};
+ghost use Rattle.ck_foreign.specs.Copies.{filled_with};
 
-use crate::copies::copy_front;
 use crate::places::TokenPlace;
+use ck_foreign::copy_front;
 use std::alloc::Global;
 
 /// Makes the call of a line of a script, which stands here without its line end.

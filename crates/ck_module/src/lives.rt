@@ -3,14 +3,14 @@ ghost use Rattle.std.specs.Borrow.{sem, full_share};
 ghost use Rattle.std.specs.Mem.{type_size};
 ghost use Rattle.std.specs.Ptr.{lies_at, room_at};
 ghost use Rattle.ck_journal.specs.Histories.{entry_count};
-ghost use Rattle.ck_module.specs.Calls.{IsSame};
-ghost use Rattle.ck_module.specs.Lives.{IsNew, IsCut, cut_number};
-ghost use Rattle.ck_module.specs.contracts.modules.Module.{the_row};
-ghost use Rattle.ck_module.specs.declared.modules.Module.{Module};
+ghost use Rattle.ck_foreign.specs.Calls.{IsSame};
+ghost use Rattle.ck_foreign.specs.Lives.{IsNew, IsCut, cut_number};
+ghost use Rattle.ck_foreign.specs.contracts.modules.Module.{the_row};
+ghost use Rattle.ck_foreign.specs.declared.modules.Module.{Module};
 ghost use Rattle.ck_token.specs.declared.cuts.Uncut.{Uncut};
 
-use crate::modules::Module;
 use crate::places::TokenPlace;
+use ck_foreign::Module;
 use ck_token::Uncut;
 use std::alloc::Global;
 

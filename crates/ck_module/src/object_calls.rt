@@ -1,12 +1,11 @@
 ghost use Rattle.std.specs.Prelude.{map};
 ghost use Rattle.ck_journal.specs.declared.calls.Call.TheVariants as call;
-ghost use Rattle.ck_module.specs.Calls.{IsCalledBy};
-ghost use Rattle.ck_module.specs.Queries.{query_of};
-ghost use Rattle.ck_module.specs.Templates.{template_of};
+ghost use Rattle.ck_foreign.specs.Calls.{IsCalledBy};
+ghost use Rattle.ck_foreign.specs.Queries.{query_of};
+ghost use Rattle.ck_foreign.specs.Templates.{template_of};
 
 use crate::places::TokenPlace;
-use crate::queries::{Query, queries_of};
-use crate::templates::{TypeAndLength, template_of};
+use ck_foreign::{Query, TypeAndLength, queries_of, template_of};
 use ck_journal::Call;
 use std::alloc::Global;
 

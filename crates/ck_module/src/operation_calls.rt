@@ -1,9 +1,9 @@
 ghost use Rattle.ck_journal.specs.declared.calls.Call.TheVariants as call;
-ghost use Rattle.ck_module.specs.Calls.{IsCalledBy};
-ghost use Rattle.ck_module.specs.Queries.{room_of};
+ghost use Rattle.ck_foreign.specs.Calls.{IsCalledBy};
+ghost use Rattle.ck_foreign.specs.Queries.{room_of};
 
 use crate::places::TokenPlace;
-use crate::queries::room_of;
+use ck_foreign::room_of;
 use ck_journal::Call;
 use ck_types::{Bytes, Mechanism};
 use std::alloc::Global;

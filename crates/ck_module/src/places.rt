@@ -1,13 +1,11 @@
 ghost use Rattle.std.specs.Prelude.{◌≡◌, IfOk, OnErr, true, false};
 ghost use Rattle.std.specs.Borrow.{sem};
-ghost use Rattle.ck_module.specs.declared.message_calls.MessageCall.{MessageCall};
-ghost use Rattle.ck_module.specs.declared.modules.Module.{Module};
-ghost use Rattle.ck_module.specs.contracts.message_calls.MessageCall.{the_row as message_call_row};
-ghost use Rattle.ck_module.specs.contracts.modules.Module.{the_row as module_row};
+ghost use Rattle.ck_foreign.specs.declared.message_calls.MessageCall.{MessageCall};
+ghost use Rattle.ck_foreign.specs.declared.modules.Module.{Module};
+ghost use Rattle.ck_foreign.specs.contracts.message_calls.MessageCall.{the_row as message_call_row};
+ghost use Rattle.ck_foreign.specs.contracts.modules.Module.{the_row as module_row};
 
-use crate::message_calls::MessageCall;
-use crate::modules::Module;
-use crate::outcomes::Outcome;
+use ck_foreign::{MessageCall, Module, Outcome};
 use ck_journal::Call;
 use ck_types::NoMemory;
 use std::alloc::Global;
@@ -23,7 +21,7 @@ pub struct TokenPlace {
 impl Model for TokenPlace {
     ghost use Rattle.std.specs.Borrow.{full_share};
     ghost use Rattle.std.specs.Ptr.{lies_at};
-    ghost use Rattle.ck_module.specs.contracts.modules.Module.{the_row};
+    ghost use Rattle.ck_foreign.specs.contracts.modules.Module.{the_row};
 
     ghost also_owns = { λ h. lies_at the_row full_share h.at h.value };
 }
@@ -32,7 +30,7 @@ impl TokenPlace {
     ghost use Rattle.std.specs.Prelude.{◌<◌};
     ghost use Rattle.std.specs.Borrow.{Lends};
     ghost use Rattle.ck_journal.specs.declared.calls.Call.{Call};
-    ghost use Rattle.ck_module.specs.Calls.{IsCalledBy};
+    ghost use Rattle.ck_foreign.specs.Calls.{IsCalledBy};
     ghost use Rattle.ck_module.specs.contracts.places.TokenPlace.{the_row};
     ghost use Rattle.ck_token.specs.Decisions.{may_run_out};
 
@@ -86,7 +84,7 @@ pub struct MessagePlace {
 impl Model for MessagePlace {
     ghost use Rattle.std.specs.Borrow.{full_share};
     ghost use Rattle.std.specs.Ptr.{lies_at};
-    ghost use Rattle.ck_module.specs.contracts.message_calls.MessageCall.{the_row};
+    ghost use Rattle.ck_foreign.specs.contracts.message_calls.MessageCall.{the_row};
 
     ghost also_owns = { λ h. lies_at the_row full_share h.at h.value };
 }
@@ -94,7 +92,7 @@ impl Model for MessagePlace {
 impl MessagePlace {
     ghost use Rattle.std.specs.Borrow.{Lends};
     ghost use Rattle.ck_module.specs.contracts.places.MessagePlace.{the_row};
-    ghost use Rattle.ck_module.specs.declared.message_calls.MessageCall.TheVariants as variant;
+    ghost use Rattle.ck_foreign.specs.declared.message_calls.MessageCall.TheVariants as variant;
 
     /// Gives a call where there was memory for its lists, and says whether there was.
     pub(crate) fn give(&mut self, call: Result<Call, NoMemory>) -> bool

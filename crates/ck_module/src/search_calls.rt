@@ -1,9 +1,9 @@
 ghost use Rattle.ck_journal.specs.declared.calls.Call.TheVariants as call;
-ghost use Rattle.ck_module.specs.Calls.{IsCalledBy};
-ghost use Rattle.ck_module.specs.Templates.{template_of};
+ghost use Rattle.ck_foreign.specs.Calls.{IsCalledBy};
+ghost use Rattle.ck_foreign.specs.Templates.{template_of};
 
 use crate::places::TokenPlace;
-use crate::templates::{TypeAndLength, template_of};
+use ck_foreign::{TypeAndLength, template_of};
 use ck_journal::Call;
 use std::alloc::Global;
 

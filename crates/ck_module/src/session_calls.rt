@@ -1,6 +1,6 @@
 ghost use Rattle.std.specs.Prelude.{◌≡◌, ◌<◌};
 ghost use Rattle.ck_journal.specs.declared.calls.Call.TheVariants as call;
-ghost use Rattle.ck_module.specs.Calls.{IsCalledBy};
+ghost use Rattle.ck_foreign.specs.Calls.{IsCalledBy};
 
 use crate::places::TokenPlace;
 use ck_journal::Call;

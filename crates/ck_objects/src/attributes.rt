@@ -34,7 +34,7 @@ impl Class {
 
 /// What a template is for: C_CreateObject, C_GenerateKey, C_CopyObject or C_SetAttributeValue.
 #[derive(Clone, Copy, Debug, PartialEq, Eq)]
-pub enum Purpose {
+pub(crate) enum Purpose {
     Create,
     Generate,
     Copy,

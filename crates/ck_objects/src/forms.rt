@@ -15,7 +15,7 @@ pub const GENERIC_SECRET: u64 = 16;
 
 /// The form of an attribute's value.
 #[derive(Clone, Copy, Debug, PartialEq, Eq)]
-pub enum Form {
+pub(crate) enum Form {
     /// One byte, 0 or 1 (CK_BBOOL).
     Flag,
     /// 8 bytes, the least significant first (CK_ULONG).

@@ -39,13 +39,9 @@ impl Item {
     fn check_form(&self) -> Result<(), RvError>
         ensures { result ≡ check_of (form_error self.now) }
     {
-        match Attribute::of(self.kind) {
-            None => Err(RvError::AttributeTypeInvalid),
-            Some(attribute) => {
-                let is_of_form = attribute.form().admits(self.value.as_slice());
-                error_if(!is_of_form, RvError::AttributeValueInvalid)
-            }
-        }
+        let attribute = Attribute::of(self.kind).ok_or(RvError::AttributeTypeInvalid)?;
+        let is_of_form = attribute.form().admits(self.value.as_slice());
+        error_if(!is_of_form, RvError::AttributeValueInvalid)
     }
 
     /// CKR_ATTRIBUTE_TYPE_INVALID for an attribute that objects of the class don't have,
@@ -53,13 +49,11 @@ impl Item {
     fn check_permission(&self, class: Class, purpose: Purpose) -> Result<(), RvError>
         ensures { result ≡ check_of (permission_error class purpose self.now) }
     {
-        match Attribute::of(self.kind) {
-            None => Err(RvError::AttributeTypeInvalid),
-            Some(attribute) => match attribute.permission(class, purpose) {
-                None => Err(RvError::AttributeTypeInvalid),
-                Some(is_permitted) => error_if(!is_permitted, RvError::AttributeReadOnly),
-            },
-        }
+        let attribute = Attribute::of(self.kind).ok_or(RvError::AttributeTypeInvalid)?;
+        let is_permitted = attribute
+            .permission(class, purpose)
+            .ok_or(RvError::AttributeTypeInvalid)?;
+        error_if(!is_permitted, RvError::AttributeReadOnly)
     }
 
     /// Whether the item is of the attribute's type and has another value than this one.
@@ -118,6 +112,7 @@ pub(crate) fn take_value(items: &mut [Item], attribute: Attribute, field: &mut A
     ensures others { (kind : ℕ) → kind ≢ type_of attribute
         → value_at items.new kind ≡ value_at items.old kind }
 {
+    // By position: no contract says what becomes of an item that `iter_mut().find` lends.
     if let Some(i) = position_of(items, attribute.number()) {
         mem::swap(&mut items[i].value, field);
     }
@@ -167,10 +162,7 @@ pub(crate) fn number_at(items: &[Item], attribute: Attribute) -> Option<u64>
     ensures bytes { IfSome result (λ number.
         value_at items.now (type_of attribute) ≡ Some (number_bytes number)) }
 {
-    match value_at(items, attribute.number()) {
-        None => None,
-        Some(value) => number_of(value.as_slice()),
-    }
+    number_of(value_at(items, attribute.number())?.as_slice())
 }
 
 /// The key state that the items give, else `other`. In well-formed items it is pre-activation (0)

@@ -6,12 +6,12 @@ mod attributes;
 mod data_objects;
 mod fields;
 mod forms;
-mod given_attributes;
 mod items;
 mod key_states;
 mod keys;
 mod object_flags;
 mod records;
+mod template_constructors;
 mod templates;
 
 pub use attribute_values::AttributeValue;

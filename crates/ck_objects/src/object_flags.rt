@@ -6,10 +6,10 @@ use crate::items::{Item, flag_or};
 /// The attributes of an object that a template may not weaken: CKA_PRIVATE, CKA_SENSITIVE and
 /// CKA_EXTRACTABLE, each false where the object doesn't have it.
 #[derive(Clone, Copy, Debug, PartialEq, Eq)]
-pub struct Protections {
-    pub private: bool,
-    pub sensitive: bool,
-    pub extractable: bool,
+pub(crate) struct Protections {
+    pub(crate) private: bool,
+    pub(crate) sensitive: bool,
+    pub(crate) extractable: bool,
 }
 
 /// CKA_TOKEN and CKA_PRIVATE of an object: whether it is a token object or a session object, and

@@ -270,10 +270,8 @@ impl Record {
         if self.is_hidden(item.kind) {
             return false;
         }
-        match self.field(item.kind) {
-            None => false,
-            Some(field) => field.has_bytes(item.value.as_slice()),
-        }
+        self.field(item.kind)
+            .is_some_and(|field| field.has_bytes(item.value.as_slice()))
     }
 
     /// Whether the object has the flag and it is true.

@@ -103,7 +103,8 @@ impl Template {
         check_permissions(class, purpose, items)
     }
 
-    /// Whether the template makes a sensitive key not sensitive, or a key extractable that isn't.
+    /// Whether the template exposes a key: CKA_SENSITIVE false for a sensitive key, or
+    /// CKA_EXTRACTABLE true for one that isn't extractable.
     pub(crate) fn exposes_key(&self, protections: Protections) -> bool
         ensures { result ≡ exposes_key protections self.now.items }
     {
@@ -127,7 +128,7 @@ const LONGEST_KEY: u64 = 4096;
 fn is_key_length(length: u64) -> bool
     ensures { result ≡ is_key_length length }
 {
-    1 <= length && length <= LONGEST_KEY
+    (1..=LONGEST_KEY).contains(&length)
 }
 
 /// The checks that a template gives what a new object of the class must be given.
@@ -146,13 +147,9 @@ fn check_new_key(items: &[Item]) -> Result<(), RvError>
 {
     let is_missing = value_at(items, Attribute::KeyType.number()).is_none();
     error_if(is_missing, RvError::TemplateIncomplete)?;
-    match value_at(items, Attribute::Value.number()) {
-        None => Err(RvError::TemplateIncomplete),
-        Some(value) => {
-            let length = value.as_slice().len() as u64;
-            error_if(!is_key_length(length), RvError::AttributeValueInvalid)
-        }
-    }
+    let value = value_at(items, Attribute::Value.number()).ok_or(RvError::TemplateIncomplete)?;
+    let length = value.as_slice().len() as u64;
+    error_if(!is_key_length(length), RvError::AttributeValueInvalid)
 }
 
 /// Whether the items give another class than that of secret keys.
@@ -173,11 +170,7 @@ fn check_given_length(items: &[Item], random: &[u8]) -> Result<(), RvError>
         ∷ error_if (not (length random.now == given_length items.now)) rv_error.ArgumentsBad
         ∷ [])) }
 {
-    match number_at(items, Attribute::ValueLen) {
-        None => Err(RvError::TemplateIncomplete),
-        Some(length) => {
-            error_if(!is_key_length(length), RvError::KeySizeRange)?;
-            error_if(random.len() as u64 != length, RvError::ArgumentsBad)
-        }
-    }
+    let length = number_at(items, Attribute::ValueLen).ok_or(RvError::TemplateIncomplete)?;
+    error_if(!is_key_length(length), RvError::KeySizeRange)?;
+    error_if(random.len() as u64 != length, RvError::ArgumentsBad)
 }

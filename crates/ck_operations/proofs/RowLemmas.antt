@@ -5,6 +5,7 @@ use Rattle.std.specs.Prelude.{◌==◌, ◌&&◌, filter, find}
 use Rattle.std.specs.List.{position, position_or_len, slice_get}
 use Rattle.std.proofs.Math.ListN.{set}
 use Rattle.std.proofs.lemmas.Bool.{eqb-true, false≢true, ltb-false, and_parts}
+use Rattle.std.proofs.lemmas.List.{get_or_default}
 use Rattle.std.proofs.lemmas.List.Folds.{find_at, find-set}
 use Rattle.std.proofs.lemmas.List.Quantifiers.{position-Some}
 use Rattle.std.proofs.lemmas.Option.{cond_some, slice_get-get_or, slice_get_past}
@@ -121,20 +122,20 @@ has-added : (piece : Piece) (old new : Operation) (a b : Option Operation) → a
 has-added piece old new a b x y is = rw (x, y) is
 
 module _ (k : OperationKind) (session : ℕ) (piece : Piece) (rows : List Operation) where
-  pub added-at : (place : ℕ) (old new : Operation)
+  pub added-at : (place : ℕ) (default new : Operation)
       → Some place ≡ position (is_operation k session) rows
-      → old ≡ get_or rows place old → IsUpdateOf piece old new
+      → IsUpdateOf piece (get_or rows place default) new
       → IsUpdateOfRows k session piece rows (set rows place new)
-  added-at place old new found item is =
-      let at = position-Some (is_operation k session) rows place old (sym found) in
+  added-at place default new found is =
+      let old = get_or rows place default in
+      let at = position-Some (is_operation k session) rows place default (sym found) in
       let p = cond_some _ (position_or_len (is_operation k session) rows) place (sym found) in
-      let passes : is_operation k session old ≡ true = ap (is_operation k session) item ∙ at.1 in
-      let passes-new : is_operation k session new ≡ true = rw (is.session, is.kind) passes in
+      let item : old ≡ get_or rows place old = get_or_default rows place default old at.0 in
+      let passes-new : is_operation k session new ≡ true = rw (is.session, is.kind) at.1 in
       record {
         added = has-added piece old new _ _
             (find_at (is_operation k session) rows ∙ ap (slice_get rows) p.1
-            ∙ slice_get-get_or rows place old
-            at.0 ∙ ap Some (sym item))
+            ∙ slice_get-get_or rows place default at.0)
             (find-set (is_operation k session) rows place new (sym p.1) at.0 passes-new)
             is;
         others = λ l s apart-from.

@@ -38,7 +38,7 @@ has_update o = o.updated
 
 -- how many entries there were before the one that last started it or added to its message
 abbrev pub last_change : Operation → ℕ
-last_change o = o.changed
+last_change o = o.last_change
 
 -- an operation before its first update, started by the entry after the first `entries` ones
 abbrev pub new_operation : OperationKind → ℕ → RunningTag → Option ℕ → ℕ → Operation
@@ -48,7 +48,7 @@ new_operation k s running key entries = record {
   running = running;
   key = key;
   updated = false;
-  changed = entries;
+  last_change = entries;
 }
 
 -- a piece that an update adds: its bytes, the tag of the message with these bytes where that is
@@ -72,7 +72,7 @@ pub record IsUpdateOf (piece : Piece) (old new : Operation) : Type 0 where
       → HoldsMessage computation new (message ++ piece.bytes)
   pub key : new.key ≡ old.key
   pub updated : new.updated ≡ true
-  pub changed : new.changed ≡ piece.entries
+  pub changed : new.last_change ≡ piece.entries
 
 -- the same, where there is an operation
 abbrev pub IsUpdateOfOption : Piece → Option Operation → Option Operation → Type 0

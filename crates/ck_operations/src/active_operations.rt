@@ -8,13 +8,13 @@ ghost use Rattle.std.specs.Option.{option_copied};
 use ck_journal::OperationKind;
 use ck_mac::{RunningTag, Tag};
 
-/// An active digest, signing or verifying of a session (PKCS #11 Base 3.0, Message digesting
-/// functions, Signing and MACing functions, Functions for verifying signatures and MACs).
+/// An active digest, signing or verification operation of a session (PKCS #11 Base 3.0, Message
+/// digesting functions, Signing and MACing functions, Functions for verifying signatures and MACs).
 #[derive(Drop)]
 pub struct Operation {
     kind: OperationKind,
     session: u64,
-    /// The tag of the message so far.
+    /// The running tag of the message so far.
     running: RunningTag,
     /// The number of the key that it computes with; a digest has none.
     key: Option<u64>,
@@ -22,11 +22,11 @@ pub struct Operation {
     updated: bool,
     /// How many entries the journal had before the one that last started the operation or added to
     /// its message.
-    changed: u64,
+    last_change: u64,
 }
 
 impl Operation {
-    /// An operation before its first update, which the entry after the first `entries` ones starts.
+    /// An operation before its first update. The entry after the first `entries` ones starts it.
     pub(crate) fn new(
         kind: OperationKind,
         session: u64,
@@ -42,11 +42,11 @@ impl Operation {
             running,
             key,
             updated: false,
-            changed: entries,
+            last_change: entries,
         }
     }
 
-    pub(crate) fn is(&self, kind: OperationKind, session: u64) -> bool
+    pub(crate) fn is_of(&self, kind: OperationKind, session: u64) -> bool
         ensures { result ≡ is_operation kind session self.now }
     {
         self.session == session && self.kind == kind
@@ -80,10 +80,10 @@ impl Operation {
 
     /// How many entries the journal had before the one that last started the operation or added to
     /// its message.
-    pub fn changed(&self) -> u64
+    pub fn last_change(&self) -> u64
         ensures { result ≡ last_change self.now }
     {
-        self.changed
+        self.last_change
     }
 
     /// The running tag of the message so far.
@@ -142,6 +142,6 @@ impl Operation {
             None => self.running.update(bytes),
         }
         self.updated = true;
-        self.changed = entries;
+        self.last_change = entries;
     }
 }

@@ -1,5 +1,5 @@
-//! The active digests, signings and verifyings of a PKCS #11 token's sessions, as the journal has
-//! them.
+//! The active digest, signing and verification operations of a PKCS #11 token's sessions, as the
+//! journal has them.
 #![tactic(auto)]
 
 mod active_operations;

@@ -6,9 +6,9 @@ use ck_types::NoMemory;
 use std::alloc::Global;
 use std::marker::Model;
 
-/// The active digests, signings and verifyings of all sessions, at most one of a kind in a session
-/// (PKCS #11 Base 3.0, Message digesting functions, Signing and MACing functions, Functions for
-/// verifying signatures and MACs).
+/// The active digest, signing and verification operations of all sessions, at most one of a kind in
+/// a session (PKCS #11 Base 3.0, Message digesting functions, Signing and MACing functions,
+/// Functions for verifying signatures and MACs).
 #[derive(Drop)]
 pub struct Operations {
     rows: Vec<Operation>,
@@ -68,9 +68,9 @@ impl Operations {
 
     // ---- changes, each by what the entry of an answered call does to operations
 
-    /// Starts an operation where the session has none of the kind and there is room for it, and
-    /// takes no memory. `running` is the running tag of the empty message, `key` the number of the
-    /// operation's key, which a digest has not, and `entries` is how many entries the journal has
+    /// Starts an operation where the session has none of the kind. There must be room for it; this
+    /// takes no memory. `running` is the running tag of the empty message, `key` is the number of
+    /// the operation's key (a digest has none), and `entries` is how many entries the journal has
     /// before this one.
     pub fn start(
         &mut self,

@@ -1,3 +1,5 @@
+//! What is done with the rows alone. These clauses speak of a list, and those of `Operations` of a
+//! history, so each proof has one thing to show.
 ghost use Rattle.std.specs.Prelude.{◌≡◌, not, filter, find, position};
 ghost use Rattle.std.specs.Option.{option_copied};
 ghost use Rattle.ck_operations.specs.declared.active_operations.Operation.{Operation};
@@ -14,18 +16,19 @@ pub(crate) fn find_operation(
 ) -> Option<&Operation>
     ensures { option_copied result ≡ find (is_operation kind session) rows.now }
 {
-    rows.iter().find(|row| row.is(kind, session))
+    rows.iter().find(|row| row.is_of(kind, session))
 }
 
+// By position: no contract says what becomes of a row that `iter_mut().find` lends.
 fn position_of(rows: &[Operation], kind: OperationKind, session: u64) -> Option<usize>
     ensures { result ≡ position (is_operation kind session) rows.now }
 {
-    rows.iter().position(|row| row.is(kind, session))
+    rows.iter().position(|row| row.is_of(kind, session))
 }
 
 /// Adds a piece to the message of the session's operation of the kind, where there is one.
 pub(crate) fn add_piece(
-    rows: &mut Vec<Operation>,
+    rows: &mut [Operation],
     kind: OperationKind,
     session: u64,
     bytes: &[u8],
@@ -36,11 +39,10 @@ pub(crate) fn add_piece(
       bytes = bytes.now;
       ready = option_copied ready.entry;
       entries = entries;
-    }) rows.old.items rows.new.items }
+    }) rows.old rows.new }
 {
     if let Some(position) = position_of(rows, kind, session) {
-        let row = &mut rows[position];
-        row.add_piece(bytes, ready, entries);
+        rows[position].add_piece(bytes, ready, entries);
     }
 }
 
@@ -48,7 +50,7 @@ pub(crate) fn remove_operation(rows: &mut Vec<Operation>, kind: OperationKind, s
     ensures { rows.new.items
         ≡ filter (λ (row : Operation). not (is_operation kind session row)) rows.old.items }
 {
-    rows.retain(|row| !row.is(kind, session));
+    rows.retain(|row| !row.is_of(kind, session));
 }
 
 pub(crate) fn remove_session(rows: &mut Vec<Operation>, session: u64)

@@ -18,6 +18,7 @@ ghost use Rattle.ck_operations.specs.Moves.{IsStartOf, OnlyIn, Start};
 ghost use Rattle.ck_store.specs.Agreement.{StoreAgrees};
 
 use crate::boxed::Boxed;
+use crate::parts::Parts;
 use ck_journal::OperationKind;
 use ck_mac::{Mac, Running, RunningTag};
 use ck_objects::Record;
@@ -38,8 +39,8 @@ pub(crate) fn create_object(objects: &mut Store, session: u64, attributes: Boxed
     objects.create(session, attributes.into_inner());
 }
 
-/// Starts a digest, where the session has none and there is room for it, by the entry after the
-/// first `entries` ones.
+/// Starts a digest, where the session has none, by the entry after the first `entries` ones. There
+/// must be room for it.
 #[inline(never)]
 pub(crate) fn start_digest(operations: &mut Operations, session: u64, hash: Hash, entries: u64)
     requires { 0 < operations.old.spare }
@@ -65,27 +66,33 @@ fn key_value(objects: &Store, number: u64) -> &[u8]
     }
 }
 
-/// Starts a signing or a verifying under the key of this number, where the session has none of the
-/// kind and there is room for it, by the entry after the first `entries` ones. `len` is how many
-/// bytes a signature has.
-#[inline(never)]
-pub(crate) fn start_hmac(
-    operations: &mut Operations,
-    objects: &Store,
-    kind: OperationKind,
-    session: u64,
-    hash: Hash,
-    key: u64,
-    len: u64,
-    entries: u64,
-)
-    requires room { 0 < operations.old.spare }
-    requires length { (1 ≤ len) × (len ≤ digest_length hash) }
-    ensures { (h : History) (e : Entry) → entries ≡ entry_count h → StoreAgrees h objects.now
-        → IsStartOf h e (hmac_by hash (key_value (unwrap_or (object_at h key) [])) len) (Some key)
-        → OnlyIn kind session Start e → is_active kind h session ≡ false
-        → OperationsAgree h operations.old → OperationsAgree (e ◁ h) operations.new }
-{
-    let mac = Mac::general(hash, key_value(objects, key), len);
-    operations.start(kind, session, RunningTag::Mac(mac), Some(key), entries);
+impl Parts {
+    /// Starts a signing or a verification under the key of this number, where the session has none
+    /// of the kind, by the entry after the first `entries` ones. There must be room for it. `len`
+    /// is how many bytes a signature has.
+    #[inline(never)]
+    pub(crate) fn start_hmac(
+        &mut self,
+        kind: OperationKind,
+        session: u64,
+        hash: Hash,
+        key: u64,
+        len: u64,
+        entries: u64,
+    )
+        requires room { 0 < self.old.operations.spare }
+        requires length { (1 ≤ len) × (len ≤ digest_length hash) }
+        ensures others { self.new ≡ record self.old { operations = self.new.operations } }
+        ensures agree { (h : History) (e : Entry) → entries ≡ entry_count h
+            → StoreAgrees h self.old.objects
+            → IsStartOf h e (hmac_by hash (key_value (unwrap_or (object_at h key) [])) len)
+            (Some key)
+            → OnlyIn kind session Start e → is_active kind h session ≡ false
+            → OperationsAgree h self.old.operations
+            → OperationsAgree (e ◁ h) self.new.operations }
+    {
+        let mac = Mac::general(hash, key_value(&self.objects, key), len);
+        self.operations
+            .start(kind, session, RunningTag::Mac(mac), Some(key), entries);
+    }
 }

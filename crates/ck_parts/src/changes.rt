@@ -65,7 +65,7 @@ pub enum Change {
         session: u64,
         hash: Hash,
     },
-    /// A signing or a verifying.
+    /// A signing or a verification.
     StartHmac {
         kind: OperationKind,
         session: u64,

@@ -1,4 +1,4 @@
-use crate::additions::{create_object, start_digest, start_hmac};
+use crate::additions::{create_object, start_digest};
 use crate::changes::Change;
 use ck_journal::{Base, Call};
 use ck_mac::RunningTag;
@@ -125,16 +125,7 @@ impl Parts {
                 hash,
                 key,
                 len,
-            } => start_hmac(
-                &mut self.operations,
-                &self.objects,
-                kind,
-                session,
-                hash,
-                key,
-                len,
-                entries,
-            ),
+            } => self.start_hmac(kind, session, hash, key, len, entries),
             Change::AddPiece { kind, session } => {
                 self.operations
                     .add_piece(kind, session, call.taken_bytes(), ready, entries)

@@ -70,6 +70,7 @@ fn calls_of(alloc: Global, script: &[u8], callers: u32) -> Result<Vec<(u32, Call
     let mut calls = Vec::new(alloc);
     let mut rest = script;
     let mut number = 1u64;
+    // The label is the loop's name in the proofs.
     'lines: while let Some((line, more)) = cut_line(rest) {
         add_line(&mut calls, alloc, line, number, callers)?;
         number = number.saturating_add(1);

@@ -1,6 +1,7 @@
-//! Counts of what the reads and writes of a device came to. They are read only by the contracts,
-//! which say by them how many times the end was found and a device failed, also where its bytes
-//! aren't known. Each count stops at the largest number of 64 bits.
+//! Counts of what the reads and writes of a device came to. Except for the reads of a
+//! `MemorySource`, only the contracts read them: they say by them how many times the end was found
+//! and a device failed, also where its bytes aren't known. Each count stops at the largest number
+//! of 64 bits.
 ghost use Rattle.std.specs.Prelude.{◌≡◌, ℕ, suc, List};
 ghost use Rattle.ck_plays.specs.Devices.{Reading, Writing, AreCounts, IsCount, after_read};
 ghost use Rattle.ck_plays.specs.Devices.{after_write};

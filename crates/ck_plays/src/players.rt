@@ -2,6 +2,8 @@
 ghost use Rattle.std.specs.Prelude.{◌≡◌, ◌++◌, ◌<◌, ◌≤◌, [], length, take, IfOk, IfErr};
 ghost use Rattle.std.specs.Prelude.{OnOk, OnErr};
 ghost use Rattle.ck_journal.specs.Answers.{answer};
+ghost use Rattle.ck_journal.specs.Bases.{empty_base};
+ghost use Rattle.ck_journal.specs.Histories.{start};
 ghost use Rattle.ck_script.specs.Replies.{reply_text};
 ghost use Rattle.ck_plays.specs.Devices.{Writing, wrote, failed_write};
 ghost use Rattle.ck_plays.specs.Players.{WriteFailed, IsUnwritten, IsRefused, IsCalled};
@@ -12,19 +14,20 @@ use crate::devices::Sink;
 use crate::faults::PlayFault;
 use ck_journal::{Call, JournaledToken};
 use ck_script::{BadLine, LONGEST_LINE, Line, LineError, cut_line, push_reply};
+use ck_types::Limits;
 use std::alloc::Global;
 use std::marker::Model;
 
 /// A token that is played a script. Contracts see the token, the open line and its number.
 #[derive(Drop)]
 pub(crate) struct Player<G: JournaledToken> {
-    pub(crate) token: G,
+    token: G,
     /// The beginning of the line that has no end yet.
-    pub(crate) open_line: Vec<u8>,
+    open_line: Vec<u8>,
     /// The text of the newest reply.
-    pub(crate) text: Vec<u8>,
+    text: Vec<u8>,
     /// The number of the open line, from 1.
-    pub(crate) number: u64,
+    number: u64,
 }
 
 impl<G: JournaledToken> Model for Player<G> {
@@ -41,6 +44,87 @@ impl<G: JournaledToken> Model for Player<G> {
       open_line = p.open_line.items;
       number = p.number;
     } };
+}
+
+impl<G: JournaledToken> Player<G> {
+    /// A new token of these limits, before the first line of a script.
+    pub(crate) fn new(alloc: Global, limits: Limits) -> Player<G>
+        ensures limits { result.token.limits ≡ limits }
+        ensures history { result.token.history ≡ start empty_base }
+        ensures open_line { result.open_line ≡ [] }
+        ensures number { result.number ≡ 1 }
+    {
+        Player {
+            token: G::new(alloc, limits),
+            open_line: Vec::new(alloc),
+            text: Vec::new(alloc),
+            number: 1,
+        }
+    }
+
+    /// Answers the open line, which has its end, and opens the next.
+    pub(crate) fn end_line<W: Sink>(
+        &mut self,
+        alloc: Global,
+        writer: &mut W,
+    ) -> Result<(), PlayFault>
+        ensures ok { OnOk result (AnswersLine self.old.open_line self.old.token self.old.number
+            (W.is_written writer.old) self.new.token self.new.number (W.is_written writer.new)) }
+        ensures emptied { OnOk result (self.new.open_line ≡ []) }
+        ensures err { IfErr result (StopsAtLine self.old.open_line self.old.token self.old.number
+            (W.is_written writer.old) (W.is_written writer.new)) }
+    {
+        answer_line(
+            &mut self.token,
+            &mut self.text,
+            alloc,
+            writer,
+            &self.open_line,
+            self.number,
+        )?;
+        self.open_line.clear();
+        self.number = self.number.saturating_add(1);
+        Ok(())
+    }
+
+    /// Completes the open line by its last piece, and answers it.
+    fn complete_line<W: Sink>(
+        &mut self,
+        alloc: Global,
+        writer: &mut W,
+        piece: &[u8],
+    ) -> Result<(), PlayFault>
+        ensures ok { OnOk result (AnswersLine (self.old.open_line ++ piece.now) self.old.token
+            self.old.number (W.is_written writer.old)
+            self.new.token self.new.number (W.is_written writer.new)) }
+        ensures emptied { OnOk result (self.new.open_line ≡ []) }
+        ensures err { IfErr result (StopsAtLine (self.old.open_line ++ piece.now) self.old.token
+            self.old.number (W.is_written writer.old) (W.is_written writer.new)) }
+    {
+        extend_open_line(&mut self.open_line, piece, self.number)?;
+        self.end_line(alloc, writer)
+    }
+
+    /// Answers the lines that end in this piece of a script, and keeps what follows them.
+    pub(crate) fn answer_chunk<W: Sink>(
+        &mut self,
+        alloc: Global,
+        writer: &mut W,
+        chunk: &[u8],
+    ) -> Result<(), PlayFault>
+        ensures ok { OnOk result (AnswersChunk chunk.now self.old (W.is_written writer.old)
+            self.new (W.is_written writer.new)) }
+        ensures err { IfErr result (StopsInChunk chunk.now self.old (W.is_written writer.old)
+            (W.is_written writer.new)) }
+    {
+        let mut rest = chunk;
+        // The label is the loop's name in the proofs.
+        'lines: while let Some((piece, more)) = cut_line(rest) {
+            self.complete_line(alloc, writer, piece)?;
+            rest = more;
+        }
+        extend_open_line(&mut self.open_line, rest, self.number)
+    }
 }
 
 /// Writes some of these bytes, or answers that the writer failed.
@@ -76,11 +160,7 @@ pub fn write_all<W: Sink>(writer: &mut W, bytes: &[u8]) -> Result<(), PlayFault>
 }
 
 /// Adds to the open line, of this number, what is next of it.
-pub(crate) fn extend_open_line(
-    open_line: &mut Vec<u8>,
-    piece: &[u8],
-    number: u64,
-) -> Result<(), PlayFault>
+fn extend_open_line(open_line: &mut Vec<u8>, piece: &[u8], number: u64) -> Result<(), PlayFault>
     ensures ok { OnOk result (open_line.new.items ≡ open_line.old.items ++ piece.now) }
     ensures err { IfErr result (IsRefused number (open_line.old.items ++ piece.now)) }
 {
@@ -134,68 +214,4 @@ fn answer_line<G: JournaledToken, W: Sink>(
         Err(LineError::Bad(reason)) => Err(PlayFault::Line(number, reason)),
         Err(LineError::Memory) => Err(PlayFault::Memory),
     }
-}
-
-/// Answers the open line, which has its end, and opens the next.
-pub(crate) fn end_line<G: JournaledToken, W: Sink>(
-    player: &mut Player<G>,
-    alloc: Global,
-    writer: &mut W,
-) -> Result<(), PlayFault>
-    ensures ok { OnOk result (AnswersLine player.old.open_line player.old.token
-        player.old.number (W.is_written writer.old)
-        player.new.token player.new.number (W.is_written writer.new)) }
-    ensures emptied { OnOk result (player.new.open_line ≡ []) }
-    ensures err { IfErr result (StopsAtLine player.old.open_line player.old.token
-        player.old.number (W.is_written writer.old) (W.is_written writer.new)) }
-{
-    answer_line(
-        &mut player.token,
-        &mut player.text,
-        alloc,
-        writer,
-        &player.open_line,
-        player.number,
-    )?;
-    player.open_line.clear();
-    player.number = player.number.saturating_add(1);
-    Ok(())
-}
-
-/// Completes the open line by its last piece, and answers it.
-fn complete_line<G: JournaledToken, W: Sink>(
-    player: &mut Player<G>,
-    alloc: Global,
-    writer: &mut W,
-    piece: &[u8],
-) -> Result<(), PlayFault>
-    ensures ok { OnOk result (AnswersLine (player.old.open_line ++ piece.now)
-        player.old.token player.old.number (W.is_written writer.old)
-        player.new.token player.new.number (W.is_written writer.new)) }
-    ensures emptied { OnOk result (player.new.open_line ≡ []) }
-    ensures err { IfErr result (StopsAtLine (player.old.open_line ++ piece.now)
-        player.old.token player.old.number (W.is_written writer.old) (W.is_written writer.new)) }
-{
-    extend_open_line(&mut player.open_line, piece, player.number)?;
-    end_line(player, alloc, writer)
-}
-
-/// Answers the lines that end in this piece of a script, and keeps what follows them.
-pub(crate) fn answer_chunk<G: JournaledToken, W: Sink>(
-    player: &mut Player<G>,
-    alloc: Global,
-    writer: &mut W,
-    chunk: &[u8],
-) -> Result<(), PlayFault>
-    ensures ok { OnOk result (AnswersChunk chunk.now player.old (W.is_written writer.old)
-        player.new (W.is_written writer.new)) }
-    ensures err { IfErr result (StopsInChunk chunk.now player.old (W.is_written writer.old)
-        (W.is_written writer.new)) }
-{
-    let mut rest = chunk;
-    'lines: while let Some((piece, more)) = cut_line(rest) {
-        complete_line(player, alloc, writer, piece)?;
-        rest = more;
-    }
-    extend_open_line(&mut player.open_line, rest, player.number)
 }

@@ -1,15 +1,13 @@
 //! Scripts that are read from a source, and answered to a sink.
-ghost use Rattle.std.specs.Prelude.{◌≡◌, ◌<◌, [], length, IfOk, IfErr};
+ghost use Rattle.std.specs.Prelude.{◌<◌, length, IfOk, IfErr};
 ghost use Rattle.ck_types.specs.TokenLimits.{Ranges};
 ghost use Rattle.ck_plays.specs.Devices.{Reading, Writing};
 ghost use Rattle.ck_plays.specs.Players.{IsReading, AnswersRead, StopsInRead};
-ghost use Rattle.ck_journal.specs.Bases.{empty_base};
-ghost use Rattle.ck_journal.specs.Histories.{start};
 ghost use Rattle.ck_plays.specs.Plays.{IsPlayed, most_reads};
 
 use crate::devices::{Sink, Source};
 use crate::faults::PlayFault;
-use crate::players::{Player, answer_chunk, end_line};
+use crate::players::Player;
 use crate::readings::{new_buffer, read_some};
 use ck_journal::JournaledToken;
 use ck_types::Limits;
@@ -49,22 +47,8 @@ pub fn play_with<G: JournaledToken, R: Source, W: Sink>(
         (R.is_read reader.new) (W.is_written writer.new) result }
 {
     let mut buffer = new_buffer(alloc)?;
-    let mut player = new_player::<G>(alloc, limits);
+    let mut player = Player::<G>::new(alloc, limits);
     play_on(&mut player, alloc, reader, writer, &mut buffer, most)
-}
-
-fn new_player<G: JournaledToken>(alloc: Global, limits: Limits) -> Player<G>
-    ensures limits { result.token.limits ≡ limits }
-    ensures history { result.token.history ≡ start empty_base }
-    ensures open_line { result.open_line ≡ [] }
-    ensures number { result.number ≡ 1 }
-{
-    Player {
-        token: G::new(alloc, limits),
-        open_line: Vec::new(alloc),
-        text: Vec::new(alloc),
-        number: 1,
-    }
 }
 
 fn play_on<G: JournaledToken, R: Source, W: Sink>(
@@ -82,6 +66,7 @@ fn play_on<G: JournaledToken, R: Source, W: Sink>(
         → IsPlayed limits most read written
         (R.is_read reader.new) (W.is_written writer.new) result }
 {
+    // The label is the loop's name in the proofs.
     'reading: for _read in 0..most {
         if answer_read(player, alloc, reader, writer, buffer)? {
             return Ok(());
@@ -107,9 +92,9 @@ fn answer_read<G: JournaledToken, R: Source, W: Sink>(
 {
     let count = read_some(reader, buffer)?;
     if count == 0 {
-        end_line(player, alloc, writer)?;
+        player.end_line(alloc, writer)?;
         return Ok(true);
     }
-    answer_chunk(player, alloc, writer, &buffer[..count])?;
+    player.answer_chunk(alloc, writer, &buffer[..count])?;
     Ok(false)
 }

@@ -48,6 +48,7 @@ fn read_to_end<R: Source>(
     ensures { (read : Reading) → R.is_read reader.old read
         → IsReadWhole most read (R.is_read reader.new) script.new.items result }
 {
+    // The label is the loop's name in the proofs.
     'reading: for _read in 0..most {
         let count = read_some(reader, buffer)?;
         if count == 0 {

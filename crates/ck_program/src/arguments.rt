@@ -72,10 +72,7 @@ pub fn options_of(alloc: Global, arguments: &[String]) -> Result<Options, Argume
     match command(alloc)?.try_get_matches_from(arguments) {
         Ok(matches) => options_in(&matches),
         Err(error) => match error.kind() {
-            ErrorKind::DisplayHelp => match format!(in alloc; "{error}") {
-                Ok(text) => Ok(Options::Help(text)),
-                Err(_) => Err(ArgumentFault::Memory),
-            },
+            ErrorKind::DisplayHelp => Ok(Options::Help(format!(in alloc; "{error}")?)),
             ErrorKind::OutOfMemory => Err(ArgumentFault::Memory),
             _ => Err(refusal(alloc, &error)),
         },

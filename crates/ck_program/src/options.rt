@@ -33,8 +33,8 @@ pub enum BadArguments {
     /// The value of `--callers` is no number of callers.
     #[error("--callers takes a number from 1 to {MOST_CALLERS}")]
     Callers,
-    #[error("they can't be read")]
-    Unreadable,
+    #[error("an argument isn't text in UTF-8")]
+    NotText,
 }
 
 /// Why the arguments say nothing of what to do.
@@ -49,7 +49,7 @@ impl From<io::Error> for ArgumentFault {
     fn from(error: io::Error) -> ArgumentFault {
         match error.kind() {
             io::ErrorKind::OutOfMemory => ArgumentFault::Memory,
-            _ => ArgumentFault::Bad(BadArguments::Unreadable),
+            _ => ArgumentFault::Bad(BadArguments::NotText),
         }
     }
 }

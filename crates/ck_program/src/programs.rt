@@ -123,7 +123,7 @@ pub fn run<G: JournaledToken + Send, R: Source, W: Sink, RT: Eprint + Runtime>(
 }
 
 /// Does what `run` does, with a reader and a writer of std that haven't been used. It need not be
-/// known which bytes they give and hold: the contract is about what was counted.
+/// known which bytes they give and hold: of these the contract says only what was counted.
 pub fn run_on_std<G: JournaledToken + Send, R: io::Read, W: io::Write, RT: Eprint + Runtime>(
     rt: RT,
     alloc: Global,
@@ -133,10 +133,30 @@ pub fn run_on_std<G: JournaledToken + Send, R: io::Read, W: io::Write, RT: Eprin
 ) -> u8
     requires unread { reader.old.counts ≡ record { reads = 0; ends = 0; failures = 0 } }
     requires unwritten { writer.old.failures ≡ 0 }
+    ensures status { (result ≡ 0) ⊎ (result ≡ 1) ⊎ (result ≡ 2) ⊎ (result ≡ 3) }
+
+    // Bad arguments: nothing is read or written.
+    ensures bad_arguments { result ≡ 2
+        ↔ (reason : BadArguments) × (options ≡ Err (ArgumentFault.Bad reason)) }
+    ensures untouched { result ≡ 2
+        → (reader.new ≡ reader.old) × (writer.new ≡ writer.old) }
+
+    // No memory to read the arguments.
+    ensures without_memory { options ≡ Err ArgumentFault.Memory
+        → (result ≡ 3) × (reader.new ≡ reader.old) × (writer.new ≡ writer.old) }
+
+    // What they ask for: it is done, or stopped by a fault.
     ensures end_found { (chosen : Options) → options ≡ Ok chosen → IsPlay chosen → result ≡ 0
         → (reader.new.counts.ends ≡ 1) × (reader.new.counts.failures ≡ 0) }
     ensures all_written { (chosen : Options) → options ≡ Ok chosen → result ≡ 0
         → writer.new.failures ≡ 0 }
+    ensures stopped { (chosen : Options) → options ≡ Ok chosen → (result ≡ 1) ⊎ (result ≡ 3)
+        → (fault : ProgramFault) × (status_of fault ≡ result)
+        × ((read : Reading) (written : Writing)
+        → ⟦<ReadSource<R> as Source>⟧.is_read reader.old read
+        → ⟦<WriteSink<W> as Sink>⟧.is_written writer.old written
+        → IsDone chosen read written (⟦<ReadSource<R> as Source>⟧.is_read reader.new)
+        (⟦<WriteSink<W> as Sink>⟧.is_written writer.new) (Err fault)) }
 {
     run::<G, ReadSource<R>, WriteSink<W>, RT>(rt, alloc, options, reader, writer)
 }

@@ -59,7 +59,7 @@ fn script_of<K: TokenId>(
     ensures number { IfOk result (λ script. script.caller.number ≡ caller.number) }
 {
     let own = calls_by(alloc, calls, caller.number())?;
-    Script::new(alloc, caller, own).ok().ok_or(NoMemory)
+    Script::new(alloc, caller, own).map_err(|_| NoMemory)
 }
 
 /// For each caller a script of its calls.

@@ -1,5 +1,5 @@
 //! A script that is cut behind each of its bytes. What is left of a line may be another call.
-use crate::devices::{Devices, check_play};
+use crate::devices::{Devices, End, check_play};
 use std::alloc::Global;
 use std::process::Abort;
 use std::test::Fail;
@@ -36,11 +36,6 @@ const BEGINNINGS: [Answered; 13] = [
     ("1 GetAttributeValue 1 1 3:8", "0 =6162"),
 ];
 
-/// How playing ends where the line of this index is bad.
-const BAD_LINES: [&str; 8] = [
-    "line 1", "line 2", "line 3", "line 4", "line 5", "line 6", "line 7", "line 8",
-];
-
 /// The reply to what is left of a line, where that is a call.
 fn reply_to(beginning: &[u8]) -> Option<&'static str> {
     BEGINNINGS
@@ -74,9 +69,9 @@ fn check_cuts(rt: &impl Abort, alloc: Global, index: usize) -> Result<(), Fail> 
             reply_to(left)
         };
         let end = if came.is_some() || left.is_empty() {
-            "played"
+            End::Played
         } else {
-            BAD_LINES.get(index).copied().unwrap_or("")
+            End::Line((index as u64).saturating_add(1))
         };
         if let Some(came) = came {
             write!(replies, "{came}\n")?;

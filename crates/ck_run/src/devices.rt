@@ -37,56 +37,59 @@ impl Devices {
     }
 }
 
-/// How playing ends: as the program's text without a bad line's reason, or as `played`.
-fn end_text(played: Result<(), PlayFault>) -> &'static str {
+/// How playing ends. Of a bad line only the number counts.
+#[derive(Clone, Copy, Debug, PartialEq)]
+pub(crate) enum End {
+    Played,
+    Line(u64),
+    Read,
+    Write,
+    Memory,
+    Endless,
+}
+
+/// How playing ends with this result.
+fn end_of(played: Result<(), PlayFault>) -> End {
     match played {
-        Ok(()) => "played",
-        Err(PlayFault::Line(1, _)) => "line 1",
-        Err(PlayFault::Line(2, _)) => "line 2",
-        Err(PlayFault::Line(3, _)) => "line 3",
-        Err(PlayFault::Line(4, _)) => "line 4",
-        Err(PlayFault::Line(5, _)) => "line 5",
-        Err(PlayFault::Line(6, _)) => "line 6",
-        Err(PlayFault::Line(7, _)) => "line 7",
-        Err(PlayFault::Line(8, _)) => "line 8",
-        Err(PlayFault::Line(_, _)) => "a later line",
-        Err(PlayFault::Read) => "read fault",
-        Err(PlayFault::Write) => "write fault",
-        Err(PlayFault::Memory) => "out of memory",
-        Err(PlayFault::Turns) => "reader does not end",
+        Ok(()) => End::Played,
+        Err(PlayFault::Line(number, _)) => End::Line(number),
+        Err(PlayFault::Read) => End::Read,
+        Err(PlayFault::Write) => End::Write,
+        Err(PlayFault::Memory) => End::Memory,
+        Err(PlayFault::Turns) => End::Endless,
     }
 }
 
 /// Plays a script, and says how that ends.
-fn play(alloc: Global, script: &[u8], devices: Devices, writer: &mut MemorySink) -> &'static str {
+fn play(alloc: Global, script: &[u8], devices: Devices, writer: &mut MemorySink) -> End {
     let limits = Limits::largest();
     let mut reader = devices.reader(script);
-    end_text(play_with::<Token, _, _>(alloc, limits, &mut reader, writer, devices.most_reads))
+    end_of(play_with::<Token, _, _>(alloc, limits, &mut reader, writer, devices.most_reads))
 }
 
-/// Plays a script: these replies are written, and playing ends as `end` says.
+/// Plays a script: these replies are written, and playing ends so.
 pub(crate) fn check_play(
     rt: &impl Abort,
     alloc: Global,
     script: &[u8],
     devices: Devices,
     replies: &[u8],
-    end: &str,
+    end: End,
 ) {
     let mut writer = devices.writer(alloc);
     let ended = play(alloc, script, devices, &mut writer);
     assert!(rt;
         writer.as_slice() == replies && ended == end,
-        "{script:?}: {ended}"
+        "{script:?}: {ended:?}"
     );
 }
 
-/// Plays a script that is a text: these replies are written, and playing ends as `end` says.
+/// Plays a script that is a text: these replies are written, and playing ends so.
 pub(crate) fn check_script(
     rt: &impl Abort,
     alloc: Global,
     devices: Devices,
-    (script, replies, end): (&str, &str, &str),
+    (script, replies, end): (&str, &str, End),
 ) {
     let (script, replies) = (script.as_bytes(), replies.as_bytes());
     check_play(rt, alloc, script, devices, replies, end);

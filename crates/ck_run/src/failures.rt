@@ -1,5 +1,5 @@
 //! Readers and writers that fail, and readers that do not end in time.
-use crate::devices::{Devices, check_play};
+use crate::devices::{Devices, End, check_play};
 
 /// Three lines of 16 bytes.
 const SCRIPT: &[u8] = b"1 OpenSession 6\n1 SignFinal 7 ?\n1 OpenSession 4\n";
@@ -19,27 +19,20 @@ fn lines_are_answered_before_the_next_read(rt: HostRuntime) {
         let replies = front(REPLIES, (count / 16).saturating_mul(3));
         let mut failing = Devices::of(1);
         failing.read_fails_at = (count as u64).saturating_add(1);
-        check_play(&rt, rt.alloc(), SCRIPT, failing, replies, "read fault");
+        check_play(&rt, rt.alloc(), SCRIPT, failing, replies, End::Read);
         let mut ending = Devices::of(1);
         ending.most_reads = count as u64;
-        check_play(
-            &rt,
-            rt.alloc(),
-            SCRIPT,
-            ending,
-            replies,
-            "reader does not end",
-        );
+        check_play(&rt, rt.alloc(), SCRIPT, ending, replies, End::Endless);
     }
     let mut one_more = Devices::of(1);
     one_more.most_reads = 49;
-    check_play(&rt, rt.alloc(), SCRIPT, one_more, REPLIES, "played");
+    check_play(&rt, rt.alloc(), SCRIPT, one_more, REPLIES, End::Played);
 }
 
 /// A comment of two bytes and its end take three reads, and one more finds the end of the script.
 #[test]
 fn the_end_is_found_by_a_read(rt: HostRuntime) {
-    for (most_reads, end) in [(3, "reader does not end"), (4, "played")] {
+    for (most_reads, end) in [(3, End::Endless), (4, End::Played)] {
         let devices = Devices {
             most_reads,
             ..Devices::of(1)
@@ -56,9 +49,9 @@ fn a_writer_that_fails_has_a_beginning_of_the_replies(rt: HostRuntime) {
         let replies = front(REPLIES, count);
         let mut failing = Devices::of(1);
         failing.write_fails_at = next;
-        check_play(&rt, rt.alloc(), SCRIPT, failing, replies, "write fault");
+        check_play(&rt, rt.alloc(), SCRIPT, failing, replies, End::Write);
         let mut stopping = Devices::of(1);
         stopping.write_stops_at = next;
-        check_play(&rt, rt.alloc(), SCRIPT, stopping, replies, "write fault");
+        check_play(&rt, rt.alloc(), SCRIPT, stopping, replies, End::Write);
     }
 }

@@ -1,11 +1,11 @@
 //! Lines of the greatest length and longer, and templates of many items.
-use crate::devices::{Devices, check_play, check_script};
+use crate::devices::{Devices, End, check_play, check_script};
 use ck_script::LONGEST_LINE;
 use std::alloc::Global;
 use std::process::Abort;
 use std::test::Fail;
 
-/// How many bytes a line may have without its end.
+/// How many bytes a line may have, written out again so that another `LONGEST_LINE` is noticed.
 const LONGEST: usize = 4_194_304;
 
 /// Plays a comment of `length` bytes, and behind it a call.
@@ -14,7 +14,7 @@ fn check_comment(
     alloc: Global,
     length: usize,
     replies: &str,
-    end: &str,
+    end: End,
 ) -> Result<(), Fail> {
     let mut script = vec![in alloc; b'#'; length]?;
     script.extend_from_slice(b"\n1 GetTokenInfo")?;
@@ -26,8 +26,8 @@ fn check_comment(
 #[test]
 fn a_comment_may_be_as_long_as_a_line(rt: HostRuntime) -> Result<(), Fail> {
     let alloc = rt.alloc();
-    check_comment(&rt, alloc, LONGEST, "0 4 64 0 0\n", "played")?;
-    check_comment(&rt, alloc, LONGEST + 1, "", "line 1")
+    check_comment(&rt, alloc, LONGEST, "0 4 64 0 0\n", End::Played)?;
+    check_comment(&rt, alloc, LONGEST + 1, "", End::Line(1))
 }
 
 /// How many times a template of a data object gives its label, which is `a`.
@@ -49,7 +49,7 @@ fn check_template(rt: &impl Abort, alloc: Global, last: &str, reply: &str) -> Re
         rt,
         alloc,
         devices,
-        (script.as_str(), replies.as_str(), "played"),
+        (script.as_str(), replies.as_str(), End::Played),
     );
     Ok(())
 }

@@ -1,5 +1,5 @@
-//! Hands what the arguments ask for, standard input and standard output to what plays scripts on a
-//! token.
+//! The program ck_run: does what its arguments ask for, from standard input to standard output. The
+//! test modules are those of the program and of the libraries below it.
 #![tactic(auto)]
 
 #[cfg(test)]

@@ -1,5 +1,5 @@
 //! Scripts, the replies to them, and how playing ends.
-use crate::devices::{Devices, check_script};
+use crate::devices::{Devices, End, check_script};
 use ck_plays::{PlayFault, play_with};
 use ck_script::{BadLine, LONGEST_LINE};
 use ck_token::{Limits, Token};
@@ -8,37 +8,37 @@ use std::process::Abort;
 use std::test::Fail;
 
 /// A script, the replies to it, and how playing ends.
-type Play = (&'static str, &'static str, &'static str);
+type Play = (&'static str, &'static str, End);
 
 #[rattlefmt::skip]
 const PLAYS: [Play; 27] = [
-    ("# x", "", "played"),
-    ("", "", "played"),
-    ("\n\n# x\n", "", "played"),
-    ("\n\n# x\nNope", "", "line 4"),
-    ("\nNope\n# x\nNope\n", "", "line 2"),
-    ("1 InitToken 31323334", "0\n", "played"),
-    ("1 InitToken 31323334\n", "0\n", "played"),
-    ("1 InitToken 31323334\n\n# x\n1 Nope", "0\n", "line 4"),
-    ("1 InitToken 31323334\n\n# x\n1 Nope\n1 InitToken 31\n", "0\n", "line 4"),
-    ("1 InitTok", "", "line 1"),
-    ("1 InitToken ", "", "line 1"),
-    ("1 InitToken 31", "a2\n", "played"),
-    ("1 InitToken 313", "", "line 1"),
-    ("1 InitToken 31\n2 InitToken 31323334\n", "a2\n0\n", "played"),
-    ("1 InitToken 31323334\n1 OpenSession 6\n1 CreateObject 1 0=00", "0\n0 1\n13\n", "played"),
-    ("1 InitToken 31323334\n1 OpenSession 6\n1 CreateObject 1 3=61", "0\n0 1\nd0\n", "played"),
-    ("1 InitToken 31323334\n1 OpenSession 6\n1 CreateObject 1 3=6", "0\n0 1\n", "line 3"),
-    ("1 OpenSession E", "", "line 1"),
-    ("1 OpenSession 06", "", "line 1"),
-    ("1  OpenSession 6", "", "line 1"),
-    ("1 OpenSession 6 ", "", "line 1"),
-    ("1 OpenSession 6\r", "", "line 1"),
-    ("9 OpenSession 6", "", "line 1"),
-    ("1 CloseSession 18446744073709551616", "", "line 1"),
-    ("1 CreateObject 1 0=", "", "line 1"),
-    ("1 CreateObject 1 3=61,", "", "line 1"),
-    ("1 InitToken 3", "", "line 1"),
+    ("# x", "", End::Played),
+    ("", "", End::Played),
+    ("\n\n# x\n", "", End::Played),
+    ("\n\n# x\nNope", "", End::Line(4)),
+    ("\nNope\n# x\nNope\n", "", End::Line(2)),
+    ("1 InitToken 31323334", "0\n", End::Played),
+    ("1 InitToken 31323334\n", "0\n", End::Played),
+    ("1 InitToken 31323334\n\n# x\n1 Nope", "0\n", End::Line(4)),
+    ("1 InitToken 31323334\n\n# x\n1 Nope\n1 InitToken 31\n", "0\n", End::Line(4)),
+    ("1 InitTok", "", End::Line(1)),
+    ("1 InitToken ", "", End::Line(1)),
+    ("1 InitToken 31", "a2\n", End::Played),
+    ("1 InitToken 313", "", End::Line(1)),
+    ("1 InitToken 31\n2 InitToken 31323334\n", "a2\n0\n", End::Played),
+    ("1 InitToken 31323334\n1 OpenSession 6\n1 CreateObject 1 0=00", "0\n0 1\n13\n", End::Played),
+    ("1 InitToken 31323334\n1 OpenSession 6\n1 CreateObject 1 3=61", "0\n0 1\nd0\n", End::Played),
+    ("1 InitToken 31323334\n1 OpenSession 6\n1 CreateObject 1 3=6", "0\n0 1\n", End::Line(3)),
+    ("1 OpenSession E", "", End::Line(1)),
+    ("1 OpenSession 06", "", End::Line(1)),
+    ("1  OpenSession 6", "", End::Line(1)),
+    ("1 OpenSession 6 ", "", End::Line(1)),
+    ("1 OpenSession 6\r", "", End::Line(1)),
+    ("9 OpenSession 6", "", End::Line(1)),
+    ("1 CloseSession 18446744073709551616", "", End::Line(1)),
+    ("1 CreateObject 1 0=", "", End::Line(1)),
+    ("1 CreateObject 1 3=61,", "", End::Line(1)),
+    ("1 InitToken 3", "", End::Line(1)),
 ];
 
 fn check_plays(rt: &impl Abort, alloc: Global, plays: &[Play], devices: Devices) {
@@ -82,7 +82,7 @@ fn check_messages(rt: &impl Abort, alloc: Global, rows: &[(usize, &str)]) -> Res
     for (count, replies) in rows {
         let script = digest_script(alloc, *count)?;
         let devices = Devices::of(LONGEST_LINE);
-        check_script(rt, alloc, devices, (script.as_str(), replies, "played"));
+        check_script(rt, alloc, devices, (script.as_str(), replies, End::Played));
     }
     Ok(())
 }

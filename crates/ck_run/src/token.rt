@@ -1,8 +1,8 @@
-//! What the cases of ck_cases don't show: of a token an empty journal, room for entries, runs, and
-//! that a long template is checked in time.
+//! What no file of cases shows: an empty journal, `reserve` and `run`, the longest piece of a
+//! message, and the check of a template of 600,000 items.
 use ck_token::{
     Attribute, AttributeValue, Bytes, Call, Item, Limits, Mechanism, NoMemory, Pin, READ_WRITE, Rv,
-    RvError, SHA256, Sequence, Template, Token, run,
+    RvError, SHA256, Sequence, Template, Token, UserType, run,
 };
 use std::alloc::Global;
 use std::process::Abort;
@@ -32,29 +32,33 @@ fn a_run_enters_its_calls(rt: HostRuntime) -> Result<(), Fail> {
     check_run(&rt, rt.alloc(), &mut token)
 }
 
-/// The calls that digest this many bytes in one update, in session 1.
+/// The calls by which a user logs in and digests this many bytes in one update, in session 1.
 fn digest_calls(alloc: Global, count: usize) -> Result<Vec<(u32, Call)>, NoMemory> {
     let session = 1;
-    let pin = Pin::of(b"1234");
+    let (so, user) = (Pin::of(b"1234"), Pin::of(b"5678"));
     let flags = READ_WRITE;
     let mechanism = Mechanism::new(alloc, SHA256);
     let bytes = Bytes::from_vec(vec![in alloc; b'a'; count]?);
     let room = Some(32);
     Ok(vec![in alloc;
-        (1, Call::InitToken { pin }),
+        (1, Call::InitToken { pin: so }),
         (1, Call::OpenSession { flags }),
+        (1, Call::login(session, UserType::So, so)),
+        (1, Call::InitPin { session, pin: user }),
+        (1, Call::Logout { session }),
+        (1, Call::login(session, UserType::User, user)),
         (1, Call::DigestInit { session, mechanism }),
         (1, Call::DigestUpdate { session, bytes }),
         (1, Call::DigestFinal { session, room }),
     ]?)
 }
 
-/// The codes that a run answers to an update with this many bytes and to the final call.
+/// The codes that a run answers to `digest_calls`.
 fn digest_codes(alloc: Global, count: usize) -> Result<Vec<Rv>, Fail> {
     let mut token = Token::new(alloc, Limits::largest());
     run(&mut token, alloc, digest_calls(alloc, count)?)?;
     let mut codes = Vec::new(alloc);
-    for entry in token.journal().iter().skip(3) {
+    for entry in token.journal().iter() {
         codes.push(entry.reply.rv)?;
     }
     Ok(codes)
@@ -64,13 +68,13 @@ fn digest_codes(alloc: Global, count: usize) -> Result<Vec<Rv>, Fail> {
 #[test]
 fn the_longest_piece(rt: HostRuntime) -> Result<(), Fail> {
     let codes = digest_codes(rt.alloc(), 0x10_0000)?;
-    assert!(rt; codes.as_slice() == [Rv::Ok, Rv::Ok].as_slice());
+    assert!(rt; codes.as_slice() == [Rv::Ok; 9].as_slice());
     let codes = digest_codes(rt.alloc(), 0x10_0001)?;
     let refused = [
         Rv::Error(RvError::DataLenRange),
         Rv::Error(RvError::OperationNotInitialized),
     ];
-    assert!(rt; codes.as_slice() == refused.as_slice());
+    assert!(rt; codes.as_slice().ends_with(&refused));
     Ok(())
 }
 
@@ -85,8 +89,9 @@ fn add_items(alloc: Global, items: &mut Vec<Item>, attribute: Attribute) -> Resu
     Ok(())
 }
 
-/// A template of many items, the first of whose second type stands in the middle, is checked
-/// in time.
+/// A template of many items, the first of whose second type stands in the middle. Nothing measures
+/// the time, but a check that compared each item with each other would run for minutes, and `rt ci`
+/// ends a test that takes so long.
 #[test]
 fn many_items(rt: HostRuntime) -> Result<(), Fail> {
     let mut items = Vec::new(rt.alloc());

@@ -70,7 +70,8 @@ fn numeral_value(digits: &[u8], base: u32) -> Result<u64, NumberError>
     }
     match str::from_utf8(digits) {
         Ok(text) => u64::from_str_radix(text, base).map_err(|_| NumberError::TooLarge),
-        Err(_) => Err(NumberError::TooLarge),
+        // Digits are text.
+        Err(_) => unreachable!(),
     }
 }
 

@@ -13,4 +13,4 @@ mod splits;
 pub use call_names::{Arity, CallName};
 pub use line_errors::{BadLine, LineError, NumberError};
 pub use lines::{LONGEST_LINE, Line, cut_line};
-pub use replies::{push_reply, reply_line};
+pub use replies::{push_line, push_reply, reply_line};

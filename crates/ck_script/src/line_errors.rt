@@ -30,9 +30,10 @@ pub enum BadLine {
     ByteOrderMark,
     #[error("a carriage return stands at the end of the line")]
     CarriageReturn,
-    #[error("a tab stands in the line, whose words stand between single spaces")]
+    #[error("there is a tab in the line: single spaces separate its words")]
     Tab,
-    #[error("a space too many stands in the line, whose words stand between single spaces")]
+    #[error("there are two spaces in a row, or one at an end of the line: \
+        single spaces separate its words")]
     Space,
     #[error("a line is a caller, a call and its arguments")]
     NoCall,

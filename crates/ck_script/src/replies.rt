@@ -171,7 +171,8 @@ fn push_body(out: &mut Vec<u8>, body: &Body) -> Result<(), NoMemory>
     }
 }
 
-fn push_line(out: &mut Vec<u8>, reply: &Reply) -> Result<(), NoMemory>
+/// Appends the text of a reply, without a line end.
+pub fn push_line(out: &mut Vec<u8>, reply: &Reply) -> Result<(), NoMemory>
     ensures { OnOk result (out.new.items ≡ out.old.items ++ reply_line reply.now) }
 {
     push_number(out, reply.rv.number(), 16)?;

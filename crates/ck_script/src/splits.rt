@@ -9,7 +9,8 @@ pub(crate) fn position_of(separator: u8, text: &[u8]) -> Option<usize>
     text.iter().position(|byte| *byte == separator)
 }
 
-/// The parts of a text that a separator leaves, from the next one on.
+/// The parts of a text that a separator leaves, from the next one on. std's `split` has a closure
+/// in its type, and `Arguments` holds this.
 #[derive(Drop)]
 pub(crate) struct Split<'a> {
     separator: u8,

@@ -1,10 +1,8 @@
 -- How the rows of sessions move with their searches
-use Rattle.std.proofs.Common.{◌≡◌, ℕ, suc, ◌≤◌, Bool, true, false, cond, not, ◌&&◌, List, [], ◌++◌}
-use Rattle.std.proofs.Common.{length, take, drop, Option, Some, None, refl, sym, ap, ◌∙◌, subst}
-use Rattle.std.proofs.Common.{arith}
+use Rattle.std.proofs.Common.{◌≡◌, ℕ, suc, ◌≤◌, Bool, true, false, cond, not, ◌&&◌, List, []}
+use Rattle.std.proofs.Common.{Option, Some, None, refl, sym, ap, ◌∙◌, subst}
 use Rattle.std.specs.Prelude.{◌==◌, map, option_map, is_some, is_none}
 use Rattle.std.proofs.lemmas.Bool.{eqb-true, and_parts, not-true}
-use Rattle.std.proofs.lemmas.List.{append-nil, length-map, take_all, drop_all}
 use Rattle.ck_journal.specs.declared.calls.Call.{Call}
 use Rattle.ck_journal.specs.declared.calls.Call.TheVariants as call
 use Rattle.ck_journal.specs.declared.calls.Entry.{Entry}
@@ -211,14 +209,3 @@ module _ (e : Entry) (h : History) where
     session_rows-found n last =
         session_rows-searched (ap opens d) (λ s. ap (λ x. closes x s) d) session (with_last_found n)
         (found-here n last) found-there
-
--- all rows written over
-pub written_over : (change : SessionRow → SessionRow) (n : ℕ) (new old items : List SessionRow)
-    → new ≡ map change old
-    → old ≡ items → length old ≡ n
-    → take n (new ++ drop (length new) items) ≡ map change items
-written_over change n new old items is same count =
-    let all : length new ≡ length items = ap length is ∙ length-map old change ∙ ap length same in
-    let count' : length items ≡ n = ap length (sym same) ∙ count in
-    ap (λ rest. take n (new ++ rest)) (drop_all (length new) items (omega arith))
-    ∙ ap (take n) (append-nil new) ∙ take_all n new (omega arith) ∙ is ∙ ap (map change) same

@@ -79,10 +79,7 @@ impl Session {
         ensures { (h : History) (s : ℕ) → self.now ≡ session_row h s
             → option_copied result ≡ search_left h s }
     {
-        match &self.search {
-            None => None,
-            Some(search) => Some(search.remaining()),
-        }
+        Some(self.search.as_ref()?.remaining())
     }
 
     /// The number of the object that its search returned last; 0 where it has returned none, or

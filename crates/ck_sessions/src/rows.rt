@@ -1,3 +1,5 @@
+//! What is done with the rows alone. These clauses speak of a list, and those of `Sessions` of a
+//! history, so each proof has one thing to show.
 ghost use Rattle.std.specs.Prelude.{◌≡◌, ◌+◌, ◌≤◌, ◌++◌, not, filter, find, length, map, position};
 ghost use Rattle.std.specs.Prelude.{None};
 ghost use Rattle.std.specs.List.{list_any};
@@ -37,6 +39,7 @@ pub(crate) fn remove_session(rows: &mut Vec<Session>, session: u64)
     rows.retain(|row| !row.has_handle(session));
 }
 
+// By position: no contract says what becomes of a row that `iter_mut().find` lends.
 fn position_of(rows: &[Session], session: u64) -> Option<usize>
     ensures { result ≡ position (is_session session) rows.now }
 {
@@ -44,24 +47,20 @@ fn position_of(rows: &[Session], session: u64) -> Option<usize>
 }
 
 /// Makes this the session's search; `None` ends its search.
-pub(crate) fn set_search(rows: &mut Vec<Session>, session: u64, search: Option<Search>)
-    ensures { rows.new.items
-        ≡ change_first (is_session session) (with_search search) rows.old.items }
+pub(crate) fn set_search(rows: &mut [Session], session: u64, search: Option<Search>)
+    ensures { rows.new ≡ change_first (is_session session) (with_search search) rows.old }
 {
     if let Some(position) = position_of(rows, session) {
-        let row = &mut rows[position];
-        row.set_search(search);
+        rows[position].set_search(search);
     }
 }
 
 /// Notes the number of the object that the session's search returned last.
-pub(crate) fn set_last_found(rows: &mut Vec<Session>, session: u64, number: u64)
-    ensures { rows.new.items
-        ≡ change_first (is_session session) (with_last_found number) rows.old.items }
+pub(crate) fn set_last_found(rows: &mut [Session], session: u64, number: u64)
+    ensures { rows.new ≡ change_first (is_session session) (with_last_found number) rows.old }
 {
     if let Some(position) = position_of(rows, session) {
-        let row = &mut rows[position];
-        row.set_last_found(number);
+        rows[position].set_last_found(number);
     }
 }
 

@@ -265,7 +265,7 @@ impl Sessions {
         }
     }
 
-    /// Opens a session with these flags, where there is room for it, and takes no memory.
+    /// Opens a session with these flags. There must be room for it; this takes no memory.
     pub fn open_session(&mut self, flags: u64)
         requires room { 0 < self.old.spare }
         requires openings { self.old.openings + 1 < 2 ^ 64 }
@@ -323,7 +323,7 @@ impl Sessions {
             → SessionsAgree h self.old → SessionsAgree (e ◁ h) self.new }
     {
         self.login = None;
-        end_searches(self.rows.as_mut_slice());
+        end_searches(&mut self.rows);
     }
 
     /// Starts a search of the session that found the objects of these numbers; `None` ends the

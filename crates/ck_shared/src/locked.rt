@@ -17,7 +17,8 @@ use std::sync::Wait;
 /// see the token.
 #[derive(Drop)]
 pub struct Locked<K: TokenId, G: JournaledToken, R: Wait + Drop>
-// A field's type may rest only on bounds that its holder repeats.
+// `impl Absorb for BoardCopy` gives this bound. The prover wants it repeated, since a field's type
+// needs it.
 where
     BoardCopy<K>: Absorb<EntrySlot<K>, State = ()>,
 {
@@ -49,18 +50,19 @@ where
         (published l.writer) × (pending l.writer ≡ []) };
 }
 
-/// Makes a slot for a call that may change the board, one handle of which is then pending.
+/// Makes a slot for the board after a call, one handle of which is then pending. `None` where the
+/// call leaves the board as it is.
 fn add_slot<K: TokenId, R: Wait + Drop>(
     alloc: Global,
     writer: &mut WriteHandle<BoardCopy<K>, EntrySlot<K>, R>,
-    leaves: bool,
+    keeps_board: bool,
 ) -> Result<Option<EntrySlot<K>>, NoMemory>
     ensures published { published writer.new ≡ published writer.old }
     ensures unchanged { OnErr result (pending writer.new ≡ pending writer.old) }
     ensures none { IfOk result (λ slot. IfNone slot
-        (IsTrue leaves × (pending writer.new ≡ pending writer.old))) }
+        (IsTrue keeps_board × (pending writer.new ≡ pending writer.old))) }
 {
-    if leaves {
+    if keeps_board {
         return Ok(None);
     }
     let (slot, pending) = EntrySlot::vacant(alloc)?;
@@ -70,8 +72,8 @@ fn add_slot<K: TokenId, R: Wait + Drop>(
     }
 }
 
-/// Shows the token's board by way of a slot, which is pending.
-fn show<K: TokenId, G: JournaledToken, R: Wait + Drop, W: Wait>(
+/// Fills a pending slot with the token's board and publishes it.
+fn publish_slot<K: TokenId, G: JournaledToken, R: Wait + Drop, W: Wait>(
     rt: &W,
     writer: &mut WriteHandle<BoardCopy<K>, EntrySlot<K>, R>,
     slot: &EntrySlot<K>,
@@ -94,8 +96,8 @@ fn show<K: TokenId, G: JournaledToken, R: Wait + Drop, W: Wait>(
     unreachable!()
 }
 
-/// Shows the token's board by way of a slot. Where there is none, it is shown already.
-fn show_by<K: TokenId, G: JournaledToken, R: Wait + Drop, W: Wait>(
+/// Publishes the token's board by way of a slot. Where there is none, it is published already.
+fn publish_board<K: TokenId, G: JournaledToken, R: Wait + Drop, W: Wait>(
     rt: &W,
     writer: &mut WriteHandle<BoardCopy<K>, EntrySlot<K>, R>,
     slot: Option<EntrySlot<K>>,
@@ -104,13 +106,13 @@ fn show_by<K: TokenId, G: JournaledToken, R: Wait + Drop, W: Wait>(
 )
     requires limits { (G.state token.now).limits ≡ K.limits }
     requires history { known.now.history ≡ (G.state token.now).history }
-    requires shown { IfNone slot (Covers known.now (published writer.old)
+    requires published { IfNone slot (Covers known.now (published writer.old)
         × (pending writer.old ≡ [])) }
     ensures board { Covers known.now (published writer.new) }
     ensures pending { pending writer.new ≡ [] }
 {
     if let Some(slot) = slot {
-        show(rt, writer, &slot, token, known);
+        publish_slot(rt, writer, &slot, token, known);
     }
 }
 
@@ -190,11 +192,10 @@ impl<K: TokenId, G: JournaledToken, R: Wait + Drop> Locked<K, G, R> {
 
     /// Takes a caller back: its entries are those of its calls, and what it knows is a front of the
     /// history.
-    pub(crate) fn settle<W: Wait>(&mut self, rt: &W, caller: Caller<K>)
+    pub(crate) fn settle<W: Wait>(&mut self, rt: &W, mut caller: Caller<K>)
         ensures same { self.new ≡ self.old }
         ensures settled { IsSettled self.old.history caller }
     {
-        let mut caller = caller;
         caller.compare(&mut self.books);
         show_front(rt, caller.known().front(), self.known.front());
     }
@@ -208,6 +209,7 @@ impl<K: TokenId, G: JournaledToken, R: Wait + Drop> Locked<K, G, R> {
     {
         // Tells the prover that the history goes on from the base.
         let _entries = self.known.front().len();
+        // The board's writer is dropped here, which is what may wait.
         self.token
     }
 
@@ -276,10 +278,10 @@ impl<K: TokenId, G: JournaledToken, R: Wait + Drop> Locked<K, G, R> {
     {
         // By the account, whose contract says that the number is one of the token's callers.
         let number = caller.account().number();
-        let leaves = call.leaves_board();
-        let slot = add_slot(alloc, &mut self.writer, leaves)?;
+        let keeps_board = call.keeps_board();
+        let slot = add_slot(alloc, &mut self.writer, keeps_board)?;
         let Ok(reply) = self.token.call_after(alloc, number, call, work) else {
-            show_by(rt, &mut self.writer, slot, &self.token, &self.known);
+            publish_board(rt, &mut self.writer, slot, &self.token, &self.known);
             return Err(NoMemory);
         };
         // Tells the prover that one more entry can be counted.
@@ -292,9 +294,9 @@ impl<K: TokenId, G: JournaledToken, R: Wait + Drop> Locked<K, G, R> {
             caller.known().front(),
             &self.token,
         );
-        self.known.follow(&front, number, leaves);
+        self.known.follow(&front, number, keeps_board);
         caller.follow(&mut self.books, &self.known);
-        show_by(rt, &mut self.writer, slot, &self.token, &self.known);
+        publish_board(rt, &mut self.writer, slot, &self.token, &self.known);
         Ok(reply)
     }
 }

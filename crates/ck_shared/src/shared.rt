@@ -59,8 +59,8 @@ impl<K: TokenId, G: JournaledToken, R: Wait + Drop> SharedToken<K, G, R> {
     ghost use Rattle.ck_callers.specs.Accounts.{name_of};
     ghost use Rattle.ck_callers.specs.Callers.{HasCalled, IsSettled, are_all, new_callers};
 
-    /// Shares a token whose journal has no entry among the callers 1 to `callers`. Where there is
-    /// no memory, the token comes back.
+    /// Shares a token among the callers 1 to `callers`, at most eight. The token's journal must
+    /// have no entries. Where there is no memory, the token comes back.
     pub fn adopt(
         rt: R,
         alloc: Global,
@@ -94,7 +94,7 @@ impl<K: TokenId, G: JournaledToken, R: Wait + Drop> SharedToken<K, G, R> {
         }
     }
 
-    /// Shares a new token among the callers 1 to `callers`.
+    /// Shares a new token among the callers 1 to `callers`, at most eight.
     pub fn open(
         rt: R,
         alloc: Global,
@@ -219,9 +219,13 @@ impl<K: TokenId, G: JournaledToken, R: Wait + Drop> SharedToken<K, G, R> {
         ensures all { OnOk result (are_all K.callers callers.items ≡ true) }
         ensures missing { OnErr result (are_all K.callers callers.items ≡ false) }
         ensures back { IfErr result (λ refused. refused.1 ≡ callers) }
+
+        // The token that comes back.
         ensures limits { IfOk result (λ token. (G.state token).limits ≡ K.limits) }
         ensures callers { IfOk result (λ token. AreCallers K.callers (G.state token).history) }
         ensures base { IfOk result (λ token. IsFront (start K.base) (G.state token).history) }
+
+        // What each caller knew is a front of its journal.
         ensures settled { IfOk result (λ token.
             All (IsSettled (G.state token).history) callers.items) }
     {

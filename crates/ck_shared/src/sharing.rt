@@ -21,7 +21,7 @@ use std::thread::Threads;
 use std::{mem, thread};
 
 /// The work of each caller of a shared token. Its method is over any `K`, so who implements it
-/// needs no proof file for `K`.
+/// needs no proof file for `K`. `R` is the runtime.
 pub trait CallerWork<R> {
     ghost use Rattle.ck_callers.specs.Callers.{CallerState};
 
@@ -139,11 +139,17 @@ fn share_as<
     requires history { (G.state token.old).history ≡ start K.base }
     requires limits { (G.state token.old).limits ≡ K.limits }
     requires callers { (1 ≤ callers) × (callers ≤ 8) × (callers ≡ K.callers) }
+
+    // `K` stands for the names of this identity.
     requires book { identity.history.seen.book ≡ K.book }
     requires ledgers { (n : ℕ) → K.ledger n ≡ name_of identity.ledgers n }
+
+    // The token, also where there is an error.
     ensures limits { (G.state token.new).limits ≡ (G.state token.old).limits }
     ensures front { IsFront (G.state token.old).history (G.state token.new).history }
     ensures callers { AreCallers callers (G.state token.new).history }
+
+    // The outputs, one for each caller.
     ensures count { IfOk result (λ outputs. vec_len outputs ≡ callers) }
     ensures outputs { IfOk result (λ outputs.
         AllZip (IsOfCaller (S.holds work.now) (G.state token.new).history)
@@ -169,10 +175,10 @@ fn share_as<
     }
 }
 
-/// Shares a token whose journal has no entries among the callers 1 to `callers`, at most eight,
-/// until each has done its work in a thread of its own. Gives their outputs in the order of the
-/// callers. Where no thread can be made, the works run one after the other. Where memory runs out,
-/// some callers may have done nothing.
+/// Shares a token among the callers 1 to `callers`, at most eight, until each has done its work in
+/// a thread of its own. The token's journal must have no entries. Gives the outputs in the order of
+/// the callers. Where no thread can be made, the works run one after the other, so works that wait
+/// for one another may hang. Where memory runs out, some callers may have done nothing.
 pub fn share<G: JournaledToken + Send, S: CallerWork<R> + Sync, R: Runtime>(
     rt: R,
     alloc: Global,
@@ -182,9 +188,13 @@ pub fn share<G: JournaledToken + Send, S: CallerWork<R> + Sync, R: Runtime>(
 ) -> Result<Vec<S::Output>, NoMemory>
     requires history { (G.state token.old).history ≡ start (start_of (G.state token.old).history) }
     requires callers { (1 ≤ callers) × (callers ≤ 8) }
+
+    // The token, also where there is an error.
     ensures limits { (G.state token.new).limits ≡ (G.state token.old).limits }
     ensures front { IsFront (G.state token.old).history (G.state token.new).history }
     ensures callers { AreCallers callers (G.state token.new).history }
+
+    // The outputs, one for each caller.
     ensures count { IfOk result (λ outputs. vec_len outputs ≡ callers) }
     ensures outputs { IfOk result (λ outputs.
         AllZip (IsOfCaller (S.holds work.now) (G.state token.new).history)

@@ -56,7 +56,7 @@ fn end_objects(objects: &mut Slab<StoredObject>, places: &[Place], ending: Endin
     }
 }
 
-/// Ends the objects in the lists that the ending ends.
+/// Ends the objects that the ending ends, in the lists that it concerns.
 pub(crate) fn end_listed(objects: &mut Slab<StoredObject>, lists: &[SessionList], ending: Ending)
     ensures left { IsLeft (is_ended_by ending) objects.old objects.new }
     ensures ended { (session : ℕ) (private : Bool) (p : Place)

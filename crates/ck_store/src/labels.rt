@@ -5,14 +5,20 @@ ghost use Rattle.ck_store.specs.Labels.{label_mark, IsMarkOf, IsWanted, has_othe
 
 use ck_objects::{Attribute, Field, Record, Template};
 
+/// FNV's offset basis for 32 bits.
+const FNV_BASIS: u32 = 0x811c_9dc5;
+
+/// FNV's prime for 32 bits.
+const FNV_PRIME: u32 = 0x0100_0193;
+
 /// The mark of a label, a hash of 32 bits: FNV-1, except that each byte is added, and not combined
 /// by exclusive or. Equal labels have equal marks, and others seldom have.
 fn label_mark(label: &[u8]) -> u32
     ensures { result ≡ label_mark label.now }
 {
-    let mut mark = 0x811c_9dc5;
+    let mut mark = FNV_BASIS;
     for byte in label {
-        mark = u32::wrapping_mul(mark, 0x0100_0193).wrapping_add(u32::from(*byte));
+        mark = mark.wrapping_mul(FNV_PRIME).wrapping_add(u32::from(*byte));
     }
     mark
 }
@@ -44,10 +50,9 @@ pub(crate) fn wanted_mark(template: &Template) -> u32
 pub(crate) fn has_other_label(marks: &[u32], key: usize, wanted: u32) -> bool
     ensures { result ≡ has_other_label (get_or marks.now key 0) wanted }
 {
-    match marks.get(key) {
-        None => false,
-        Some(mark) => *mark != 0 && wanted != 0 && *mark != wanted,
-    }
+    marks
+        .get(key)
+        .is_some_and(|mark| *mark != 0 && wanted != 0 && *mark != wanted)
 }
 
 /// Writes the mark of the object under the key, where there is room for it.

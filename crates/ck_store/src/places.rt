@@ -45,8 +45,8 @@ fn is_there(objects: &Slab<StoredObject>, place: Place) -> bool
 }
 
 /// A guess at the position of a number in the index: as far from the first position as the number
-/// is from the index's first number. `None` where the number doesn't stand there. It does where the
-/// index has each number between the two.
+/// is from the index's first number. `None` where the number doesn't stand there. It stands there
+/// where no number from the first to it is missing.
 fn guess_position(index: &[Place], number: u64) -> Option<usize>
     ensures { IfSome result (λ i. (i < length index.now)
         × ((get_or index.now i (place 0 0)).number ≡ number)) }

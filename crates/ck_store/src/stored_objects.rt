@@ -84,7 +84,7 @@ impl StoredObject {
     fn is_visible(&self, view: View) -> bool
         ensures { result ≡ is_visible_with view self.now.attributes }
     {
-        !self.is_private() || view.logged_in
+        !self.is_private() || view.is_user_in
     }
 
     /// The object's handle, where it is visible.

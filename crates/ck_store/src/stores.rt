@@ -104,7 +104,7 @@ impl Store {
         Ok(store)
     }
 
-    // ---- readings of every history that the objects agree with
+    // ---- what they say of every history that they agree with
 
     /// How many objects have been created.
     pub fn creations(&self) -> u64
@@ -181,7 +181,7 @@ impl Store {
     // ---- changes, each that of a call that is answered OK
 
     /// Makes room for one more object, which any session may create. The newest object gets its
-    /// place in its session's list here, since this may ask for memory and a creation may not.
+    /// place in its session's list here, since this may take memory and a creation may not.
     /// Where there is room already, this succeeds.
     pub fn reserve(&mut self) -> Result<(), NoMemory>
         ensures agree { (h : History) → StoreAgrees h self.old → StoreAgrees h self.new }
@@ -220,6 +220,7 @@ impl Store {
     {
         self.reserve()?;
         let attributes = object.attributes.clone()?;
+        // 0 is no session. A base has only token objects, which keep none.
         self.add(object.number, 0, attributes);
         Ok(())
     }
@@ -294,6 +295,8 @@ impl Store {
         self.index.clear();
         self.lists.clear();
         self.unlisted = None;
+        // The marks stay. One counts only for the object under its key, and a new object sets its
+        // own.
     }
 
     /// Ends the session objects that the session created.

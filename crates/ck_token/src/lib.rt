@@ -1,7 +1,9 @@
 //! One token: it answers each call as the journal of the calls before it says, and then enters the
 //! call in the journal.
 //!
-//! A program opens a session, logs in, makes a key and signs (a test of ck_run runs this):
+//! A program opens a session, logs in, makes a key and signs (a test of ck_run runs this). The 1
+//! says who calls: a number of the program's choice, which stands in the journal and changes no
+//! reply:
 //!
 //! ```
 //! fn sign(alloc: Global, token: &mut Token, message: Bytes) -> anyhow::Result<Option<Bytes>> {

@@ -150,8 +150,8 @@ impl Token {
         &self.journal
     }
 
-    /// What C_GetSessionInfo and C_GetTokenInfo read of the token. It asks for no
-    /// memory: a board has a fixed size.
+    /// What C_GetSessionInfo and C_GetTokenInfo read of the token. A board has a fixed size, so
+    /// this takes no memory.
     pub fn board(&self) -> TokenBoard
         ensures { result ≡ board_of self.now.limits self.now.history }
     {
@@ -209,7 +209,8 @@ impl Token {
     /// changed and the call isn't in the journal. Where the journal has room, only a call that
     /// passes its checks can run out of memory, and only one that opens a session, creates,
     /// generates or copies an object, sets or reads attributes, finds or returns objects, reads the
-    /// list of mechanisms, starts an operation, or gives a digest or a signature.
+    /// list of mechanisms, starts an operation, or gives a digest or a signature. `caller` is a
+    /// number of the application's choice. It stands in the entry, and no reply depends on it.
     #[inline(always)]
     pub fn call(&mut self, alloc: Global, caller: u32, call: Call) -> Result<Reply, NoMemory>
         ensures answered { IfOk result (λ reply. IsAnswered self.old self.new caller call reply) }
@@ -279,7 +280,7 @@ impl Token {
         ensures succeeds { OnErr result
             (may_run_out self.now.limits self.now.history call.now ≡ true) }
     {
-        match self.decision(alloc, call, ready) {
+        match self.dispatch(alloc, call, ready) {
             Ok(decision) => Ok(decision),
             Err(Refused::Error { error, change }) => Ok(Decision {
                 rv: Rv::Error(error),
@@ -290,9 +291,9 @@ impl Token {
         }
     }
 
-    /// Decides a call, each by a function of its own. `ready` is as that of `decide`.
+    /// The decision on a call, by the call's own function. `ready` is as that of `decide`.
     #[inline(always)]
-    fn decision(
+    fn dispatch(
         &self,
         alloc: Global,
         call: &Call,

@@ -40,6 +40,7 @@ impl From<RvError> for CallError {
 impl Token {
     /// Answers a call and enters it in the journal, as `call` does. A code that isn't CKR_OK is an
     /// error here, so that `?` returns it; the body that some such replies have is dropped.
+    /// `caller` is as that of `call`.
     pub fn try_call(&mut self, alloc: Global, caller: u32, call: Call) -> Result<Body, CallError>
         ensures tried { IsTried self.old self.new caller call result }
         ensures legal { IsLegal self.new.limits self.new.history }

@@ -44,7 +44,7 @@ impl Mechanism {
         ensures { IfOk result (λ made.
             made ≡ record { kind = kind; parameter = number_bytes length }) }
     {
-        let parameter = Bytes::from_slice(alloc, length.to_le_bytes().as_slice())?;
+        let parameter = Bytes::from_slice(alloc, &length.to_le_bytes())?;
         Ok(Mechanism { kind, parameter })
     }
 
@@ -76,7 +76,7 @@ fn given_tag_length(hash: Hash, parameter: &[u8]) -> Option<u64>
     ensures { result ≡ given_tag_length hash parameter.now }
 {
     let length = number_of(parameter)?;
-    if 1 <= length && length <= hash.len() {
+    if (1..=hash.len()).contains(&length) {
         Some(length)
     } else {
         None

@@ -37,7 +37,7 @@ impl Pin {
     pub fn fits(&self) -> bool
         ensures { result ≡ fits_a_pin self.now }
     {
-        SHORTEST_PIN <= self.len && self.len <= LONGEST_PIN
+        (SHORTEST_PIN..=LONGEST_PIN).contains(&self.len)
     }
 
     /// Whether the two PINs have the same length and the same digest. Where the lengths differ, the

@@ -58,14 +58,10 @@ impl Limits {
           logins = logins;
         }) }
     {
-        let is_in_range = 1 <= sessions
-            && sessions <= MOST_SESSIONS
-            && 1 <= openings
-            && openings <= MOST_HANDLES
-            && 1 <= creations
-            && creations <= MOST_HANDLES
-            && 1 <= logins
-            && logins <= MOST_LOGINS;
+        let is_in_range = (1..=MOST_SESSIONS).contains(&sessions)
+            && (1..=MOST_HANDLES).contains(&openings)
+            && (1..=MOST_HANDLES).contains(&creations)
+            && (1..=MOST_LOGINS).contains(&logins);
         if is_in_range {
             Some(Limits {
                 sessions,

@@ -39,10 +39,9 @@ fn check_transition(key: &Record, number: u64) -> Result<KeyState, RvError>
         transition_error (state_in key.now) (state_of_number number) ≡ Some code) }
 {
     let after = KeyState::of(number).ok_or(RvError::ArgumentsBad)?;
-    let is_allowed = match key.key_state() {
-        None => false,
-        Some(before) => before.may_become(after),
-    };
+    let is_allowed = key
+        .key_state()
+        .is_some_and(|before| before.may_become(after));
     error_if(!is_allowed, RvError::ActionProhibited)?;
     Ok(after)
 }

@@ -21,8 +21,8 @@ use ck_parts::Change;
 use ck_types::{Bytes, Mechanism, NoMemory, Rv, RvError, digest_of, error_if, mac_of};
 use std::alloc::Global;
 
-/// The session's operation ends, or stays as it is.
-fn finish_operation(kind: OperationKind, session: u64, ends: bool) -> Change
+/// The change of a reply that may end the session's operation. Where `ends` is false it stays.
+fn operation_end(kind: OperationKind, session: u64, ends: bool) -> Change
     ensures { result ≡ change.FinishOperation kind session ends }
 {
     Change::FinishOperation {
@@ -53,7 +53,7 @@ fn length_decision(
     Some(Decision {
         rv,
         body: Body::Length(len),
-        change: finish_operation(kind, session, false),
+        change: operation_end(kind, session, false),
     })
 }
 
@@ -74,7 +74,7 @@ fn bytes_decision(
     Ok(Decision {
         rv: Rv::Ok,
         body: Body::Bytes(bytes),
-        change: finish_operation(kind, session, true),
+        change: operation_end(kind, session, true),
     })
 }
 
@@ -84,7 +84,7 @@ fn ending_refusal(kind: OperationKind, session: u64, error: RvError) -> Refused
 {
     Refused::Error {
         error,
-        change: finish_operation(kind, session, true),
+        change: operation_end(kind, session, true),
     }
 }
 
@@ -103,10 +103,7 @@ fn may_serve(kind: OperationKind, state: KeyState) -> bool
 fn check_key_state(kind: OperationKind, key: &Record) -> Result<(), RvError>
     ensures { result ≡ check_of (key_state_error kind key.now) }
 {
-    let serves = match key.key_state() {
-        None => false,
-        Some(state) => may_serve(kind, state),
-    };
+    let serves = key.key_state().is_some_and(|state| may_serve(kind, state));
     error_if(!serves, RvError::KeyFunctionNotPermitted)
 }
 
@@ -240,10 +237,12 @@ impl Token {
         let Some(number) = key else {
             return Ok(());
         };
-        match self.parts.objects.at(number) {
-            None => Err(RvError::KeyHandleInvalid),
-            Some(attributes) => check_key_state(kind, attributes),
-        }
+        let attributes = self
+            .parts
+            .objects
+            .at(number)
+            .ok_or(RvError::KeyHandleInvalid)?;
+        check_key_state(kind, attributes)
     }
 
     /// The session's active operation, where it may take in this message as its single part.
@@ -413,11 +412,7 @@ impl Token {
     {
         match self.check_verify(session, bytes, signature, ready) {
             Err(error) => Err(ending_refusal(OperationKind::Verify, session, error)),
-            Ok(()) => Ok(Decision::of_change(finish_operation(
-                OperationKind::Verify,
-                session,
-                true,
-            ))),
+            Ok(()) => Ok(Decision::of_change(operation_end(OperationKind::Verify, session, true))),
         }
     }
 
@@ -430,11 +425,7 @@ impl Token {
     {
         match self.check_verify_final(session, signature) {
             Err(error) => Err(ending_refusal(OperationKind::Verify, session, error)),
-            Ok(()) => Ok(Decision::of_change(finish_operation(
-                OperationKind::Verify,
-                session,
-                true,
-            ))),
+            Ok(()) => Ok(Decision::of_change(operation_end(OperationKind::Verify, session, true))),
         }
     }
 }

@@ -18,10 +18,7 @@ const MOST_TRIES: u64 = 3;
 fn is_pin(known: Option<Pin>, given: Pin) -> bool
     ensures { result ≡ is_pin known given }
 {
-    match known {
-        None => false,
-        Some(pin) => pin.matches(&given),
-    }
+    known.is_some_and(|pin| pin.matches(&given))
 }
 
 /// Whose PIN C_SetPIN changes in a session of this state.

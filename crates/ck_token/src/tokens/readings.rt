@@ -118,7 +118,7 @@ impl Token {
         ensures bound { result.logins < 2 ^ 31 }
     {
         View {
-            logged_in: self.is_user_in(),
+            is_user_in: self.is_user_in(),
             logins: self.user_logins(),
         }
     }

@@ -95,7 +95,9 @@ impl Token {
     {
         let row = self.session(session)?;
         error_if(!row.is_searching(), RvError::OperationNotInitialized)?;
-        let found = None;
-        Ok(Decision::of_change(Change::SetSearch { session, found }))
+        Ok(Decision::of_change(Change::SetSearch {
+            session,
+            found: None,
+        }))
     }
 }

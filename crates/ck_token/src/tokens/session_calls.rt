@@ -7,8 +7,9 @@ use ck_parts::Change;
 use ck_types::{Rv, RvError, Sequence, TokenFlags, UserType, error_if, mechanism_types};
 use std::alloc::Global;
 
-/// The flags that C_SessionCancel takes: CKF_DIGEST, CKF_SIGN and CKF_VERIFY.
-const CANCEL_FLAGS: u64 = 0x2c00;
+/// The flags that C_SessionCancel takes, one for each `OperationKind`: CKF_DIGEST, CKF_SIGN and
+/// CKF_VERIFY.
+const CANCEL_FLAGS: u64 = 0x400 | 0x800 | 0x2000;
 
 /// Opening and closing sessions, cancelling their operations, and what is read of them and of the
 /// token.
@@ -101,7 +102,7 @@ impl Token {
     pub(super) fn get_mechanism_list(&self, alloc: Global) -> Result<Decision, Refused>
         ensures { IsDecision self.now.limits self.now.history call.GetMechanismList result }
     {
-        let types = Vec::from_slice(alloc, mechanism_types().as_slice())?;
+        let types = Vec::from_slice(alloc, &mechanism_types())?;
         Ok(Decision::of_body(Body::Mechanisms(Sequence::from_vec(types))))
     }
 }

@@ -10,10 +10,9 @@ fn takes_long_message(call: &Call, operation: &Operation) -> bool {
         return false;
     }
     match call {
-        Call::Digest { room, .. } | Call::Sign { room, .. } => match room {
-            None => false,
-            Some(room) => operation.len() <= *room && !operation.is_updated(),
-        },
+        Call::Digest { room, .. } | Call::Sign { room, .. } => {
+            room.is_some_and(|room| operation.len() <= room) && !operation.is_updated()
+        }
         Call::Verify { .. } => !operation.is_updated(),
         _ => true,
     }
@@ -54,7 +53,7 @@ impl Token {
         let work = work?;
         let (kind, session) = call.operation()?;
         let current = self.parts.operations.get(kind, session)?;
-        if current.changed() < work.entries {
+        if current.last_change() < work.entries {
             Some(&work.running)
         } else {
             None

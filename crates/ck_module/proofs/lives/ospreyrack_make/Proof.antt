@@ -28,15 +28,15 @@ use denote.Triple.Table.{framed}
 use denote.Triple.Walked.{Stays, walk_of, says, stay_dropped, Goes-dropped, ends_at}
 use Rattle.std.specs.contracts.alloc.Global.{the_row as A}
 use Rattle.std.proofs.alloc.Global.TheLaws as a-laws
-use Rattle.ck_module.specs.Lives.{IsNew}
-use Rattle.ck_module.specs.declared.modules.Module.{Module}
-use Rattle.ck_module.specs.contracts.modules.Module.{the_row as V}
-use Rattle.ck_module.proofs.modules.Module.TheLaws as v-laws
+use Rattle.ck_foreign.specs.Lives.{IsNew}
+use Rattle.ck_foreign.specs.declared.modules.Module.{Module}
+use Rattle.ck_foreign.specs.contracts.modules.Module.{the_row as V}
+use Rattle.ck_foreign.proofs.modules.Module.TheLaws as v-laws
 use Rattle.ck_module.specs.contracts.lives.ospreyrack_make as f
 use Rattle.ck_module.proofs.lives.ospreyrack_make.Statement.{statement}
 use Rattle.ck_module.proofs.lives.ospreyrack_make.Code as code
-use Rattle.ck_module.specs.contracts.modules.Module.new as g
-use Rattle.ck_module.proofs.modules.Module.new.Met.{met}
+use Rattle.ck_foreign.specs.contracts.modules.Module.new as g
+use Rattle.ck_foreign.proofs.modules.Module.new.Met.{met}
 
 abbrev stayed : Stays f.ended.signature.params f.ended.kept
 stayed = (stay_dropped _ yes, (stay_dropped _ yes, tt))
@@ -72,7 +72,7 @@ ospreyrack_make_spec 𝓤 𝓛 𝓜 𝓡 wired =
     move ! (1 ∷ 0 ∷ []) $
     use2 𝓛 (raw (G.pre z)) (id⊢ 𝓤 _) $
     calls_at ! (framed 𝓤 𝓛.H 𝓜 (tables 𝓤 𝓛.H 𝓜 𝓡 𝓡.env)) G
-    (met 𝓤 𝓛 𝓜 𝓡 (code.calls-ck_module::modules::Module::new 𝓡.env wired)) z
+    (met 𝓤 𝓛 𝓜 𝓡 (code.calls-ck_foreign::modules::Module::new 𝓡.env wired)) z
     (and_then ! (get ! refl) (no_more !)) (λ v.
     use1 𝓛 (later (some (λ (m : Module). (‵ ftrue ⊛ ‵ (V.own_val m (v ∷ [])))
     ⊛ raw (ensured 𝓛 g.ended (g.clauses 𝓛 𝓜.mem 𝓡.returns) κs (alloc, tt) tt m))))

@@ -27,15 +27,15 @@ use denote.Triple.Clauses.{ensured, lasts}
 use denote.Triple.Spec.{triple_of}
 use denote.Triple.Table.{framed}
 use denote.Triple.Walked.{Stays, walk_of, says, stay_dropped, Goes-dropped, ends_at}
-use Rattle.ck_module.specs.declared.message_calls.MessageCall.{MessageCall}
-use Rattle.ck_module.specs.declared.message_calls.MessageCall.TheVariants as variant
-use Rattle.ck_module.specs.contracts.message_calls.MessageCall.{the_row as V}
-use Rattle.ck_module.proofs.message_calls.MessageCall.TheLaws as v-laws
+use Rattle.ck_foreign.specs.declared.message_calls.MessageCall.{MessageCall}
+use Rattle.ck_foreign.specs.declared.message_calls.MessageCall.TheVariants as variant
+use Rattle.ck_foreign.specs.contracts.message_calls.MessageCall.{the_row as V}
+use Rattle.ck_foreign.proofs.message_calls.MessageCall.TheLaws as v-laws
 use Rattle.ck_module.specs.contracts.message_exports.ospreyrack_message_make as f
 use Rattle.ck_module.proofs.message_exports.ospreyrack_message_make.Statement.{statement}
 use Rattle.ck_module.proofs.message_exports.ospreyrack_message_make.Code as code
-use Rattle.ck_module.specs.contracts.message_calls.MessageCall.new as g
-use Rattle.ck_module.proofs.message_calls.MessageCall.new.Met.{met}
+use Rattle.ck_foreign.specs.contracts.message_calls.MessageCall.new as g
+use Rattle.ck_foreign.proofs.message_calls.MessageCall.new.Met.{met}
 
 abbrev stayed : Stays f.ended.signature.params f.ended.kept
 stayed = (stay_dropped _ yes, tt)
@@ -62,7 +62,7 @@ ospreyrack_message_make_spec 𝓤 𝓛 𝓜 𝓡 wired =
     nothing ! $ nothing ! $ join ! $ nothing ! $ move ! (1 ∷ 0 ∷ []) $
     use2 𝓛 (raw (G.pre z)) (id⊢ 𝓤 _) $
     calls_at ! (framed 𝓤 𝓛.H 𝓜 (tables 𝓤 𝓛.H 𝓜 𝓡 𝓡.env)) G
-    (met 𝓤 𝓛 𝓜 𝓡 (code.calls-ck_module::message_calls::MessageCall::new 𝓡.env wired)) z
+    (met 𝓤 𝓛 𝓜 𝓡 (code.calls-ck_foreign::message_calls::MessageCall::new 𝓡.env wired)) z
     (no_more !) (λ v.
     use1 𝓛 (later (some (λ (m : MessageCall). (‵ ftrue ⊛ ‵ (V.own_val m (v ∷ [])))
     ⊛ raw (ensured 𝓛 g.ended (g.clauses 𝓛 𝓜.mem 𝓡.returns) κs tt tt m)))) (id⊢ 𝓤 _) $

@@ -6,12 +6,12 @@ use Rattle.ck_objects.proofs.GivenLemmas.{number-given}
 use Rattle.ck_objects.proofs.items.number_at.Goals as goal
 
 -- a given value of the form of a number has 8 bytes
-pub returns-in-Some-clause-number : goal.returns-in-Some-clause-number
-returns-in-Some-clause-number c =
+pub returns-clause-number : goal.returns-clause-number
+returns-clause-number c =
     let read = rw c.as_slice.ensures at c.number_of.ensures.number in
-    let given = number-given c.args.items.now c.args.attribute _ c.in-Some.value.now
-    c.number_of.result c.requires.form c.requires.well_formed c.in-Some.ensures c.number.ensures
-    read in
+    let given = number-given c.args.items.now c.args.attribute _ c.in_ok-value_at.field-0.now
+    c.number_of.result c.requires.form c.requires.well_formed c.in_ok-value_at.ensures
+    c.number.ensures read in
     given.0 ∙ sym (ap (option_map (from_le_bytes w64)) given.2)
 
 bytes-some : (o : Option ℕ) (value : List ℕ) → IfSome o (λ n. number_bytes n ≡ value)
@@ -20,11 +20,11 @@ bytes-some None value h = h
 bytes-some (Some n) value h = ap (λ v. Some v) (sym h)
 
 -- its bytes are those of the number
-pub returns-in-Some-clause-bytes : goal.returns-in-Some-clause-bytes
-returns-in-Some-clause-bytes c =
+pub returns-clause-bytes : goal.returns-clause-bytes
+returns-clause-bytes c =
     let bytes = rw c.as_slice.ensures at c.number_of.ensures.bytes in
     let read = rw c.as_slice.ensures at c.number_of.ensures.number in
-    let given = number-given c.args.items.now c.args.attribute _ c.in-Some.value.now
-    c.number_of.result c.requires.form c.requires.well_formed c.in-Some.ensures c.number.ensures
-    read in
-    rw given.2 (bytes-some c.number_of.result c.in-Some.value.now bytes)
+    let given = number-given c.args.items.now c.args.attribute _ c.in_ok-value_at.field-0.now
+    c.number_of.result c.requires.form c.requires.well_formed c.in_ok-value_at.ensures
+    c.number.ensures read in
+    rw given.2 (bytes-some c.number_of.result c.in_ok-value_at.field-0.now bytes)

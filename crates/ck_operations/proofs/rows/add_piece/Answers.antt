@@ -3,11 +3,9 @@ use Rattle.ck_operations.proofs.rows.add_piece.Goals as goal
 
 pub returns-in-Some : goal.returns-in-Some
 returns-in-Some c =
-    added-at c.args.kind c.args.session _ c.args.rows.now.items c.in-Some.position
-    c.index_mut-row.result.now _ (rw c.deref.ensures.value at c.in-Some.ensures)
-    c.index_mut-row.ensures.value c.add_piece.ensures
+    added-at c.args.kind c.args.session _ c.args.rows.now c.in-Some.position _ _
+    c.in-Some.ensures c.add_piece.ensures
 
 pub returns-in_default : goal.returns-in_default
 returns-in_default c =
-    added-nowhere c.args.kind c.args.session _ c.args.rows.now.items
-    (rw c.deref.ensures.value at c.in_default.ensures)
+    added-nowhere c.args.kind c.args.session _ c.args.rows.now c.in_default.ensures

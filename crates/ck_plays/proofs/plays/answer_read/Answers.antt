@@ -21,7 +21,7 @@ returns-in_err-end_line-clause-err g c =
 pub returns-then-count-eq0-clause-ok : goal.returns-then-count-eq0-clause-ok
 returns-then-count-eq0-clause-ok g c =
     played-ended c.args.player.now c.in_ok-count.count _ _ _ _ _ c.in_ok-count.ensures.ok
-    c.end_line.new.player.token c.end_line.new.player.number c.if-count-eq0.true
+    c.end_line.new.self.token c.end_line.new.self.number c.if-count-eq0.true
     c.in_ok-end_line.ensures.ok
 
 pub returns-in_err-answer_chunk-clause-err : goal.returns-in_err-answer_chunk-clause-err
@@ -35,4 +35,4 @@ returns-in_err-answer_chunk-clause-err g c =
 pub returns-clause-ok : goal.returns-clause-ok
 returns-clause-ok g c =
     reading-so_far c.args.player.now c.in_ok-count.count _ _ _ _ _ c.in_ok-count.ensures.ok
-    c.answer_chunk.new.player (ne_eqb _ 0 c.if-count-eq0.false) c.in_ok-answer_chunk.ensures.ok
+    c.answer_chunk.new.self (ne_eqb _ 0 c.if-count-eq0.false) c.in_ok-answer_chunk.ensures.ok

@@ -10,6 +10,6 @@ returns-in_err-buffer g c =
 pub returns : goal.returns
 returns g c read written h w =
     c.play_on.ensures c.args.limits read written
-    (reading-nothing c.args.limits read written _ _ _ c.new_player-player.ensures.limits
-    c.new_player-player.ensures.history
-    c.new_player-player.ensures.open_line c.new_player-player.ensures.number h w)
+    (reading-nothing c.args.limits read written _ _ _ c.new-player.ensures.limits
+    c.new-player.ensures.history
+    c.new-player.ensures.open_line c.new-player.ensures.number h w)

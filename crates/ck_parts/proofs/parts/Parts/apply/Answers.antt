@@ -271,8 +271,8 @@ returns-in-StartHmac c = record {
       let key = key_value (unwrap_or (object_at h number) []) in
       let value : key ≡ key_value (attributes_or_empty h of.1) =
       ap (λ o. key_value (unwrap_or (option_and_then (object_at h) o) [])) (sym named) in
-      step-only h e _ starts.step _ agree _
-      (c.start_hmac.ensures h e now agree.objects
+      rw c.start_hmac.ensures.others (step-only h e _ starts.step _ agree _
+      (c.start_hmac.ensures.agree h e now agree.objects
       (record {
         computation =
             ap (started_computation h) made.0 ∙ starts.computation
@@ -282,7 +282,7 @@ returns-in-StartHmac c = record {
             ∙ ap (option_and_then (object_named h)) starts.key ∙ named;
       })
       (does-start h e.caller e.call e.reply.rv e.reply.body k session initialize starts.step
-      (cond_some (is_ok e.reply.rv) e.call _ made.0).0 refl) passed.0 agree.operations);
+      (cond_some (is_ok e.reply.rv) e.call _ made.0).0 refl) passed.0 agree.operations));
 }
 
 pub returns-in-AddPiece : goal.returns-in-AddPiece

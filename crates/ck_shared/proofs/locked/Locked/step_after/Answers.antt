@@ -23,8 +23,8 @@ invariant_of-self g c =
       c.in_err-slot.ensures.unchanged ∙ c.self.invariant.1,
     )
 
-pub show_by-requires-clause-shown : goal.show_by-requires-clause-shown
-show_by-requires-clause-shown g c =
+pub publish_board-requires-clause-published : goal.publish_board-requires-clause-published
+publish_board-requires-clause-published g c =
     if_none c.in_ok-slot.slot c.in_ok-slot.ensures.none (λ kept. (
       subst (Covers c.self.inside.known) (sym c.in_ok-slot.ensures.published)
           c.self.invariant.0.published,
@@ -40,9 +40,9 @@ invariant_of-self-in_default g c =
         callers = subst (AreCallers g.K.TokenId.callers) (sym same.history) tied.callers;
         books = tied.books ∙ ap call_counts (sym same.history);
         history = tied.history ∙ sym same.history;
-        published = c.show_by.ensures.board;
+        published = c.publish_board.ensures.board;
       },
-      c.show_by.ensures.pending,
+      c.publish_board.ensures.pending,
     )
 
 pub extend-requires-clause-next : goal.extend-requires-clause-next
@@ -70,7 +70,7 @@ follow-requires g c =
         ap entry_count c.extend.ensures.0,
         c.len-bound.type_inv,
       );
-      same_board = c.leaves_board-leaves.ensures.leaves;
+      same_board = c.keeps_board-keeps_board.ensures.stays;
     }
 
 pub follow-requires-2 : goal.follow-requires-2
@@ -99,8 +99,8 @@ follow-requires-2 g c =
     } in
     (c.args.call, c.in-Ok.reply, next)
 
-pub show_by-requires-2-clause-shown : goal.show_by-requires-2-clause-shown
-show_by-requires-2-clause-shown g c =
+pub publish_board-requires-2-clause-published : goal.publish_board-requires-2-clause-published
+publish_board-requires-2-clause-published g c =
     let h = (g.G.JournaledToken.state c.self.inside.token).history in
     let answered = c.in-Ok.ensures.answered in
     let entered : (g.G.JournaledToken.state c.call_after.new.self).history
@@ -109,7 +109,7 @@ show_by-requires-2-clause-shown g c =
     (sym answered.answered) in
     if_none c.in_ok-slot.slot c.in_ok-slot.ensures.none (λ kept. (
       covered_on (entry_by c.number-number.result c.args.call c.in-Ok.reply)
-          c.leaves_board-leaves.result
+          c.keeps_board-keeps_board.result
           c.self.inside.known c.follow.new.self h c.extend.new.front
           (published c.self.inside.writer) (published c.add_slot.new.writer) kept.0
           c.follow.ensures.changed c.follow.ensures.history (c.extend.ensures.0 ∙ entered)
@@ -152,9 +152,9 @@ invariant_of-self-2 g c =
             (c.number-number.ensures.range.0, c.number-number.ensures.caller, tied.callers);
         books = c.follow-2.ensures.books ∙ ap call_counts known;
         history = known;
-        published = c.show_by-2.ensures.board;
+        published = c.publish_board-2.ensures.board;
       },
-      c.show_by-2.ensures.pending,
+      c.publish_board-2.ensures.pending,
     )
 
 pub returns-clause-answered : goal.returns-clause-answered

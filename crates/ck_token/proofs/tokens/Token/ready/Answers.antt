@@ -18,8 +18,8 @@ found-agrees k h s o = cases (is_active k h s)
     cases true same = same
     cases false same = absurd same
 
-pub returns-then-changed-work : goal.returns-then-changed-work
-returns-then-changed-work c =
+pub returns-then-last_change-work : goal.returns-then-last_change-work
+returns-then-last_change-work c =
     let h = c.self.inside.journal.history in
     let k = c.in_ok-kind.kind in
     let session = c.in_ok-kind.session in
@@ -28,8 +28,8 @@ returns-then-changed-work c =
     let ahead = rw (← c.self.view_is) at (rw (c.in_ok-work.was) at c.requires) in
     let agrees = found-agrees k h session current
     (c.in_ok-current.ensures h c.self.invariant.parts.operations) in
-    let changed = c.changed.ensures ∙ agrees.changed in
-    let before = subst (λ (n : ℕ). n < work.entries) changed c.if-changed-work.true in
+    let changed = c.last_change.ensures ∙ agrees.changed in
+    let before = subst (λ (n : ℕ). n < work.entries) changed c.if-last_change-work.true in
     rw (← c.self.view_is)
     (done-since k session c.args.call.now work ahead.0 h ahead.1
     (sym c.operation.ensures ∙ c.in_ok-kind.was) before ahead.2)

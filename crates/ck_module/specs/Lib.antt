@@ -1,8 +1,0 @@
-pub mod Calls
-pub mod Copies
-pub mod Lives
-pub mod MessageCalls
-pub mod Outcomes
-pub mod Queries
-pub mod Replies
-pub mod Templates
