@@ -1,7 +1,7 @@
 #!/usr/bin/env python3
 """Tests of the tests of programs: program.py, rules.py, recorded_runs.py and races.py beside this
-file, and bench/growths.py. Each must pass on a right program, and fail on one that is wrong in one thing. And
-inventory.py must notice each change of a copy of the repository.
+file, and bench/growths.py. Each must pass on a right program, and fail on one that is wrong in one
+thing. And inventory.py must notice each change of a copy of the repository.
 
 The programs are those that `rt ci` leaves. This needs a C compiler, `cc`, as growths.py does.
 """
@@ -39,8 +39,16 @@ WRONG = {
 TESTS = {program: program.Tests, rules: program.Tests, recorded_runs: recorded_runs.Files,
          races: recorded_runs.Files}
 
-# What is wrong in a program, and isn't there in one whose scripts have no faults.
-OF_FAULTS = {rules: ["nothing on standard error"]}
+# Tests in which a right program writes nothing there, so that they pass on one that never does.
+SILENT = {
+    "nothing on standard output": [program.readers, races.each_wrong_reply, races.wrong_in_parts,
+                                   races.bad_lines, races.bad_files],
+    "nothing on standard error": [program.dialogue, program.side_by_side, recorded_runs.reports,
+                                  recorded_runs.limits_of_first_case, recorded_runs.long_texts,
+                                  recorded_runs.audits, races.whole_file, races.set_orders,
+                                  rules.attributes, rules.values, rules.key_states,
+                                  rules.mechanisms, rules.session_states, rules.pieces],
+}
 
 # Tests of a file, to which it is all the same which program is there.
 OTHERS = (races.shapes,)
@@ -173,23 +181,24 @@ def fails(words):
     return bool(words) and "passed" not in words
 
 
-def judge(checks, module, path, is_right, what):
-    """Each test of the module by itself, except those that look at something else."""
+def judge(checks, module, path, what, blind=()):
+    """Each test of the module by itself, except those that look at something else. It fails on this
+    program, except these, which can't see what is wrong."""
     for test in tests_of(module):
         if test not in OTHERS:
             words = words_of(module, test, path)
-            checks.expect(is_right(words), f"{test.__name__} of {module.__name__}.py {what}")
+            is_right = passes(words) if test in blind else fails(words)
+            checks.expect(is_right, f"{test.__name__} of {module.__name__}.py on {what}: {words}")
 
 
 def wrong_programs(checks):
     with tempfile.TemporaryDirectory() as folder:
         for module in TESTS:
             path = write_program(folder, RIGHT, module.PROGRAM)
-            judge(checks, module, path, passes, "fails")
+            judge(checks, module, path, "a right program", tests_of(module))
             for wrong, text in WRONG.items():
                 path = write_program(folder, text, module.PROGRAM)
-                is_right = passes if wrong in OF_FAULTS.get(module, []) else fails
-                judge(checks, module, path, is_right, f"ends otherwise with {wrong}")
+                judge(checks, module, path, f"a program with {wrong}", SILENT.get(wrong, []))
     checks.end("programs that are wrong in one thing")
 
 
@@ -198,7 +207,7 @@ def idle_programs(checks):
         with unseen():
             status = module.main("/bin/true")
         checks.expect(status == 1, f"{module.__name__}.py passes on a program that does nothing")
-        judge(checks, module, "/bin/true", fails, "passes on a program that does nothing")
+        judge(checks, module, "/bin/true", "a program that does nothing")
     checks.end("a program that does nothing")
 
 

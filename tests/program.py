@@ -224,13 +224,24 @@ def reply_to(process, line):
     return process.stdout.read(99) if is_written else b""
 
 
+def end_of(process):
+    """What a program still writes when its standard input ends, and its status."""
+    try:
+        output, errors = process.communicate(timeout=SECONDS)
+    except subprocess.TimeoutExpired:
+        process.kill()
+        return b"", b"", f"no end in {SECONDS} seconds"
+    return output, errors, process.returncode
+
+
 def dialogue(tests):
     with subprocess.Popen([tests.program], bufsize=0, stdin=subprocess.PIPE,
-                          stdout=subprocess.PIPE) as process:
+                          stdout=subprocess.PIPE, stderr=subprocess.PIPE) as process:
         for line, reply in DIALOGUE:
             came = reply_to(process, line)
             tests.expect(came == reply, f"{line}: {came}, and not {reply}")
-        process.kill()
+        end = end_of(process)
+        tests.expect(end == (b"", b"", 0), f"after the last line: {end}")
     tests.end("each line is answered before the next one comes")
 
 
@@ -298,25 +309,28 @@ def callers(tests):
     tests.end("callers in threads")
 
 
-def most_threads(tests, words, script):
-    """How many threads the program has at once at the most, with the one that it begins with."""
+def count_threads(tests, words, script):
+    """How many threads the program has at once at the most, with the one that it begins with. And
+    what it writes, and its status."""
     most, end = 0, time.monotonic() + SECONDS
     with tempfile.TemporaryFile() as file:
         file.write(script)
         file.seek(0)
-        process = subprocess.Popen([tests.program, *words], stdin=file, stdout=subprocess.DEVNULL)
-        while process.poll() is None:
-            most = max(most, len(os.listdir(f"/proc/{process.pid}/task")))
-            if time.monotonic() > end:
-                process.kill()
-    return most
+        with subprocess.Popen([tests.program, *words], stdin=file, stdout=subprocess.PIPE,
+                              stderr=subprocess.PIPE) as process:
+            while process.poll() is None:
+                most = max(most, len(os.listdir(f"/proc/{process.pid}/task")))
+                if time.monotonic() > end:
+                    process.kill()
+            return most, end_of(process)
 
 
 def side_by_side(tests):
     # In turn there would be two threads, and for a moment one that has just ended.
     script = b"".join(b"%d GetTokenInfo\n" % (1 + count % 8) for count in range(200_000))
-    most = most_threads(tests, ["--callers", "8"], script)
+    most, end = count_threads(tests, ["--callers", "8"], script)
     tests.expect(most >= 5, f"with eight callers there are {most} threads at once")
+    tests.expect(end == (b"entries 200000\naudit ok\n", b"", 0), f"with eight callers: {end}")
     tests.end("callers have their threads at the same time")
 
 

@@ -54,6 +54,10 @@ SHAPES = """\
 # in it: one with a set order, and two in any order, with two sessions and with a cut.
 NOT_ALONE = [2, 9, 15]
 
+# How many times each race is run in threads: with all calls in a set order by `share` and by
+# `run_scripts`, and with only the first ones.
+RUNS = 300
+
 # After this many faults a test of wrong replies ends.
 MOST_FAULTS = 9
 
@@ -228,12 +232,33 @@ def check_wrong(tests, words, lines, number):
             tests.check_file(text.encode(), words, b"", errors.encode(), 1)
 
 
+def calls_together(text):
+    """How many calls the races of a file make together."""
+    lines = text.split("\n")
+    count = 0
+    for race in races_in(lines):
+        parts, between = parts_of(lines, race)
+        count += sum(len(part) for line, part in zip(between, parts[1:])
+                     if line.startswith("together"))
+    return count
+
+
+def output_of(name, text):
+    """What the program writes of a file with these races: by their calls, and by threads too, with
+    all else that callers do."""
+    count = text.split("\n").count("race")
+    calls = RUNS * calls_together(text)
+    _, rest = read(CRATE, "stdout").split("\n", 1)
+    alone = f"{name}: {count} passed\n"
+    return alone.encode(), f"{name}: {count} passed, {calls} calls in threads\n{rest}".encode()
+
+
 def whole_file(tests):
-    output = read(CRATE, "stdout").encode()
-    races = output[:output.index(b"\n") + 1]
-    tests.check(["alone", NAME], None, races, b"", 0, cwd=DATA)
-    tests.check(["alone", NAME, NAME], None, races + races, b"", 0, cwd=DATA)
+    alone, output = output_of(NAME, read(DATA, NAME))
+    tests.check(["alone", NAME], None, alone, b"", 0, cwd=DATA)
+    tests.check(["alone", NAME, NAME], None, alone + alone, b"", 0, cwd=DATA)
     tests.check([NAME], None, output, b"", 0, cwd=DATA)
+    tests.expect(output == read(CRATE, "stdout").encode(), f"{output} isn't in the file stdout")
     tests.end("the file of races")
 
 
@@ -280,9 +305,8 @@ def orders(tests):
 
 def set_orders(tests):
     text = "".join(text for text, _ in ORDERS).replace("together in any order", "together")
-    _, rest = read(CRATE, "stdout").split("\n", 1)
-    output = f"t: {len(ORDERS)} passed\n{rest}"
-    tests.check_file(text.encode(), ["t"], output.encode(), b"", 0)
+    _, output = output_of("t", text)
+    tests.check_file(text.encode(), ["t"], output, b"", 0)
     tests.end("the same in races with a set order")
 
 

@@ -2,11 +2,11 @@
 //! are left are a script of their own.
 use crate::journals::check_entries;
 use crate::races::{Race, RaceLine};
-use crate::scripts::{add_script, calls_of};
+use crate::scripts::calls_of;
 use crate::shared_work::{Shared, SharedWork, share_with};
 use crate::tokens::prepared_token;
 use anyhow::{Context, ensure};
-use ck_shared::{Caller, Runtime, TokenId, run_scripts};
+use ck_shared::{Caller, Runtime, Script, TokenId, run_scripts};
 use ck_token::NoMemory;
 use std::alloc::Global;
 
@@ -20,7 +20,8 @@ impl<'a, K: TokenId + Send + Sync, R: Runtime> Shared<'a, K, R> {
     ) -> anyhow::Result<(Caller<K>, usize)> {
         let alloc = self.rt.alloc();
         let mut scripts = Vec::new(alloc);
-        add_script(alloc, caller, calls_of(alloc, lines)?, &mut scripts)?;
+        let script = Script::new(alloc, caller, calls_of(alloc, lines)?);
+        scripts.push(script.ok().ok_or(NoMemory)?)?;
         let script = run_scripts(self.rt, alloc, self.token, scripts)
             .pop()
             .context("a script is missing")?;
