@@ -9,7 +9,7 @@
 //! With the word `alone` before the files only the calls of each race are made, one after the
 //! other: on a shared token, by `run` and by `run_scripts`. Where there was no memory they are made
 //! again, and the line of a file says how many times that was. The word `reserved` only makes calls
-//! for which places in the journal are reserved, and `reserve` only reserves them.
+//! for which room in the journal is reserved, and `reserve` only reserves it.
 #![tactic(auto)]
 
 mod asks;

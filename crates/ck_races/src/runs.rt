@@ -85,8 +85,8 @@ fn check_run(
     Ok(calls)
 }
 
-/// Eight callers make the calls of a race on a new token by `share`, the first ones in this order
-/// of their callers.
+/// The callers of a race make its calls on a new token by `share`, the first ones in this order of
+/// their callers.
 fn run_shared<R: Runtime>(rt: R, race: &Race, callers: &[u32]) -> anyhow::Result<u64> {
     let alloc = rt.alloc();
     let mut token = prepared_token(alloc, race)?;
@@ -95,7 +95,7 @@ fn run_shared<R: Runtime>(rt: R, race: &Race, callers: &[u32]) -> anyhow::Result
         lines: &race.lines,
         order: &order,
     };
-    let all = share(rt, alloc, &mut token, 8, &calls)?;
+    let all = share(rt, alloc, &mut token, race.callers(), &calls)?;
     let all = in_order_of_callers(alloc, all)?;
     check_run(alloc, &mut token, race, &order, all)
 }
@@ -110,7 +110,7 @@ fn run_scripted<R: Runtime>(rt: R, race: &Race, callers: &[u32]) -> anyhow::Resu
         order: &order,
     };
     let token = prepared_token(alloc, race)?;
-    let (mut token, outcome) = share_with(rt, token, 8, &work)?;
+    let (mut token, outcome) = share_with(rt, token, race.callers(), &work)?;
     check_run(alloc, &mut token, race, &order, outcome.replies)
 }
 

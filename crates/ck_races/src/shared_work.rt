@@ -26,7 +26,7 @@ pub(crate) enum SharedWork<'a> {
     AllCalls(&'a Race<'a>),
     /// One caller makes the calls of a race by scripts.
     CallsByScripts(&'a Race<'a>),
-    /// Eight callers make their calls of a race by scripts, in an order.
+    /// The callers of a race make its calls by scripts, in an order.
     HeldScripts {
         race: &'a Race<'a>,
         order: &'a CallOrder<'a>,
