@@ -232,22 +232,21 @@ def check_wrong(tests, words, lines, number):
             tests.check_file(text.encode(), words, b"", errors.encode(), 1)
 
 
-def calls_together(text):
-    """How many calls the races of a file make together."""
-    lines = text.split("\n")
-    count = 0
-    for race in races_in(lines):
-        parts, between = parts_of(lines, race)
-        count += sum(len(part) for line, part in zip(between, parts[1:])
-                     if line.startswith("together"))
-    return count
+def calls_of_callers(lines, race):
+    """How many calls of a race its callers make: all except those before a cut and afterwards."""
+    parts, between = parts_of(lines, race)
+    first = between.index("cut") + 1 if "cut" in between else 0
+    last = between.index("afterwards") + 1 if "afterwards" in between else len(parts)
+    return sum(map(len, parts[first:last]))
 
 
 def output_of(name, text):
     """What the program writes of a file with these races: by their calls, and by threads too, with
     all else that callers do."""
-    count = text.split("\n").count("race")
-    calls = RUNS * calls_together(text)
+    lines = text.split("\n")
+    races = races_in(lines)
+    count = len(races)
+    calls = RUNS * sum(calls_of_callers(lines, race) for race in races)
     _, rest = read(CRATE, "stdout").split("\n", 1)
     alone = f"{name}: {count} passed\n"
     return alone.encode(), f"{name}: {count} passed, {calls} calls in threads\n{rest}".encode()
