@@ -318,7 +318,8 @@ void cut_journal(void) {
         journals_begun++;
 }
 
-/* What a long template took isn't kept for short ones. */
+/* What a long template took isn't kept for short ones. The buffers of lines and of the file's text
+ * are kept: see `cancel_operation`. */
 static void drop_long_lists(void) {
     enum { MOST_KEPT = 1 << 20 };
     if (library.items.room > MOST_KEPT)
@@ -366,7 +367,7 @@ CK_RV make_call(const struct call *call) {
 
 /* There is room for the entry in the token's journal. There is room for its line in the buffer of
  * lines, which had that of the operation's start (a buffer has room for 256 bytes at least), and in
- * the file's text, which had the longer line of a piece before. Buffers keep their room until
+ * the file's text, which had the longer line of a piece before. These two keep their room until
  * C_Finalize. If the cancel found no memory all the same, no later call is answered, so that nobody
  * finishes the message. */
 void cancel_operation(CK_ULONG session, CK_FLAGS kind) {

@@ -28,7 +28,10 @@ bool report(const char *variable, const char *format, ...) {
     va_start(arguments, format);
     vsnprintf(message, sizeof message, format, arguments);
     va_end(arguments);
-    dprintf(STDERR_FILENO, "ospreyrack: %s: %s\n", variable, message);
+    sigset_t before;
+    block_write_signals(&before);
+    int written = dprintf(STDERR_FILENO, "ospreyrack: %s: %s\n", variable, message);
+    unblock_write_signals(&before, written < 0 ? errno : 0);
     return false;
 }
 
@@ -103,7 +106,7 @@ static bool open_new_journal(const char *path) {
         return false;
     if (library.journal.length > 0)
         return report(journal_variable, "%s: the file is there and isn't empty", path);
-    return begin_journal();
+    return begin_file_text();
 }
 
 static bool open_expanded_journal(const char *path) {
@@ -119,8 +122,8 @@ static bool open_expanded_journal(const char *path) {
 static bool open_token(const char *path, bool *is_new) {
     if (!open_journal(token_variable, path))
         return false;
-    *is_new = is_new_journal();
-    return *is_new ? begin_journal() : answer_journal(path) && close_sessions(token_variable);
+    *is_new = is_new_file();
+    return *is_new ? begin_file_text() : answer_journal(path) && close_sessions(token_variable);
 }
 
 /* The script is for a token that has no calls yet. */

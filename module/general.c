@@ -164,11 +164,11 @@ static CK_RV initialize(const CK_C_INITIALIZE_ARGS *arguments) {
 }
 
 CK_RV C_Initialize(CK_VOID_PTR arguments) {
-    int cancel = forbid_cancel();
+    int before = forbid_cancel();
     take_own_mutex();
     CK_RV code = library.is_initialized ? CKR_CRYPTOKI_ALREADY_INITIALIZED : initialize(arguments);
     release_own_mutex();
-    allow_cancel(cancel);
+    allow_cancel(before);
     return code;
 }
 
@@ -178,9 +178,9 @@ CK_RV C_Finalize(CK_VOID_PTR reserved) {
         return code;
     if (reserved != NULL)
         return leave(CKR_ARGUMENTS_BAD);
-    int cancel = forbid_cancel();
+    int before = forbid_cancel();
     end_token();
     close_library();
-    allow_cancel(cancel);
+    allow_cancel(before);
     return CKR_OK;
 }

@@ -64,7 +64,7 @@ bool open_journal(const char *variable, const char *path) {
     return lock_file(journal, path);
 }
 
-bool is_new_journal(void) {
+bool is_new_file(void) {
     char start[HEADER_LENGTH];
     off_t length = library.journal.length;
     return length < HEADER_LENGTH
@@ -72,7 +72,7 @@ bool is_new_journal(void) {
         && memcmp(start, header, (size_t)length) == 0;
 }
 
-bool begin_journal(void) {
+bool begin_file_text(void) {
     library.journal.length = 0;
     library.journal.is_kept = true;
     return buffer_add_text(&library.journal.text, header)
@@ -106,7 +106,7 @@ bool set_label(const CK_UTF8CHAR *label) {
             && buffer_add_text(text, "\n"));
 }
 
-/* Cuts the file off behind the length that is kept. */
+/* Shortens the file to the length that is kept. */
 static bool truncate_file(const struct journal *journal) {
     struct stat status;
     if (fstat(journal->file, &status) != 0)
@@ -114,17 +114,27 @@ static bool truncate_file(const struct journal *journal) {
     return status.st_size == journal->length || ftruncate(journal->file, journal->length) == 0;
 }
 
+/* How many bytes were written, or a negative error number. */
+static ssize_t write_once(int file, const uint8_t *bytes, size_t length) {
+    sigset_t before;
+    ssize_t written;
+    block_write_signals(&before);
+    do
+        written = write(file, bytes, length);
+    while (written < 0 && errno == EINTR);
+    int error = written < 0 ? errno : 0;
+    unblock_write_signals(&before, error);
+    return error == 0 ? written : -error;
+}
+
 /* What was written in part is taken back, since the application gets no answer to it. */
 static bool write_text(struct journal *journal, size_t length) {
-    ssize_t written;
-    do
-        written = write(journal->file, journal->text.bytes, length);
-    while (written < 0 && errno == EINTR);
+    ssize_t written = write_once(journal->file, journal->text.bytes, length);
     if (written == (ssize_t)length) {
         journal->length += written;
         return true;
     }
-    const char *reason = written < 0 ? strerror(errno) : "there is no room for it";
+    const char *reason = written < 0 ? strerror((int)-written) : "there is no room for it";
     const char *rest = truncate_file(journal) ? "" : ", and a part of it stays in the file";
     journal->has_failed = true;
     return report(journal->variable, "a call can't be written: %s%s", reason, rest);
@@ -136,9 +146,9 @@ bool write_journal(void) {
     journal->text.length = 0;
     if (length == 0)
         return true;
-    int cancel = forbid_cancel();
+    int before = forbid_cancel();
     bool is_written = write_text(journal, length);
-    allow_cancel(cancel);
+    allow_cancel(before);
     return is_written;
 }
 

@@ -32,9 +32,9 @@ static CK_RV generate_key(struct call call, CK_OBJECT_HANDLE *key) {
     if (code != CKR_OK)
         return code;
     call.bytes = (struct bytes){bytes, key_length(call.attributes, call.count)};
-    int cancel = forbid_cancel();
+    int before = forbid_cancel();
     bool is_random = random_bytes(bytes, call.bytes.length);
-    allow_cancel(cancel);
+    allow_cancel(before);
     return is_random ? make_call_for_handle(&call, key) : CKR_DEVICE_ERROR;
 }
 
@@ -51,8 +51,9 @@ CK_RV C_GenerateKey(CK_SESSION_HANDLE session, CK_MECHANISM_PTR mechanism,
     return code == CKR_OK ? leave(generate_key(call, key)) : code;
 }
 
-/* Checks the arguments of a function that is given only a session and bytes. */
-static CK_RV check_session(CK_SESSION_HANDLE session, const CK_BYTE *bytes, CK_ULONG length) {
+/* Asks for the session, as a function does that is given only a session and bytes, and checks the
+ * bytes. */
+static CK_RV ask_with_bytes(CK_SESSION_HANDLE session, const CK_BYTE *bytes, CK_ULONG length) {
     const struct call call = {
         .name = GET_SESSION_INFO,
         .session = session,
@@ -66,7 +67,7 @@ CK_RV C_GenerateRandom(CK_SESSION_HANDLE session, CK_BYTE_PTR out, CK_ULONG leng
     CK_RV code = enter();
     if (code != CKR_OK)
         return code;
-    code = check_session(session, out, length);
+    code = ask_with_bytes(session, out, length);
     bool has_seed = library.has_seed;
     if (code == CKR_OK && has_seed)
         random_bytes(out, length);
@@ -80,7 +81,7 @@ CK_RV C_SeedRandom(CK_SESSION_HANDLE session, CK_BYTE_PTR seed, CK_ULONG length)
     CK_RV code = enter();
     if (code != CKR_OK)
         return code;
-    code = check_session(session, seed, length);
+    code = ask_with_bytes(session, seed, length);
     return leave(code == CKR_OK ? CKR_RANDOM_SEED_NOT_SUPPORTED : code);
 }
 

@@ -3,7 +3,7 @@
  *
  * The lock is the module's own mutex, or one that is made by the application's functions (PKCS #11
  * Base 3.0, General-purpose functions, C_Initialize). In the latter case the own mutex is held only
- * for a moment, since the application's threads may be none that it knows.
+ * for a moment, except by C_Initialize, since the application's threads may be none that it knows.
  */
 #include "module.h"
 

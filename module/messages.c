@@ -98,10 +98,8 @@ CK_RV answer_update(struct call call, CK_FLAGS kind) {
         call.bytes.length = left.length > LONGEST_MESSAGE ? LONGEST_MESSAGE : left.length;
         update.is_last = call.bytes.length == left.length;
         code = answer_piece(call, &update);
-        if (code == CKR_OK) {
-            left.at += call.bytes.length;
-            left.length -= call.bytes.length;
-        }
+        left.at += call.bytes.length;
+        left.length -= call.bytes.length;
     }
     return code;
 }

@@ -13,6 +13,7 @@
 #error "the module is for Linux on x86-64"
 #endif
 
+#include <signal.h>
 #include <stdbool.h>
 #include <stddef.h>
 #include <stdint.h>
@@ -64,7 +65,8 @@ struct journal {
 };
 
 /* Everything between C_Initialize and C_Finalize. It is read and written only under the lock, and
- * in the child of a fork before it has threads. */
+ * in the child of a fork before it has threads. `is_initialized` and `lock` are also read under the
+ * module's own mutex, under which C_Initialize sets everything. */
 struct library {
     bool is_initialized;
     struct application_lock *lock; /* the application's; NULL: the module's own mutex is the lock */
@@ -158,7 +160,7 @@ enum {
     SHORTEST_PIN = 4,
     LONGEST_PIN = 64,
     LONGEST_KEY = 4096,
-    LONGEST_SIGNATURE = 64,
+    LONGEST_SIGNATURE = 64, /* and the longest digest */
     LONGEST_PARAMETER = 8,
     LONGEST_MESSAGE = 1 << 20,
     LONGEST_LINE = 4194304,
@@ -168,7 +170,7 @@ enum {
 #define LONGEST_MEMORY ((CK_ULONG)1 << 47)
 
 struct bytes {
-    const uint8_t *at; /* NULL only where bytes are missing */
+    const uint8_t *at; /* NULL only where bytes are missing, or where there are none */
     size_t length;
 };
 
@@ -293,14 +295,25 @@ CK_RV answer_output(struct call call, CK_BYTE *output, CK_ULONG *length);
 /* Makes an update of an operation, in as many pieces as are needed. */
 CK_RV answer_update(struct call call, CK_FLAGS kind);
 
+/* ---- Signals: signals.c */
+
+/* Blocks the signals that a write raises, in this thread, and tells which were blocked before. */
+void block_write_signals(sigset_t *before);
+
+/* Takes the signal that the write has raised, by its error (0: none), and blocks those that were
+ * blocked before. */
+void unblock_write_signals(const sigset_t *before, int error);
+
 /* ---- The journal file: journal.c */
 
 /* Opens and locks the file. */
 bool open_journal(const char *variable, const char *path);
 
-/* Begins the text of a new journal, where the file is empty or has only a part of its header. */
-bool is_new_journal(void);
-bool begin_journal(void);
+/* Whether the file is empty or has only a part of its header. */
+bool is_new_file(void);
+
+/* Begins the text of a new file. */
+bool begin_file_text(void);
 
 /* Makes room for a line with its end and a label, so that these can be added without a fault. */
 bool reserve_entry(size_t length);
@@ -318,7 +331,7 @@ extern const char label_start[];
 /* Writes what is left to be written. */
 bool write_journal(void);
 
-/* The same once the file's lines are answered: first it is cut off behind those that are kept. */
+/* The same once the file's lines are answered: first it is shortened to those that are kept. */
 bool write_first_journal(void);
 void close_journal(void);
 

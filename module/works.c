@@ -75,7 +75,7 @@ CK_RV enter_with_work(struct call *call) {
 
 const struct buffer *line_of_work(const struct call *call) {
     const struct work *work = call->work;
-    return work != NULL && work->has_line && is_usable(work) ? &work->line : NULL;
+    return work != NULL && is_usable(work) ? &work->line : NULL;
 }
 
 bool call_by_work(const struct call *call, uint32_t *outcome) {

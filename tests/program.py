@@ -240,6 +240,8 @@ def dialogue(tests):
         for line, reply in DIALOGUE:
             came = reply_to(process, line)
             tests.expect(came == reply, f"{line}: {came}, and not {reply}")
+            if came != reply:
+                break
         end = end_of(process)
         tests.expect(end == (b"", b"", 0), f"after the last line: {end}")
     tests.end("each line is answered before the next one comes")

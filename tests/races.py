@@ -54,6 +54,10 @@ SHAPES = """\
 # in it: one with a set order, and two in any order, with two sessions and with a cut.
 NOT_ALONE = [2, 9, 15]
 
+# How many times each race is run in threads: with all calls in a set order by `share` and by
+# `run_scripts`, and with only the first ones.
+RUNS = 300
+
 # After this many faults a test of wrong replies ends.
 MOST_FAULTS = 9
 
@@ -228,12 +232,32 @@ def check_wrong(tests, words, lines, number):
             tests.check_file(text.encode(), words, b"", errors.encode(), 1)
 
 
+def calls_of_callers(lines, race):
+    """How many calls of a race its callers make: all except those before a cut and afterwards."""
+    parts, between = parts_of(lines, race)
+    first = between.index("cut") + 1 if "cut" in between else 0
+    last = between.index("afterwards") + 1 if "afterwards" in between else len(parts)
+    return sum(map(len, parts[first:last]))
+
+
+def output_of(name, text):
+    """What the program writes of a file with these races: by their calls, and by threads too, with
+    all else that callers do."""
+    lines = text.split("\n")
+    races = races_in(lines)
+    count = len(races)
+    calls = RUNS * sum(calls_of_callers(lines, race) for race in races)
+    _, rest = read(CRATE, "stdout").split("\n", 1)
+    alone = f"{name}: {count} passed\n"
+    return alone.encode(), f"{name}: {count} passed, {calls} calls in threads\n{rest}".encode()
+
+
 def whole_file(tests):
-    output = read(CRATE, "stdout").encode()
-    races = output[:output.index(b"\n") + 1]
-    tests.check(["alone", NAME], None, races, b"", 0, cwd=DATA)
-    tests.check(["alone", NAME, NAME], None, races + races, b"", 0, cwd=DATA)
+    alone, output = output_of(NAME, read(DATA, NAME))
+    tests.check(["alone", NAME], None, alone, b"", 0, cwd=DATA)
+    tests.check(["alone", NAME, NAME], None, alone + alone, b"", 0, cwd=DATA)
     tests.check([NAME], None, output, b"", 0, cwd=DATA)
+    tests.expect(output == read(CRATE, "stdout").encode(), f"{output} isn't in the file stdout")
     tests.end("the file of races")
 
 
@@ -280,9 +304,8 @@ def orders(tests):
 
 def set_orders(tests):
     text = "".join(text for text, _ in ORDERS).replace("together in any order", "together")
-    _, rest = read(CRATE, "stdout").split("\n", 1)
-    output = f"t: {len(ORDERS)} passed\n{rest}"
-    tests.check_file(text.encode(), ["t"], output.encode(), b"", 0)
+    _, output = output_of("t", text)
+    tests.check_file(text.encode(), ["t"], output, b"", 0)
     tests.end("the same in races with a set order")
 
 

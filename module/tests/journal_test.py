@@ -58,7 +58,10 @@ OWNER, OTHER_USER = 1, 2
 
 
 def answer_input(path):
-    """Answers the calls that stand in standard input, one after the other."""
+    """Answers the calls that stand in standard input, one after the other. Signals end this process
+    as they end a program in C: Python ignores these two."""
+    signal.signal(signal.SIGXFSZ, signal.SIG_DFL)
+    signal.signal(signal.SIGPIPE, signal.SIG_DFL)
     module = support.Module(path)
     print(f"{module.call('Initialize', None):x}", flush=True)
     for line in sys.stdin:
@@ -196,11 +199,15 @@ def live_as_child(act, written, end):
 class Worker:
     """A process that answers calls."""
 
-    def __init__(self, path, limit=None, **variables):
+    def __init__(self, path, limit=None, has_errors=True, **variables):
+        unread, errors = os.pipe()
+        os.close(unread)
         self.process = subprocess.Popen(
             [sys.executable, os.path.abspath(__file__), "answer", path],
             env=support.environment_of(variables), text=True, stdin=subprocess.PIPE,
-            stdout=subprocess.PIPE, stderr=subprocess.PIPE, preexec_fn=lambda: limit_files(limit))
+            stdout=subprocess.PIPE, stderr=subprocess.PIPE if has_errors else errors,
+            preexec_fn=lambda: limit_files(limit))
+        os.close(errors)
         self.code = self.read()
 
     def read(self):
@@ -1003,6 +1010,14 @@ class Tests:
         self.checks.check(not set(first) & set(other), "another seed makes others")
         self.checks.check(not set(first) & set(largest), "the largest seed makes others")
 
+    def test_nobody_reads_errors(self):
+        """A line on standard error that nobody reads ends no process."""
+        worker = Worker(self.path, has_errors=False, SEED=7)
+        self.checks.equal(worker.code, "0", "C_Initialize with a seed")
+        self.checks.equal(worker.say("1 InitToken 31323334"), "0", "a call")
+        worker.end()
+        self.checks.equal((worker.last, worker.process.returncode), ("0", 0), "C_Finalize")
+
     def test_seeded_bytes(self):
         """The bytes of a seed never change, and its number is decimal."""
         seven, ten, eleven = (self.random_of_start(SEED=seed) for seed in ["7", "010", "0000011"])
@@ -1091,7 +1106,8 @@ TESTS = [Tests.test_file, Tests.test_mode, Tests.test_going_on, Tests.test_new_l
          Tests.test_second_run, Tests.test_fork, Tests.test_fork_that_stays, Tests.test_exec,
          Tests.test_unload, Tests.test_unload_with_functions, Tests.test_rights, Tests.test_kills,
          Tests.test_full, Tests.test_filling, Tests.test_filling_in_update,
-         Tests.test_filling_in_search, Tests.test_seed, Tests.test_seeded_bytes,
+         Tests.test_filling_in_search, Tests.test_seed,
+         Tests.test_nobody_reads_errors, Tests.test_seeded_bytes,
          Tests.test_long_template, Tests.test_cut, Tests.test_memory]
 
 

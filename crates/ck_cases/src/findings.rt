@@ -32,7 +32,7 @@ impl fmt::Display for Finding<'_> {
                 write!(f, "{}: came {}", Shortened(step), NamedReply(came))?;
                 write!(f, ", and not {}", NamedReply(recorded))?;
                 match hidden_difference(came, recorded) {
-                    Some(place) => write!(f, " (they differ from character {place} on)"),
+                    Some(number) => write!(f, " (they differ from character {number} on)"),
                     None => Ok(()),
                 }
             }

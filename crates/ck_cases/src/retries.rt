@@ -5,7 +5,7 @@ use ck_token::{Call, Journal, Limits, NoMemory, Reply, Token, Uncut};
 use std::alloc::Global;
 
 /// A token, and how many times it found no memory. What found none must have left the journal as
-/// long as it was.
+/// long as it was, and legal.
 #[derive(Drop)]
 pub(crate) struct RetryingToken {
     token: Token,
@@ -39,12 +39,17 @@ impl RetryingToken {
         self.retries
     }
 
-    /// Counts a retry. The journal must have this many entries.
-    fn retry(&mut self, entries: u64) -> anyhow::Result<()> {
+    /// Counts a retry. The journal must have this many entries, and be legal.
+    fn retry(&mut self, alloc: Global, entries: u64) -> anyhow::Result<()> {
         let came = self.token.journal().len();
         ensure!(
             came == entries,
             "out of memory, and the journal has {came} entries in place of {entries}"
+        );
+        let verdict = audit_token(alloc, &self.token)?;
+        ensure!(
+            verdict == Verdict::Legal,
+            "out of memory, and the journal isn't legal"
         );
         self.retries = self.retries.saturating_add(1);
         Ok(())
@@ -61,7 +66,7 @@ impl RetryingToken {
         if let Ok(reply) = self.token.call(alloc, caller, copy_of(call)?) {
             return Ok(reply);
         }
-        self.retry(entries)?;
+        self.retry(alloc, entries)?;
         Ok(self.token.call(alloc, caller, copy_of(call)?)?)
     }
 
@@ -73,7 +78,7 @@ impl RetryingToken {
         if let Ok(verdict) = audit_token(alloc, &self.token) {
             return Ok(verdict);
         }
-        self.retry(entries)?;
+        self.retry(alloc, entries)?;
         Ok(audit_token(alloc, &self.token)?)
     }
 
@@ -83,7 +88,7 @@ impl RetryingToken {
         if let Ok(verdict) = audit::<Token>(alloc, self.token.journal(), limits) {
             return Ok(verdict);
         }
-        self.retry(entries)?;
+        self.retry(alloc, entries)?;
         Ok(audit::<Token>(alloc, self.token.journal(), limits)?)
     }
 
@@ -92,7 +97,7 @@ impl RetryingToken {
         let entries = self.token.journal().len();
         match self.token.cut(alloc) {
             Err(Uncut::Memory) => {
-                self.retry(entries)?;
+                self.retry(alloc, entries)?;
                 Ok(self.token.cut(alloc))
             }
             cut => Ok(cut),

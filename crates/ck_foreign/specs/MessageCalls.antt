@@ -1,8 +1,10 @@
 -- What becomes of a call with a message that lies in C's memory
 use Rattle.std.specs.Prelude.{◌≡◌, ⊤, ℕ, Bool, true, false, List, Option, Some, None}
+use Rattle.ck_types.specs.TokenLimits.{Ranges}
 use Rattle.ck_journal.specs.declared.calls.Call.{Call}
 use Rattle.ck_journal.specs.Histories.{History}
 use Rattle.ck_journal.specs.Works.{IsBegun, IsDone, IsAhead}
+use Rattle.ck_token.specs.Decisions.{may_run_out}
 use Rattle.ck_script.specs.Lines.{meaning}
 use Rattle.ck_script.specs.declared.lines.Line.TheVariants as line
 use Rattle.ck_foreign.specs.Calls.{IsCalled}
@@ -55,3 +57,8 @@ IsMadeBy caller None made old new = (made ≡ outcome.NoCall) × (new ≡ old)
 abbrev pub IsMade : ℕ → Option Call → ℕ → Module → Module → Type 0
 IsMade caller c number old new =
     (s : Outcome) × (number ≡ outcome_number s) × IsMadeBy caller c s old new
+
+-- there is a call, and beside the room for its entry it needs no memory
+abbrev pub NeedsOnlyRoom : Ranges → History → Option Call → Type 0
+NeedsOnlyRoom limits h (Some c) = may_run_out limits h c ≡ false
+NeedsOnlyRoom limits h None = ⊥

@@ -63,6 +63,7 @@ pub extern "C" fn ospreyrack_cut(alloc: Global, place: &mut TokenPlace) -> u32
 pub extern "C" fn ospreyrack_reserve(place: &mut TokenPlace, count: u64) -> bool
     ensures room { result ≡ true → count ≤ place.new.value.token.spare }
     ensures same { IsSame place.old.value place.new.value }
+    ensures succeeds { count ≤ place.old.value.token.spare → result ≡ true }
 {
     place.as_mut().token.reserve(count).is_ok()
 }

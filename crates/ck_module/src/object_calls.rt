@@ -3,6 +3,7 @@ ghost use Rattle.ck_journal.specs.declared.calls.Call.TheVariants as call;
 ghost use Rattle.ck_foreign.specs.Calls.{IsCalledBy};
 ghost use Rattle.ck_foreign.specs.Queries.{query_of};
 ghost use Rattle.ck_foreign.specs.Templates.{template_of};
+ghost use Rattle.ck_module.specs.Calls.{IsCalledWithoutLists};
 
 use crate::places::TokenPlace;
 use ck_foreign::{Query, TypeAndLength, queries_of, template_of};
@@ -61,7 +62,7 @@ pub extern "C" fn ospreyrack_set_key_state(
     key: u64,
     state: u64,
 ) -> u32
-    ensures { IsCalledBy caller (call.SetKeyState session key state) result
+    ensures { IsCalledWithoutLists caller (call.SetKeyState session key state) result
         place.old.value place.new.value }
 {
     let call = Call::SetKeyState {
@@ -81,7 +82,7 @@ pub extern "C" fn ospreyrack_destroy_object(
     session: u64,
     object: u64,
 ) -> u32
-    ensures { IsCalledBy caller (call.DestroyObject session object) result
+    ensures { IsCalledWithoutLists caller (call.DestroyObject session object) result
         place.old.value place.new.value }
 {
     let call = Call::DestroyObject { session, object };

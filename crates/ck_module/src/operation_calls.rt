@@ -1,6 +1,7 @@
 ghost use Rattle.ck_journal.specs.declared.calls.Call.TheVariants as call;
 ghost use Rattle.ck_foreign.specs.Calls.{IsCalledBy};
 ghost use Rattle.ck_foreign.specs.Queries.{room_of};
+ghost use Rattle.ck_module.specs.Calls.{IsCalledWithoutLists};
 
 use crate::places::TokenPlace;
 use ck_foreign::room_of;
@@ -41,7 +42,7 @@ pub extern "C" fn ospreyrack_digest_final(
     has_room: bool,
     room: u64,
 ) -> u32
-    ensures { IsCalledBy caller (call.DigestFinal session (room_of has_room room)) result
+    ensures { IsCalledWithoutLists caller (call.DigestFinal session (room_of has_room room)) result
         place.old.value place.new.value }
 {
     let call = Call::DigestFinal {
@@ -86,7 +87,7 @@ pub extern "C" fn ospreyrack_sign_final(
     has_room: bool,
     room: u64,
 ) -> u32
-    ensures { IsCalledBy caller (call.SignFinal session (room_of has_room room)) result
+    ensures { IsCalledWithoutLists caller (call.SignFinal session (room_of has_room room)) result
         place.old.value place.new.value }
 {
     let call = Call::SignFinal {

@@ -27,12 +27,11 @@ impl Model for TokenPlace {
 }
 
 impl TokenPlace {
-    ghost use Rattle.std.specs.Prelude.{◌<◌};
     ghost use Rattle.std.specs.Borrow.{Lends};
     ghost use Rattle.ck_journal.specs.declared.calls.Call.{Call};
     ghost use Rattle.ck_foreign.specs.Calls.{IsCalledBy};
+    ghost use Rattle.ck_module.specs.Calls.{IsCalledWithoutLists};
     ghost use Rattle.ck_module.specs.contracts.places.TokenPlace.{the_row};
-    ghost use Rattle.ck_token.specs.Decisions.{may_run_out};
 
     /// Lends the token. When the loan ends, what was written is the token that lies there.
     pub(crate) fn as_mut(&mut self) -> &mut Module
@@ -62,10 +61,7 @@ impl TokenPlace {
 
     /// Makes a call, and gives the number of what came of it.
     pub(crate) fn call(&mut self, alloc: Global, caller: u32, call: Call) -> u32
-        ensures called { IsCalledBy caller call result self.old.value self.new.value }
-        ensures succeeds { 0 < self.old.value.token.spare
-            → may_run_out self.old.value.token.limits self.old.value.token.history call ≡ false
-            → result ≡ 0 }
+        ensures { IsCalledWithoutLists caller call result self.old.value self.new.value }
     {
         self.as_mut().call(alloc, caller, call).number()
     }

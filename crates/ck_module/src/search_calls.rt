@@ -1,6 +1,7 @@
 ghost use Rattle.ck_journal.specs.declared.calls.Call.TheVariants as call;
 ghost use Rattle.ck_foreign.specs.Calls.{IsCalledBy};
 ghost use Rattle.ck_foreign.specs.Templates.{template_of};
+ghost use Rattle.ck_module.specs.Calls.{IsCalledWithoutLists};
 
 use crate::places::TokenPlace;
 use ck_foreign::{TypeAndLength, template_of};
@@ -35,7 +36,7 @@ pub extern "C" fn ospreyrack_find_objects(
     session: u64,
     max: u64,
 ) -> u32
-    ensures { IsCalledBy caller (call.FindObjects session max) result
+    ensures { IsCalledWithoutLists caller (call.FindObjects session max) result
         place.old.value place.new.value }
 {
     let call = Call::FindObjects { session, max };
@@ -50,7 +51,7 @@ pub extern "C" fn ospreyrack_find_objects_final(
     caller: u32,
     session: u64,
 ) -> u32
-    ensures { IsCalledBy caller (call.FindObjectsFinal session) result
+    ensures { IsCalledWithoutLists caller (call.FindObjectsFinal session) result
         place.old.value place.new.value }
 {
     let call = Call::FindObjectsFinal { session };

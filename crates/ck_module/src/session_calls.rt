@@ -1,6 +1,6 @@
 ghost use Rattle.std.specs.Prelude.{◌≡◌, ◌<◌};
 ghost use Rattle.ck_journal.specs.declared.calls.Call.TheVariants as call;
-ghost use Rattle.ck_foreign.specs.Calls.{IsCalledBy};
+ghost use Rattle.ck_module.specs.Calls.{IsCalledWithoutLists};
 
 use crate::places::TokenPlace;
 use ck_journal::Call;
@@ -14,7 +14,8 @@ pub extern "C" fn ospreyrack_open_session(
     caller: u32,
     flags: u64,
 ) -> u32
-    ensures { IsCalledBy caller (call.OpenSession flags) result place.old.value place.new.value }
+    ensures { IsCalledWithoutLists caller (call.OpenSession flags) result
+        place.old.value place.new.value }
 {
     let call = Call::OpenSession { flags };
     place.call(alloc, caller, call)
@@ -28,7 +29,7 @@ pub extern "C" fn ospreyrack_close_session(
     caller: u32,
     session: u64,
 ) -> u32
-    ensures { IsCalledBy caller (call.CloseSession session) result
+    ensures { IsCalledWithoutLists caller (call.CloseSession session) result
         place.old.value place.new.value }
 {
     let call = Call::CloseSession { session };
@@ -42,7 +43,8 @@ pub extern "C" fn ospreyrack_close_all_sessions(
     place: &mut TokenPlace,
     caller: u32,
 ) -> u32
-    ensures { IsCalledBy caller call.CloseAllSessions result place.old.value place.new.value }
+    ensures { IsCalledWithoutLists caller call.CloseAllSessions result
+        place.old.value place.new.value }
 {
     place.call(alloc, caller, Call::CloseAllSessions)
 }
@@ -55,7 +57,8 @@ pub extern "C" fn ospreyrack_logout(
     caller: u32,
     session: u64,
 ) -> u32
-    ensures { IsCalledBy caller (call.Logout session) result place.old.value place.new.value }
+    ensures { IsCalledWithoutLists caller (call.Logout session) result
+        place.old.value place.new.value }
 {
     let call = Call::Logout { session };
     place.call(alloc, caller, call)
@@ -69,7 +72,7 @@ pub extern "C" fn ospreyrack_get_session_info(
     caller: u32,
     session: u64,
 ) -> u32
-    ensures { IsCalledBy caller (call.GetSessionInfo session) result
+    ensures { IsCalledWithoutLists caller (call.GetSessionInfo session) result
         place.old.value place.new.value }
 {
     let call = Call::GetSessionInfo { session };
@@ -83,7 +86,7 @@ pub extern "C" fn ospreyrack_get_token_info(
     place: &mut TokenPlace,
     caller: u32,
 ) -> u32
-    ensures { IsCalledBy caller call.GetTokenInfo result place.old.value place.new.value }
+    ensures { IsCalledWithoutLists caller call.GetTokenInfo result place.old.value place.new.value }
 {
     place.call(alloc, caller, Call::GetTokenInfo)
 }
@@ -98,7 +101,7 @@ pub extern "C" fn ospreyrack_session_cancel(
     session: u64,
     flags: u64,
 ) -> u32
-    ensures called { IsCalledBy caller (call.SessionCancel session flags) result
+    ensures called { IsCalledWithoutLists caller (call.SessionCancel session flags) result
         place.old.value place.new.value }
     ensures succeeds { 0 < place.old.value.token.spare → result ≡ 0 }
 {

@@ -1,5 +1,5 @@
 -- What the program does by its options with its reader and its writer
-use Rattle.std.specs.Prelude.{◌≡◌, ◌^◌, ◌-◌, ℕ, List, Result, Ok, Err, string_bytes}
+use Rattle.std.specs.Prelude.{◌≡◌, ◌⊎◌, ◌^◌, ◌-◌, ℕ, List, Result, Ok, Err, string_bytes}
 use Rattle.ck_types.specs.TokenLimits.{Ranges}
 use Rattle.ck_plays.specs.Devices.{Reading, Writing, wrote}
 use Rattle.ck_plays.specs.Players.{WriteFailed}
@@ -9,6 +9,9 @@ use Rattle.ck_plays.specs.declared.faults.PlayFault.TheVariants as fault
 use Rattle.ck_program.specs.Faults.{EndsWithoutThreads}
 use Rattle.ck_program.specs.ThreadPlays.{IsPlayedInThreads}
 use Rattle.ck_program.specs.declared.faults.ProgramFault.{ProgramFault}
+use Rattle.ck_program.specs.declared.options.ArgumentFault.{ArgumentFault}
+use Rattle.ck_program.specs.declared.options.ArgumentFault.TheVariants as argument
+use Rattle.ck_program.specs.declared.options.BadArguments.{BadArguments}
 use Rattle.ck_program.specs.declared.options.Options.{Options}
 use Rattle.ck_program.specs.declared.options.Options.TheVariants as option
 
@@ -19,6 +22,15 @@ largest_limits = record {
   creations = 2 ^ 32 - 1;
   logins = 2 ^ 31 - 1;
 }
+
+-- the status with which the program ends: where all is done, at a bad line, by bad arguments, and
+-- after another fault
+abbrev pub IsStatus : ℕ → Type 0
+IsStatus status = (status ≡ 0) ⊎ (status ≡ 1) ⊎ (status ≡ 2) ⊎ (status ≡ 3)
+
+-- the arguments are bad, whatever the reason
+abbrev pub AreBad : Result Options ArgumentFault → Type 0
+AreBad options = (reason : BadArguments) × (options ≡ Err (argument.Bad reason))
 
 -- a text is written, or the writer failed behind a beginning of it
 abbrev pub IsWritten : List ℕ → Writing → (Writing → Type 0) → Result (Unit {0}) PlayFault → Type 0

@@ -1,11 +1,10 @@
 //! The program over any options, reader and writer.
-ghost use Rattle.std.specs.Prelude.{◌≡◌, ◌⊎◌, ◌↔◌, Ok, Err};
+ghost use Rattle.std.specs.Prelude.{◌≡◌, ◌⊎◌, ◌↔◌, Ok, Err, OnErr};
 ghost use Rattle.ck_plays.specs.Devices.{Reading, Writing};
 ghost use Rattle.ck_program.specs.Faults.{status_of};
-ghost use Rattle.ck_program.specs.Programs.{IsDone, IsPlay};
+ghost use Rattle.ck_program.specs.Programs.{AreBad, IsDone, IsPlay, IsStatus};
 ghost use Rattle.ck_program.specs.ThreadPlays.{IsPlayedInThreads};
 ghost use Rattle.ck_program.specs.declared.faults.ProgramFault.{ProgramFault};
-ghost use Rattle.ck_program.specs.declared.options.BadArguments.{BadArguments};
 
 use crate::faults::ProgramFault;
 use crate::options::{ArgumentFault, Callers, Options};
@@ -78,17 +77,13 @@ pub fn run<G: JournaledToken + Send, R: Source, W: Sink, RT: Eprint + Runtime>(
     reader: &mut R,
     writer: &mut W,
 ) -> u8
-    ensures status { (result ≡ 0) ⊎ (result ≡ 1) ⊎ (result ≡ 2) ⊎ (result ≡ 3) }
+    ensures status { IsStatus result }
 
-    // Bad arguments: nothing is read or written.
-    ensures bad_arguments { result ≡ 2
-        ↔ (reason : BadArguments) × (options ≡ Err (ArgumentFault.Bad reason)) }
-    ensures untouched { result ≡ 2
-        → (reader.new ≡ reader.old) × (writer.new ≡ writer.old) }
-
-    // No memory to read the arguments.
-    ensures without_memory { options ≡ Err ArgumentFault.Memory
-        → (result ≡ 3) × (reader.new ≡ reader.old) × (writer.new ≡ writer.old) }
+    // Bad arguments, or no memory to read them: nothing is read or written.
+    ensures bad_arguments { result ≡ 2 ↔ AreBad options }
+    ensures without_memory { options ≡ Err ArgumentFault.Memory → result ≡ 3 }
+    ensures untouched { OnErr options
+        ((reader.new ≡ reader.old) × (writer.new ≡ writer.old)) }
 
     // What they ask for: it is done, or stopped by a fault.
     ensures played { (chosen : Options) → options ≡ Ok chosen → result ≡ 0
@@ -133,17 +128,13 @@ pub fn run_on_std<G: JournaledToken + Send, R: io::Read, W: io::Write, RT: Eprin
 ) -> u8
     requires unread { reader.old.counts ≡ record { reads = 0; ends = 0; failures = 0 } }
     requires unwritten { writer.old.failures ≡ 0 }
-    ensures status { (result ≡ 0) ⊎ (result ≡ 1) ⊎ (result ≡ 2) ⊎ (result ≡ 3) }
+    ensures status { IsStatus result }
 
-    // Bad arguments: nothing is read or written.
-    ensures bad_arguments { result ≡ 2
-        ↔ (reason : BadArguments) × (options ≡ Err (ArgumentFault.Bad reason)) }
-    ensures untouched { result ≡ 2
-        → (reader.new ≡ reader.old) × (writer.new ≡ writer.old) }
-
-    // No memory to read the arguments.
-    ensures without_memory { options ≡ Err ArgumentFault.Memory
-        → (result ≡ 3) × (reader.new ≡ reader.old) × (writer.new ≡ writer.old) }
+    // Bad arguments, or no memory to read them: nothing is read or written.
+    ensures bad_arguments { result ≡ 2 ↔ AreBad options }
+    ensures without_memory { options ≡ Err ArgumentFault.Memory → result ≡ 3 }
+    ensures untouched { OnErr options
+        ((reader.new ≡ reader.old) × (writer.new ≡ writer.old)) }
 
     // What they ask for: it is done, or stopped by a fault.
     ensures end_found { (chosen : Options) → options ≡ Ok chosen → IsPlay chosen → result ≡ 0

@@ -6,7 +6,7 @@ ghost use Rattle.std.specs.Prelude.{◌≡◌, ◌≤◌};
 ghost use Rattle.ck_journal.specs.Histories.{start, start_of};
 
 use crate::journals::check_audit;
-use crate::scripts::{add_script, check_taken};
+use crate::scripts::{check_taken, scripts_of};
 use crate::shared_work::{Shared, SharedWork, share_with};
 use crate::tokens::{cut_token, initialized_token};
 use anyhow::{Context, bail, ensure};
@@ -31,7 +31,7 @@ const WITH_LOGIN: u64 = 8;
 const ALL: u64 = 11;
 
 /// How many times all of it is run, with two callers and with three, on each of three tokens.
-pub(crate) const RUNS: u32 = 100;
+const RUNS: u32 = 100;
 
 type AskingScript<K> = Script<K, Step, Answered>;
 
@@ -111,18 +111,20 @@ fn state_after(entries: u64) -> &'static str {
 }
 
 /// All steps of a script were taken. With each answer comes how many entries the caller knows: it
-/// is that of their state, and what is known stays.
-fn check_script<K: TokenId>(alloc: Global, script: &AskingScript<K>) -> anyhow::Result<()> {
+/// is that of their state, and what is known stays. Says how many questions were answered.
+fn check_script<K: TokenId>(alloc: Global, script: &AskingScript<K>) -> anyhow::Result<u64> {
     check_taken(script)?;
     let mut known = FIRST;
+    let mut answered = 0u64;
     for answer in script.replies() {
         if let Answered::Status { status, seen } = answer {
             expect(known <= *seen)?;
             check_status(alloc, status, state_after(*seen))?;
             known = *seen;
+            answered = answered.saturating_add(1);
         }
     }
-    Ok(())
+    Ok(answered)
 }
 
 fn caller_at<K: TokenId>(
@@ -209,43 +211,31 @@ fn asks_of(caller: u32, callers: usize) -> u32 {
     }
 }
 
-/// The first caller logs in. It and the second then ask.
-fn steps_of(alloc: Global, caller: u32, asks: u32) -> Result<Vec<Step>, NoMemory> {
+/// The first of these callers logs in. It and the second then ask.
+fn steps_of(alloc: Global, caller: u32, callers: usize) -> anyhow::Result<Vec<Step>> {
     let mut steps = Vec::new(alloc);
     if caller == 1 {
         steps.push(Step::Call(user_login()))?;
     }
-    for _ in 0..asks {
+    for _ in 0..asks_of(caller, callers) {
         steps.push(Step::Ask(Ask::Session(1)))?;
     }
     Ok(steps)
 }
 
-fn scripts_of<K: TokenId>(
-    alloc: Global,
-    callers: Vec<Caller<K>>,
-) -> Result<Vec<AskingScript<K>>, NoMemory> {
-    let mut scripts = Vec::new(alloc);
-    let count = callers.len();
-    for caller in callers {
-        let number = caller.number();
-        let steps = steps_of(alloc, number, asks_of(number, count))?;
-        add_script(alloc, caller, steps, &mut scripts)?;
-    }
-    Ok(scripts)
-}
-
-/// The answers of scripts are right, and their callers come back.
+/// The answers of scripts are right, and their callers come back. Says how many questions were
+/// answered.
 fn check_scripts<K: TokenId>(
     alloc: Global,
     scripts: Vec<AskingScript<K>>,
     callers: &mut Vec<Caller<K>>,
-) -> anyhow::Result<()> {
+) -> anyhow::Result<u64> {
+    let mut answered = 0u64;
     for script in scripts {
-        check_script(alloc, &script)?;
+        answered = answered.saturating_add(check_script(alloc, &script)?);
         callers.push(script.caller)?;
     }
-    Ok(())
+    Ok(answered)
 }
 
 impl<'a, K: TokenId, R: Runtime> Shared<'a, K, R> {
@@ -308,56 +298,62 @@ impl<'a, K: TokenId, R: Runtime> Shared<'a, K, R> {
     }
 
     /// One caller logs in while another asks. Before the first call this is answered about the
-    /// token.
+    /// token. Says how many questions were answered meanwhile.
     pub(crate) fn log_in_and_ask(
         &self,
         callers: &mut Vec<Caller<K>>,
         state: &str,
-    ) -> anyhow::Result<()>
+    ) -> anyhow::Result<u64>
     where
         K: Send + Sync,
     {
         let (rt, alloc) = (self.rt, self.rt.alloc());
         self.prepare(callers, state)?;
         let older = caller_at(callers, 0)?.news();
-        let scripts = scripts_of(alloc, mem::replace(callers, Vec::new(alloc)))?;
+        let owned = mem::replace(callers, Vec::new(alloc));
+        let count = owned.len();
+        let scripts = scripts_of(alloc, owned, |caller| steps_of(alloc, caller, count))?;
         let scripts = run_steps(rt, alloc, self.token, scripts);
-        check_scripts(alloc, scripts, callers)?;
+        let answered = check_scripts(alloc, scripts, callers)?;
         check_after(alloc, callers, &older)?;
-        self.check_own_call(callers)
+        self.check_own_call(callers)?;
+        Ok(answered)
     }
 }
 
-/// Callers call and ask. In the end the journal has an entry for each call.
-fn run_once<R: Runtime>(rt: R, callers: u32, token: Token, state: &str) -> anyhow::Result<()>
+/// Callers call and ask. In the end the journal has an entry for each call. Says how many questions
+/// were answered.
+fn run_once<R: Runtime>(rt: R, callers: u32, token: Token, state: &str) -> anyhow::Result<u64>
     requires callers { (1 ≤ callers) × (callers ≤ 8) }
     requires history { token.history ≡ start (start_of token.history) }
 {
     let alloc = rt.alloc();
     let work = SharedWork::LoginAndAsks(state);
-    let (token, _outcome) = share_with(rt, token, callers, &work)?;
+    let (token, outcome) = share_with(rt, token, callers, &work)?;
     expect(token.journal().len() == ALL)?;
     check_audit(alloc, &token)?;
-    Ok(())
+    Ok(outcome.answered)
 }
 
 /// All of it on a new token, on a new one whose journal was cut and on an initialized one whose
-/// journal was cut.
-fn run_on_each_token<R: Runtime>(rt: R, callers: u32) -> anyhow::Result<()>
+/// journal was cut. Says how many questions were answered.
+fn run_on_each_token<R: Runtime>(rt: R, callers: u32) -> anyhow::Result<u64>
     requires callers { (1 ≤ callers) × (callers ≤ 8) }
 {
     let alloc = rt.alloc();
     let token = Token::new(alloc, Limits::largest());
-    run_once(rt, callers, token, "0 4 64 0 0")?;
-    run_once(rt, callers, cut_token(alloc, &[])?, "0 4 64 0 0")?;
-    run_once(rt, callers, initialized_token(alloc)?, "0 404 64 0 0")
+    let new = run_once(rt, callers, token, "0 4 64 0 0")?;
+    let cut = run_once(rt, callers, cut_token(alloc, &[])?, "0 4 64 0 0")?;
+    let initialized = run_once(rt, callers, initialized_token(alloc)?, "0 404 64 0 0")?;
+    Ok(new.saturating_add(cut).saturating_add(initialized))
 }
 
-/// All of it again and again.
-pub(crate) fn run_asks<R: Runtime>(rt: R) -> anyhow::Result<()> {
+/// All of it again and again. Says how many questions were answered.
+pub(crate) fn run_asks<R: Runtime>(rt: R) -> anyhow::Result<u64> {
+    let mut answered = 0u64;
     for _ in 0..RUNS {
-        run_on_each_token(rt, 2)?;
-        run_on_each_token(rt, 3)?;
+        answered = answered.saturating_add(run_on_each_token(rt, 2)?);
+        answered = answered.saturating_add(run_on_each_token(rt, 3)?);
     }
-    Ok(())
+    Ok(answered)
 }

@@ -2,10 +2,10 @@
 //! others may come. Then the token is taken back, and each caller got the replies of its entries.
 use crate::journals::{CallerReplies, check_audit, check_replies};
 use crate::mix::{Handles, call_of};
-use crate::scripts::{add_script, finish};
+use crate::scripts::{finish, scripts_of};
 use crate::shared_work::{Shared, SharedWork, share_with};
 use anyhow::{Context, ensure};
-use ck_shared::{Caller, Runtime, Script, TokenId, run_scripts};
+use ck_shared::{Caller, Runtime, TokenId, run_scripts};
 use ck_token::{Call, Limits, Pin, Token};
 use std::alloc::Global;
 use std::mem;
@@ -52,18 +52,6 @@ fn calls_of(alloc: Global, caller: u32) -> anyhow::Result<Vec<Call>> {
     Ok(calls)
 }
 
-fn scripts_of<K: TokenId>(
-    alloc: Global,
-    callers: Vec<Caller<K>>,
-) -> anyhow::Result<Vec<Script<K>>> {
-    let mut scripts = Vec::new(alloc);
-    for caller in callers {
-        let calls = calls_of(alloc, caller.number())?;
-        add_script(alloc, caller, calls, &mut scripts)?;
-    }
-    Ok(scripts)
-}
-
 impl<'a, K: TokenId + Send + Sync, R: Runtime> Shared<'a, K, R> {
     /// All callers make the calls of their scripts at once, behind the first call of the first one.
     /// Gives the replies to each.
@@ -76,7 +64,8 @@ impl<'a, K: TokenId + Send + Sync, R: Runtime> Shared<'a, K, R> {
         let pin = Pin::of(b"1234");
         let reply = self.call(first, Call::InitToken { pin })?;
         let owned = mem::replace(callers, Vec::new(alloc));
-        let scripts = run_scripts(self.rt, alloc, self.token, scripts_of(alloc, owned)?);
+        let scripts = scripts_of(alloc, owned, |caller| calls_of(alloc, caller))?;
+        let scripts = run_scripts(self.rt, alloc, self.token, scripts);
         let mut all = Vec::new(alloc);
         finish(scripts, callers, &mut all)?;
         let (_, replies) = all.first_mut().context("a caller is missing")?;

@@ -7,22 +7,23 @@ use std::alloc::{AllocError, Global};
 use std::fs;
 use std::fs::Files;
 
-/// Adds a line: how many races of the file passed, and how many calls were made again.
+/// Adds a line: how many races of the file passed, and how many calls were made so, if any.
 fn add_passed(
     text: &mut String,
     name: &str,
     passed: usize,
-    retries: u64,
+    calls: u64,
+    how: &str,
 ) -> Result<(), AllocError> {
-    if retries == 0 {
-        write!(text, "{name}: {passed} passed\n")
-    } else {
-        write!(text, "{name}: {passed} passed, {retries} made again\n")
+    write!(text, "{name}: {passed} passed")?;
+    if calls > 0 {
+        write!(text, ", {calls} {how}")?;
     }
+    text.push('\n')
 }
 
 /// Runs the races of the file of this name: in threads, or the calls of each one after the other.
-/// Adds a line where they pass.
+/// Adds a line where they pass. It says how many calls were made in threads, or made again.
 pub(crate) fn run_file<R: Files + Runtime>(
     rt: R,
     text: &mut String,
@@ -31,14 +32,20 @@ pub(crate) fn run_file<R: Files + Runtime>(
 ) -> anyhow::Result<()> {
     let lines = fs::read_to_string(&rt, name)?;
     let races = races_in(rt.alloc(), lines.as_str())?;
-    let mut retries = 0u64;
+    let mut calls = 0u64;
     for race in &races {
-        if is_alone {
-            retries = retries.saturating_add(retry_race(rt, race)?);
+        let more = if is_alone {
+            retry_race(rt, race)?
         } else {
-            run_race(rt, race)?;
-        }
+            run_race(rt, race)?
+        };
+        calls = calls.saturating_add(more);
     }
-    add_passed(text, name, races.len(), retries)?;
+    let how = if is_alone {
+        "made again"
+    } else {
+        "calls in threads"
+    };
+    add_passed(text, name, races.len(), calls, how)?;
     Ok(())
 }

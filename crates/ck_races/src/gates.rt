@@ -5,13 +5,10 @@ use ck_shared::{Ask, Caller, Gate, SharedToken, Status, TokenId};
 use ck_token::{Call, JournaledToken, NoMemory, Reply};
 use std::alloc::Global;
 use std::sync::Wait;
-use std::sync::atomic::{AtomicBool, AtomicU64, Ordering};
+use std::sync::atomic::{AtomicU64, Ordering};
 use std::time::Duration;
 
-/// How many times a `LockingGate` takes in a message.
-const MESSAGES: u32 = 30;
-
-/// How many times it takes the lock meanwhile, at the most.
+/// How many times a `LockingGate` takes the lock at the most.
 const MOST_LOCKS: u64 = 100_000_000;
 
 /// How many times a caller looks whether the other has taken the lock, and how long it sleeps
@@ -93,24 +90,23 @@ impl<'a, K: TokenId, G: JournaledToken, R: Wait + Drop> Gate<K> for TakingGate<'
     }
 }
 
-/// A gate before a shared token. Before the call of a long message, the message is taken in again
-/// and again, from when another caller has taken the lock. Before any other call, the lock is taken
-/// again and again until then.
+/// A gate before a shared token. The calls with long messages begin when another caller has taken
+/// the lock. Any other call comes after them: until then its caller takes the lock again and again.
 #[derive(Drop)]
 pub(crate) struct LockingGate<'a, K: TokenId, G: JournaledToken, R: Wait + Drop> {
     token: &'a SharedToken<K, G, R>,
     locks: AtomicU64,
-    /// Whether all messages are taken in.
-    has_ended: AtomicBool,
+    /// How many calls with long messages are still to come.
+    messages: AtomicU64,
 }
 
 impl<'a, K: TokenId, G: JournaledToken, R: Wait + Drop> LockingGate<'a, K, G, R> {
-    /// A gate before a token, which answers the calls.
-    pub(crate) fn new(token: &'a SharedToken<K, G, R>) -> LockingGate<'a, K, G, R> {
+    /// A gate before a token, which answers the calls. This many of them have long messages.
+    pub(crate) fn new(token: &'a SharedToken<K, G, R>, messages: u64) -> LockingGate<'a, K, G, R> {
         LockingGate {
             token,
             locks: AtomicU64::new(0),
-            has_ended: AtomicBool::new(false),
+            messages: AtomicU64::new(messages),
         }
     }
 
@@ -130,19 +126,10 @@ impl<'a, K: TokenId, G: JournaledToken, R: Wait + Drop> LockingGate<'a, K, G, R>
         }
     }
 
-    /// Takes in the message of a call again and again.
-    fn take_in<W: Wait>(&self, rt: &W, call: &Call) {
-        self.await_lock(rt);
-        for _ in 0..MESSAGES {
-            drop(self.token.take_in(rt, call));
-        }
-        self.has_ended.store(true, Ordering::SeqCst);
-    }
-
-    /// Takes the lock again and again, until all messages are taken in.
+    /// Takes the lock again and again, until all calls with long messages are made.
     fn take_locks<W: Wait>(&self, rt: &W) {
         for _ in 0..MOST_LOCKS {
-            if self.has_ended.load(Ordering::SeqCst) {
+            if self.messages.load(Ordering::SeqCst) == 0 {
                 return;
             }
             drop(self.token.lock(rt));
@@ -159,12 +146,14 @@ impl<'a, K: TokenId, G: JournaledToken, R: Wait + Drop> Gate<K> for LockingGate<
         caller: &mut Caller<K>,
         call: Call,
     ) -> Result<Reply, NoMemory> {
-        if call.brings_long_message() {
-            self.take_in(rt, &call);
-        } else {
+        if !call.brings_long_message() {
             self.take_locks(rt);
+            return self.token.call(rt, alloc, caller, call);
         }
-        self.token.call(rt, alloc, caller, call)
+        self.await_lock(rt);
+        let reply = self.token.call(rt, alloc, caller, call);
+        self.messages.fetch_sub(1, Ordering::SeqCst);
+        reply
     }
 
     fn status(&self, caller: &mut Caller<K>, ask: Ask) -> Option<Status> {

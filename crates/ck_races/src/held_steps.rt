@@ -5,12 +5,12 @@ use crate::asks::{await_status, check_ask, check_status, expect};
 use crate::gates::HeldGate;
 use crate::journals::check_audit;
 use crate::orders::CallOrder;
-use crate::scripts::{add_script, check_taken};
+use crate::scripts::{check_taken, scripts_of};
 use crate::shared_work::{Shared, SharedWork, share_with};
 use crate::tokens::initialized_token;
 use anyhow::ensure;
 use ck_shared::{Answered, Ask, Caller, Runtime, Script, Step, TokenId, run_steps};
-use ck_token::{Body, Call, NoMemory, READ_WRITE, Reply, Rv};
+use ck_token::{Body, Call, READ_WRITE, Reply, Rv};
 use std::alloc::Global;
 use std::mem;
 
@@ -18,7 +18,7 @@ use std::mem;
 const ASKS: u32 = 100;
 
 /// How many times it is run with each of the two callers as the first one.
-pub(crate) const RUNS: u32 = 100;
+const RUNS: u32 = 100;
 
 type OpeningScript<K> = Script<K, Step, Answered>;
 
@@ -31,24 +31,13 @@ fn info_after(entries: u64) -> &'static str {
 }
 
 /// A call, and questions behind it.
-fn steps(alloc: Global) -> Result<Vec<Step>, NoMemory> {
+fn steps(alloc: Global) -> anyhow::Result<Vec<Step>> {
     let mut steps = Vec::new(alloc);
     steps.push(Step::Call(Call::OpenSession { flags: READ_WRITE }))?;
     for _ in 0..ASKS {
         steps.push(Step::Ask(Ask::Token))?;
     }
     Ok(steps)
-}
-
-fn scripts_of<K: TokenId>(
-    alloc: Global,
-    callers: Vec<Caller<K>>,
-) -> Result<Vec<OpeningScript<K>>, NoMemory> {
-    let mut scripts = Vec::new(alloc);
-    for caller in callers {
-        add_script(alloc, caller, steps(alloc)?, &mut scripts)?;
-    }
-    Ok(scripts)
 }
 
 /// The reply of the entry of this number gives the handle of that number.
@@ -64,36 +53,40 @@ fn check_answer(alloc: Global, answer: &Answered) -> anyhow::Result<()> {
     }
 }
 
-/// All steps of a script were taken, the first of them as the entry of this number.
+/// All steps of a script were taken, the first of them as the entry of this number. Says how many
+/// were answered.
 fn check_script<K: TokenId>(
     alloc: Global,
     script: &OpeningScript<K>,
     entry: u64,
-) -> anyhow::Result<()> {
+) -> anyhow::Result<u64> {
     check_taken(script)?;
     let answers = script.replies();
     expect(matches!(answers.first(), Some(Answered::Reply { seen, .. }) if *seen == entry))?;
+    let mut answered = 0u64;
     for answer in answers {
         check_answer(alloc, answer)?;
+        answered = answered.saturating_add(1);
     }
-    Ok(())
+    Ok(answered)
 }
 
 /// The callers of scripts come back. The first of them made its call as the entry of this number,
-/// and the second as the other of two.
+/// and the second as the other of two. Says how many steps were answered.
 fn check_scripts<K: TokenId>(
     alloc: Global,
     scripts: Vec<OpeningScript<K>>,
     callers: &mut Vec<Caller<K>>,
     first: u64,
-) -> anyhow::Result<()> {
+) -> anyhow::Result<u64> {
     let mut entry = first;
+    let mut answered = 0u64;
     for script in scripts {
-        check_script(alloc, &script, entry)?;
+        answered = answered.saturating_add(check_script(alloc, &script, entry)?);
         callers.push(script.caller)?;
         entry = if entry == 1 { 2 } else { 1 };
     }
-    Ok(())
+    Ok(answered)
 }
 
 impl<'a, K: TokenId, R: Runtime> Shared<'a, K, R> {
@@ -109,29 +102,31 @@ impl<'a, K: TokenId, R: Runtime> Shared<'a, K, R> {
         expect(caller.count() == 2)
     }
 
-    /// Each of two callers opens a session, this one first, and then asks.
+    /// Each of two callers opens a session, this one first, and then asks. Says how many of these
+    /// steps were answered.
     pub(crate) fn open_sessions(
         &self,
         callers: &mut Vec<Caller<K>>,
         first: u32,
         order: &CallOrder,
-    ) -> anyhow::Result<()>
+    ) -> anyhow::Result<u64>
     where
         K: Send + Sync,
     {
         let (rt, alloc) = (self.rt, self.rt.alloc());
-        let scripts = scripts_of(alloc, mem::replace(callers, Vec::new(alloc)))?;
+        let owned = mem::replace(callers, Vec::new(alloc));
+        let scripts = scripts_of(alloc, owned, |_| steps(alloc))?;
         let scripts = run_steps(rt, alloc, &HeldGate::new(self.token, order), scripts);
-        check_scripts(alloc, scripts, callers, u64::from(first))?;
+        let answered = check_scripts(alloc, scripts, callers, u64::from(first))?;
         for caller in callers {
             self.check_opened(caller)?;
         }
-        Ok(())
+        Ok(answered)
     }
 }
 
-/// Runs it once, with this caller as the first one.
-fn run_once<R: Runtime>(rt: R, first: u32) -> anyhow::Result<()> {
+/// Runs it once, with this caller as the first one. Says how many steps were answered.
+fn run_once<R: Runtime>(rt: R, first: u32) -> anyhow::Result<u64> {
     let alloc = rt.alloc();
     let callers = if first == 1 { [1, 2] } else { [2, 1] };
     let order = CallOrder::new(&callers);
@@ -139,17 +134,22 @@ fn run_once<R: Runtime>(rt: R, first: u32) -> anyhow::Result<()> {
         first,
         order: &order,
     };
-    let (token, _outcome) = share_with(rt, initialized_token(alloc)?, 2, &work)?;
+    let (token, outcome) = share_with(rt, initialized_token(alloc)?, 2, &work)?;
     ensure!(!order.is_late(), "a step wasn't the next one in time");
     check_audit(alloc, &token)?;
-    Ok(())
+    Ok(outcome.answered)
 }
 
-/// Runs it again and again, both ways.
-pub(crate) fn run_held_steps<R: Runtime>(rt: R) -> anyhow::Result<()> {
+/// Runs it both ways.
+fn run_both_ways<R: Runtime>(rt: R) -> anyhow::Result<u64> {
+    Ok(run_once(rt, 1)?.saturating_add(run_once(rt, 2)?))
+}
+
+/// Runs it again and again. Says how many steps were answered.
+pub(crate) fn run_held_steps<R: Runtime>(rt: R) -> anyhow::Result<u64> {
+    let mut answered = 0u64;
     for _ in 0..RUNS {
-        run_once(rt, 1)?;
-        run_once(rt, 2)?;
+        answered = answered.saturating_add(run_both_ways(rt)?);
     }
-    Ok(())
+    Ok(answered)
 }

@@ -46,6 +46,14 @@ pub(crate) fn check_audit(alloc: Global, token: &Token) -> anyhow::Result<u64> {
     }
 }
 
+/// An audit finds the journal legal where calls were made again. Says how many were.
+pub(crate) fn check_retried(alloc: Global, token: &Token, retries: u64) -> anyhow::Result<u64> {
+    if retries > 0 {
+        check_audit(alloc, token)?;
+    }
+    Ok(retries)
+}
+
 /// Each call has an entry, and the first were made in this order of their callers.
 fn check_order(journal: &Journal, lines: &[RaceLine], callers: &[u32]) -> anyhow::Result<()> {
     let is_kept = journal.len() == lines.len() as u64

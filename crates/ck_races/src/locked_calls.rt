@@ -41,8 +41,8 @@ impl<'a, K: TokenId, R: Runtime> Shared<'a, K, R> {
 }
 
 /// Makes the calls on a new token. Its journal has an entry for each of them, also where its
-/// callers are lost.
-pub(crate) fn run_locked_calls<R: Runtime>(rt: R) -> anyhow::Result<()> {
+/// callers are lost. Says how many there are.
+pub(crate) fn run_locked_calls<R: Runtime>(rt: R) -> anyhow::Result<u64> {
     let alloc = rt.alloc();
     let token = Token::new(alloc, Limits::largest());
     let (token, _outcome) = share_with(rt, token, 2, &SharedWork::CallsUnderLock)?;
@@ -54,6 +54,5 @@ pub(crate) fn run_locked_calls<R: Runtime>(rt: R) -> anyhow::Result<()> {
             .map(|entry| entry.caller)
             .eq([1, 1, 1, 2]),
     )?;
-    check_audit(alloc, &token)?;
-    Ok(())
+    check_audit(alloc, &token)
 }

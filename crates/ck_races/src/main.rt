@@ -9,7 +9,7 @@
 //! With the word `alone` before the files only the calls of each race are made, one after the
 //! other: on a shared token, by `run` and by `run_scripts`. Where there was no memory they are made
 //! again, and the line of a file says how many times that was. The word `reserved` only makes calls
-//! for which places in the journal are reserved, and `reserve` only reserves them.
+//! for which room in the journal is reserved, and `reserve` only reserves it.
 #![tactic(auto)]
 
 mod asks;
@@ -36,6 +36,7 @@ mod shared_work;
 mod tokens;
 mod words;
 
+use asks::run_asks;
 use ck_shared::Runtime;
 use drawn_calls::make_drawn_calls;
 use eight_scripts::run_eight_scripts;
@@ -44,26 +45,30 @@ use held_steps::run_held_steps;
 use locked_calls::run_locked_calls;
 use long_messages::run_long_messages;
 use reserved::{make_reserved_calls, reserved_token};
+use std::alloc::AllocError;
 use std::env;
 use std::env::Env;
 use std::fs::Files;
 
+/// Adds a line: how often this was done, and how it ended.
+fn add_line(text: &mut String, what: &str, count: u64, end: &str) -> Result<(), AllocError> {
+    write!(text, "{what}: {count} {end}\n")
+}
+
 /// What callers do at once, besides races. Adds a line for each that passes.
 fn run_together<R: Runtime>(rt: R, text: &mut String) -> anyhow::Result<()> {
-    let runs = runs::RUNS;
-    write!(text, "runs of each race, in either way: {runs}\n")?;
-    asks::run_asks(rt)?;
-    write!(text, "asks: {} passed\n", asks::RUNS)?;
-    run_held_steps(rt)?;
-    write!(text, "held steps: {} passed\n", held_steps::RUNS)?;
-    run_locked_calls(rt)?;
-    write!(text, "calls under one lock: passed\n")?;
-    run_long_messages(rt)?;
-    write!(text, "long messages: passed\n")?;
-    let calls = run_eight_scripts(rt)?;
-    write!(text, "scripts of eight callers: {calls}, audit ok\n")?;
-    let calls = make_drawn_calls(rt)?;
-    write!(text, "drawn calls: {calls}, audit ok\n")?;
+    let (answered, made) = ("answered", "made, audit ok");
+    add_line(text, "asks", run_asks(rt)?, answered)?;
+    add_line(text, "held steps", run_held_steps(rt)?, answered)?;
+    add_line(text, "calls under one lock", run_locked_calls(rt)?, made)?;
+    add_line(
+        text,
+        "calls beside long messages",
+        run_long_messages(rt)?,
+        made,
+    )?;
+    add_line(text, "calls of eight scripts", run_eight_scripts(rt)?, made)?;
+    add_line(text, "drawn calls", make_drawn_calls(rt)?, made)?;
     Ok(())
 }
 

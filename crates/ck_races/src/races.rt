@@ -16,6 +16,7 @@
 //! race has calls that are made together; without a line `together` these are all of them.
 use crate::words::script_line;
 use anyhow::{Context, bail, ensure};
+use ck_journal::MOST_CALLERS;
 use ck_script::{Line, LineError, reply_line};
 use ck_token::{Call, Limits, NoMemory, Reply};
 use std::alloc::Global;
@@ -56,6 +57,19 @@ pub(crate) struct Race<'a> {
 }
 
 impl<'a> Race<'a> {
+    ghost use Rattle.std.specs.Prelude.{◌≤◌};
+
+    /// How many callers the race has: they are numbered from 1.
+    pub(crate) fn callers(&self) -> u32
+        ensures { (1 ≤ result) × (result ≤ 8) }
+    {
+        let mut most = 1;
+        for line in &self.lines {
+            most = line.caller.max(most);
+        }
+        most.clamp(1, MOST_CALLERS)
+    }
+
     fn new(alloc: Global, number: u64) -> Race<'a> {
         Race {
             number,

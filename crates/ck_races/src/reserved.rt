@@ -1,4 +1,4 @@
-//! Calls for which places in the journal are reserved, and which take no other memory.
+//! Calls for which room in the journal is reserved, and which take no other memory.
 use crate::tokens::make_calls_of;
 use anyhow::ensure;
 use ck_token::{Call, KeyState, Limits, Rv, Token};
@@ -15,7 +15,7 @@ const FIRST_CALLS: [&str; 7] = [
     "1 CreateObject 1 0=0400000000000000,100=1000000000000000,11=4a656665 -> 0 4294967297",
 ];
 
-/// A token with three places in its journal.
+/// A token with room for three more entries in its journal.
 pub(crate) fn reserved_token(alloc: Global) -> anyhow::Result<Token> {
     let mut token = Token::new(alloc, Limits::largest());
     make_calls_of(alloc, &mut token, &FIRST_CALLS)?;
@@ -40,10 +40,7 @@ pub(crate) fn make_reserved_calls(alloc: Global, token: &mut Token) -> anyhow::R
     ];
     for call in calls {
         let reply = token.call(alloc, 1, call)?;
-        ensure!(
-            reply.rv == Rv::Ok,
-            "a call with a reserved place is refused"
-        );
+        ensure!(reply.rv == Rv::Ok, "a call with reserved room is refused");
     }
     Ok(())
 }

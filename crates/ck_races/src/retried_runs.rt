@@ -1,6 +1,6 @@
 //! The calls of a race by `run` on a token. Where it stops without memory, it goes on with those
 //! that are left.
-use crate::journals::check_entries;
+use crate::journals::{check_entries, check_retried};
 use crate::races::{Race, RaceLine};
 use crate::tokens::prepared_token;
 use anyhow::ensure;
@@ -36,5 +36,5 @@ pub(crate) fn retry_run(alloc: Global, race: &Race) -> anyhow::Result<u64> {
     let mut token = prepared_token(alloc, race)?;
     let stops = run_calls(alloc, &mut token, &race.lines)?;
     check_entries(alloc, &race.lines, token.journal())?;
-    Ok(stops)
+    check_retried(alloc, &token, stops)
 }

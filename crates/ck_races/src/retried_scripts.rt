@@ -1,14 +1,34 @@
 //! The calls of a race by `run_scripts`, as one script. Where a call finds no memory, those that
 //! are left are a script of their own.
-use crate::journals::check_entries;
+use crate::journals::{check_entries, check_retried};
 use crate::races::{Race, RaceLine};
-use crate::scripts::{add_script, calls_of};
+use crate::scripts::calls_of;
 use crate::shared_work::{Shared, SharedWork, share_with};
 use crate::tokens::prepared_token;
 use anyhow::{Context, ensure};
-use ck_shared::{Caller, Runtime, TokenId, run_scripts};
-use ck_token::NoMemory;
+use ck_shared::{Caller, Runtime, Script, TokenId, run_scripts};
+use ck_token::{Call, NoMemory};
 use std::alloc::Global;
+
+/// A script of a caller. Where there is no room for its replies, the caller and the calls come back
+/// as they were, and it is tried once more.
+fn script_of<K: TokenId>(
+    alloc: Global,
+    caller: Caller<K>,
+    calls: Vec<Call>,
+) -> anyhow::Result<Script<K>> {
+    let (made, left) = (caller.count(), calls.len());
+    match Script::new(alloc, caller, calls) {
+        Ok(script) => Ok(script),
+        Err((caller, calls)) => {
+            ensure!(
+                caller.count() == made && calls.len() == left,
+                "a script without room has made a call"
+            );
+            Ok(Script::new(alloc, caller, calls).ok().ok_or(NoMemory)?)
+        }
+    }
+}
 
 impl<'a, K: TokenId + Send + Sync, R: Runtime> Shared<'a, K, R> {
     /// A caller makes calls by a script. It comes back with how many were answered: where not all
@@ -20,7 +40,7 @@ impl<'a, K: TokenId + Send + Sync, R: Runtime> Shared<'a, K, R> {
     ) -> anyhow::Result<(Caller<K>, usize)> {
         let alloc = self.rt.alloc();
         let mut scripts = Vec::new(alloc);
-        add_script(alloc, caller, calls_of(alloc, lines)?, &mut scripts)?;
+        scripts.push(script_of(alloc, caller, calls_of(alloc, lines)?)?)?;
         let script = run_scripts(self.rt, alloc, self.token, scripts)
             .pop()
             .context("a script is missing")?;
@@ -66,5 +86,5 @@ pub(crate) fn retry_script<R: Runtime>(rt: R, race: &Race) -> anyhow::Result<u64
     let work = SharedWork::CallsByScripts(race);
     let (token, outcome) = share_with(rt, token, 1, &work)?;
     check_entries(alloc, &race.lines, token.journal())?;
-    Ok(outcome.retries)
+    check_retried(alloc, &token, outcome.retries)
 }

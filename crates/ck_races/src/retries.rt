@@ -1,5 +1,6 @@
 //! The calls of a race, one after the other on a shared token, by two callers in turn. What finds
 //! no memory is made again, by the other one.
+use crate::journals::check_retried;
 use crate::races::{Race, RaceLine, compare};
 use crate::retried_runs::retry_run;
 use crate::retried_scripts::retry_script;
@@ -142,7 +143,7 @@ fn retry_calls<R: Runtime>(rt: R, race: &Race) -> anyhow::Result<u64> {
         token.journal().len() == calls as u64,
         "not an entry for each call"
     );
-    Ok(outcome.retries)
+    check_retried(alloc, &token, outcome.retries)
 }
 
 /// Makes the calls of a race by two callers, by `run` and by `run_scripts`. Says how many were made

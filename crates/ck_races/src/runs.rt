@@ -16,7 +16,7 @@ use std::alloc::Global;
 use std::sync::Wait;
 
 /// How many times a race is run with all its calls in order, and as many with only the first ones.
-pub(crate) const RUNS: u64 = 100;
+const RUNS: u64 = 100;
 
 /// Calls, the first of which are made in an order of their callers.
 #[derive(Drop)]
@@ -68,24 +68,26 @@ impl<'a, R: Wait + AllocGlobal> CallerWork<R> for OrderedCalls<'a> {
 }
 
 /// Checks what came of a race, and what is made afterwards: no call was made too early, each caller
-/// got the replies of its entries, these are as the race says, and the journal is legal.
+/// got the replies of its entries, these are as the race says, and the journal is legal. Says how
+/// many calls were made in threads.
 fn check_run(
     alloc: Global,
     token: &mut Token,
     race: &Race,
     order: &CallOrder,
     all: Vec<CallerReplies>,
-) -> anyhow::Result<()> {
+) -> anyhow::Result<u64> {
     ensure!(!order.is_late(), "a call wasn't the next one in time");
+    let calls = token.journal().len();
     check_replies(token.journal(), all)?;
     check_token(alloc, token, race, order.callers())?;
     check_audit(alloc, token)?;
-    Ok(())
+    Ok(calls)
 }
 
-/// Eight callers make the calls of a race on a new token by `share`, the first ones in this order
-/// of their callers.
-fn run_shared<R: Runtime>(rt: R, race: &Race, callers: &[u32]) -> anyhow::Result<()> {
+/// The callers of a race make its calls on a new token by `share`, the first ones in this order of
+/// their callers.
+fn run_shared<R: Runtime>(rt: R, race: &Race, callers: &[u32]) -> anyhow::Result<u64> {
     let alloc = rt.alloc();
     let mut token = prepared_token(alloc, race)?;
     let order = CallOrder::new(callers);
@@ -93,14 +95,14 @@ fn run_shared<R: Runtime>(rt: R, race: &Race, callers: &[u32]) -> anyhow::Result
         lines: &race.lines,
         order: &order,
     };
-    let all = share(rt, alloc, &mut token, 8, &calls)?;
+    let all = share(rt, alloc, &mut token, race.callers(), &calls)?;
     let all = in_order_of_callers(alloc, all)?;
     check_run(alloc, &mut token, race, &order, all)
 }
 
 /// The same by `run_scripts`, where the bytes of each long message are taken in before the call is
 /// held.
-fn run_scripted<R: Runtime>(rt: R, race: &Race, callers: &[u32]) -> anyhow::Result<()> {
+fn run_scripted<R: Runtime>(rt: R, race: &Race, callers: &[u32]) -> anyhow::Result<u64> {
     let alloc = rt.alloc();
     let order = CallOrder::new(callers);
     let work = SharedWork::HeldScripts {
@@ -108,7 +110,7 @@ fn run_scripted<R: Runtime>(rt: R, race: &Race, callers: &[u32]) -> anyhow::Resu
         order: &order,
     };
     let token = prepared_token(alloc, race)?;
-    let (mut token, outcome) = share_with(rt, token, 8, &work)?;
+    let (mut token, outcome) = share_with(rt, token, race.callers(), &work)?;
     check_run(alloc, &mut token, race, &order, outcome.replies)
 }
 
@@ -120,23 +122,25 @@ fn make_in_order(alloc: Global, race: &Race) -> anyhow::Result<()> {
 }
 
 /// Runs a race again and again: with all calls in an order of their callers, first this one and
-/// then drawn, and with only the first calls in order.
-fn run_in_orders<R: Runtime>(rt: R, race: &Race, callers: &mut [u32]) -> anyhow::Result<()> {
+/// then drawn, and with only the first calls in order. Says how many calls were made in threads.
+fn run_in_orders<R: Runtime>(rt: R, race: &Race, callers: &mut [u32]) -> anyhow::Result<u64> {
     let mut draws = Xoshiro256PlusPlus::seed_from_u64(race.number);
+    let mut calls = 0u64;
     for _ in 0..RUNS {
-        run_shared(rt, race, callers)?;
-        run_scripted(rt, race, callers)?;
-        run_shared(rt, race, callers.get(..race.first).unwrap_or(&[]))?;
+        calls = calls.saturating_add(run_shared(rt, race, callers)?);
+        calls = calls.saturating_add(run_scripted(rt, race, callers)?);
+        let first = callers.get(..race.first).unwrap_or(&[]);
+        calls = calls.saturating_add(run_shared(rt, race, first)?);
         if let Some(together) = callers.get_mut(race.first..) {
             reorder(&mut draws, together);
         }
     }
-    Ok(())
+    Ok(calls)
 }
 
 /// Runs a race on a token that isn't shared, and in orders of the callers of its calls, beginning
-/// with that in which they stand.
-pub(crate) fn run_race<R: Runtime>(rt: R, race: &Race) -> anyhow::Result<()> {
+/// with that in which they stand. Says how many calls were made in threads.
+pub(crate) fn run_race<R: Runtime>(rt: R, race: &Race) -> anyhow::Result<u64> {
     let alloc = rt.alloc();
     make_in_order(alloc, race)?;
     let callers = race.lines.iter().map(|line| line.caller);

@@ -10,16 +10,25 @@ use ck_token::{Call, NoMemory};
 use std::alloc::Global;
 use std::mem;
 
-/// Adds a script of these steps.
-pub(crate) fn add_script<K: TokenId, S: Drop, A: Drop>(
+/// A script for each caller, of the steps that are made for its number.
+pub(crate) fn scripts_of<K, S, A, F>(
     alloc: Global,
-    caller: Caller<K>,
-    steps: Vec<S>,
-    scripts: &mut Vec<Script<K, S, A>>,
-) -> Result<(), NoMemory> {
-    let script = Script::new(alloc, caller, steps).ok().ok_or(NoMemory)?;
-    scripts.push(script)?;
-    Ok(())
+    callers: Vec<Caller<K>>,
+    steps_of: F,
+) -> anyhow::Result<Vec<Script<K, S, A>>>
+where
+    K: TokenId,
+    S: Drop,
+    A: Drop,
+    F: Fn(u32) -> anyhow::Result<Vec<S>>,
+    requires { F.IsAlwaysCallable steps_of }
+{
+    let mut scripts = Vec::new(alloc);
+    for caller in callers {
+        let steps = steps_of(caller.number())?;
+        scripts.push(Script::new(alloc, caller, steps).ok().ok_or(NoMemory)?)?;
+    }
+    Ok(scripts)
 }
 
 /// The calls of lines.
@@ -32,7 +41,7 @@ pub(crate) fn calls_of(alloc: Global, lines: &[RaceLine]) -> Result<Vec<Call>, N
 }
 
 /// The calls of a caller among these lines.
-fn calls_by(alloc: Global, caller: u32, lines: &[RaceLine]) -> Result<Vec<Call>, NoMemory> {
+fn calls_by(alloc: Global, caller: u32, lines: &[RaceLine]) -> anyhow::Result<Vec<Call>> {
     let mut calls = Vec::new(alloc);
     for line in lines {
         if line.caller == caller {
@@ -40,20 +49,6 @@ fn calls_by(alloc: Global, caller: u32, lines: &[RaceLine]) -> Result<Vec<Call>,
         }
     }
     Ok(calls)
-}
-
-/// A script for each caller, of its calls among these lines.
-fn scripts_of<K: TokenId>(
-    alloc: Global,
-    callers: Vec<Caller<K>>,
-    lines: &[RaceLine],
-) -> Result<Vec<Script<K>>, NoMemory> {
-    let mut scripts = Vec::new(alloc);
-    for caller in callers {
-        let calls = calls_by(alloc, caller.number(), lines)?;
-        add_script(alloc, caller, calls, &mut scripts)?;
-    }
-    Ok(scripts)
 }
 
 /// All steps of a script were taken, in a thread of its own.
@@ -91,7 +86,7 @@ impl<'a, K: TokenId + Send + Sync, R: Runtime> Shared<'a, K, R> {
     ) -> anyhow::Result<Vec<CallerReplies>> {
         let (rt, alloc) = (self.rt, self.rt.alloc());
         let owned = mem::replace(callers, Vec::new(alloc));
-        let scripts = scripts_of(alloc, owned, &race.lines)?;
+        let scripts = scripts_of(alloc, owned, |caller| calls_by(alloc, caller, &race.lines))?;
         let scripts = run_scripts(rt, alloc, &TakingGate::new(self.token, order), scripts);
         let mut all = Vec::new(alloc);
         finish(scripts, callers, &mut all)?;

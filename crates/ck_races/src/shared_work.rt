@@ -26,7 +26,7 @@ pub(crate) enum SharedWork<'a> {
     AllCalls(&'a Race<'a>),
     /// One caller makes the calls of a race by scripts.
     CallsByScripts(&'a Race<'a>),
-    /// Eight callers make their calls of a race by scripts, in an order.
+    /// The callers of a race make its calls by scripts, in an order.
     HeldScripts {
         race: &'a Race<'a>,
         order: &'a CallOrder<'a>,
@@ -35,8 +35,8 @@ pub(crate) enum SharedWork<'a> {
     EightScripts,
     /// One caller makes calls under one lock. Then both callers are lost.
     CallsUnderLock,
-    /// Messages are taken in before a caller adds them to a digest, and while another takes the
-    /// lock.
+    /// Messages are taken in before a caller adds them to a digest, and one adds some while another
+    /// takes the lock.
     LongMessages,
 }
 
@@ -47,6 +47,19 @@ pub(crate) struct Outcome {
     pub(crate) replies: Vec<CallerReplies>,
     /// How many calls were made again.
     pub(crate) retries: u64,
+    /// How many steps or questions were answered meanwhile, where they are counted.
+    pub(crate) answered: u64,
+}
+
+impl Outcome {
+    /// Nothing came of the work yet.
+    fn new(alloc: Global) -> Outcome {
+        Outcome {
+            replies: Vec::new(alloc),
+            retries: 0,
+            answered: 0,
+        }
+    }
 }
 
 /// A token that was taken back, and what came of the work.
@@ -103,24 +116,29 @@ impl<'a, K: TokenId, R: Runtime> Shared<'a, K, R> {
     where
         K: Send + Sync,
     {
-        let mut replies = Vec::new(self.rt.alloc());
-        let mut retries = 0;
+        let mut outcome = Outcome::new(self.rt.alloc());
         match work {
-            SharedWork::LoginAndAsks(state) => self.log_in_and_ask(callers, state)?,
-            SharedWork::Openings { first, order } => self.open_sessions(callers, *first, order)?,
-            SharedWork::AllCalls(race) => retries = self.make_race(callers, race)?,
-            SharedWork::CallsByScripts(race) => retries = self.make_by_scripts(callers, race)?,
-            SharedWork::HeldScripts { race, order } => {
-                replies = self.run_held(callers, race, order)?;
+            SharedWork::LoginAndAsks(state) => {
+                outcome.answered = self.log_in_and_ask(callers, state)?;
             }
-            SharedWork::EightScripts => replies = self.run_eight(callers)?,
+            SharedWork::Openings { first, order } => {
+                outcome.answered = self.open_sessions(callers, *first, order)?;
+            }
+            SharedWork::AllCalls(race) => outcome.retries = self.make_race(callers, race)?,
+            SharedWork::CallsByScripts(race) => {
+                outcome.retries = self.make_by_scripts(callers, race)?;
+            }
+            SharedWork::HeldScripts { race, order } => {
+                outcome.replies = self.run_held(callers, race, order)?;
+            }
+            SharedWork::EightScripts => outcome.replies = self.run_eight(callers)?,
             SharedWork::CallsUnderLock => self.call_under_lock(callers)?,
             SharedWork::LongMessages => {
                 self.take_in_messages(callers)?;
-                self.take_locks(callers)?;
+                self.add_messages(callers)?;
             }
         }
-        Ok(Outcome { replies, retries })
+        Ok(outcome)
     }
 }
 

@@ -2,12 +2,8 @@
 //! through it. What is written is the same in every order of their calls.
 #![tactic(auto)]
 
-ghost use Rattle.std.specs.Prelude.{◌≡◌, IfOk};
-ghost use Rattle.ck_journal.specs.Histories.{start, start_of};
-
 use ck_shared::{Caller, CallerWork, Gate, TokenId, share};
 use ck_token::{Call, Journal, Limits, Pin, READ_WRITE, Rv, Token};
-use std::alloc::Global;
 use std::sync::Wait;
 
 /// What each caller does: it opens three sessions.
@@ -32,17 +28,6 @@ impl<R: Wait + AllocGlobal> CallerWork<R> for ThreeSessions {
     }
 }
 
-/// A token that is initialized. Its journal is cut, since one that has entries isn't shared.
-fn initialized_token(alloc: Global) -> anyhow::Result<Token>
-    ensures { IfOk result (λ token. token.history ≡ start (start_of token.history)) }
-{
-    let mut token = Token::new(alloc, Limits::largest());
-    let pin = Pin::of(b"1234");
-    token.try_call(alloc, 1, Call::InitToken { pin })?;
-    token.cut(alloc)?;
-    Ok(token)
-}
-
 /// Writes how many sessions were opened, by how many answered calls, and how many entries the
 /// journal has.
 fn write_counts<R: Print>(rt: &R, journal: &Journal, calls: u64) -> anyhow::Result<()> {
@@ -52,10 +37,15 @@ fn write_counts<R: Print>(rt: &R, journal: &Journal, calls: u64) -> anyhow::Resu
     Ok(())
 }
 
-/// Shares a token between two callers, and writes what came of their calls.
+/// Shares an initialized token between two callers, and writes what came of their calls.
 fn main(rt: HostRuntime) -> anyhow::Result<()> {
-    let mut token = initialized_token(rt.alloc())?;
-    let counts = share(rt, rt.alloc(), &mut token, 2, &ThreeSessions)?;
+    let alloc = rt.alloc();
+    let mut token = Token::new(alloc, Limits::largest());
+    let pin = Pin::of(b"1234");
+    token.try_call(alloc, 1, Call::InitToken { pin })?;
+    // A token whose journal has entries isn't shared.
+    token.cut(alloc)?;
+    let counts = share(rt, alloc, &mut token, 2, &ThreeSessions)?;
     let calls = counts
         .iter()
         .fold(0u64, |sum, count| sum.saturating_add(*count));
