@@ -1,7 +1,8 @@
 #!/usr/bin/env python3
 """Tests of the tests of programs: program.py, rules.py, recorded_runs.py and races.py beside this
 file, and bench/growths.py. Each must pass on a right program, and fail on one that is wrong in one
-thing. And inventory.py must notice each change of a copy of the repository.
+thing. And refusals.py must notice an edit that isn't refused at its clause, and inventory.py each
+change of a copy of the repository.
 
 The programs are those that `rt ci` leaves. This needs a C compiler, `cc`, as growths.py does.
 """
@@ -19,6 +20,7 @@ import tempfile
 import program
 import races
 import recorded_runs
+import refusals
 import rules
 
 ROOT = os.path.dirname(program.HERE)
@@ -81,6 +83,21 @@ WRONG_CHANGES = [
     ("a test that isn't run", "crates/ck_run/src/*.rt", "#.test.", "#[ignore] #[test]"),
     ("a status that is always 0", "check", "^.*failed. -eq 0 .*\n", "true\n"),
 ]
+
+# What is said of an edit with the clause `publish_board published`, and whether it is said of this
+# clause: behind `refused, as it must be`.
+REFUSALS = [
+    (": note: src/locked.rt:{publish_board}:1: it is not proved that (`returns`)", True),
+    (": ./proofs/locked/publish_board/Answers.antt:1:1: error: `returns`", True),
+    (": note: src/shared.rt:1:1: (`publish_board-requires-clause-published`)", True),
+    (": note: src/locked.rt:{add_slot}:1: it is not proved that (`returns`)", False),
+    (": ./proofs/locked/add_slot/Answers.antt:1:1: error: `returns`", False),
+    (": note: src/shared.rt:1:1: (`add_slot-requires-clause-published`)", False),
+    (" (only by a limit): note: src/locked.rt:{publish_board}:1: (`returns`)", False),
+    (" (only because a proof file): ./proofs/locked/publish_board/Answers.antt:1:1:", False),
+    ("", False),
+]
+REFUSED = ("ck_shared", "refused_call_leaves_slot_pending")
 
 NO_MEMORY = b"ck_run: out of memory\n"
 
@@ -296,12 +313,26 @@ def refused_growths(checks):
     checks.end("refused growths of a program that does nothing")
 
 
+def refused_edits(checks):
+    path = os.path.join(ROOT, "crates", REFUSED[0], "src", "locked.rt")
+    lines = {name: first for first, name in refusals.functions_of(path)}
+    for said, is_right in REFUSALS:
+        said = said.format(**lines)
+        checks.expect(refusals.is_at_clause(*REFUSED, said) == is_right, f"{REFUSED}: {said}")
+    output = "rt: must-fail {}/{}.edit: refused, as it must be".format(*REFUSED)
+    faults = list(refusals.faults_in(output))
+    checks.expect(len(faults) == len(glob.glob(os.path.join(ROOT, EDITS))),
+                  f"of edits without a verdict: {faults}")
+    checks.end("edits that aren't refused at their clauses")
+
+
 def main():
     checks = program.Checks("noticing")
     wrong_programs(checks)
     idle_programs(checks)
     no_checks(checks)
     ends(checks)
+    refused_edits(checks)
     refused_growths(checks)
     changes(checks)
     return checks.status()
