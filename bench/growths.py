@@ -20,7 +20,7 @@ goes on. By a script of one caller, by `run_scripts`: the same. In the end the j
 for each call. Where there is no memory to share a token, it is shared then. With the argument
 `shared` only these are played.
 
-Calls for which places in the journal are reserved are made while every growth is refused.
+Calls for which room in the journal is reserved are made while every growth is refused.
 
 Each run without a refused growth must have growths, and in all some must be refused and something
 made again: else the library that refuses them isn't loaded.
@@ -198,7 +198,7 @@ def check_calls(library, words, name, text, output, is_right, step):
 
 
 def check_reserved(library):
-    """Calls with reserved places take no memory, and are answered where every growth is refused."""
+    """Calls with reserved room take no memory, and are answered where every growth is refused."""
     reserving = play(library, [RACES, "reserve"], b"", 0)
     calling = play(library, [RACES, "reserved"], b"", 0)
     refused = play(library, [RACES, "reserved"], b"", 0, reserving.growths + 1)

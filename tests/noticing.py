@@ -1,8 +1,8 @@
 #!/usr/bin/env python3
 """Tests of the tests of programs: program.py, rules.py, recorded_runs.py and races.py beside this
 file, and bench/growths.py. Each must pass on a right program, and fail on one that is wrong in one
-thing. And refusals.py must notice an edit that isn't refused at its clause, and inventory.py each
-change of a copy of the repository.
+thing that it can see. And refusals.py must notice an edit that isn't refused at its clause, and
+inventory.py each change of a copy of the repository.
 
 The programs are those that `rt ci` leaves. This needs a C compiler, `cc`, as growths.py does.
 """

@@ -1,10 +1,10 @@
 #!/usr/bin/env python3
-"""Looks whether `rt ci` refused each edit that must fail at the function or the type that the edit's
-line `clause:` names, and not for another reason.
+"""Looks whether `rt ci` refused each edit that must fail at the function or the type that the line
+`clause:` of the edit names, and not for another reason.
 
 Called with a file that has the output of `rt ci`. Where the clause is one that callers must show,
 the edit may be refused at a call. An edit of a definition is refused in a proof of the law that it
-names, or in a lemma of that proof, so only that it is refused counts. Prints each edit that has no
+names, or in a lemma of that proof, so the place doesn't count there. Prints each edit that has no
 such verdict; the status is 1 then.
 """
 import functools
