@@ -903,31 +903,38 @@ class Tests:
         self.checks.check("OSPREYRACK_JOURNAL" in worker.end(), "no room for the file's header")
         self.checks.equal(read(self.file("small.cases")), b"", "the file is left empty")
 
+    def fill(self, limit):
+        """Fills a file that can't be longer with calls. Gives what it then has."""
+        path = self.file(f"filled-{limit}.cases")
+        worker = Worker(self.path, limit=limit, TOKEN=path)
+        replies = []
+        while DEVICE_ERROR not in replies and len(replies) < 300:
+            replies.append(worker.say("1 GetTokenInfo"))
+        self.checks.check(10 < len(replies) < 300, "the file becomes full")
+        for line in ["1 InitToken 31323334", "1 OpenSession 6", "1 GetSessionInfo 1",
+                     "1 CloseAllSessions", "1 DigestInit 1 250", "1 SessionCancel 1 400",
+                     "1 GetAttributeValue 1 1 3:9", "1 SetKeyState 1 1 1"]:
+            self.checks.equal(worker.say(line), DEVICE_ERROR, f"a later call: {line}")
+        errors = worker.end()
+        self.checks.equal(worker.last, "0", "C_Finalize")
+        content = read(path).decode()
+        # No byte of the line fits in where the lines before it fill the file.
+        reason = "File too large" if len(content) == limit else "there is no room for it"
+        self.checks.equal(errors, "ospreyrack: OSPREYRACK_TOKEN: a call can't be written: "
+                          f"{reason}\n", "the errors")
+        self.checks.equal(content.count("1 GetTokenInfo -> 0 4 64 0 0\n"), len(replies) - 1,
+                          "the answered calls in the file")
+        self.checks.check(content.endswith("0\n") and len(content) <= limit, "whole lines")
+        self.begin(TOKEN=path)
+        self.end()
+        return content
+
     def test_filling(self):
-        """A device that becomes full: CKR_DEVICE_ERROR, and the file has whole lines."""
+        """A device that becomes full: CKR_DEVICE_ERROR, and the file has whole lines. Where they
+        fill it to the last byte, the next write raises a signal."""
         for limit in range(2000, 2040, 3):
-            path = self.file(f"filled-{limit}.cases")
-            worker = Worker(self.path, limit=limit, TOKEN=path)
-            replies = []
-            while DEVICE_ERROR not in replies and len(replies) < 300:
-                replies.append(worker.say("1 GetTokenInfo"))
-            self.checks.check(10 < len(replies) < 300, "the file becomes full")
-            for line in ["1 InitToken 31323334", "1 OpenSession 6", "1 GetSessionInfo 1",
-                         "1 CloseAllSessions", "1 DigestInit 1 250", "1 SessionCancel 1 400",
-                         "1 GetAttributeValue 1 1 3:9", "1 SetKeyState 1 1 1"]:
-                self.checks.equal(worker.say(line), DEVICE_ERROR, f"a later call: {line}")
-            errors = worker.end()
-            self.checks.equal(worker.last, "0", "C_Finalize")
-            content = read(path).decode()
-            # No byte of the line fits in where the lines before it fill the file.
-            reason = "File too large" if len(content) == limit else "there is no room for it"
-            self.checks.equal(errors, "ospreyrack: OSPREYRACK_TOKEN: a call can't be written: "
-                              f"{reason}\n", "the errors")
-            self.checks.equal(content.count("1 GetTokenInfo -> 0 4 64 0 0\n"), len(replies) - 1,
-                              "the answered calls in the file")
-            self.checks.check(content.endswith("0\n") and len(content) <= limit, "whole lines")
-            self.begin(TOKEN=path)
-            self.end()
+            content = self.fill(limit)
+        self.checks.equal(len(self.fill(len(content))), len(content), "a file that is quite full")
 
     def test_filling_in_update(self):
         """A device that becomes full in an update: the file ends with the piece before. The end of
