@@ -14,7 +14,6 @@ use ck_script::reply_line;
 use ck_shared::{Answered, Ask, Caller, News, Runtime, Script, Status, Step, TokenId, run_steps};
 use ck_token::{Call, Limits, NoMemory, Pin, READ_WRITE, Rv, Token, UserType, mechanism_types};
 use std::alloc::Global;
-use std::mem;
 
 /// How many times a caller asks for the state of the session in its script. The first of two
 /// callers asks once.
@@ -310,9 +309,8 @@ impl<'a, K: TokenId, R: Runtime> Shared<'a, K, R> {
         let (rt, alloc) = (self.rt, self.rt.alloc());
         self.prepare(callers, state)?;
         let older = caller_at(callers, 0)?.news();
-        let owned = mem::replace(callers, Vec::new(alloc));
-        let count = owned.len();
-        let scripts = scripts_of(alloc, owned, |caller| steps_of(alloc, caller, count))?;
+        let count = callers.len();
+        let scripts = scripts_of(alloc, callers, |caller| steps_of(alloc, caller, count))?;
         let scripts = run_steps(rt, alloc, self.token, scripts);
         let answered = check_scripts(alloc, scripts, callers)?;
         check_after(alloc, callers, &older)?;

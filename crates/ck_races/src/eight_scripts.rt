@@ -8,7 +8,6 @@ use anyhow::{Context, ensure};
 use ck_shared::{Caller, Runtime, TokenId, run_scripts};
 use ck_token::{Call, Limits, Pin, Token};
 use std::alloc::Global;
-use std::mem;
 use std::sync::atomic::Ordering;
 
 /// How many callers there are.
@@ -63,8 +62,7 @@ impl<'a, K: TokenId + Send + Sync, R: Runtime> Shared<'a, K, R> {
         let first = callers.first_mut().context("a caller is missing")?;
         let pin = Pin::of(b"1234");
         let reply = self.call(first, Call::InitToken { pin })?;
-        let owned = mem::replace(callers, Vec::new(alloc));
-        let scripts = scripts_of(alloc, owned, |caller| calls_of(alloc, caller))?;
+        let scripts = scripts_of(alloc, callers, |caller| calls_of(alloc, caller))?;
         let scripts = run_scripts(self.rt, alloc, self.token, scripts);
         let mut all = Vec::new(alloc);
         finish(scripts, callers, &mut all)?;

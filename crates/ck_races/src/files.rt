@@ -7,7 +7,8 @@ use std::alloc::{AllocError, Global};
 use std::fs;
 use std::fs::Files;
 
-/// Adds a line: how many races of the file passed, and how many calls were made so, if any.
+/// Adds a line: how many races of the file passed, and how many calls there were of which `how`
+/// tells, if any.
 fn add_passed(
     text: &mut String,
     name: &str,

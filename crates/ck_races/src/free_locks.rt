@@ -7,7 +7,6 @@ use crate::shared_work::Shared;
 use ck_shared::{Caller, Runtime, TokenId, run_scripts};
 use ck_token::{Bytes, Call};
 use std::alloc::Global;
-use std::mem;
 
 /// How many bytes a message has: the most that a call brings.
 const LENGTH: usize = 1 << 20;
@@ -38,8 +37,7 @@ impl<'a, K: TokenId + Send + Sync, R: Runtime> Shared<'a, K, R> {
     /// meanwhile.
     pub(crate) fn add_messages(&self, callers: &mut Vec<Caller<K>>) -> anyhow::Result<()> {
         let (rt, alloc) = (self.rt, self.rt.alloc());
-        let owned = mem::replace(callers, Vec::new(alloc));
-        let scripts = scripts_of(alloc, owned, |caller| calls_of(alloc, caller))?;
+        let scripts = scripts_of(alloc, callers, |caller| calls_of(alloc, caller))?;
         let gate = LockingGate::new(self.token, MESSAGES);
         let scripts = run_scripts(rt, alloc, &gate, scripts);
         finish(scripts, callers, &mut Vec::new(alloc))?;

@@ -12,7 +12,6 @@ use anyhow::ensure;
 use ck_shared::{Answered, Ask, Caller, Runtime, Script, Step, TokenId, run_steps};
 use ck_token::{Body, Call, READ_WRITE, Reply, Rv};
 use std::alloc::Global;
-use std::mem;
 
 /// How many times a caller asks after its call.
 const ASKS: u32 = 100;
@@ -63,12 +62,10 @@ fn check_script<K: TokenId>(
     check_taken(script)?;
     let answers = script.replies();
     expect(matches!(answers.first(), Some(Answered::Reply { seen, .. }) if *seen == entry))?;
-    let mut answered = 0u64;
     for answer in answers {
         check_answer(alloc, answer)?;
-        answered = answered.saturating_add(1);
     }
-    Ok(answered)
+    Ok(answers.len() as u64)
 }
 
 /// The callers of scripts come back. The first of them made its call as the entry of this number,
@@ -114,8 +111,7 @@ impl<'a, K: TokenId, R: Runtime> Shared<'a, K, R> {
         K: Send + Sync,
     {
         let (rt, alloc) = (self.rt, self.rt.alloc());
-        let owned = mem::replace(callers, Vec::new(alloc));
-        let scripts = scripts_of(alloc, owned, |_| steps(alloc))?;
+        let scripts = scripts_of(alloc, callers, |_| steps(alloc))?;
         let scripts = run_steps(rt, alloc, &HeldGate::new(self.token, order), scripts);
         let answered = check_scripts(alloc, scripts, callers, u64::from(first))?;
         for caller in callers {

@@ -50,7 +50,7 @@ use std::env;
 use std::env::Env;
 use std::fs::Files;
 
-/// Adds a line: how often this was done, and how it ended.
+/// Adds a line: how many of these there were, and what came of them.
 fn add_line(text: &mut String, what: &str, count: u64, end: &str) -> Result<(), AllocError> {
     write!(text, "{what}: {count} {end}\n")
 }
@@ -63,7 +63,7 @@ fn run_together<R: Runtime>(rt: R, text: &mut String) -> anyhow::Result<()> {
     add_line(text, "calls under one lock", run_locked_calls(rt)?, made)?;
     add_line(
         text,
-        "calls beside long messages",
+        "calls with long messages",
         run_long_messages(rt)?,
         made,
     )?;

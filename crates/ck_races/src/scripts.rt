@@ -10,10 +10,10 @@ use ck_token::{Call, NoMemory};
 use std::alloc::Global;
 use std::mem;
 
-/// A script for each caller, of the steps that are made for its number.
+/// A script for each of these callers, which it takes, of the steps that are made for its number.
 pub(crate) fn scripts_of<K, S, A, F>(
     alloc: Global,
-    callers: Vec<Caller<K>>,
+    callers: &mut Vec<Caller<K>>,
     steps_of: F,
 ) -> anyhow::Result<Vec<Script<K, S, A>>>
 where
@@ -24,7 +24,7 @@ where
     requires { F.IsAlwaysCallable steps_of }
 {
     let mut scripts = Vec::new(alloc);
-    for caller in callers {
+    for caller in mem::replace(callers, Vec::new(alloc)) {
         let steps = steps_of(caller.number())?;
         scripts.push(Script::new(alloc, caller, steps).ok().ok_or(NoMemory)?)?;
     }
@@ -85,8 +85,11 @@ impl<'a, K: TokenId + Send + Sync, R: Runtime> Shared<'a, K, R> {
         order: &CallOrder,
     ) -> anyhow::Result<Vec<CallerReplies>> {
         let (rt, alloc) = (self.rt, self.rt.alloc());
-        let owned = mem::replace(callers, Vec::new(alloc));
-        let scripts = scripts_of(alloc, owned, |caller| calls_by(alloc, caller, &race.lines))?;
+        let scripts = scripts_of(
+            alloc,
+            callers,
+            |caller| calls_by(alloc, caller, &race.lines),
+        )?;
         let scripts = run_scripts(rt, alloc, &TakingGate::new(self.token, order), scripts);
         let mut all = Vec::new(alloc);
         finish(scripts, callers, &mut all)?;
