@@ -4,10 +4,10 @@
 No check can go or change without a line of inventory.txt, beside this file, that shows it. For the
 text of each file that checks the list has a digest: definitions that the contracts cite, edits that
 the prover must refuse, files of recorded calls and of races, files of programs, and the tests
-themselves. And it names the checks by
-their kinds, so that a reader sees which are gone: tests of the crates, of the scripts and of the
-module, crates, and the lines by which `check` and module/tests/run start them, with their loops and
-the packages that `check` installs.
+themselves. And it names the checks by their kinds, so that a reader sees which are gone: tests of
+the crates, of the scripts and of the module, crates, comparisons in constant time, and the lines by
+which `check` and module/tests/run start them, with their loops and the packages that `check`
+installs.
 
 With the word `check`, or none, this compares the list with what is there, and looks whether the
 edits fit the sources and the files are as they are named elsewhere; the status is 1 where something
@@ -129,6 +129,14 @@ def test_modules():
     return [f"{path} {name}" for path in sources() for name in TEST_MODULE.findall(code_of(path))]
 
 
+def comparisons():
+    """The lines that compare secrets in constant time, which no contract can say, and the file of
+    the comparison."""
+    lines = [f"{path} {line.strip()}" for path in sources()
+             for line in code_of(path).split("\n") if "constant_time_eq(" in line]
+    return lines + with_digests(["crates/ck_types/src/comparisons.rt"])
+
+
 def texts_of_tests():
     """The files that check and are of no other kind."""
     paths = {it.split()[0] for it in crate_tests()}
@@ -233,6 +241,7 @@ def inventory():
         "module of tests": test_modules(),
         "text of tests": with_digests(texts_of_tests()),
         "crate": crates(),
+        "comparison in constant time": comparisons(),
         "file of a program": with_digests(program_files()),
         "recorded run": with_digests(files("crates/*/data/*.cases")),
         "races": with_digests(files("crates/*/data/*.races")),

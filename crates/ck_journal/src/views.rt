@@ -5,13 +5,13 @@ ghost use Rattle.ck_journal.specs.Searches.{number_of_handle};
 use ck_objects::{Attribute, Record};
 
 /// What each login of the user adds to the handles of private objects.
-const LOGIN_STEP: u64 = 0x1_0000_0000;
+const HANDLES_PER_LOGIN: u64 = 0x1_0000_0000;
 
 /// The number of the object that has this handle (`View::handle`): the handle modulo 2^32.
 pub fn number_of_handle(handle: u64) -> u64
     ensures { result ≡ number_of_handle handle }
 {
-    handle % LOGIN_STEP
+    handle % HANDLES_PER_LOGIN
 }
 
 /// What handles depend on apart from the objects: whether the normal user is logged in, and how
@@ -31,7 +31,7 @@ impl View {
         ensures { result ≡ handle_with self attributes.now number }
     {
         if attributes.is_set(Attribute::Private) {
-            number + LOGIN_STEP * self.logins
+            number + HANDLES_PER_LOGIN * self.logins
         } else {
             number
         }

@@ -217,6 +217,15 @@ fn has_two_values(items: &[Item], attribute: Attribute) -> bool
     }
 }
 
+/// Whether the item has another value than the first item of its type.
+fn differs_from_first(items: &[Item], item: &Item) -> bool
+    ensures { result
+        ≡ not (same_bytes item.now.value (value_or items.now item.now.kind item.now.value)) }
+{
+    let first = value_at(items, item.kind).unwrap_or(&item.value);
+    item.value.as_slice() != first.as_slice()
+}
+
 /// Whether items of one of the attributes' types have different values.
 fn has_conflict_in(attributes: &[Attribute], items: &[Item]) -> bool
     ensures { result ≡ list_any (has_two_values items.now) attributes.now }
@@ -226,11 +235,24 @@ fn has_conflict_in(attributes: &[Attribute], items: &[Item]) -> bool
         .any(|attribute| has_two_values(items, *attribute))
 }
 
-/// Whether two items of one type have different values. Each attribute takes at most two walks over
-/// the items; comparing each item with each other would take far more for a long template.
-pub(crate) fn has_conflict(items: &[Item]) -> bool
+/// Whether two items of one type have different values, with at most two walks over the items for
+/// each attribute.
+fn has_conflict_of_many(items: &[Item]) -> bool
     requires well_formed { first_error form_error items.now ≡ None }
     ensures { result ≡ has_conflict items.now }
 {
     has_conflict_in(&Attribute::ALL, items)
+}
+
+/// Whether two items of one type have different values. Each of a few items is compared with the
+/// first of its type, which would take far too long for many.
+pub(crate) fn has_conflict(items: &[Item]) -> bool
+    requires well_formed { first_error form_error items.now ≡ None }
+    ensures { result ≡ has_conflict items.now }
+{
+    if items.len() <= Attribute::ALL.len() {
+        items.iter().any(|item| differs_from_first(items, item))
+    } else {
+        has_conflict_of_many(items)
+    }
 }

@@ -3,7 +3,7 @@
 //! with all calls in a set order and with only the first ones. Then callers ask for the state of a
 //! session while another logs in, two callers are held at their calls, one caller makes calls under
 //! one lock and the token is taken back without its callers, long messages are taken in before
-//! their calls, and eight callers make the calls of their scripts and drawn calls at once. What is
+//! their calls, a token counts how it is used, and eight callers make the calls of their scripts and drawn calls at once. What is
 //! written is the same in every order of the calls.
 //!
 //! With the word `alone` before the files only the calls of each race are made, one after the
@@ -34,6 +34,7 @@ mod runs;
 mod scripts;
 mod shared_work;
 mod tokens;
+mod watched;
 mod words;
 
 use asks::run_asks;
@@ -49,6 +50,7 @@ use std::alloc::AllocError;
 use std::env;
 use std::env::Env;
 use std::fs::Files;
+use watched::run_watched;
 
 /// Adds a line: how many of these there were, and what came of them.
 fn add_line(text: &mut String, what: &str, count: u64, end: &str) -> Result<(), AllocError> {
@@ -67,6 +69,7 @@ fn run_together<R: Runtime>(rt: R, text: &mut String) -> anyhow::Result<()> {
         run_long_messages(rt)?,
         made,
     )?;
+    add_line(text, "calls of a watched token", run_watched(rt)?, made)?;
     add_line(text, "calls of eight scripts", run_eight_scripts(rt)?, made)?;
     add_line(text, "drawn calls", make_drawn_calls(rt)?, made)?;
     Ok(())

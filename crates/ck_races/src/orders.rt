@@ -1,5 +1,5 @@
 //! Orders of callers, by which calls are held.
-use ck_journal::MOST_CALLERS;
+use ck_token::MOST_CALLERS;
 use rand_core::Rng;
 use rand_xoshiro::Xoshiro256PlusPlus;
 use std::sync::Wait;

@@ -16,9 +16,8 @@
 //! race has calls that are made together; without a line `together` these are all of them.
 use crate::words::script_line;
 use anyhow::{Context, bail, ensure};
-use ck_journal::MOST_CALLERS;
 use ck_script::{Line, LineError, reply_line};
-use ck_token::{Call, Limits, NoMemory, Reply};
+use ck_token::{Call, Limits, MOST_CALLERS, NoMemory, Reply};
 use std::alloc::Global;
 use std::mem;
 

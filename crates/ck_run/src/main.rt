@@ -13,6 +13,8 @@ mod failures;
 #[cfg(test)]
 mod long_lines;
 #[cfg(test)]
+mod long_messages;
+#[cfg(test)]
 mod plays;
 #[cfg(test)]
 mod programs;

@@ -1,8 +1,8 @@
 //! The example of ck_token: a program that signs, with a test vector of RFC 4231.
 use anyhow::Context;
 use ck_token::{
-    Attribute, Bytes, Call, Limits, Mechanism, Pin, READ_WRITE, Rv, SHA256_HMAC, Template, Token,
-    UserType,
+    Attribute, Bytes, Call, Limits, Mechanism, Pin, READ_WRITE, Rv, SHA256_HMAC,
+    SHA256_HMAC_GENERAL, Template, Token, UserType,
 };
 use std::alloc::Global;
 use std::test::Fail;
@@ -31,6 +31,14 @@ const TAG: [u8; 32] = [
     0x5b, 0xdc, 0xc1, 0x46, 0xbf, 0x60, 0x75, 0x4e, 0x6a, 0x04, 0x24, 0x26, 0x08, 0x95, 0x75, 0xc7,
     0x5a, 0x00, 0x3f, 0x08, 0x9d, 0x27, 0x39, 0x83, 0x9d, 0xec, 0x58, 0xb9, 0x64, 0xec, 0x38, 0x43,
 ];
+
+/// The parameter of a general HMAC is the length of its signatures.
+#[test]
+fn a_mechanism_has_its_length(rt: HostRuntime) -> Result<(), Fail> {
+    let mechanism = Mechanism::with_length(rt.alloc(), SHA256_HMAC_GENERAL, 16)?;
+    assert!(rt; mechanism.tag_length() == Some(16));
+    Ok(())
+}
 
 #[test]
 fn a_program_signs(rt: HostRuntime) -> Result<(), Fail> {

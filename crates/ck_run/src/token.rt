@@ -22,6 +22,8 @@ fn check_run(rt: &impl Abort, alloc: Global, token: &mut Token) -> Result<(), Fa
     assert!(rt; token.spare() >= 3 && token.journal().is_empty());
     run(token, alloc, three_calls(alloc)?)?;
     assert!(rt; token.journal().len() == 3);
+    token.reserve(2_000)?;
+    assert!(rt; token.spare() >= 2_000);
     Ok(())
 }
 

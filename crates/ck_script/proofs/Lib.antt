@@ -1,4 +1,4 @@
-pub mod PartLemmas
+pub mod WordLemmas
 pub mod DigitLemmas
 pub mod NumberLemmas
 pub mod JoinLemmas

@@ -14,7 +14,7 @@ use Rattle.ck_objects.specs.declared.items.Item.{Item}
 use Rattle.ck_types.specs.declared.mechanisms.Mechanism.{Mechanism}
 use Rattle.ck_objects.specs.declared.templates.Template.{Template}
 use Rattle.ck_journal.specs.declared.calls.AttributeQuery.{AttributeQuery}
-use Rattle.ck_script.specs.Splits.{parts_of, with_two}
+use Rattle.ck_script.specs.Splits.{words_of, with_two}
 
 -- ---- bytes by their names
 
@@ -62,7 +62,7 @@ number_in text = if list_all is_ascii_digit text then numeral_value 10 text else
 abbrev pub code_number_in : List ℕ → Option ℕ
 code_number_in text = if list_all is_code_digit text then numeral_value 16 text else None
 
--- ---- values of several parts, which have a meaning where each part has one
+-- ---- values of several words, which have a meaning where each word has one
 
 abbrev pub both : {A B C : Type 0} → (A → B → C) → Option A → Option B → Option C
 both make None second = None
@@ -89,7 +89,7 @@ all_four make (Some a) second third fourth = all_three (make a) second third fou
 
 abbrev pub each : {A : Type 0} → (List ℕ → Option A) → List (List ℕ) → Option (List A)
 each meaning [] = Some []
-each meaning (part ∷ parts) = both (λ a rest. a ∷ rest) (meaning part) (each meaning parts)
+each meaning (word ∷ words) = both (λ a rest. a ∷ rest) (meaning word) (each meaning words)
 
 -- ---- bytes, PINs, rooms, mechanisms, templates and queries
 
@@ -112,7 +112,7 @@ pin_in text = option_map pin_of (bytes_in text)
 abbrev pub room_in : List ℕ → Option (Option ℕ)
 room_in text = if same_bytes text (codes "?") then Some None else option_map Some (number_in text)
 
--- the parts of a mechanism: its type, and its parameter where it has one
+-- the words of a mechanism: its type, and its parameter where it has one
 abbrev pub mechanism_of : List (List ℕ) → Option Mechanism
 mechanism_of (kind ∷ []) =
     option_map (λ k. record { kind = k; parameter = [] }) (code_number_in kind)
@@ -122,25 +122,25 @@ mechanism_of others = None
 
 -- a mechanism: `type`, or `type:bytes`
 abbrev pub mechanism_in : List ℕ → Option Mechanism
-mechanism_in text = mechanism_of (parts_of colon text)
+mechanism_in text = mechanism_of (words_of colon text)
 
 -- one item of a template: `type=bytes`
 abbrev pub item_in : List ℕ → Option Item
 item_in text =
     with_two (λ kind value.
     both (λ k v. record { kind = k; value = v }) (code_number_in kind) (bytes_in value))
-    (parts_of equals_sign text)
+    (words_of equals_sign text)
 
 -- one query of an attribute: `type:room`
 abbrev pub query_in : List ℕ → Option AttributeQuery
 query_in text =
     with_two (λ kind room.
     both (λ k r. record { kind = k; room = r }) (code_number_in kind) (room_in room))
-    (parts_of colon text)
+    (words_of colon text)
 
 -- items between commas
 abbrev pub list_in : {A : Type 0} → (List ℕ → Option A) → List ℕ → Option (List A)
-list_in meaning text = if is_dash text then Some [] else each meaning (parts_of comma text)
+list_in meaning text = if is_dash text then Some [] else each meaning (words_of comma text)
 
 abbrev pub template_in : List ℕ → Option Template
 template_in text = option_map (λ items. record { items = items }) (list_in item_in text)

@@ -3,7 +3,7 @@ use Rattle.std.specs.Prelude.{◌≡◌, ◌≤◌, ℕ, false, List, ◌∷◌,
 use Rattle.std.specs.Prelude.{length}
 use Rattle.ck_script.specs.CallNames.{row_named}
 use Rattle.ck_script.specs.Lines.{caller_in, is_skipped, longest_line, space}
-use Rattle.ck_script.specs.Splits.{parts_of}
+use Rattle.ck_script.specs.Splits.{words_of}
 use Rattle.ck_script.specs.declared.call_names.Function.{Function}
 use Rattle.ck_script.specs.declared.call_names.Function.TheVariants as function
 
@@ -59,4 +59,4 @@ AreCallWords others = ⊥
 pub record IsCallLine (bytes : List ℕ) : Type 0 where
   pub short : length bytes ≤ longest_line
   pub read : is_skipped bytes ≡ false
-  pub words : AreCallWords (parts_of space bytes)
+  pub words : AreCallWords (words_of space bytes)

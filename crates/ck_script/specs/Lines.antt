@@ -2,7 +2,7 @@
 use Rattle.std.specs.Prelude.{ℕ, Bool, List, ◌∷◌, Option, Some, None, option_and_then}
 use Rattle.std.specs.Prelude.{◌==◌, ◌&&◌, ◌||◌, nat_le, nat_lt, length, slice_index, if◌then◌else◌}
 use Rattle.std.specs.List.{slice_split}
-use Rattle.ck_script.specs.Splits.{parts_of}
+use Rattle.ck_script.specs.Splits.{words_of}
 use Rattle.ck_script.specs.Arguments.{number_in, both}
 use Rattle.ck_script.specs.Calls.{call_in}
 use Rattle.ck_script.specs.declared.lines.Line.{Line}
@@ -51,4 +51,4 @@ abbrev pub meaning : List ℕ → Option Line
 meaning bytes =
     if nat_lt longest_line (length bytes) then None
     else if is_skipped bytes then Some line.Skipped
-    else words_meaning (parts_of space bytes)
+    else words_meaning (words_of space bytes)

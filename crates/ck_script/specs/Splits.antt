@@ -1,19 +1,19 @@
--- The parts of a text between separators
+-- The words of a text between separators
 use Rattle.std.specs.Prelude.{ℕ, Bool, true, false, List, [], ◌∷◌, Option, Some, None, ◌==◌}
 use Rattle.std.specs.Prelude.{length, option_and_then, if◌then◌else◌}
 use Rattle.std.specs.List.{slice_split}
 
--- a text without a separator is one part; between two separators that stand together is an empty
+-- a text without a separator is one word; between two separators that stand together is an empty
 -- one
-abbrev pub parts_of : ℕ → List ℕ → List (List ℕ)
-parts_of separator text = slice_split (λ b. b == separator) text
+abbrev pub words_of : ℕ → List ℕ → List (List ℕ)
+words_of separator text = slice_split (λ b. b == separator) text
 
--- the parts that are left where this text is, or none
-abbrev pub parts_left : ℕ → Bool → List ℕ → List (List ℕ)
-parts_left separator true text = []
-parts_left separator false text = parts_of separator text
+-- the words that are left where this text is, or none
+abbrev pub words_left : ℕ → Bool → List ℕ → List (List ℕ)
+words_left separator true text = []
+words_left separator false text = words_of separator text
 
--- the part, or the parts, where there are exactly as many
+-- the word, or the words, where there are exactly as many
 abbrev pub one_of : List (List ℕ) → Option (List ℕ)
 one_of (a ∷ []) = Some a
 one_of others = None
@@ -30,23 +30,23 @@ abbrev pub four_of : List (List ℕ) → Option (List ℕ × List ℕ × List �
 four_of (a ∷ b ∷ c ∷ d ∷ []) = Some (a, b, c, d)
 four_of others = None
 
--- what the parts mean, where there are exactly as many, and None where there aren't
+-- what the words mean, where there are exactly as many, and None where there aren't
 abbrev pub with_none : {A : Type 0} → A → List (List ℕ) → Option A
-with_none meaning parts = if length parts == 0 then Some meaning else None
+with_none meaning words = if length words == 0 then Some meaning else None
 
 abbrev pub with_one : {A : Type 0} → (List ℕ → Option A) → List (List ℕ) → Option A
-with_one meaning parts = option_and_then meaning (one_of parts)
+with_one meaning words = option_and_then meaning (one_of words)
 
 abbrev pub with_two : {A : Type 0} → (List ℕ → List ℕ → Option A) → List (List ℕ) → Option A
-with_two meaning parts = option_and_then (λ (p : List ℕ × List ℕ). meaning p.0 p.1) (two_of parts)
+with_two meaning words = option_and_then (λ (p : List ℕ × List ℕ). meaning p.0 p.1) (two_of words)
 
 abbrev pub with_three : {A : Type 0}
     → (List ℕ → List ℕ → List ℕ → Option A) → List (List ℕ) → Option A
-with_three meaning parts =
-    option_and_then (λ (p : List ℕ × List ℕ × List ℕ). meaning p.0 p.1 p.2) (three_of parts)
+with_three meaning words =
+    option_and_then (λ (p : List ℕ × List ℕ × List ℕ). meaning p.0 p.1 p.2) (three_of words)
 
 abbrev pub with_four : {A : Type 0}
     → (List ℕ → List ℕ → List ℕ → List ℕ → Option A) → List (List ℕ) → Option A
-with_four meaning parts =
+with_four meaning words =
     option_and_then (λ (p : List ℕ × List ℕ × List ℕ × List ℕ). meaning p.0 p.1 p.2 p.3)
-    (four_of parts)
+    (four_of words)

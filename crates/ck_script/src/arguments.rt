@@ -131,7 +131,7 @@ fn room_in(text: &[u8]) -> Result<Option<u64>, BadLine>
     Ok(Some(number_in(text)?))
 }
 
-/// The value of one argument, or of one part between the commas of an argument.
+/// The value of one argument, or of one word between the commas of an argument.
 pub(crate) trait Argument: Sized {
     // What its text means.
     ghost value_in: { List ℕ → Option Self };
@@ -156,22 +156,22 @@ where
     Ok((first, second))
 }
 
-/// The values of the two parts, or the reason given where there are not exactly two.
+/// The values of the two words, or the reason given where there are not exactly two.
 pub(crate) fn two_in<A, B>(
     alloc: Global,
-    parts: Split,
+    words: Split,
     reason: BadLine,
 ) -> Result<(A, B), LineError>
 where
     A: Argument + Drop,
     B: Argument,
     ensures values { IfOk result (λ values.
-        two_in A.value_in B.value_in parts.entry ≡ Some values) }
+        two_in A.value_in B.value_in words.entry ≡ Some values) }
     ensures bad { IfErr result (λ e. (e ≡ LineError.Memory)
-        ⊎ (two_in A.value_in B.value_in parts.entry ≡ None)) }
-    ensures memory { result ≡ Err LineError.Memory → length parts.entry ≡ 2 }
+        ⊎ (two_in A.value_in B.value_in words.entry ≡ None)) }
+    ensures memory { result ≡ Err LineError.Memory → length words.entry ≡ 2 }
 {
-    let (first, second) = parts.two().ok_or(reason)?;
+    let (first, second) = words.two().ok_or(reason)?;
     pair_in(alloc, first, second)
 }
 
@@ -234,8 +234,8 @@ impl Argument for Mechanism {
     ghost value_in = { mechanism_in };
 
     fn value_in(alloc: Global, text: &[u8]) -> Result<Mechanism, LineError> {
-        let mut parts = Split::new(text, COLON);
-        let (kind, parameter) = match (parts.next(), parts.next(), parts.next()) {
+        let mut words = Split::new(text, COLON);
+        let (kind, parameter) = match (words.next(), words.next(), words.next()) {
             (Some(kind), None, _) => (kind, None),
             (Some(kind), Some(parameter), None) => (kind, Some(parameter)),
             _ => return Err(LineError::Bad(BadLine::Mechanism)),
@@ -254,8 +254,8 @@ impl Argument for Item {
     ghost value_in = { item_in };
 
     fn value_in(alloc: Global, text: &[u8]) -> Result<Item, LineError> {
-        let parts = Split::new(text, EQUALS_SIGN);
-        let (CodeNumber(kind), value): (_, Bytes) = two_in(alloc, parts, BadLine::Item)?;
+        let words = Split::new(text, EQUALS_SIGN);
+        let (CodeNumber(kind), value): (_, Bytes) = two_in(alloc, words, BadLine::Item)?;
         let value = AttributeValue::from_vec(value.into_vec());
         Ok(Item { kind, value })
     }
@@ -266,8 +266,8 @@ impl Argument for AttributeQuery {
     ghost value_in = { query_in };
 
     fn value_in(alloc: Global, text: &[u8]) -> Result<AttributeQuery, LineError> {
-        let parts = Split::new(text, COLON);
-        let (CodeNumber(kind), room) = two_in(alloc, parts, BadLine::Query)?;
+        let words = Split::new(text, COLON);
+        let (CodeNumber(kind), room) = two_in(alloc, words, BadLine::Query)?;
         Ok(AttributeQuery { kind, room })
     }
 }
@@ -282,9 +282,9 @@ fn list_in<T: Argument + Drop>(alloc: Global, text: &[u8]) -> Result<Sequence<T>
         return Ok(Sequence::new(alloc));
     }
     let mut items = Vec::new(alloc);
-    let mut parts = Split::new(text, COMMA);
-    while let Some(part) = parts.next() {
-        let item = T::value_in(alloc, part)?;
+    let mut words = Split::new(text, COMMA);
+    while let Some(word) = words.next() {
+        let item = T::value_in(alloc, word)?;
         items.push(item)?;
     }
     Ok(Sequence::from_vec(items))

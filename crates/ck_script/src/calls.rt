@@ -20,7 +20,7 @@ use std::alloc::Global;
 struct Arguments<'a> {
     alloc: Global,
     name: CallName,
-    parts: Split<'a>,
+    words: Split<'a>,
 }
 
 impl<'a> Arguments<'a> {
@@ -28,12 +28,12 @@ impl<'a> Arguments<'a> {
     fn none<F: FnOnce() -> Call>(self, make: F) -> Result<Call, LineError>
         requires { F.IsAlwaysCallable make }
         ensures call { IfOk result (λ call.
-            (with_none call self.entry.parts ≡ Some call) × F.post make call) }
+            (with_none call self.entry.words ≡ Some call) × F.post make call) }
         ensures bad { IfErr result (λ e. (e ≡ LineError.Memory)
-            ⊎ ((call : Call) → with_none call self.entry.parts ≡ None)) }
+            ⊎ ((call : Call) → with_none call self.entry.words ≡ None)) }
         ensures memory { result ≡ Err LineError.Memory → ⊥ }
     {
-        if self.parts.none() {
+        if self.words.none() {
             Ok(make())
         } else {
             Err(LineError::Bad(BadLine::ArgumentCount(self.name, Arity::None)))
@@ -44,14 +44,14 @@ impl<'a> Arguments<'a> {
     fn one<A: Argument, F: FnOnce(A) -> Call>(self, make: F) -> Result<Call, LineError>
         requires { F.IsAlwaysCallable make }
         ensures call { IfOk result (λ call. (a : _)
-            × (with_one A.value_in self.entry.parts ≡ Some a) × F.post make a call) }
+            × (with_one A.value_in self.entry.words ≡ Some a) × F.post make a call) }
         ensures bad { IfErr result (λ e. (e ≡ LineError.Memory)
-            ⊎ (with_one A.value_in self.entry.parts ≡ None)) }
+            ⊎ (with_one A.value_in self.entry.words ≡ None)) }
         ensures memory { result ≡ Err LineError.Memory
-            → length self.entry.parts ≡ 1 }
+            → length self.entry.words ≡ 1 }
     {
         let count = BadLine::ArgumentCount(self.name, Arity::One);
-        let first = self.parts.one().ok_or(count)?;
+        let first = self.words.one().ok_or(count)?;
         let first = A::value_in(self.alloc, first)?;
         Ok(make(first))
     }
@@ -64,15 +64,15 @@ impl<'a> Arguments<'a> {
         F: FnOnce(A, B) -> Call,
         requires { F.IsAlwaysCallable make }
         ensures call { IfOk result (λ call. (a : _) × (b : _)
-            × (two_in A.value_in B.value_in self.entry.parts ≡ Some (a, b))
+            × (two_in A.value_in B.value_in self.entry.words ≡ Some (a, b))
             × F.post make a b call) }
         ensures bad { IfErr result (λ e. (e ≡ LineError.Memory)
-            ⊎ (two_in A.value_in B.value_in self.entry.parts ≡ None)) }
+            ⊎ (two_in A.value_in B.value_in self.entry.words ≡ None)) }
         ensures memory { result ≡ Err LineError.Memory
-            → length self.entry.parts ≡ 2 }
+            → length self.entry.words ≡ 2 }
     {
         let count = BadLine::ArgumentCount(self.name, Arity::Two);
-        let (first, second) = two_in(self.alloc, self.parts, count)?;
+        let (first, second) = two_in(self.alloc, self.words, count)?;
         Ok(make(first, second))
     }
 
@@ -85,15 +85,15 @@ impl<'a> Arguments<'a> {
         F: FnOnce(A, B, C) -> Call,
         requires { F.IsAlwaysCallable make }
         ensures call { IfOk result (λ call. (a : _) × (b : _) × (c : _)
-            × (three_in A.value_in B.value_in C.value_in self.entry.parts ≡ Some (a, b, c))
+            × (three_in A.value_in B.value_in C.value_in self.entry.words ≡ Some (a, b, c))
             × F.post make a b c call) }
         ensures bad { IfErr result (λ e. (e ≡ LineError.Memory)
-            ⊎ (three_in A.value_in B.value_in C.value_in self.entry.parts ≡ None)) }
+            ⊎ (three_in A.value_in B.value_in C.value_in self.entry.words ≡ None)) }
         ensures memory { result ≡ Err LineError.Memory
-            → length self.entry.parts ≡ 3 }
+            → length self.entry.words ≡ 3 }
     {
         let count = BadLine::ArgumentCount(self.name, Arity::Three);
-        let (first, second, third) = self.parts.three().ok_or(count)?;
+        let (first, second, third) = self.words.three().ok_or(count)?;
         let (first, second) = pair_in(self.alloc, first, second)?;
         let third = C::value_in(self.alloc, third)?;
         Ok(make(first, second, third))
@@ -109,16 +109,16 @@ impl<'a> Arguments<'a> {
         F: FnOnce(A, B, C, D) -> Call,
         requires { F.IsAlwaysCallable make }
         ensures call { IfOk result (λ call. (a : _) × (b : _) × (c : _) × (d : _)
-            × (four_in A.value_in B.value_in C.value_in D.value_in self.entry.parts
+            × (four_in A.value_in B.value_in C.value_in D.value_in self.entry.words
             ≡ Some (a, b, c, d))
             × F.post make a b c d call) }
         ensures bad { IfErr result (λ e. (e ≡ LineError.Memory)
-            ⊎ (four_in A.value_in B.value_in C.value_in D.value_in self.entry.parts ≡ None)) }
+            ⊎ (four_in A.value_in B.value_in C.value_in D.value_in self.entry.words ≡ None)) }
         ensures memory { result ≡ Err LineError.Memory
-            → length self.entry.parts ≡ 4 }
+            → length self.entry.words ≡ 4 }
     {
         let count = BadLine::ArgumentCount(self.name, Arity::Four);
-        let (first, second, third, fourth) = self.parts.four().ok_or(count)?;
+        let (first, second, third, fourth) = self.words.four().ok_or(count)?;
         let (first, second) = pair_in(self.alloc, first, second)?;
         let (third, fourth) = pair_in(self.alloc, third, fourth)?;
         Ok(make(first, second, third, fourth))
@@ -127,11 +127,11 @@ impl<'a> Arguments<'a> {
 
 fn call_of(arguments: Arguments) -> Result<Call, LineError>
     ensures call { IfOk result (λ call.
-        call_of arguments.entry.name.0 arguments.entry.parts ≡ Some call) }
+        call_of arguments.entry.name.0 arguments.entry.words ≡ Some call) }
     ensures bad { IfErr result (λ e. (e ≡ LineError.Memory)
-        ⊎ (call_of arguments.entry.name.0 arguments.entry.parts ≡ None)) }
+        ⊎ (call_of arguments.entry.name.0 arguments.entry.words ≡ None)) }
     ensures memory { result ≡ Err LineError.Memory
-        → length arguments.entry.parts ≡ arity arguments.entry.name.0 }
+        → length arguments.entry.words ≡ arity arguments.entry.name.0 }
 {
     match arguments.name.0 {
         Function::InitToken => arguments.one(|pin| Call::InitToken { pin }),
@@ -263,7 +263,7 @@ pub(crate) fn call_in(alloc: Global, name: &[u8], arguments: Split) -> Result<Ca
         Some(name) => call_of(Arguments {
             alloc,
             name,
-            parts: arguments,
+            words: arguments,
         }),
         None => Err(LineError::Bad(unknown_call(alloc, name))),
     }

@@ -63,7 +63,7 @@ fn caller_in(text: &[u8]) -> Option<u32>
     ensures { result ≡ caller_in text.now }
 {
     match number_in(text) {
-        Ok(number) if 1 <= number && number <= u64::from(MOST_CALLERS) => Some(number as u32),
+        Ok(number) if (1..=u64::from(MOST_CALLERS)).contains(&number) => Some(number as u32),
         _ => None,
     }
 }
@@ -100,8 +100,8 @@ fn layout_error(bytes: &[u8]) -> Option<BadLine> {
 /// The first line and what follows its end, where it has one.
 pub fn cut_line(bytes: &[u8]) -> Option<(&[u8], &[u8])>
     ensures lines { MatchOption result (lines_in bytes.now ≡ bytes.now ∷ [])
-        (λ parts. lines_in bytes.now ≡ parts.0.now ∷ lines_in parts.1.now) }
-    ensures shorter { IfSome result (λ parts. length parts.1.now < length bytes.now) }
+        (λ cut. lines_in bytes.now ≡ cut.0.now ∷ lines_in cut.1.now) }
+    ensures shorter { IfSome result (λ cut. length cut.1.now < length bytes.now) }
 {
     match position_of(LINE_END, bytes) {
         Some(at) => Some((&bytes[..at], &bytes[at + 1..])),

@@ -9,7 +9,7 @@ pub(crate) fn position_of(separator: u8, text: &[u8]) -> Option<usize>
     text.iter().position(|byte| *byte == separator)
 }
 
-/// The parts of a text that a separator leaves, from the next one on. std's `split` has a closure
+/// The words of a text that a separator leaves, from the next one on. std's `split` has a closure
 /// in its type, and `Arguments` holds this.
 #[derive(Drop)]
 pub(crate) struct Split<'a> {
@@ -20,21 +20,21 @@ pub(crate) struct Split<'a> {
 
 impl<'a> Model for Split<'a> {
     ghost use Rattle.std.specs.Prelude.{ℕ, List};
-    ghost use Rattle.ck_script.specs.Splits.{parts_left};
+    ghost use Rattle.ck_script.specs.Splits.{words_left};
 
     ghost Value = { List (List ℕ) };
 
-    ghost view = { λ p. parts_left p.separator p.is_done p.rest.now };
+    ghost view = { λ p. words_left p.separator p.is_done p.rest.now };
 }
 
 impl<'a> Split<'a> {
     ghost use Rattle.std.specs.Prelude.{◌≡◌, ◌==◌, ◌∷◌, [], length, MatchOption, option_map};
     ghost use Rattle.std.specs.Option.{option_copied};
-    ghost use Rattle.ck_script.specs.Splits.{parts_of, one_of, two_of, three_of, four_of};
+    ghost use Rattle.ck_script.specs.Splits.{words_of, one_of, two_of, three_of, four_of};
 
-    /// All parts of the text.
+    /// All words of the text.
     pub(crate) fn new(text: &'a [u8], separator: u8) -> Split<'a>
-        ensures { result ≡ parts_of separator text.now }
+        ensures { result ≡ words_of separator text.now }
     {
         Split {
             separator,
@@ -43,10 +43,10 @@ impl<'a> Split<'a> {
         }
     }
 
-    /// Takes off the next part.
+    /// Takes off the next word.
     pub(crate) fn next(&mut self) -> Option<&'a [u8]>
         ensures { MatchOption result ((self.old ≡ []) × (self.new ≡ []))
-            (λ part. self.old ≡ part.now ∷ self.new) }
+            (λ word. self.old ≡ word.now ∷ self.new) }
     {
         if self.is_done {
             return None;
@@ -64,24 +64,24 @@ impl<'a> Split<'a> {
         }
     }
 
-    /// Whether one of the parts that are left has no bytes.
+    /// Whether one of the words that are left has no bytes.
     pub(crate) fn has_empty(mut self) -> bool {
-        while let Some(part) = self.next() {
-            if part.is_empty() {
+        while let Some(word) = self.next() {
+            if word.is_empty() {
                 return true;
             }
         }
         false
     }
 
-    /// Whether no part is left.
+    /// Whether no word is left.
     pub(crate) fn none(mut self) -> bool
         ensures { result ≡ (length self.entry == 0) }
     {
         self.next().is_none()
     }
 
-    /// The part, where exactly one is left.
+    /// The word, where exactly one is left.
     pub(crate) fn one(mut self) -> Option<&'a [u8]>
         ensures { option_copied result ≡ one_of self.entry }
     {
@@ -91,9 +91,9 @@ impl<'a> Split<'a> {
         }
     }
 
-    /// The parts, where exactly two are left.
+    /// The words, where exactly two are left.
     pub(crate) fn two(mut self) -> Option<(&'a [u8], &'a [u8])>
-        ensures { option_map (λ parts. (parts.0.now, parts.1.now)) result ≡ two_of self.entry }
+        ensures { option_map (λ words. (words.0.now, words.1.now)) result ≡ two_of self.entry }
     {
         match (self.next(), self.next(), self.next()) {
             (Some(first), Some(second), None) => Some((first, second)),
@@ -101,9 +101,9 @@ impl<'a> Split<'a> {
         }
     }
 
-    /// The parts, where exactly three are left.
+    /// The words, where exactly three are left.
     pub(crate) fn three(mut self) -> Option<(&'a [u8], &'a [u8], &'a [u8])>
-        ensures { option_map (λ parts. (parts.0.now, parts.1.now, parts.2.now)) result
+        ensures { option_map (λ words. (words.0.now, words.1.now, words.2.now)) result
             ≡ three_of self.entry }
     {
         match (self.next(), self.next(), self.next(), self.next()) {
@@ -112,9 +112,9 @@ impl<'a> Split<'a> {
         }
     }
 
-    /// The parts, where exactly four are left.
+    /// The words, where exactly four are left.
     pub(crate) fn four(mut self) -> Option<(&'a [u8], &'a [u8], &'a [u8], &'a [u8])>
-        ensures { option_map (λ parts. (parts.0.now, parts.1.now, parts.2.now, parts.3.now)) result
+        ensures { option_map (λ words. (words.0.now, words.1.now, words.2.now, words.3.now)) result
             ≡ four_of self.entry }
     {
         match (

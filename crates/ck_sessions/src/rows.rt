@@ -1,4 +1,4 @@
-//! What is done with the rows alone. These clauses speak of a list, and those of `Sessions` of a
+//! Functions that see only the rows. Their clauses speak of a list, and those of `Sessions` of a
 //! history, so each proof has one thing to show.
 ghost use Rattle.std.specs.Prelude.{◌≡◌, ◌+◌, ◌≤◌, ◌++◌, not, filter, find, length, map, position};
 ghost use Rattle.std.specs.Prelude.{None};

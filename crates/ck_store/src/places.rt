@@ -214,6 +214,7 @@ pub(crate) fn compact(objects: &Slab<StoredObject>, index: &mut Vec<Place>)
     ensures is_index { IsIndex objects.now index.old.items → IsIndex objects.now index.new.items }
     ensures only { (p : Place) → Contains index.new.items p → Contains index.old.items p }
     ensures short { IsIndex objects.now index.old.items → IsShort objects.now index.new.items }
+    ensures stays { IsShort objects.now index.old.items → index.new.items ≡ index.old.items }
 {
     if index.len() / 2 > objects.len() {
         drop_ended(objects, index);

@@ -42,7 +42,7 @@ pub use try_calls::CallError;
 // What users of a token need of the crates below.
 pub use ck_journal::{
     Answer, AttributeQuery, Base, Body, Call, Entries, Entry, Journal, JournaledToken, KeptObject,
-    OperationKind, READ_WRITE, RW_SESSION, Reply, SERIAL_SESSION, TokenBoard, Work,
+    MOST_CALLERS, OperationKind, READ_WRITE, RW_SESSION, Reply, SERIAL_SESSION, TokenBoard, Work,
 };
 pub use ck_objects::{
     Attribute, AttributeValue, Class, DATA, Field, GENERIC_SECRET, Item, KeyState, Placement,

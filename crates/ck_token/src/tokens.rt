@@ -86,7 +86,7 @@ fn prepare(
     ensures agree { (h : History) → PartsAgree h parts.old → PartsAgree h parts.new }
     ensures room { OnOk result (HasRoom parts.new change.now) }
     ensures history { journal.new.history ≡ journal.old.history }
-    ensures place { OnOk result (1 ≤ journal.new.spare) }
+    ensures entry { OnOk result (1 ≤ journal.new.spare) }
     ensures spare { journal.old.spare ≤ journal.new.spare }
     ensures succeeds { 0 < journal.old.spare → has_items body.now ≡ false
         → adds change.now ≡ false → IsOk result }
@@ -206,11 +206,13 @@ impl Token {
     }
 
     /// Answers a call and enters it in the journal. Where there is no memory for it, nothing has
-    /// changed and the call isn't in the journal. Where the journal has room, only a call that
-    /// passes its checks can run out of memory, and only one that opens a session, creates,
-    /// generates or copies an object, sets or reads attributes, finds or returns objects, reads the
-    /// list of mechanisms, starts an operation, or gives a digest or a signature. `caller` is a
-    /// number of the application's choice. It stands in the entry, and no reply depends on it.
+    /// changed and the call isn't in the journal. `caller` is a number of the application's choice.
+    /// It stands in the entry, and no reply depends on it.
+    ///
+    /// Where the journal has room, only a call that passes its checks can run out of memory, and
+    /// only one of these: those that open a session; that create, generate or copy an object; that
+    /// set or read attributes; that find or return objects; that read the list of mechanisms; that
+    /// start an operation; and that give a digest or a signature.
     #[inline(always)]
     pub fn call(&mut self, alloc: Global, caller: u32, call: Call) -> Result<Reply, NoMemory>
         ensures answered { IfOk result (λ reply. IsAnswered self.old self.new caller call reply) }
@@ -246,7 +248,7 @@ impl Token {
         ensures room { OnOk result (self.old.spare ≤ self.new.spare + 1) }
         ensures spare { OnErr result (self.old.spare ≤ self.new.spare) }
     {
-        let ready = self.ready(&call, work);
+        let ready = self.ready_tag(&call, work);
         let Ok(Decision { rv, body, change }) = self.decide(alloc, &call, ready) else {
             return Err(out_of_memory(call));
         };

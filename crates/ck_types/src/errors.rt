@@ -62,7 +62,7 @@ impl RvError {
     }
 
     /// The error with this number, or `None` where the token has no such error.
-    pub fn of(number: u64) -> Option<RvError>
+    pub(crate) fn of(number: u64) -> Option<RvError>
         ensures error { result ≡ error_of number }
         ensures number { IfSome result (λ error. error_number error ≡ number) }
         ensures known { (error : RvError) → error_number error ≡ number → result ≡ Some error }

@@ -14,14 +14,14 @@ use ck_sessions::Session;
 use ck_types::{Mechanism, Rv, RvError, error_if, is_key_generator};
 use std::alloc::Global;
 
-/// CKR_ACTION_PROHIBITED where the flag (CKA_COPYABLE, CKA_MODIFIABLE or CKA_DESTROYABLE) is false.
+/// CKR_ACTION_PROHIBITED (1b) where the flag (CKA_COPYABLE, CKA_MODIFIABLE or CKA_DESTROYABLE) is false.
 fn check_flag(attributes: &Record, flag: Attribute) -> Result<(), RvError>
     ensures { result ≡ check_of (prohibited_error flag attributes.now) }
 {
     error_if(!attributes.is_set(flag), RvError::ActionProhibited)
 }
 
-/// CKR_MECHANISM_PARAM_INVALID where the mechanism has a parameter.
+/// CKR_MECHANISM_PARAM_INVALID (71) where the mechanism has a parameter.
 pub(super) fn check_no_parameter(mechanism: &Mechanism) -> Result<(), RvError>
     ensures { result ≡ check_of (parameter_error mechanism.now) }
 {
@@ -46,7 +46,8 @@ fn check_transition(key: &Record, number: u64) -> Result<KeyState, RvError>
     Ok(after)
 }
 
-/// Creating, copying, reading, changing and destroying objects.
+/// Creating, copying, reading, changing and destroying objects (PKCS #11 Base 3.0, Object management
+/// functions; Key management functions).
 impl Token {
     ghost use Rattle.std.specs.Prelude.{◌+◌, ◌<◌, ◌^◌, ℕ};
     ghost use Rattle.ck_journal.specs.Answers.{ok, read_only_session_error, placement_error};
@@ -60,7 +61,7 @@ impl Token {
 
     // ---- checks
 
-    /// CKR_SESSION_READ_ONLY where a read-only session writes a token object.
+    /// CKR_SESSION_READ_ONLY (b5) where a read-only session writes a token object.
     fn check_writable(&self, row: &Session, placement: Placement) -> Result<(), RvError>
         ensures { (s : ℕ) → row.now ≡ session_row self.now.history s
             → result ≡ check_of (read_only_session_error self.now.history s placement) }

@@ -33,7 +33,7 @@ fn operation_end(kind: OperationKind, session: u64, ends: bool) -> Change
 }
 
 /// The reply that has only a length, where it is asked for (CKR_OK) or where the room is too small
-/// (CKR_BUFFER_TOO_SMALL); else `None`. The operation stays.
+/// (CKR_BUFFER_TOO_SMALL, 150); else `None`. The operation stays.
 fn length_decision(
     kind: OperationKind,
     session: u64,
@@ -99,7 +99,7 @@ fn may_serve(kind: OperationKind, state: KeyState) -> bool
     }
 }
 
-/// CKR_KEY_FUNCTION_NOT_PERMITTED where the key's state forbids operations of the kind.
+/// CKR_KEY_FUNCTION_NOT_PERMITTED (68) where the key's state forbids operations of the kind.
 fn check_key_state(kind: OperationKind, key: &Record) -> Result<(), RvError>
     ensures { result ≡ check_of (key_state_error kind key.now) }
 {
@@ -117,7 +117,8 @@ fn usage_flag(kind: OperationKind) -> Attribute
     }
 }
 
-/// CKR_KEY_FUNCTION_NOT_PERMITTED where the key's flag or its state forbids operations of the kind.
+/// CKR_KEY_FUNCTION_NOT_PERMITTED (68) where the key's flag or its state forbids operations of the
+/// kind.
 #[tactic(auto, using(ck_types::proofs::CheckLemmas::checks))]
 fn check_usage(kind: OperationKind, key: &Record) -> Result<(), RvError>
     ensures { result ≡ check_of (usage_error kind key.now) }
@@ -129,7 +130,9 @@ fn check_usage(kind: OperationKind, key: &Record) -> Result<(), RvError>
     check_key_state(kind, key)
 }
 
-/// Digests, signatures and their checks: single-part and multiple-part operations.
+/// Digests, signatures and their checks: single-part and multiple-part operations (PKCS #11 Base
+/// 3.0, Message digesting functions; Signing and MACing functions; Functions for verifying
+/// signatures and MACs).
 impl Token {
     ghost use Rattle.std.specs.Prelude.{false, Some, None, IfErr, is_some};
     ghost use Rattle.ck_journal.specs.Answers.{operation_error, key_error};

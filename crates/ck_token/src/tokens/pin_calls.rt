@@ -31,14 +31,14 @@ fn pin_owner(state: SessionState) -> UserType
     }
 }
 
-/// CKR_PIN_LOCKED after three wrong tries.
+/// CKR_PIN_LOCKED (a4) after three wrong tries.
 fn check_lock(credential: Credential) -> Result<(), RvError>
     ensures { result ≡ check_of (error_if (credential.tries == 3) rv_error.PinLocked) }
 {
     error_if(credential.tries == MOST_TRIES, RvError::PinLocked)
 }
 
-/// CKR_PIN_INCORRECT where this isn't the user's PIN, which counts as a wrong try.
+/// CKR_PIN_INCORRECT (a0) where this isn't the user's PIN, which counts as a wrong try.
 fn check_pin(user: UserType, credential: Credential, pin: Pin) -> Result<(), Refused>
     ensures { IsCheckAbout (Some user)
         (error_if (not (is_pin credential.pin pin)) rv_error.PinIncorrect) result }
@@ -53,8 +53,8 @@ fn check_pin(user: UserType, credential: Credential, pin: Pin) -> Result<(), Ref
     }
 }
 
-/// CKR_USER_ALREADY_LOGGED_IN where the user is logged in, CKR_USER_ANOTHER_ALREADY_LOGGED_IN where
-/// another one is.
+/// CKR_USER_ALREADY_LOGGED_IN (100) where the user is logged in, CKR_USER_ANOTHER_ALREADY_LOGGED_IN
+/// (104) where another one is.
 fn check_not_logged_in(user: UserType, login: Option<UserType>) -> Result<(), RvError>
     ensures { result ≡ check_of (logged_in_error user login) }
 {
@@ -65,7 +65,8 @@ fn check_not_logged_in(user: UserType, login: Option<UserType>) -> Result<(), Rv
     }
 }
 
-/// Initializing the token, setting PINs, and logging in and out.
+/// Initializing the token, setting PINs, and logging in and out (PKCS #11 Base 3.0, Slot and token
+/// management functions; Session management functions).
 impl Token {
     ghost use Rattle.ck_journal.specs.Answers.{user_login_error, read_only_error, logins_error};
     ghost use Rattle.ck_journal.specs.declared.calls.Call.TheVariants as call;
@@ -149,7 +150,7 @@ impl Token {
         Ok(())
     }
 
-    /// CKR_SESSION_READ_ONLY_EXISTS for the security officer where a read-only session is open.
+    /// CKR_SESSION_READ_ONLY_EXISTS (b7) for the security officer where a read-only session is open.
     fn check_read_write(&self, user: UserType) -> Result<(), RvError>
         ensures { result ≡ check_of (read_only_error user self.now.history) }
     {
@@ -159,7 +160,7 @@ impl Token {
         }
     }
 
-    /// CKR_DEVICE_MEMORY where the normal user has logged in as often as the token allows.
+    /// CKR_DEVICE_MEMORY (31) where the normal user has logged in as often as the token allows.
     fn check_login_count(&self, user: UserType) -> Result<(), RvError>
         ensures { result ≡ check_of (logins_error self.now.limits user self.now.history) }
     {

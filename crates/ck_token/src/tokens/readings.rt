@@ -62,7 +62,7 @@ impl Token {
         self.parts.sessions.openings()
     }
 
-    /// The open session that has the handle, else CKR_SESSION_HANDLE_INVALID.
+    /// The open session that has the handle, else CKR_SESSION_HANDLE_INVALID (b3).
     #[inline(always)]
     pub(super) fn session(&self, session: u64) -> Result<&Session, RvError>
         ensures open { IfOk result (λ row. is_open self.now.history session ≡ true) }
@@ -129,7 +129,7 @@ impl Token {
         self.parts.objects.creations()
     }
 
-    /// The session's active operation of the kind, else CKR_OPERATION_NOT_INITIALIZED.
+    /// The session's active operation of the kind, else CKR_OPERATION_NOT_INITIALIZED (91).
     pub(super) fn operation(&self, kind: OperationKind, session: u64) -> Result<&Operation, RvError>
         ensures active { IfOk result (λ operation. is_active kind self.now.history session ≡ true) }
         ensures agrees { IfOk result (λ operation.
@@ -144,7 +144,7 @@ impl Token {
     }
 
     /// The number and the attributes of the object that the handle names, else
-    /// CKR_OBJECT_HANDLE_INVALID.
+    /// CKR_OBJECT_HANDLE_INVALID (82).
     pub(super) fn object(&self, handle: u64) -> Result<(u64, &Record), RvError>
         ensures number { IfOk result (λ found.
             object_named self.now.history handle ≡ Some found.0) }
@@ -159,7 +159,8 @@ impl Token {
             .ok_or(RvError::ObjectHandleInvalid)
     }
 
-    /// The number and the attributes of the key that the handle names, else CKR_KEY_HANDLE_INVALID.
+    /// The number and the attributes of the key that the handle names, else
+    /// CKR_KEY_HANDLE_INVALID (60).
     pub(super) fn key(&self, handle: u64) -> Result<(u64, &Record), RvError>
         ensures number { IfOk result (λ found.
             object_named self.now.history handle ≡ Some found.0) }

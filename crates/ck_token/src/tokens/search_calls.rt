@@ -6,7 +6,7 @@ use ck_parts::Change;
 use ck_types::{NoMemory, Rv, RvError, Sequence, error_if};
 use std::alloc::Global;
 
-/// Searching for objects.
+/// Searching for objects (PKCS #11 Base 3.0, Object management functions).
 impl Token {
     ghost use Rattle.std.specs.Prelude.{◌≡◌, false, IfOk, OnErr, filter, map, take};
     ghost use Rattle.ck_journal.specs.Lists.{is_empty};

@@ -2,17 +2,13 @@ ghost use Rattle.std.specs.Prelude.{◌≡◌};
 
 use super::Token;
 use crate::decisions::{Decision, Refused};
-use ck_journal::{Body, READ_WRITE, SERIAL_SESSION, is_read_write};
+use ck_journal::{Body, OperationKind, READ_WRITE, SERIAL_SESSION, is_read_write};
 use ck_parts::Change;
 use ck_types::{Rv, RvError, Sequence, TokenFlags, UserType, error_if, mechanism_types};
 use std::alloc::Global;
 
-/// The flags that C_SessionCancel takes, one for each `OperationKind`: CKF_DIGEST, CKF_SIGN and
-/// CKF_VERIFY.
-const CANCEL_FLAGS: u64 = 0x400 | 0x800 | 0x2000;
-
 /// Opening and closing sessions, cancelling their operations, and what is read of them and of the
-/// token.
+/// token (PKCS #11 Base 3.0, Session management functions; Slot and token management functions).
 impl Token {
     ghost use Rattle.ck_journal.specs.Answers.{allowed_reply};
     ghost use Rattle.ck_journal.specs.declared.calls.Call.TheVariants as call;
@@ -94,7 +90,10 @@ impl Token {
             (call.SessionCancel session flags) result }
     {
         self.session(session)?;
-        error_if(flags & CANCEL_FLAGS != flags, RvError::ArgumentsBad)?;
+        let known = OperationKind::Digest.flag()
+            | OperationKind::Sign.flag()
+            | OperationKind::Verify.flag();
+        error_if(flags & known != flags, RvError::ArgumentsBad)?;
         Ok(Decision::of_change(Change::CancelOperations { session, flags }))
     }
 

@@ -50,7 +50,7 @@ whole c =
     (c.push_reserved.ensures.history ∙ rw c.prepare.ensures.history)
     (λ e legal change called. c.apply.ensures.agree c.self.inside.limits h e legal change called
     (c.len-entries.ensures ∙ ap entry_count c.prepare.ensures.history)
-    (rw (← called) (rw (← c.self.view_is) at c.ready-ready.ensures))
+    (rw (← called) (rw (← c.self.view_is) at c.ready_tag-ready.ensures))
     (c.prepare.ensures.agree h agree.parts))
 
 pub invariant_of-self-2 : goal.invariant_of-self-2

@@ -1,4 +1,4 @@
--- The first of the parts of a text
+-- The first of the words of a text
 use Rattle.std.proofs.Common.{◌≡◌, ℕ, ◌+◌, ◌-◌, ◌≤◌, Bool, true, false, List, [], ◌∷◌}
 use Rattle.std.proofs.Common.{Some, None, length, take, drop, sym, ap, ◌∙◌, arith}
 use Rattle.std.specs.Prelude.{◌==◌, nat_lt, position}
@@ -9,7 +9,7 @@ use Rattle.std.proofs.lemmas.List.{take_rest}
 use Rattle.std.proofs.lemmas.Bool.{ltb-true, ltb-false}
 use Rattle.std.proofs.lemmas.Option.{cond_some}
 use Rattle.ck_journal.proofs.Selections.{cond_none}
-use Rattle.ck_script.specs.Splits.{parts_left}
+use Rattle.ck_script.specs.Splits.{words_left}
 
 module _ (p : ℕ → Bool) (text : List ℕ) where
   pub slice_split-some : (end : ℕ) → position p text ≡ Some end
@@ -28,20 +28,20 @@ module _ (p : ℕ → Bool) (text : List ℕ) where
       (length text) fails in
       slice_split_none p text (λ k d l. fails_before_first p text k d (omega arith))
 
--- the parts that are left before and after the next one is taken off
-pub parts_left-some : (separator : ℕ) (is_done : Bool) (text : List ℕ) (end : ℕ) → is_done ≡ false
+-- the words that are left before and after the next one is taken off
+pub words_left-some : (separator : ℕ) (is_done : Bool) (text : List ℕ) (end : ℕ) → is_done ≡ false
     → Some end ≡ position (λ byte. byte == separator) text
-    → parts_left separator is_done text
-    ≡ take end text ∷ parts_left separator is_done
+    → words_left separator is_done text
+    ≡ take end text ∷ words_left separator is_done
     (take (length text - (end + 1)) (drop (end + 1) text))
-parts_left-some separator true text end done e = cc
-parts_left-some separator false text end done e =
+words_left-some separator true text end done e = cc
+words_left-some separator false text end done e =
     slice_split-some _ text end (sym e)
     ∙ ap (λ rest. take end text ∷ slice_split (λ byte. byte == separator) rest)
     (sym (take_rest text (end + 1)))
 
-pub parts_left-none : (separator : ℕ) (is_done : Bool) (text : List ℕ) → is_done ≡ false
+pub words_left-none : (separator : ℕ) (is_done : Bool) (text : List ℕ) → is_done ≡ false
     → None ≡ position (λ byte. byte == separator) text
-    → parts_left separator is_done text ≡ text ∷ []
-parts_left-none separator true text done e = cc
-parts_left-none separator false text done e = slice_split-none _ text (sym e)
+    → words_left separator is_done text ≡ text ∷ []
+words_left-none separator true text done e = cc
+words_left-none separator false text done e = slice_split-none _ text (sym e)

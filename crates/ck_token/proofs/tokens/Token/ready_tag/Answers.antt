@@ -6,7 +6,7 @@ use Rattle.ck_journal.proofs.WorkLemmas.{done-since}
 use Rattle.ck_operations.specs.Agreement.{OptionAgrees, OperationAgrees, operation_at}
 use Rattle.ck_operations.specs.Agreement.{active_operation}
 use Rattle.ck_operations.specs.declared.active_operations.Operation.{Operation}
-use Rattle.ck_token.proofs.tokens.Token.ready.Goals as goal
+use Rattle.ck_token.proofs.tokens.Token.ready_tag.Goals as goal
 
 found-agrees : (k : OperationKind) (h : History) (s : ℕ) (o : Operation)
     → OptionAgrees (Some o) (operation_at k h s) → OperationAgrees o (active_operation k h s)

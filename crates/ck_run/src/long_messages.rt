@@ -1,0 +1,139 @@
+//! Which messages are taken in before their calls, and that the calls then don't take them in once
+//! more. No contract says so, since no reply depends on it.
+use ck_token::{
+    Attribute, Bytes, Call, JournaledToken, Limits, Mechanism, NoMemory, Pin, READ_WRITE, SHA256,
+    SHA256_HMAC, Template, Token,
+};
+use std::alloc::Global;
+use std::test::Fail;
+use std::time::{CpuClock, Duration};
+
+/// From how many bytes on a message is long.
+const LONG: usize = 4_096;
+
+/// The most bytes that a call brings.
+const LONGEST: usize = 1 << 20;
+
+/// The length of the digests and of the signatures.
+const ROOM: Option<u64> = Some(32);
+
+/// How many times the call is timed.
+const TRIES: u32 = 5;
+
+fn message_of(alloc: Global, count: usize) -> Result<Bytes, NoMemory> {
+    Ok(Bytes::from_vec(vec![in alloc; b'a'; count]?))
+}
+
+/// The calls of session 1 that bring a message: three for a whole one, and three for a piece.
+fn message_calls(alloc: Global, count: usize, room: Option<u64>) -> Result<Vec<Call>, NoMemory> {
+    let session = 1;
+    let bytes = message_of(alloc, count)?;
+    let signature = Bytes::new(alloc);
+    Ok(vec![in alloc;
+        Call::Digest { session, bytes: bytes.clone()?, room },
+        Call::Sign { session, bytes: bytes.clone()?, room },
+        Call::Verify { session, bytes: bytes.clone()?, signature },
+        Call::DigestUpdate { session, bytes: bytes.clone()? },
+        Call::SignUpdate { session, bytes: bytes.clone()? },
+        Call::VerifyUpdate { session, bytes },
+    ]?)
+}
+
+/// How many of the six calls have messages that are taken in before.
+fn count_taken_in(
+    alloc: Global,
+    token: &Token,
+    count: usize,
+    room: Option<u64>,
+) -> Result<usize, NoMemory> {
+    Ok(message_calls(alloc, count, room)?
+        .iter()
+        .filter(|call| JournaledToken::work(token, call).is_some())
+        .count())
+}
+
+/// A token with a key that anybody may use, and with session 1.
+fn token_with_key(alloc: Global) -> Result<(Token, u64), Fail> {
+    let mut token = Token::new(alloc, Limits::largest());
+    let session = 1;
+    let pin = Pin::of(b"1234");
+    token.try_call(alloc, 1, Call::InitToken { pin })?;
+    token.try_call(alloc, 1, Call::OpenSession { flags: READ_WRITE })?;
+    let template = Template::secret_key(alloc, b"Jefe")?.flag(Attribute::Private, false)?;
+    let created = token.try_call(alloc, 1, Call::CreateObject { session, template })?;
+    let key = created.handle().ok_or("no key")?;
+    Ok((token, key))
+}
+
+/// Begins a digest, a signature and a verification in session 1.
+fn begin_all(alloc: Global, token: &mut Token, key: u64) -> Result<(), Fail> {
+    let session = 1;
+    let mechanism = Mechanism::new(alloc, SHA256);
+    token.try_call(alloc, 1, Call::DigestInit { session, mechanism })?;
+    let mechanism = Mechanism::new(alloc, SHA256_HMAC);
+    token.try_call(alloc, 1, Call::sign_init(session, mechanism, key))?;
+    let mechanism = Mechanism::new(alloc, SHA256_HMAC);
+    token.try_call(alloc, 1, Call::VerifyInit { session, mechanism, key })?;
+    Ok(())
+}
+
+#[test]
+fn long_messages_are_taken_in_before_their_calls(rt: HostRuntime) -> Result<(), Fail> {
+    let alloc = rt.alloc();
+    let (mut token, key) = token_with_key(alloc)?;
+    assert!(rt; count_taken_in(alloc, &token, LONG, ROOM)? == 0);
+    begin_all(alloc, &mut token, key)?;
+    assert!(rt; count_taken_in(alloc, &token, LONG, ROOM)? == 6);
+    assert!(rt; count_taken_in(alloc, &token, LONGEST, ROOM)? == 6);
+    Ok(())
+}
+
+/// There is nothing to take in for a short message, for one that is too long, where only a length
+/// is answered, and for a whole message behind a piece.
+#[test]
+fn other_messages_are_not(rt: HostRuntime) -> Result<(), Fail> {
+    let alloc = rt.alloc();
+    let (mut token, key) = token_with_key(alloc)?;
+    begin_all(alloc, &mut token, key)?;
+    assert!(rt; count_taken_in(alloc, &token, LONG - 1, ROOM)? == 0);
+    assert!(rt; count_taken_in(alloc, &token, LONGEST + 1, ROOM)? == 0);
+    assert!(rt; count_taken_in(alloc, &token, LONG, None)? == 4);
+    assert!(rt; count_taken_in(alloc, &token, LONG, Some(31))? == 4);
+    for call in message_calls(alloc, 1, ROOM)?.into_iter().skip(3) {
+        token.try_call(alloc, 1, call)?;
+    }
+    assert!(rt; count_taken_in(alloc, &token, LONG, ROOM)? == 3);
+    Ok(())
+}
+
+/// Takes a long piece in and makes its call. Gives what each took of the processor.
+fn times_of_piece<R: CpuClock>(
+    rt: &R,
+    alloc: Global,
+    token: &mut Token,
+) -> Result<(Duration, Duration), Fail> {
+    let bytes = message_of(alloc, LONGEST)?;
+    let call = Call::DigestUpdate { session: 1, bytes };
+    let start = rt.process_cpu_time()?;
+    let mut work = JournaledToken::work(token, &call).ok_or("no work")?;
+    work.finish(&call);
+    let taken_in = rt.process_cpu_time()?;
+    JournaledToken::call_after(token, alloc, 1, call, Some(&work))?;
+    let made = rt.process_cpu_time()?;
+    Ok((taken_in.saturating_sub(start), made.saturating_sub(taken_in)))
+}
+
+/// The call takes far less time than its message took before.
+#[test]
+fn a_message_is_taken_in_once(rt: HostRuntime) -> Result<(), Fail> {
+    let (mut token, key) = token_with_key(rt.alloc())?;
+    begin_all(rt.alloc(), &mut token, key)?;
+    let (mut least_before, mut least_in_call) = (Duration::MAX, Duration::MAX);
+    for _ in 0..TRIES {
+        let (before, in_call) = times_of_piece(&rt, rt.alloc(), &mut token)?;
+        least_before = before.min(least_before);
+        least_in_call = in_call.min(least_in_call);
+    }
+    assert!(rt; least_in_call.saturating_mul(5) < least_before);
+    Ok(())
+}
