@@ -1,6 +1,8 @@
 //! The calls of a script that is read whole, each of one of the callers.
-ghost use Rattle.std.specs.Prelude.{◌≡◌, ◌++◌, false, [], ◌∷◌, Some, IfOk, OnOk, IfErr};
+ghost use Rattle.std.specs.Prelude.{◌≡◌, ◌++◌, ◌⊎◌, false, [], ◌∷◌, Some, IfOk, OnOk, IfErr};
+ghost use Rattle.ck_script.specs.declared.line_errors.BadLine.TheVariants as bad_line;
 ghost use Rattle.ck_script.specs.Lines.{lines_in, meaning};
+ghost use Rattle.ck_plays.specs.declared.faults.PlayFault.TheVariants as play_fault;
 ghost use Rattle.ck_plays.specs.Devices.{Reading};
 ghost use Rattle.ck_plays.specs.Plays.{with_call};
 ghost use Rattle.ck_plays.specs.CallerScripts.{is_bad_for, AreCallsOf, IsRefusedFor, IsRefusedLine};
@@ -11,16 +13,7 @@ use crate::faults::PlayFault;
 use crate::readings::read_script;
 use ck_journal::Call;
 use ck_script::{BadLine, Line, LineError, cut_line};
-use ck_types::NoMemory;
 use std::alloc::Global;
-
-/// Adds a call with its caller.
-fn push_call(calls: &mut Vec<(u32, Call)>, caller: u32, call: Call) -> Result<(), NoMemory>
-    ensures { OnOk result (calls.new.items ≡ calls.old.items ++ (caller, call) ∷ []) }
-{
-    calls.push((caller, call))?;
-    Ok(())
-}
 
 /// Adds the call of the line of this number, where its caller is one of 1 to `callers`.
 fn add_call(
@@ -33,12 +26,13 @@ fn add_call(
     ensures good { OnOk result (is_bad_for callers (Some (Line.Called caller call)) ≡ false) }
     ensures added { OnOk result (calls.new.items ≡ calls.old.items ++ (caller, call) ∷ []) }
     ensures err { IfErr result (IsRefusedLine callers (Some (Line.Called caller call)) number) }
+    ensures reason { IfErr result (λ fault. (fault ≡ play_fault.Memory)
+        ⊎ (fault ≡ play_fault.Line number (bad_line.CallerAbove callers))) }
 {
-    if caller < 1 || callers < caller {
+    if !(1..=callers).contains(&caller) {
         return Err(PlayFault::Line(number, BadLine::CallerAbove(callers)));
     }
-    push_call(calls, caller, call)?;
-    Ok(())
+    calls.push((caller, call)).map_err(|_| PlayFault::Memory)
 }
 
 /// Adds the call of a line of this number, if it has one.

@@ -30,10 +30,7 @@ pub(crate) fn read_some<R: Source>(reader: &mut R, buffer: &mut [u8]) -> Result<
     ensures err { OnErr result ((r : Reading) → R.is_read reader.old r
         → R.is_read reader.new (failed_read r)) }
 {
-    match reader.read(buffer) {
-        Ok(count) => Ok(count),
-        Err(_) => Err(PlayFault::Read),
-    }
+    reader.read(buffer).map_err(|_| PlayFault::Read)
 }
 
 /// Reads a source to its end, in at most `most` reads.

@@ -94,7 +94,9 @@ fn five_calls(alloc: Global) -> Result<Vec<Call>, NoMemory> {
     let bytes = Bytes::from_slice(alloc, &[97; 4096])?;
     let session = 1;
     Ok(vec![in alloc;
-        Call::InitToken { pin: Pin::of(b"1234") },
+        Call::InitToken {
+            pin: Pin::of(b"1234")
+        },
         Call::OpenSession { flags: READ_WRITE },
         Call::DigestInit { session, mechanism },
         Call::GetTokenInfo,

@@ -30,11 +30,29 @@ fn message_calls(alloc: Global, count: usize, room: Option<u64>) -> Result<Vec<C
     let bytes = message_of(alloc, count)?;
     let signature = Bytes::new(alloc);
     Ok(vec![in alloc;
-        Call::Digest { session, bytes: bytes.clone()?, room },
-        Call::Sign { session, bytes: bytes.clone()?, room },
-        Call::Verify { session, bytes: bytes.clone()?, signature },
-        Call::DigestUpdate { session, bytes: bytes.clone()? },
-        Call::SignUpdate { session, bytes: bytes.clone()? },
+        Call::Digest {
+            session,
+            bytes: bytes.clone()?,
+            room
+        },
+        Call::Sign {
+            session,
+            bytes: bytes.clone()?,
+            room
+        },
+        Call::Verify {
+            session,
+            bytes: bytes.clone()?,
+            signature
+        },
+        Call::DigestUpdate {
+            session,
+            bytes: bytes.clone()?
+        },
+        Call::SignUpdate {
+            session,
+            bytes: bytes.clone()?
+        },
         Call::VerifyUpdate { session, bytes },
     ]?)
 }
@@ -46,10 +64,12 @@ fn count_taken_in(
     count: usize,
     room: Option<u64>,
 ) -> Result<usize, NoMemory> {
-    Ok(message_calls(alloc, count, room)?
-        .iter()
-        .filter(|call| JournaledToken::work(token, call).is_some())
-        .count())
+    Ok(
+        message_calls(alloc, count, room)?
+            .iter()
+            .filter(|call| JournaledToken::work(token, call).is_some())
+            .count(),
+    )
 }
 
 /// A token with a key that anybody may use, and with session 1.
@@ -73,7 +93,15 @@ fn begin_all(alloc: Global, token: &mut Token, key: u64) -> Result<(), Fail> {
     let mechanism = Mechanism::new(alloc, SHA256_HMAC);
     token.try_call(alloc, 1, Call::sign_init(session, mechanism, key))?;
     let mechanism = Mechanism::new(alloc, SHA256_HMAC);
-    token.try_call(alloc, 1, Call::VerifyInit { session, mechanism, key })?;
+    token.try_call(
+        alloc,
+        1,
+        Call::VerifyInit {
+            session,
+            mechanism,
+            key,
+        },
+    )?;
     Ok(())
 }
 
@@ -120,7 +148,10 @@ fn times_of_piece<R: CpuClock>(
     let taken_in = rt.process_cpu_time()?;
     JournaledToken::call_after(token, alloc, 1, call, Some(&work))?;
     let made = rt.process_cpu_time()?;
-    Ok((taken_in.saturating_sub(start), made.saturating_sub(taken_in)))
+    Ok((
+        taken_in.saturating_sub(start),
+        made.saturating_sub(taken_in),
+    ))
 }
 
 /// The call takes far less time than its message took before.

@@ -61,12 +61,8 @@ fn push_digits(out: &mut Vec<u8>, bytes: &[u8]) -> Result<(), NoMemory>
     ensures { OnOk result (out.new.items ≡ out.old.items ++ encode_lower bytes.now) }
 {
     let start = out.len();
-    let Some(count) = bytes.len().checked_mul(2) else {
-        return Err(NoMemory);
-    };
-    let Some(end) = start.checked_add(count) else {
-        return Err(NoMemory);
-    };
+    let count = bytes.len().checked_mul(2).ok_or(NoMemory)?;
+    let end = start.checked_add(count).ok_or(NoMemory)?;
     out.resize(end, 0)?;
     // The room that was made has two bytes for each byte.
     hex::encode_to_slice(bytes, &mut out[start..]).unwrap();

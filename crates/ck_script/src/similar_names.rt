@@ -21,9 +21,8 @@ pub(crate) fn similar_name(alloc: Global, text: &[u8]) -> Result<Option<CallName
     if text.len() > LONGEST_TEXT {
         return Ok(None);
     }
-    let letters = lower_case(alloc, text)?;
-    let letters = letters.as_slice();
-    let letters = letters.strip_prefix(b"c_").unwrap_or(letters);
+    let lower = lower_case(alloc, text)?;
+    let letters = lower.strip_prefix(b"c_").unwrap_or(&lower);
     let mut nearest = None;
     let mut fewest = TOO_MANY_EDITS;
     for name in CallName::all() {

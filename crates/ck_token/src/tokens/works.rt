@@ -46,7 +46,11 @@ impl Token {
     /// The running tag of the work, where the call's operation was last changed before the work was
     /// begun.
     #[inline(always)]
-    pub(super) fn ready_tag<'a>(&self, call: &Call, work: Option<&'a Work>) -> Option<&'a RunningTag>
+    pub(super) fn ready_tag<'a>(
+        &self,
+        call: &Call,
+        work: Option<&'a Work>,
+    ) -> Option<&'a RunningTag>
         requires { IfSome (option_copied work) (IsAhead self.now.history call.now) }
         ensures { IfSome (option_copied result) (HoldsAfter self.now.history call.now) }
     {
