@@ -20,6 +20,14 @@ PROGRAM = os.path.join(HERE, "..", "crates", "ck_run", "out", "ck_run")
 LONGEST_LINE = 4_194_304
 SECONDS = 120
 
+# Calls that leave 64 objects of a million bytes, and an address space that has room for these once.
+# An audit makes them again.
+LARGE_OBJECTS = b"".join([
+    b"1 InitToken 31323334\n1 OpenSession 6\n",
+    b"1 CreateObject 1 0=0000000000000000,11=", b"61" * 1_000_000, b"\n",
+    b"1 CopyObject 1 1 -\n" * 63])
+ROOM = 110_000_000
+
 # A thread's stack has the size of the limit on stacks. No address space has room for one of these.
 STACK_WITHOUT_ROOM = 1 << 48
 
@@ -99,6 +107,10 @@ BAD_LINES = [
     (b" # x", TOO_MANY_SPACES),
     (b"1 Logout 1\r", CARRIAGE_RETURN),
     (b"1\tLogout 1", TAB),
+    (b"1 Logout\t1", TAB),
+    (b"1 Logout 1\r2", NOT_DECIMAL),
+    (b"1 Logout \xef\xbb\xbf1", NOT_DECIMAL),
+    (b"\xef\xbb1 Logout 1", b"the caller is a number from 1 to 8"),
     (b"\xef\xbb\xbf1 Logout 1", BYTE_ORDER_MARK),
     (b"1 DigestInit 1 250:00:00",
      b"a mechanism is written as type, or with its parameter as type:bytes"),
@@ -306,9 +318,20 @@ def callers(tests):
     tests.check(["--callers", "2"], b"", b"entries 0\naudit ok\n", b"", 0)
     tests.check(["--callers", "2"], TWO_CALLERS + b"3 GetTokenInfo\n", b"",
                 b"ck_run: line 9: bad script: the caller is a number from 1 to 2\n", 1)
+    tests.check(["--callers", "5"], b"1 GetTokenInfo\n8 GetTokenInfo\n", b"",
+                b"ck_run: line 2: bad script: the caller is a number from 1 to 5\n", 1)
     tests.check(["--callers", "2"], b"3 Login x\n", b"",
                 b"ck_run: line 1: bad script: Login takes 3 arguments\n", 1)
     tests.end("callers in threads")
+
+
+def audits(tests):
+    short = {"preexec_fn": lambda: resource.setrlimit(resource.RLIMIT_AS, (ROOM, ROOM))}
+    words = ["--callers", "1"]
+    tests.check(words, LARGE_OBJECTS + b"1 CloseAllSessions\n", b"entries 67\naudit ok\n", b"", 0,
+                **short)
+    tests.check(words, LARGE_OBJECTS, b"", b"ck_run: out of memory\n", 3, **short)
+    tests.end("the journal of callers is audited, and an audit finds no memory for many objects")
 
 
 def count_threads(tests, words, script):
@@ -399,6 +422,7 @@ def main(program):
     names(tests)
     longest_lines(tests)
     callers(tests)
+    audits(tests)
     side_by_side(tests)
     threads(tests)
     arguments(tests)

@@ -39,6 +39,11 @@ def creations(count):
             for number in range(count)]
 
 
+def destructions(count):
+    """Calls that destroy these objects, the first one first."""
+    return [f"1 DestroyObject 1 {number + 1}" for number in range(count)]
+
+
 def searches(count, attribute):
     """Calls that search for one of the objects by this attribute."""
     return [line for number in range(count) for line in (
@@ -65,10 +70,20 @@ def many_objects(tests):
     tests.end("creations among many objects")
 
 
+def ended_objects(tests):
+    """The end of an object takes as long among many."""
+    few, many = [seconds_of(tests, creations(count) + destructions(count))
+                 for count in (20_000, 80_000)]
+    tests.expect(many < 8 * few, f"20,000 creations and destructions took {few:.3f} s, 80,000 "
+                 f"{many:.3f} s")
+    tests.end("destructions among many objects")
+
+
 def main(path):
     tests = program.Tests(path, "speed")
     label_searches(tests)
     many_objects(tests)
+    ended_objects(tests)
     return tests.status()
 
 

@@ -8,7 +8,7 @@ pub mod Making
 pub mod MakingCalls
 pub mod NewAccounts
 pub mod Opening
-pub mod Places
+pub mod EntryNumbers
 pub mod Prefixes
 pub mod Running
 pub mod Settling

@@ -24,7 +24,7 @@ use Rattle.ck_callers.specs.declared.steps.Answered.TheVariants as answered
 use Rattle.ck_callers.specs.declared.steps.Step.{Step}
 use Rattle.ck_callers.specs.declared.steps.Step.TheVariants as step
 use Rattle.ck_callers.proofs.KnownLemmas.{longer_front}
-use Rattle.ck_callers.proofs.Places.{entry_at-front, front_at-front}
+use Rattle.ck_callers.proofs.EntryNumbers.{entry_at-front, front_at-front}
 use Rattle.ck_callers.proofs.MakingCalls.{made_no_calls, made_call}
 
 -- ---- where no step is answered
@@ -44,7 +44,7 @@ taken_none limits old steps outcome new same end = record {
   calls = made_no_calls old (λ call. Unit {0}) (calls_of steps) outcome new same
       (calls_end steps outcome end);
   numbers = ap (λ c. entry_count c.seen) (sym same);
-  places = tt;
+  are_answers = tt;
   end = end;
 }
 
@@ -64,8 +64,8 @@ module _ (limits : Ranges) (old : CallerState) (now : CallerState) (n : ℕ)
         let longer = longer_front old.seen does.before does.front in
         let next = ap entry_count does.next in omega arith
 
-    place_of_reply : entry_at new.seen n ≡ Some (entry_by old.number call reply)
-    place_of_reply =
+    reply_is : entry_at new.seen n ≡ Some (entry_by old.number call reply)
+    reply_is =
         ap (entry_at new.seen) (length_is ∙ ap entry_count does.next)
         ∙ entry_at-front (entry_by old.number call reply) does.before new.seen
         (subst (λ h. IsFront h new.seen) does.next rest.calls.front)
@@ -76,10 +76,10 @@ module _ (limits : Ranges) (old : CallerState) (now : CallerState) (n : ℕ)
       calls = made_call limits old call reply now does (calls_of steps) (replies_of answers)
           outcome new rest.calls;
       numbers = (rises_reply, rises_rest);
-      places = (
-        place_of_reply,
+      are_answers = (
+        reply_is,
         subst (λ k. AreAnswersIn limits k new.seen steps answers)
-            does.number rest.places,
+            does.number rest.are_answers,
       );
       end = rest.end;
     }
@@ -105,9 +105,9 @@ module _ (limits : Ranges) (old : CallerState) (now : CallerState) (n : ℕ)
           made = rest.calls.made;
         }
 
-    place_of_status : IfSome status (λ s. reply_of s ≡ answer limits (front_at new.seen n)
+    status_is : IfSome status (λ s. reply_of s ≡ answer limits (front_at new.seen n)
         (call_of ask))
-    place_of_status =
+    status_is =
         subst (λ h. IfSome status (λ s. reply_of s ≡ answer limits h (call_of ask)))
         (sym (ap (front_at new.seen) length_is ∙ front_at-front now.seen new.seen rest.calls.front))
         does.answer
@@ -119,10 +119,10 @@ module _ (limits : Ranges) (old : CallerState) (now : CallerState) (n : ℕ)
     taken_ask rises = record {
       calls = made_beside_ask;
       numbers = rises;
-      places = (
-        place_of_status,
+      are_answers = (
+        status_is,
         subst (λ k. AreAnswersIn limits k new.seen steps answers)
-            same_number rest.places,
+            same_number rest.are_answers,
       );
       end = rest.end;
     }

@@ -88,5 +88,5 @@ pub record HasTaken (limits : Ranges) (old : CallerState) (steps : List Step)
     : Type 0 where
   pub calls : HasMadeCalls old (calls_of steps) (replies_of answers) outcome new
   pub numbers : Rises (entry_count old.seen) answers (entry_count new.seen)
-  pub places : AreAnswersIn limits old.number new.seen steps answers
+  pub are_answers : AreAnswersIn limits old.number new.seen steps answers
   pub end : EndsAt IsCall (drop (length answers) steps) outcome

@@ -57,7 +57,7 @@ impl NewHistory {
     }
 
     /// The history under its name: the length that threads share, and the front without entries.
-    pub(crate) fn named<K: HistoryId>(self) -> (Head<K>, Front<K>)
+    pub(crate) fn with_name<K: HistoryId>(self) -> (Head<K>, Front<K>)
         requires { self.seen.book ≡ K.book }
         ensures { result.1 ≡ start K.base }
     {

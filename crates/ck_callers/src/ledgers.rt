@@ -171,7 +171,7 @@ impl NewLedgers {
 
     /// The books, and the accounts of the callers 1 to `callers`, under their names. No call is
     /// counted.
-    pub(crate) fn named<K: TokenId>(
+    pub(crate) fn with_name<K: TokenId>(
         self,
         alloc: Global,
         callers: u32,

@@ -1,4 +1,4 @@
-//! What is made where a token comes to be shared.
+//! What is made when a token is shared.
 ghost use Rattle.std.specs.Prelude.{◌≡◌, ◌≤◌, [], IfOk, map};
 ghost use Rattle.left_right.specs.Handles.{published, pending};
 ghost use Rattle.ck_journal.specs.Boards.{board_of};
@@ -126,9 +126,9 @@ impl<K: TokenId, R: Wait + Drop> Opened<K, R> {
             opened.callers.items ≡ new_callers K.base callers) }
     {
         let NewIdentity { history, ledgers } = identity;
-        let (head, front) = history.named::<K>();
+        let (head, front) = history.with_name::<K>();
         let known = KnownHistory::new(&front);
-        let (books, accounts) = ledgers.named::<K>(alloc, callers)?;
+        let (books, accounts) = ledgers.with_name::<K>(alloc, callers)?;
         let (writer, callers) = writer_and_callers(rt, alloc, board, callers, accounts, &known)?;
         Ok(Opened {
             books,

@@ -49,7 +49,7 @@ pub(crate) enum Request<'a> {
     Help(String),
 }
 
-/// Why the arguments ask for nothing. Each text has its line end, as those of clap have.
+/// Why the arguments can't be used. Each text has its line end, as those of clap have.
 #[derive(Debug, Drop, Error)]
 pub(crate) enum ArgumentError {
     #[error("error: out of memory\n")]

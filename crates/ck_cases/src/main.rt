@@ -91,7 +91,7 @@ fn given_arguments<R: Env + AllocGlobal>(rt: &R) -> Result<Vec<String>, Argument
     Ok(env::args(rt)?.collect(rt.alloc())?)
 }
 
-/// Writes why the arguments ask for nothing.
+/// Writes why the arguments can't be used.
 fn report_argument_error<R: Eprint>(rt: &R, error: &ArgumentError) -> io::Result<Status> {
     eprint!(rt; "{error}")?;
     match error {
@@ -120,6 +120,7 @@ fn main(rt: HostRuntime) -> ExitCode {
     match run(&rt) {
         Ok(status) => ExitCode::from(status.number()),
         Err(error) => {
+            // Where standard error takes nothing, the status still says it.
             let _ = eprintln!(rt; "ck_cases: {error}");
             ExitCode::FAILURE
         }

@@ -4,7 +4,7 @@ ghost use Rattle.ck_foreign.specs.Bodies.{handle_in, session_in, token_in, mecha
 ghost use Rattle.ck_foreign.specs.Bodies.{handles_in, answer_at, answer_in, value_in, length_in};
 ghost use Rattle.ck_foreign.specs.Bodies.{bytes_in};
 
-use ck_journal::{Answer, Body};
+use ck_token::{Answer, Body};
 
 /// A session's state (CK_STATE) and flags, as CK_SESSION_INFO has them.
 #[repr(C)]

@@ -6,8 +6,7 @@ ghost use Rattle.ck_foreign.specs.declared.outcomes.Outcome.TheVariants as outco
 
 use crate::modules::Module;
 use crate::outcomes::Outcome;
-use ck_journal::{Call, Work};
-use ck_token::Token;
+use ck_token::{Call, Token, Work};
 use std::alloc::Global;
 use std::mem;
 

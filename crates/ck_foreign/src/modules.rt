@@ -8,10 +8,8 @@ ghost use Rattle.ck_foreign.specs.declared.outcomes.Outcome.TheVariants as outco
 ghost use Rattle.ck_token.specs.Decisions.{may_run_out};
 
 use crate::outcomes::Outcome;
-use ck_journal::{Body, Call, Reply, Work};
 use ck_script::{Line, LineError, push_line};
-use ck_token::{Token, Uncut};
-use ck_types::{Limits, NoMemory, Rv};
+use ck_token::{Body, Call, Limits, NoMemory, Reply, Rv, Token, Uncut, Work};
 use std::alloc::Global;
 
 /// A token, the reply to the last call that it answered, and the text that was last made of one.

@@ -1,8 +1,7 @@
 ghost use Rattle.std.specs.Prelude.{◌≡◌, IfOk, map};
 ghost use Rattle.ck_foreign.specs.Queries.{query_of, room_of};
 
-use ck_journal::AttributeQuery;
-use ck_types::{NoMemory, Sequence};
+use ck_token::{AttributeQuery, NoMemory, Sequence};
 use std::alloc::Global;
 
 /// What C asks of an attribute: its type, and the room for its value. Without `has_room` it asks

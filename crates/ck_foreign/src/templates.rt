@@ -1,8 +1,7 @@
 ghost use Rattle.std.specs.Prelude.{◌≡◌, IfOk, drop, take};
 ghost use Rattle.ck_foreign.specs.Templates.{template_of};
 
-use ck_objects::{AttributeValue, Item, Template};
-use ck_types::{NoMemory, Sequence};
+use ck_token::{AttributeValue, Item, NoMemory, Sequence, Template};
 use std::alloc::Global;
 
 /// What C tells of an attribute of a template beside its value: its type, and the value's length.

@@ -12,9 +12,8 @@ ghost use Rattle.ck_foreign.specs.declared.message_calls.MessageCall.TheVariants
 
 use crate::places::{MessagePlace, TokenPlace};
 use ck_foreign::{MessageCall, room_of};
-use ck_journal::Call;
 use ck_script::Line;
-use ck_types::{Bytes, NoMemory};
+use ck_token::{Bytes, Call, NoMemory};
 use std::alloc::Global;
 
 /// How many bytes a call with a message takes, without the message.

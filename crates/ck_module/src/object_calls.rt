@@ -7,7 +7,7 @@ ghost use Rattle.ck_module.specs.Calls.{IsCalledWithoutLists};
 
 use crate::places::TokenPlace;
 use ck_foreign::{Query, TypeAndLength, queries_of, template_of};
-use ck_journal::Call;
+use ck_token::Call;
 use std::alloc::Global;
 
 /// C_CreateObject (PKCS #11 Base 3.0, Object management functions). The values of the template

@@ -5,8 +5,7 @@ ghost use Rattle.ck_module.specs.Calls.{IsCalledWithoutLists};
 
 use crate::places::TokenPlace;
 use ck_foreign::room_of;
-use ck_journal::Call;
-use ck_types::{Bytes, Mechanism};
+use ck_token::{Bytes, Call, Mechanism};
 use std::alloc::Global;
 
 /// C_DigestInit (PKCS #11 Base 3.0, Message digesting functions). An empty parameter is none.

@@ -6,8 +6,7 @@ ghost use Rattle.ck_foreign.specs.contracts.message_calls.MessageCall.{the_row a
 ghost use Rattle.ck_foreign.specs.contracts.modules.Module.{the_row as module_row};
 
 use ck_foreign::{MessageCall, Module, Outcome};
-use ck_journal::Call;
-use ck_types::NoMemory;
+use ck_token::{Call, NoMemory};
 use std::alloc::Global;
 use std::marker::Model;
 

@@ -3,7 +3,7 @@ ghost use Rattle.ck_journal.specs.declared.calls.Call.TheVariants as call;
 ghost use Rattle.ck_module.specs.Calls.{IsCalledWithoutLists};
 
 use crate::places::TokenPlace;
-use ck_journal::Call;
+use ck_token::Call;
 use std::alloc::Global;
 
 /// C_OpenSession (PKCS #11 Base 3.0, Session management functions).

@@ -1,4 +1,4 @@
-//! Counts of what the reads and writes of a device came to. Except for the reads of a
+//! Counts of a device's reads, of the ends that it found, and of its failures. Except for the reads of a
 //! `MemorySource`, only the contracts read them: they say by them how many times the end was found
 //! and a device failed, also where its bytes aren't known. Each count stops at the largest number
 //! of 64 bits.

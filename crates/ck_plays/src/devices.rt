@@ -39,6 +39,7 @@ pub trait Sink {
 #[derive(Drop)]
 pub struct ReadSource<R> {
     reader: R,
+    // Only contracts read them (counts.rt).
     counts: ReadCounts,
 }
 
@@ -81,6 +82,7 @@ impl<R: io::Read> Source for ReadSource<R> {
 #[derive(Drop)]
 pub struct WriteSink<W> {
     writer: W,
+    // Only contracts read it (counts.rt).
     failures: u64,
 }
 

@@ -46,7 +46,7 @@ pub end-found : (chosen : Options) (left : Option (List ℕ)) (counts : ReadCoun
     (Q : Writing → Type 0)
     → IsPlay chosen → IsDone chosen unread unwritten (IsReadOf left counts) Q (Ok tt)
     → (counts.ends ≡ 1) × (counts.failures ≡ 0)
-end-found option.InTurn left counts Q play h = (
+end-found option.LineByLine left counts Q play h = (
   counted-once h.ended counts.ends h.outcome.end_found h.reader.1.ends,
   counted-none counts.failures h.reader.1.failures,
 )
@@ -60,6 +60,6 @@ end-found (option.Help text) left counts Q play h = absurd play
 pub all-written : (chosen : Options) (held : Option (List ℕ)) (failures : ℕ)
     (P : Reading → Type 0)
     → IsDone chosen unread unwritten P (IsWrittenTo held failures) (Ok tt) → failures ≡ 0
-all-written option.InTurn held failures P h = counted-none failures h.writer.1
+all-written option.LineByLine held failures P h = counted-none failures h.writer.1
 all-written (option.InThreads callers) held failures P h = counted-none failures h.2.1
 all-written (option.Help text) held failures P h = counted-none failures h.1.1

@@ -45,7 +45,7 @@ callers_text arguments = first_of (codes "callers") (matches_of program argument
 -- without a value the script is played line by line, with a number of callers by these callers in
 -- threads, and any other value is bad
 abbrev pub IsChosenBy : Option Text → Result Options ArgumentFault → Type 0
-IsChosenBy None (Ok option.InTurn) = ⊤
+IsChosenBy None (Ok option.LineByLine) = ⊤
 IsChosenBy (Some text) (Ok (option.InThreads callers)) = callers_in text ≡ Some callers.count
 IsChosenBy (Some text) (Err (fault.Bad bad.Callers)) = callers_in text ≡ None
 IsChosenBy _ _ = ⊥

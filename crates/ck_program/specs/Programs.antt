@@ -40,14 +40,14 @@ IsWritten text written is_written (Err f) =
 
 -- a script is played, and no help is asked for
 abbrev pub IsPlay : Options → Type 0
-IsPlay option.InTurn = Unit {0}
+IsPlay option.LineByLine = Unit {0}
 IsPlay (option.InThreads callers) = Unit {0}
 IsPlay (option.Help text) = ⊥
 
 -- what was read and written by these options, and how that ended
 abbrev pub IsDone : Options → Reading → Writing → (Reading → Type 0) → (Writing → Type 0)
     → Result (Unit {0}) ProgramFault → Type 0
-IsDone option.InTurn read written is_read is_written result =
+IsDone option.LineByLine read written is_read is_written result =
     EndsWithoutThreads (IsPlayed largest_limits most_reads read written is_read is_written) result
 IsDone (option.InThreads callers) read written is_read is_written result =
     IsPlayedInThreads largest_limits callers.count most_reads read written is_read is_written result

@@ -43,7 +43,7 @@ fn options_in(matches: &ArgMatches<'_>) -> Result<Options, ArgumentFault>
             Some(callers) => Ok(Options::InThreads(callers)),
             None => Err(ArgumentFault::Bad(BadArguments::Callers)),
         },
-        None => Ok(Options::InTurn),
+        None => Ok(Options::LineByLine),
     }
 }
 

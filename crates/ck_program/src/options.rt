@@ -17,7 +17,7 @@ pub struct Callers {
 #[derive(Debug, Drop)]
 pub enum Options {
     /// To play the script line by line.
-    InTurn,
+    LineByLine,
     /// To play the lines of each caller in a thread of its own.
     InThreads(Callers),
     /// To write this text on how it is used.
@@ -37,7 +37,7 @@ pub enum BadArguments {
     NotText,
 }
 
-/// Why the arguments say nothing of what to do.
+/// Why there are no options: the arguments are bad, or there was no memory.
 #[derive(Debug, Drop)]
 pub enum ArgumentFault {
     Bad(BadArguments),

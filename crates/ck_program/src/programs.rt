@@ -58,7 +58,7 @@ fn play_options<G: JournaledToken + Send, R: Source, W: Sink, RT: Runtime>(
 {
     let limits = Limits::largest();
     match options {
-        Options::InTurn => play::<G, R, W>(alloc, limits, reader, writer)?,
+        Options::LineByLine => play::<G, R, W>(alloc, limits, reader, writer)?,
         Options::InThreads(callers) => {
             play_threads::<G, R, W, RT>(rt, alloc, limits, callers, reader, writer, MOST_READS)?
         }
@@ -98,6 +98,7 @@ pub fn run<G: JournaledToken + Send, R: Source, W: Sink, RT: Eprint + Runtime>(
         → IsDone chosen read written
         (R.is_read reader.new) (W.is_written writer.new) (Err fault)) }
 {
+    // Where standard error takes nothing, the status still says what came of it.
     match options {
         Ok(options) => match play_options::<G, R, W, RT>(rt, alloc, options, reader, writer) {
             Ok(()) => 0,

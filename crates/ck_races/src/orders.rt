@@ -79,8 +79,8 @@ impl<'a> CallOrder<'a> {
         self.come.load(Ordering::SeqCst) >= made.saturating_add(waiting as u64)
     }
 
-    /// Waits until the next call is one of this caller. Where it doesn't come to that, no call is
-    /// held any more.
+    /// Waits until the next call is one of this caller. Where that doesn't happen in time, no call
+    /// is held any more.
     pub(crate) fn hold<W: Wait>(&self, rt: &W, caller: u32) {
         let longest = Duration::from_micros(LONGEST_SLEEP);
         self.come.fetch_add(1, Ordering::SeqCst);

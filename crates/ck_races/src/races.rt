@@ -32,7 +32,7 @@ pub(crate) struct RaceLine<'a> {
 
 /// Which calls of a race follow.
 #[derive(Clone, Copy, PartialEq)]
-enum Part {
+enum Stage {
     First,
     Together,
     Afterwards,
@@ -52,7 +52,7 @@ pub(crate) struct Race<'a> {
     pub(crate) first: usize,
     pub(crate) is_in_any_order: bool,
     pub(crate) afterwards: Vec<RaceLine<'a>>,
-    part: Part,
+    stage: Stage,
 }
 
 impl<'a> Race<'a> {
@@ -78,7 +78,7 @@ impl<'a> Race<'a> {
             first: 0,
             is_in_any_order: false,
             afterwards: Vec::new(alloc),
-            part: Part::First,
+            stage: Stage::First,
         }
     }
 
@@ -91,12 +91,12 @@ impl<'a> Race<'a> {
     fn gather(&mut self, is_in_any_order: bool) {
         self.first = self.lines.len();
         self.is_in_any_order = is_in_any_order;
-        self.part = Part::Together;
+        self.stage = Stage::Together;
     }
 
     /// Adds a call to those that are made afterwards, or to those before.
     fn add_call(&mut self, line: RaceLine<'a>) -> Result<(), NoMemory> {
-        if self.part == Part::Afterwards {
+        if self.stage == Stage::Afterwards {
             self.afterwards.push(line)?;
         } else {
             self.lines.push(line)?;
@@ -111,13 +111,13 @@ impl<'a> Race<'a> {
 
     /// Adds what a line says.
     fn add(&mut self, alloc: Global, number: u64, text: &'a str) -> anyhow::Result<()> {
-        let is_first = self.part == Part::First;
+        let is_first = self.stage == Stage::First;
         match text {
             "cut" if is_first && self.earlier.is_empty() => self.cut(alloc),
             "together" if is_first => self.gather(false),
             "together in any order" if is_first => self.gather(true),
-            "afterwards" if self.part != Part::Afterwards && self.is_whole() => {
-                self.part = Part::Afterwards;
+            "afterwards" if self.stage != Stage::Afterwards && self.is_whole() => {
+                self.stage = Stage::Afterwards;
             }
             "cut" | "together" | "together in any order" | "afterwards" => {
                 bail!("line {number}: {text} can't stand here")

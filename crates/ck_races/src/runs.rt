@@ -106,7 +106,7 @@ fn run_scripted<R: Runtime>(rt: R, race: &Race, callers: &[u32]) -> anyhow::Resu
     let alloc = rt.alloc();
     let order = CallOrder::new(callers);
     let work = SharedWork::HeldScripts {
-        race: &*race,
+        race,
         order: &order,
     };
     let token = prepared_token(alloc, race)?;

@@ -1,6 +1,8 @@
 //! How a shared token uses the token under its lock, which no contract says: a short call begins no
 //! work, the bytes of a long message are taken in before its call and not once more in it, and only
 //! a call that may change the board reads it.
+ghost use Rattle.std.specs.Prelude.{◌≡◌};
+
 use crate::asks::expect;
 use crate::journals::check_audit;
 use ck_shared::{Caller, CallerWork, Gate, Runtime, TokenId, share};

@@ -162,7 +162,7 @@ fn errors_have_their_texts(rt: HostRuntime) -> Result<(), Fail> {
     let refused = CallError::Refused(RvError::PinLocked);
     check_text(rt, alloc, &refused, "CKR_PIN_LOCKED")?;
     check_text(rt, alloc, &CallError::Memory, "out of memory")?;
-    let bad = LineError::Bad(BadLine::CallerAbove(2));
-    check_text(rt, alloc, &bad, "the caller is a number from 1 to 2")?;
+    let bad = LineError::Bad(BadLine::CallerAbove(7));
+    check_text(rt, alloc, &bad, "the caller is a number from 1 to 7")?;
     check_text(rt, alloc, &LineError::Memory, "out of memory")
 }

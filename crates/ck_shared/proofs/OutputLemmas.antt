@@ -1,4 +1,4 @@
--- What comes of the work of callers
+-- The outputs of callers' work
 use Rattle.std.proofs.Common.{◌≡◌, ◌<◌, ℕ, suc, List, [], ◌∷◌, length, arith}
 use Rattle.std.specs.List.{AllZip}
 use Rattle.std.specs.Prelude.{All, map, slice_index_or}

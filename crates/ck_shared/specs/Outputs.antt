@@ -1,4 +1,4 @@
--- What comes of the work of callers
+-- The outputs of callers' work
 use Rattle.ck_journal.specs.Histories.{History}
 use Rattle.ck_callers.specs.Callers.{CallerState, IsSettled}
 

@@ -61,6 +61,7 @@ fn add_slot<K: TokenId, R: Wait + Drop>(
     ensures unchanged { OnErr result (pending writer.new ≡ pending writer.old) }
     ensures none { IfOk result (λ slot. IfNone slot
         (IsTrue keeps_board × (pending writer.new ≡ pending writer.old))) }
+    ensures kept { IsTrue keeps_board → result ≡ Ok None }
 {
     if keeps_board {
         return Ok(None);

@@ -1,5 +1,5 @@
 use Rattle.ck_callers.proofs.NewAccounts.{all_added, same_name}
-use Rattle.ck_callers.proofs.ledgers.NewLedgers.named.Goals as goal
+use Rattle.ck_callers.proofs.ledgers.NewLedgers.with_name.Goals as goal
 
 pub open_ledger-one-requires-clause-name : goal.open_ledger-one-requires-clause-name
 open_ledger-one-requires-clause-name g c = same_name c.self.view_is c.requires.names 1
