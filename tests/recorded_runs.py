@@ -37,7 +37,7 @@ Options:
 
 Example: a file token.cases with a recorded run
 
-  # Comments and empty lines are skipped.
+  # Bytes are hexadecimal: 31323334 is the text 1234. This line is skipped.
   limits largest
   1 InitToken 31323334 -> 0
   1 OpenSession 6 -> 0 1
