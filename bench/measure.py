@@ -233,7 +233,7 @@ def met_by_callers(best):
     text = f"status by four callers: {share} percent of the asks of one"
     yield is_as_wanted(text, "at least 300", share >= 300)
     beside = int(100 * alone / best["asks beside changes"])
-    text = f"status beside changes: {beside} percent of the asks alone"
+    text = f"status beside changes: {beside} percent of the asks without changes"
     yield is_as_wanted(text, "at least 90", beside >= 90)
     alone, four = best["changes of one caller"], best["changes of four callers"]
     calls = int(4 * CALLS_OF_CHANGE * (ASKS // 100) * 1_000_000_000 / four)

@@ -119,7 +119,7 @@ def measure(words, environment):
 
 
 def token_times():
-    """The nanoseconds of a round's calls of the token alone."""
+    """The nanoseconds of a round's calls of the token without the module."""
     output = subprocess.check_output([BENCH, "alone"], input=script("single-calls"), text=True)
     best, count = {}, {}
     for line in output.splitlines():

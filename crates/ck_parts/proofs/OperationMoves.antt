@@ -51,16 +51,16 @@ pub record IsStepAlone (h : History) (c : Call) : Type 0 where
   pub uncancelled : (k : OperationKind) (s : ℕ) → cancels (Some c) k s ≡ false
   pub about : about h (Some c) ≡ None
 
-pub step-only : (h : History) (c : Call) (o : OperationStep) → operation_step c ≡ Some o
+pub step-alone : (h : History) (c : Call) (o : OperationStep) → operation_step c ≡ Some o
     → IsStepAlone h c
-step-only h (call.InitToken pin) o e = cc
-step-only h other o e = first_of (cc, search rules)
+step-alone h (call.InitToken pin) o e = cc
+step-alone h other o e = first_of (cc, search rules)
 
 -- a call that changes nothing makes no step either
-pub reading-only : (h : History) (c : Call) (b : Body) → change.Nothing ≡ change_of h c b
+pub reading-alone : (h : History) (c : Call) (b : Body) → change.Nothing ≡ change_of h c b
     → IsStepAlone h c × (operation_step c ≡ None)
-reading-only h (call.InitToken pin) b is = cc
-reading-only h other b is = first_of (cc, search rules)
+reading-alone h (call.InitToken pin) b is = cc
+reading-alone h other b is = first_of (cc, search rules)
 
 -- what an entry is of: its call and the reply's code and body
 abbrev pub entry : ℕ → Call → Rv → Body → Entry
@@ -85,7 +85,7 @@ module _ (h : History) (n : ℕ) (c : Call) (v : Rv) (b : Body) (kind : Operatio
   reply = record { rv = v; body = b }
 
   quiet : IsStepAlone h c
-  quiet = step-only h c (record { kind = kind; session = session; step = x }) is
+  quiet = step-alone h c (record { kind = kind; session = session; step = x }) is
 
   abbrev here : OperationKind → ℕ → Bool
   here k s = same_kind kind k && session == s
@@ -415,7 +415,7 @@ pub nothing-stays : (h : History) (n : ℕ) (c : Call) (v : Rv) (b : Body)
     → InAll Stay (entry n c v b)
 nothing-stays h n c (rv.Error code) b is = nothing-refused h n c b code (operation_step c) refl is
 nothing-stays h n c rv.Ok b is =
-    let reads = reading-only h c b is in
+    let reads = reading-alone h c b is in
     no-step-stays n c rv.Ok b reads.1 reads.0.unclosed reads.0.uncancelled
 
 pub tried-stays : (h : History) (n : ℕ) (c : Call) (v : Rv) (b : Body) (u : UserType)

@@ -54,7 +54,7 @@ use Rattle.ck_operations.specs.Agreement.{OperationsState, OperationsAgree}
 use Rattle.ck_operations.specs.Moves.{Stay, End, Does}
 use Rattle.ck_parts.specs.Agreement.{PartsAgree}
 use Rattle.ck_parts.specs.declared.parts.Parts.{Parts}
-use Rattle.ck_parts.proofs.OperationMoves.{nobody-tried, step-only, reading-only, operations-kept}
+use Rattle.ck_parts.proofs.OperationMoves.{nobody-tried, step-alone, reading-alone, operations-kept}
 use Rattle.ck_parts.proofs.OperationMoves.{step-no_try, of-done, finished-is, finish-does}
 use Rattle.ck_parts.specs.Changes.{change_of, wrong_try_change, refused_by, effect, effect_by}
 use Rattle.ck_parts.specs.declared.changes.Change.TheVariants as change
@@ -106,16 +106,16 @@ module _ (h : History) (e : Entry) (c : Call) (d : done e ≡ Some c) (p : Parts
     operations = operations;
   }
 
-  creation-only : (c : Call) → creates (Some c) ≡ true
+  creation-alone : (c : Call) → creates (Some c) ≡ true
       → ((effects_of (Some c)).sessions ≡ false) × ((effects_of (Some c)).searches ≡ false)
       × ((effects_of (Some c)).operations ≡ false) × (operation_step c ≡ None)
-  creation-only (call.InitToken pin) t = cc
-  creation-only other t = (cc, cc, cc, cc)
+  creation-alone (call.InitToken pin) t = cc
+  creation-alone other t = (cc, cc, cc, cc)
 
   -- a creation changes the objects
   pub objects-created : creates (Some c) ≡ true → (o : StoreState) → StoreAgrees (e ◁ h) o
       → PartsAgree (e ◁ h) (record p { objects = o })
-  objects-created t = let k = creation-only c t in objects-only k.0 k.1 k.2 k.3
+  objects-created t = let k = creation-alone c t in objects-only k.0 k.1 k.2 k.3
 
 -- ---- nothing changes
 
@@ -138,7 +138,7 @@ module _ (h : History) where
       → is_about u h (cond (is_wrong_pin (rv.Error code)) (Some c) None) ≡ false
   nothing_refused code c u None e is = nothing_tried code c u is
   nothing_refused code c u (Some o) e is =
-      nobody-tried h (is_wrong_pin (rv.Error code)) c (step-only h c o e).about u
+      nobody-tried h (is_wrong_pin (rv.Error code)) c (step-alone h c o e).about u
 
   nothing_step : (c : Call) (v : Rv) (b : Body) → change.Nothing ≡ effect_by h c v b
       → ((effects_of (cond (is_ok v) (Some c) None)).sessions ≡ false) ×
@@ -146,7 +146,7 @@ module _ (h : History) where
       × ((effects_of (cond (is_ok v) (Some c) None)).objects ≡ false) ×
       ((u : UserType) → is_about u h (cond (is_wrong_pin v) (Some c) None) ≡ false)
   nothing_step c rv.Ok b is =
-      let reads = (reading-only h c b is).0 in
+      let reads = (reading-alone h c b is).0 in
       (reads.sessions, reads.searches, reads.objects, λ u. refl)
   nothing_step c (rv.Error code) b is =
       (refl, refl, refl, λ u. nothing_refused code c u (operation_step c) refl is)
@@ -365,7 +365,7 @@ pub step-only : (h : History) (e : Entry) (o : OperationStep) → operation_step
     → (p : Parts) → PartsAgree h p → (q : OperationsState) → OperationsAgree (e ◁ h) q
     → PartsAgree (e ◁ h) (record p { operations = q })
 step-only h e o is p agree q operations =
-    let quiet = step-only h e.call o is in
+    let quiet = step-alone h e.call o is in
     record {
       sessions = sessions-left h _ agree.sessions e
           (of-done (λ d. (effects_of d).sessions) false e.call e.reply.rv quiet.sessions refl)
