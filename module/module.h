@@ -351,6 +351,8 @@ struct source {
     bool has_calls;
     size_t number;        /* of the line that was last read */
     off_t length;         /* of all lines with their ends */
+    uint8_t bytes[4096];  /* of the file, of which the first `used` stand in lines already */
+    size_t count, used;
 };
 
 /* Gives the source its file, or reports that it couldn't be opened. */

@@ -141,29 +141,53 @@ static bool drop_line(const struct source *source) {
 }
 
 static bool answer_source_line(struct source *source, const uint8_t *line, size_t length) {
-    bool has_end = line[length - 1] == '\n';
-    if (!has_end && source->is_journal)
+    bool is_whole = line[length - 1] == '\n';
+    if (!is_whole && source->is_journal)
         return drop_line(source);
     source->length += (off_t)length;
-    return answer_text(source, line, has_end ? length - 1 : length);
+    return answer_text(source, line, is_whole ? length - 1 : length);
 }
 
-/* Reads the next line with its end, where it has one: no bytes at the end of the file. A reply may
- * have any length, but what is too long without one isn't read further: a file such as /dev/zero
- * has a line that never ends. */
+/* Whether there are more bytes of the file. */
+static bool has_bytes(struct source *source) {
+    if (source->used == source->count) {
+        source->used = 0;
+        source->count = fread(source->bytes, 1, sizeof source->bytes, source->file);
+    }
+    return source->count > 0;
+}
+
+/* Adds bytes of the file to the line, up to its end or as many as there are. */
+static bool read_piece(struct source *source, struct buffer *line) {
+    const uint8_t *start = source->bytes + source->used;
+    size_t count = source->count - source->used;
+    const uint8_t *end = memchr(start, '\n', count);
+    if (end != NULL)
+        count = (size_t)(end - start) + 1;
+    source->used += count;
+    return buffer_add(line, start, count)
+        || report_line(source, "there is no memory for the line");
+}
+
+static bool has_end(const struct buffer *line) {
+    return line->length > 0 && line->bytes[line->length - 1] == '\n';
+}
+
+/* Whether no call is as long as the line. A reply may have any length. */
+static bool is_too_long(const struct buffer *line) {
+    return line->length > LONGEST_LINE + strlen(arrow)
+        && memmem(line->bytes, LONGEST_LINE + strlen(arrow), arrow, strlen(arrow)) == NULL;
+}
+
+/* Reads the next line with its end, where it has one: no bytes at the end of the file. What is too
+ * long isn't read further: a file such as /dev/zero has a line that never ends. */
 static bool read_line(struct source *source, struct buffer *line) {
-    const size_t most_before_reply = LONGEST_LINE + strlen(arrow);
     line->length = 0;
     source->number++;
-    int byte;
-    while ((byte = getc_unlocked(source->file)) != EOF) {
-        if (!buffer_reserve(line, 1))
-            return report_line(source, "there is no memory for the line");
-        line->bytes[line->length++] = (uint8_t)byte;
-        if (byte == '\n')
-            return true;
-        if (line->length == most_before_reply
-            && memmem(line->bytes, line->length, arrow, strlen(arrow)) == NULL)
+    while (!has_end(line) && has_bytes(source)) {
+        if (!read_piece(source, line))
+            return false;
+        if (is_too_long(line))
             return report_line(source, too_long);
     }
     return !ferror(source->file)
