@@ -496,8 +496,14 @@ static atomic_int ends_begun, ends_made;          /* calls of C_Finalize */
 static atomic_int renewers;
 static time_t last_second;
 
+static bool has_seen_all(void) {
+    return whole_digests > 0 && broken_digests > 0 && refused_calls > 0 && late_calls > 0;
+}
+
+/* Where other programs have the processors, few lives begin in these seconds. So the time isn't
+ * over before all was seen. */
 static bool has_time(void) {
-    return time(NULL) <= last_second;
+    return time(NULL) <= last_second || !has_seen_all();
 }
 
 static CK_BYTE *own_message(int number) {
@@ -607,10 +613,6 @@ static void wait_for_refusals(int more, int lives) {
     int wanted = refused_calls + more;
     while (refused_calls < wanted && initialized == lives && has_time())
         wait_a_moment();
-}
-
-static bool has_seen_all(void) {
-    return whole_digests > 0 && broken_digests > 0 && refused_calls > 0 && late_calls > 0;
 }
 
 /* Each C_Initialize makes the calls of a token's file again, so with one the lives are fewer. */
