@@ -22,15 +22,27 @@ static const char *const all_variables[] = {
     script_variable, journal_variable, token_variable, seed_variable, cut_variable,
 };
 
+/* Values and files may have any bytes, and a message is one line that a terminal shows as it is. */
+static void replace_control_bytes(char *text) {
+    for (; *text != '\0'; text++) {
+        if ((unsigned char)*text < ' ' || *text == '\x7f')
+            *text = '?';
+    }
+}
+
 bool report(const char *variable, const char *format, ...) {
+    char name[100];
     char message[8192];
     va_list arguments;
+    snprintf(name, sizeof name, "%s", variable);
     va_start(arguments, format);
     vsnprintf(message, sizeof message, format, arguments);
     va_end(arguments);
+    replace_control_bytes(name);
+    replace_control_bytes(message);
     sigset_t before;
     block_write_signals(&before);
-    int written = dprintf(STDERR_FILENO, "ospreyrack: %s: %s\n", variable, message);
+    int written = dprintf(STDERR_FILENO, "ospreyrack: %s: %s\n", name, message);
     unblock_write_signals(&before, written < 0 ? errno : 0);
     return false;
 }
@@ -126,19 +138,31 @@ static bool open_token(const char *path, bool *is_new) {
     return *is_new ? begin_file_text() : answer_journal(path) && close_sessions(token_variable);
 }
 
-/* The script is for a token that has no calls yet. */
-static bool answer_files(const char *script, const char *journal, const char *token) {
+/* The script, where there is one, is for a token that has no calls yet. */
+static bool answer_files(struct source *script, const char *journal, const char *token) {
     bool is_new = true;
-    if (journal != NULL && token != NULL)
-        return report(journal_variable, "OSPREYRACK_TOKEN is a journal: set only one of the two");
     if (journal != NULL && !open_expanded_journal(journal))
         return false;
     if (token != NULL && !open_token(token, &is_new))
         return false;
-    if (script != NULL && is_new
-        && !(answer_script(script_variable, script) && close_sessions(script_variable)))
+    if (script->file != NULL && is_new
+        && !(answer_lines(script) && close_sessions(script_variable)))
         return false;
     return write_first_journal();
+}
+
+/* The script is opened before a file is made for the journal: where one name is given for both by
+ * mistake, the script isn't there. */
+static bool open_files(const char *path, const char *journal, const char *token) {
+    struct source script = {.variable = script_variable, .path = path};
+    if (journal != NULL && token != NULL)
+        return report(journal_variable, "OSPREYRACK_TOKEN is a journal: set only one of the two");
+    if (path != NULL && !open_source(&script, fopen(path, "re")))
+        return false;
+    bool is_good = answer_files(&script, journal, token);
+    if (script.file != NULL)
+        fclose(script.file);
+    return is_good;
 }
 
 bool configure(void) {
@@ -149,7 +173,7 @@ bool configure(void) {
         return false;
     bool is_good = read_variable(script_variable, &script)
         && read_variable(journal_variable, &journal) && read_variable(token_variable, &token)
-        && read_cut() && read_seed() && answer_files(script, journal, token);
+        && read_cut() && read_seed() && open_files(script, journal, token);
     if (is_good && library.has_seed)
         report(seed_variable, "keys and random bytes follow from this number: for tests only");
     return is_good;

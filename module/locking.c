@@ -156,6 +156,13 @@ void allow_cancel(int before) {
     pthread_setcancelstate(before, &forbidden);
 }
 
+/* What C_Initialize answers where the application's function has answered this. Of other codes the
+ * application would think that the library means them. */
+static CK_RV code_of_creation(CK_RV code) {
+    bool is_handed_on = code == CKR_OK || code == CKR_HOST_MEMORY || code == CKR_CANT_LOCK;
+    return is_handed_on ? code : CKR_GENERAL_ERROR;
+}
+
 CK_RV open_lock(const CK_C_INITIALIZE_ARGS *arguments) {
     if (arguments == NULL || arguments->CreateMutex == NULL
         || (arguments->flags & CKF_OS_LOCKING_OK) != 0)
@@ -168,7 +175,7 @@ CK_RV open_lock(const CK_C_INITIALIZE_ARGS *arguments) {
         .lock = arguments->LockMutex,
         .unlock = arguments->UnlockMutex,
     };
-    CK_RV code = arguments->CreateMutex(&lock->mutex);
+    CK_RV code = code_of_creation(arguments->CreateMutex(&lock->mutex));
     if (code == CKR_OK)
         library.lock = lock;
     else

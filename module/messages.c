@@ -90,16 +90,17 @@ static CK_RV answer_piece(struct call piece, struct update *update) {
 CK_RV answer_update(struct call call, CK_FLAGS kind) {
     struct update update = {.kind = kind};
     struct bytes left = call.bytes;
-    CK_RV code = CKR_OK;
     if (left.length <= LONGEST_MESSAGE)
         return answer_message(call);
-    while (code == CKR_OK && left.length > 0) {
+    while (left.length > 0) {
         call.bytes.at = left.at;
         call.bytes.length = left.length > LONGEST_MESSAGE ? LONGEST_MESSAGE : left.length;
         update.is_last = call.bytes.length == left.length;
-        code = answer_piece(call, &update);
+        CK_RV code = answer_piece(call, &update);
+        if (code != CKR_OK)
+            return code;
         left.at += call.bytes.length;
         left.length -= call.bytes.length;
     }
-    return code;
+    return CKR_OK;
 }

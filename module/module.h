@@ -17,6 +17,7 @@
 #include <stdbool.h>
 #include <stddef.h>
 #include <stdint.h>
+#include <stdio.h>
 #include <sys/types.h>
 
 /* The functions that the header declares are what the library exports. */
@@ -340,8 +341,25 @@ void abandon_journal(void);
 
 /* ---- Scripts: scripts.c */
 
-/* Answers the lines of a script, or those of the journal file that is open. */
-bool answer_script(const char *variable, const char *path);
+/* A script or a journal file that is read. */
+struct source {
+    FILE *file;           /* NULL where there is none */
+    const char *variable; /* the environment variable that names it */
+    const char *path;
+    bool is_journal;      /* a reply may be missing in it, and the end of the last line */
+    bool is_case;         /* it has limits or a reply, as every journal has */
+    bool has_calls;
+    size_t number;        /* of the line that was last read */
+    off_t length;         /* of all lines with their ends */
+    uint8_t bytes[4096];  /* of the file, of which the first `used` stand in lines already */
+    size_t count, used;
+};
+
+/* Gives the source its file, or reports that it couldn't be opened. */
+bool open_source(struct source *source, FILE *file);
+
+/* Answers the lines of a source, or those of the journal file that is open. */
+bool answer_lines(struct source *source);
 bool answer_journal(const char *path);
 
 /* Closes the sessions that they left open. */

@@ -10,16 +10,7 @@
 #include <string.h>
 #include <unistd.h>
 
-/* A file that is read. */
-struct source {
-    const char *variable; /* the environment variable that names it */
-    const char *path;
-    bool is_journal;      /* a reply may be missing in it, and the end of the last line */
-    bool is_case;         /* it has limits or a reply, as every journal has */
-    bool has_calls;
-    size_t number;        /* of the line that was last read */
-    off_t length;         /* of all lines with their ends */
-};
+static const char too_long[] = "a line has at most 4194304 bytes";
 
 static bool report_line(const struct source *source, const char *reason) {
     return report(source->variable, "%s, line %zu: %s", source->path, source->number, reason);
@@ -92,6 +83,8 @@ static bool check_reply(const struct source *source, const uint8_t *given, size_
 static bool answer_call(struct source *source, const uint8_t *line, size_t length) {
     const uint8_t *at = memmem(line, length, arrow, strlen(arrow));
     size_t call_length = at == NULL ? length : (size_t)(at - line);
+    if (call_length > LONGEST_LINE)
+        return report_line(source, too_long);
     uint32_t outcome = answer_line(line, call_length);
     if (outcome == NO_MEMORY)
         return report_line(source, "there is no memory for the call");
@@ -147,44 +140,77 @@ static bool drop_line(const struct source *source) {
     return true;
 }
 
-static bool answer_source_line(struct source *source, const char *line, size_t length) {
-    bool has_end = line[length - 1] == '\n';
-    source->number++;
-    if (!has_end && source->is_journal)
+static bool answer_source_line(struct source *source, const uint8_t *line, size_t length) {
+    bool is_whole = line[length - 1] == '\n';
+    if (!is_whole && source->is_journal)
         return drop_line(source);
     source->length += (off_t)length;
-    return answer_text(source, (const uint8_t *)line, has_end ? length - 1 : length);
+    return answer_text(source, line, is_whole ? length - 1 : length);
 }
 
-static bool answer_lines(struct source *source, FILE *file) {
-    char *line = NULL;
-    size_t room = 0;
-    bool is_good = true;
-    while (is_good) {
-        ssize_t length = getline(&line, &room, file);
-        if (length <= 0)
-            break;
-        is_good = answer_source_line(source, line, (size_t)length);
+/* Whether there are more bytes of the file. */
+static bool has_bytes(struct source *source) {
+    if (source->used == source->count) {
+        source->used = 0;
+        source->count = fread(source->bytes, 1, sizeof source->bytes, source->file);
     }
-    if (is_good && !feof(file))
-        is_good = report(source->variable, "%s: the file can't be read: %s", source->path,
-                         strerror(errno));
-    free(line);
+    return source->count > 0;
+}
+
+/* Adds bytes of the file to the line, up to its end or as many as there are. */
+static bool read_piece(struct source *source, struct buffer *line) {
+    const uint8_t *start = source->bytes + source->used;
+    size_t count = source->count - source->used;
+    const uint8_t *end = memchr(start, '\n', count);
+    if (end != NULL)
+        count = (size_t)(end - start) + 1;
+    source->used += count;
+    return buffer_add(line, start, count)
+        || report_line(source, "there is no memory for the line");
+}
+
+static bool has_end(const struct buffer *line) {
+    return line->length > 0 && line->bytes[line->length - 1] == '\n';
+}
+
+/* Whether no call is as long as the line. A reply may have any length. */
+static bool is_too_long(const struct buffer *line) {
+    return line->length > LONGEST_LINE + strlen(arrow)
+        && memmem(line->bytes, LONGEST_LINE + strlen(arrow), arrow, strlen(arrow)) == NULL;
+}
+
+/* Reads the next line with its end, where it has one: no bytes at the end of the file. What is too
+ * long isn't read further: a file such as /dev/zero has a line that never ends. */
+static bool read_line(struct source *source, struct buffer *line) {
+    line->length = 0;
+    source->number++;
+    while (!has_end(line) && has_bytes(source)) {
+        if (!read_piece(source, line))
+            return false;
+        if (is_too_long(line))
+            return report_line(source, too_long);
+    }
+    return !ferror(source->file)
+        || report(source->variable, "%s: the file can't be read: %s", source->path,
+                  strerror(errno));
+}
+
+bool answer_lines(struct source *source) {
+    struct buffer line = {0};
+    bool is_good;
+    do
+        is_good = read_line(source, &line)
+            && (line.length == 0 || answer_source_line(source, line.bytes, line.length));
+    while (is_good && line.length > 0);
+    buffer_free(&line);
     return is_good;
 }
 
-static bool answer_file(struct source *source, FILE *file) {
-    if (file == NULL)
-        return report(source->variable, "%s: the file can't be opened: %s", source->path,
-                      strerror(errno));
-    bool is_good = answer_lines(source, file);
-    fclose(file);
-    return is_good;
-}
-
-bool answer_script(const char *variable, const char *path) {
-    struct source source = {.variable = variable, .path = path};
-    return answer_file(&source, fopen(path, "re"));
+bool open_source(struct source *source, FILE *file) {
+    source->file = file;
+    return file != NULL
+        || report(source->variable, "%s: the file can't be opened: %s", source->path,
+                  strerror(errno));
 }
 
 /* The journal file by a descriptor of its own, which can be closed. */
@@ -199,11 +225,13 @@ static FILE *copy_of_journal(void) {
 /* The journal goes on behind the last line that has its end. */
 bool answer_journal(const char *path) {
     struct source source = {.variable = library.journal.variable, .path = path, .is_journal = true};
-    if (!answer_file(&source, copy_of_journal()) || !check_case(&source))
+    if (!open_source(&source, copy_of_journal()))
         return false;
+    bool is_good = answer_lines(&source) && check_case(&source);
+    fclose(source.file);
     library.journal.length = source.length;
-    library.journal.is_kept = true;
-    return true;
+    library.journal.is_kept = is_good;
+    return is_good;
 }
 
 bool close_sessions(const char *variable) {

@@ -2,14 +2,17 @@
  * The conventions of the C interface, which the token itself knows nothing of: pointers, lengths
  * and rooms, the order of initialization, the lists of functions, the application's lock, forks and
  * the environment variables. Called with the module's file and a temporary folder, and with the
- * word `journals` where each token is to keep a journal there.
+ * word `journals` where each token is to keep a journal there. It is linked with -rdynamic, so that
+ * its own C_GetFunctionList is there for all libraries, as that of p11-kit may be.
  */
 #include "support.h"
 
+#include <fcntl.h>
 #include <limits.h>
 #include <pthread.h>
 #include <sanitizer/lsan_interface.h>
 #include <sched.h>
+#include <signal.h>
 #include <stdatomic.h>
 #include <stdio.h>
 #include <stdlib.h>
@@ -73,6 +76,12 @@ static bool is_one_of(const char *name, const char *const *names) {
 
 /* ---- Lists of functions */
 
+/* Another library's function, which mustn't take the place of the module's. */
+CK_RV C_GetFunctionList(CK_FUNCTION_LIST_PTR_PTR list) {
+    (void)list;
+    return CKR_FUNCTION_FAILED;
+}
+
 static void test_lists(void) {
     CK_FUNCTION_LIST *old = NULL;
     CHECK(p11->version.major == 3 && p11->version.minor == 0);
@@ -97,7 +106,8 @@ static bool is_interface(const CK_INTERFACE *interface, const char *name, int ma
 }
 
 static void test_interfaces(void) {
-    static CK_UTF8CHAR standard[] = "PKCS 11", vendor[] = "Vendor Ospreyrack", other[] = "PKCS 12";
+    static CK_UTF8CHAR standard[] = "PKCS 11", vendor[] = "Vendor Ospreyrack";
+    static CK_UTF8CHAR others[][9] = {"PKCS 12", "", "PKCS", "PKCS 111", "Vendor"};
     CK_VERSION v3_0 = {3, 0}, v2_40 = {2, 40}, v1_0 = {1, 0}, v3_1 = {3, 1}, v2_0 = {2, 0};
     CK_INTERFACE *interface = NULL;
     EXPECT(CKR_OK, p11->C_GetInterface(NULL, NULL, &interface, 0));
@@ -110,7 +120,8 @@ static void test_interfaces(void) {
     CHECK(is_interface(interface, "PKCS 11", 2, 40));
     EXPECT(CKR_OK, p11->C_GetInterface(vendor, &v1_0, &interface, 0));
     CHECK(is_interface(interface, "Vendor Ospreyrack", 1, 0));
-    EXPECT(CKR_ARGUMENTS_BAD, p11->C_GetInterface(other, NULL, &interface, 0));
+    for (size_t i = 0; i < sizeof others / sizeof *others; i++)
+        EXPECT(CKR_ARGUMENTS_BAD, p11->C_GetInterface(others[i], NULL, &interface, 0));
     EXPECT(CKR_ARGUMENTS_BAD, p11->C_GetInterface(standard, &v3_1, &interface, 0));
     EXPECT(CKR_ARGUMENTS_BAD, p11->C_GetInterface(standard, &v2_0, &interface, 0));
     EXPECT(CKR_ARGUMENTS_BAD, p11->C_GetInterface(vendor, &v2_40, &interface, 0));
@@ -291,7 +302,8 @@ static void test_unsupported_in_session(void) {
 
 /* ---- Arguments of C_Initialize */
 
-static int mutexes, locks, unlocks, destroyed, created_code, locked_code, depth;
+static int mutexes, locks, unlocks, destroyed, depth;
+static CK_RV created_code, locked_code;
 
 /* At the last of this many locks the application's function makes this change, as another thread
  * would that has the lock before; or behind the last of this many unlocks, before anybody waits. */
@@ -336,7 +348,7 @@ static void note_time(void) {
 
 static CK_RV create_mutex(CK_VOID_PTR_PTR mutex) {
     if (created_code != CKR_OK)
-        return (CK_RV)created_code;
+        return created_code;
     *mutex = &mutexes;
     mutexes++;
     return CKR_OK;
@@ -351,7 +363,7 @@ static CK_RV destroy_mutex(CK_VOID_PTR mutex) {
 
 static CK_RV lock_mutex(CK_VOID_PTR mutex) {
     if (locked_code != CKR_OK)
-        return (CK_RV)locked_code;
+        return locked_code;
     if (locks_until_failure > 0 && --locks_until_failure == 0)
         return fail_lock();
     check(mutex == &mutexes && depth == 0, "LockMutex is given the mutex, unlocked");
@@ -384,23 +396,56 @@ static CK_C_INITIALIZE_ARGS mutex_arguments(void) {
     };
 }
 
-static void test_bad_arguments(void) {
-    CK_C_INITIALIZE_ARGS arguments = {.LibraryParameters = (void *)token_label};
+/* All four functions are given or none, and the reserved member is NULL, whatever the flags are. */
+static void check_bad_arguments(CK_FLAGS flags) {
+    CK_C_INITIALIZE_ARGS arguments = {.flags = flags, .LibraryParameters = (void *)token_label};
+    EXPECT(CKR_ARGUMENTS_BAD, p11->C_Initialize(&arguments));
+    arguments = mutex_arguments();
+    arguments.flags = flags;
+    arguments.LibraryParameters = (void *)token_label;
     EXPECT(CKR_ARGUMENTS_BAD, p11->C_Initialize(&arguments));
     for (unsigned set = 1; set < 15; set++) {
         arguments = mutex_arguments();
+        arguments.flags = flags;
         arguments.CreateMutex = (set & 1) ? create_mutex : NULL;
         arguments.DestroyMutex = (set & 2) ? destroy_mutex : NULL;
         arguments.LockMutex = (set & 4) ? lock_mutex : NULL;
         arguments.UnlockMutex = (set & 8) ? unlock_mutex : NULL;
         EXPECT(CKR_ARGUMENTS_BAD, p11->C_Initialize(&arguments));
     }
-    arguments = mutex_arguments();
-    created_code = CKR_CANT_LOCK;
-    EXPECT(CKR_CANT_LOCK, p11->C_Initialize(&arguments));
-    CHECK(destroyed == 0 && locks == unlocks);
-    arguments = (CK_C_INITIALIZE_ARGS){0};
+}
+
+static void test_bad_arguments(void) {
+    const CK_FLAGS no_threads = CKF_LIBRARY_CANT_CREATE_OS_THREADS;
+    check_bad_arguments(0);
+    check_bad_arguments(no_threads);
+    check_bad_arguments(CKF_OS_LOCKING_OK);
+    check_bad_arguments(no_threads | CKF_OS_LOCKING_OK);
+    CK_C_INITIALIZE_ARGS arguments = {0};
     EXPECT(CKR_OK, p11->C_Initialize(&arguments));
+    end_token();
+}
+
+/* Only codes that the standard lists for C_Initialize are handed on. */
+static void test_no_mutex(void) {
+    static const struct { CK_RV made, expected; } codes[] = {
+        {CKR_HOST_MEMORY, CKR_HOST_MEMORY},
+        {CKR_CANT_LOCK, CKR_CANT_LOCK},
+        {CKR_GENERAL_ERROR, CKR_GENERAL_ERROR},
+        {CKR_MUTEX_BAD, CKR_GENERAL_ERROR},
+        {CKR_DEVICE_ERROR, CKR_GENERAL_ERROR},
+        {CKR_CRYPTOKI_ALREADY_INITIALIZED, CKR_GENERAL_ERROR},
+        {CKR_VENDOR_DEFINED | 1, CKR_GENERAL_ERROR},
+    };
+    CK_INFO info;
+    for (size_t i = 0; i < sizeof codes / sizeof *codes; i++) {
+        CK_C_INITIALIZE_ARGS arguments = mutex_arguments();
+        created_code = codes[i].made;
+        EXPECT(codes[i].expected, p11->C_Initialize(&arguments));
+        CHECK(destroyed == 0 && locks == 0 && unlocks == 0);
+        EXPECT(CKR_CRYPTOKI_NOT_INITIALIZED, p11->C_GetInfo(&info));
+    }
+    begin_token();
     end_token();
 }
 
@@ -459,11 +504,15 @@ static void test_failing_lock(void) {
     CK_INFO info;
     EXPECT(CKR_OK, p11->C_Initialize(&arguments));
     CK_SESSION_HANDLE session = log_in();
-    locked_code = CKR_MUTEX_BAD;
+    static const CK_RV codes[] = {CKR_MUTEX_BAD, CKR_HOST_MEMORY, CKR_CANT_LOCK,
+                                  CKR_CRYPTOKI_NOT_INITIALIZED};
     int before = unlocks;
-    CHECK(p11->C_GetInfo(&info) != CKR_OK);
-    CHECK(p11->C_CloseSession(session) != CKR_OK);
-    CHECK(p11->C_Finalize(NULL) != CKR_OK);
+    for (size_t i = 0; i < sizeof codes / sizeof *codes; i++) {
+        locked_code = codes[i];
+        EXPECT(CKR_GENERAL_ERROR, p11->C_GetInfo(&info));
+        EXPECT(CKR_GENERAL_ERROR, p11->C_CloseSession(session));
+        EXPECT(CKR_GENERAL_ERROR, p11->C_Finalize(NULL));
+    }
     check(unlocks == before, "what wasn't locked isn't unlocked");
     locked_code = CKR_OK;
     check_code(p11->C_CloseSession(session), CKR_OK, "the call that found no lock changed nothing");
@@ -601,6 +650,58 @@ static void test_null_operations(void) {
     EXPECT(CKR_ARGUMENTS_BAD, p11->C_VerifyFinal(session, NULL, 32));
     EXPECT(CKR_OK, p11->C_VerifyUpdate(session, NULL, 0));
     EXPECT(CKR_SIGNATURE_LEN_RANGE, p11->C_VerifyFinal(session, NULL, 0));
+    end_token();
+}
+
+/* An update of so many bytes is made in pieces, and the first of them is at NULL. What was added
+ * before stays. */
+static void test_null_updates(void) {
+    static const CK_ULONG lengths[] = {(1 << 20) + 1, (CK_ULONG)1 << 32, (CK_ULONG)1 << 40};
+    CK_SESSION_HANDLE session = begin_token();
+    CK_MECHANISM sha256 = mechanism_of(CKM_SHA256), hmac = mechanism_of(CKM_SHA256_HMAC);
+    CK_OBJECT_HANDLE key = create_key(session, "Jefe");
+    CK_BYTE abc[] = {'a', 'b', 'c'}, out[32];
+    EXPECT(CKR_OK, p11->C_DigestInit(session, &sha256));
+    EXPECT(CKR_OK, p11->C_DigestUpdate(session, abc, sizeof abc));
+    EXPECT(CKR_OK, p11->C_SignInit(session, &hmac, key));
+    EXPECT(CKR_OK, p11->C_SignUpdate(session, hmac_message, sizeof hmac_message));
+    EXPECT(CKR_OK, p11->C_VerifyInit(session, &hmac, key));
+    EXPECT(CKR_OK, p11->C_VerifyUpdate(session, hmac_message, sizeof hmac_message));
+    for (size_t i = 0; i < sizeof lengths / sizeof *lengths; i++) {
+        EXPECT(CKR_ARGUMENTS_BAD, p11->C_DigestUpdate(session, NULL, lengths[i]));
+        EXPECT(CKR_ARGUMENTS_BAD, p11->C_SignUpdate(session, NULL, lengths[i]));
+        EXPECT(CKR_ARGUMENTS_BAD, p11->C_VerifyUpdate(session, NULL, lengths[i]));
+    }
+    length = sizeof out;
+    EXPECT(CKR_OK, p11->C_DigestFinal(session, out, &length));
+    CHECK(is_hexadecimal(out, length, sha256_of_abc));
+    EXPECT(CKR_OK, p11->C_SignFinal(session, out, &length));
+    CHECK(is_hexadecimal(out, length, hmac_of_message));
+    EXPECT(CKR_OK, p11->C_VerifyFinal(session, out, length));
+    end_token();
+}
+
+/* No bytes may stand at a pointer that isn't NULL, too: parameters, pieces and values. */
+static void test_no_bytes(void) {
+    CK_SESSION_HANDLE session = begin_token();
+    CK_MECHANISM sha256 = {CKM_SHA256, bytes, 0}, hmac = {CKM_SHA256_HMAC, bytes, 0};
+    CK_OBJECT_HANDLE key = create_key(session, "Jefe"), object = create_data(session, "label");
+    CK_BYTE abc[] = {'a', 'b', 'c'}, out[32];
+    CK_ATTRIBUTE label = {CKA_LABEL, bytes, 0};
+    EXPECT(CKR_OK, p11->C_DigestInit(session, &sha256));
+    EXPECT(CKR_OK, p11->C_SignInit(session, &hmac, key));
+    EXPECT(CKR_OK, p11->C_VerifyInit(session, &hmac, key));
+    EXPECT(CKR_OK, p11->C_DigestUpdate(session, abc, sizeof abc));
+    EXPECT(CKR_OK, p11->C_DigestUpdate(session, bytes, 0));
+    EXPECT(CKR_OK, p11->C_SignUpdate(session, bytes, 0));
+    EXPECT(CKR_OK, p11->C_VerifyUpdate(session, bytes, 0));
+    length = sizeof out;
+    EXPECT(CKR_OK, p11->C_DigestFinal(session, out, &length));
+    CHECK(is_hexadecimal(out, length, sha256_of_abc));
+    EXPECT(CKR_OK, p11->C_SetAttributeValue(session, object, &label, 1));
+    label = (CK_ATTRIBUTE){CKA_LABEL, NULL, 77};
+    EXPECT(CKR_OK, p11->C_GetAttributeValue(session, object, &label, 1));
+    CHECK(label.ulValueLen == 0);
     end_token();
 }
 
@@ -802,7 +903,18 @@ static CK_RV make_interfaces(void *out, CK_ULONG *count) {
     return p11->C_GetInterfaceList(out, count);
 }
 
-/* One call with room for this many elements: only `written` of them are written. */
+/* Whether each element of a list is written. Of bytes one by one it can't be told: any of them may
+ * be what stood there before. */
+static bool are_written(const uint8_t *memory, size_t written, size_t size) {
+    size_t step = size == 1 ? written : size;
+    for (size_t at = 0; at < written * size; at += step) {
+        if (!guarded_is_written(memory + at, step))
+            return false;
+    }
+    return true;
+}
+
+/* One call with room for this many elements: `written` of them are written, and no more. */
 static void check_room(const struct output *output, CK_ULONG room, CK_RV expected, CK_ULONG count,
                        CK_ULONG written) {
     size_t memory_length = room * output->size;
@@ -810,6 +922,7 @@ static void check_room(const struct output *output, CK_ULONG room, CK_RV expecte
     CK_ULONG given = room;
     check_code(output->make(memory, &given), expected, output->what);
     check(given == count, output->what);
+    check(are_written(memory, written, output->size), output->what);
     check(guarded_is_intact(memory, memory_length, written * output->size), output->what);
     guarded_free(memory);
 }
@@ -1931,7 +2044,11 @@ static void test_slots(void) {
     CK_SLOT_INFO slot;
     CK_TOKEN_INFO token;
     CK_MECHANISM_INFO mechanism;
+    CK_SLOT_ID slots[] = {77, 77};
+    CK_ULONG count = 2;
     CK_SESSION_HANDLE session = begin_token();
+    EXPECT(CKR_OK, p11->C_GetSlotList(CK_TRUE, slots, &count));
+    CHECK(count == 1 && slots[0] == 0 && slots[1] == 77);
     EXPECT(CKR_SLOT_ID_INVALID, p11->C_GetSlotInfo(1, &slot));
     EXPECT(CKR_SLOT_ID_INVALID, p11->C_GetTokenInfo(1, &token));
     EXPECT(CKR_SLOT_ID_INVALID, p11->C_GetMechanismList(1, NULL, &length));
@@ -2037,8 +2154,9 @@ static void test_token_info(void) {
 
 /* The label stays where C_InitToken is refused. */
 static void test_label(void) {
-    CK_UTF8CHAR other[32] = "another                         ";
+    CK_UTF8CHAR other[32];
     CK_TOKEN_INFO info;
+    memset(other, 'x', sizeof other);
     CK_SESSION_HANDLE session = begin_token();
     EXPECT(CKR_SESSION_EXISTS, p11->C_InitToken(0, so_pin, 4, other));
     EXPECT(CKR_OK, p11->C_CloseSession(session));
@@ -2171,6 +2289,10 @@ static void test_forbidden_cancel(void) {
 static int see_as_child(CK_SESSION_HANDLE session, CK_RV expected) {
     CK_SESSION_INFO session_info;
     CK_TOKEN_INFO token;
+    for (int file = STDIN_FILENO; file <= STDERR_FILENO; file++) {
+        if (fcntl(file, F_GETFD) < 0)
+            return 6;
+    }
     if (p11->C_GetSessionInfo(session, &session_info) != CKR_CRYPTOKI_NOT_INITIALIZED)
         return 1;
     if (p11->C_Initialize(NULL) != expected)
@@ -2389,6 +2511,26 @@ static void test_bad_variables(void) {
     check_variable("OSPREYRACK_CUT", "YES", ": the value is yes or no, and not YES\n");
 }
 
+/* Whatever bytes a value or a file has, the message is one line, in which a terminal finds nothing
+ * to obey. */
+static void test_control_bytes(void) {
+    char text[2000];
+    check_variable("OSPREYRACK_SEED", "1\n2", ", and not 1?2\n");
+    check_variable("OSPREYRACK_CUT", "\x1b[31m\t\x7f\r\x1f ", ", and not ?[31m???? \n");
+    check_variable("OSPREYRACK_CUT", "\xc3\xa9~", ", and not \xc3\xa9~\n");
+    check_variable("OSPREYRACK_SCRIPT", "/not\nthere", ": /not?there: the file can't be opened: ");
+    write_file("control_bytes", "1 InitToken 31323334 -> \x1b[2J\n");
+    check_file_variable("OSPREYRACK_SCRIPT", "control_bytes",
+                        "line 1: the reply is 0, and not ?[2J\n");
+    setenv("OSPREYRACK_\n", "1", 1);
+    keep_errors();
+    CK_RV code = p11->C_Initialize(NULL);
+    read_errors(text, sizeof text);
+    unsetenv("OSPREYRACK_\n");
+    EXPECT(CKR_GENERAL_ERROR, code);
+    check(strcmp(text, "ospreyrack: OSPREYRACK_?: there is no such variable\n") == 0, text);
+}
+
 /* The application may have cleared its environment by this. */
 static void test_no_environment(void) {
     char **kept = environ;
@@ -2481,6 +2623,93 @@ static void test_bad_files(void) {
     unsetenv("OSPREYRACK_TOKEN");
 }
 
+/* ---- The application's signals. What the module writes may raise two of them. */
+
+static void change_signals(int how) {
+    sigset_t signals;
+    sigemptyset(&signals);
+    sigaddset(&signals, SIGXFSZ);
+    sigaddset(&signals, SIGPIPE);
+    pthread_sigmask(how, &signals, NULL);
+}
+
+static void check_mask(const sigset_t *before, const char *what) {
+    sigset_t after;
+    int changed = 0;
+    pthread_sigmask(SIG_SETMASK, NULL, &after);
+    for (int number = 1; number <= SIGRTMAX; number++)
+        changed += sigismember(&after, number) != sigismember(before, number);
+    check(changed == 0, what);
+}
+
+/* With the two signals blocked or free, a line on standard error and one in a file are written. */
+static void check_signals(int how) {
+    char text[2000];
+    CK_TOKEN_INFO info;
+    sigset_t before;
+    change_signals(how);
+    pthread_sigmask(SIG_SETMASK, NULL, &before);
+    setenv("OSPREYRACK_SEED", "5", 1);
+    setenv("OSPREYRACK_TOKEN", path_of("signals.cases"), 1);
+    keep_errors();
+    CK_RV code = p11->C_Initialize(NULL);
+    check(read_errors(text, sizeof text) > 0, "a line is written");
+    unsetenv("OSPREYRACK_SEED");
+    unsetenv("OSPREYRACK_TOKEN");
+    EXPECT(CKR_OK, code);
+    check_mask(&before, "the signals behind C_Initialize");
+    EXPECT(CKR_OK, p11->C_GetTokenInfo(0, &info));
+    check_mask(&before, "the signals behind a call");
+    end_token();
+    check_mask(&before, "the signals behind C_Finalize");
+    change_signals(SIG_UNBLOCK);
+}
+
+static void test_signals(void) {
+    check_signals(SIG_BLOCK);
+    check_signals(SIG_UNBLOCK);
+}
+
+/* Until `read_errors` nobody reads standard error. */
+static void lose_errors(void) {
+    int ends[2];
+    keep_errors();
+    if (pipe(ends) != 0)
+        exit(2);
+    close(ends[0]);
+    dup2(ends[1], STDERR_FILENO);
+    close(ends[1]);
+}
+
+/* Whether SIGPIPE is left to the application by a line that nobody reads. It is taken then. */
+static bool leaves_signal(int how) {
+    const struct timespec no_time = {0};
+    char text[2000];
+    sigset_t signals;
+    change_signals(how);
+    setenv("OSPREYRACK_SEED", "5", 1);
+    lose_errors();
+    CK_RV code = p11->C_Initialize(NULL);
+    read_errors(text, sizeof text);
+    unsetenv("OSPREYRACK_SEED");
+    EXPECT(CKR_OK, code);
+    end_token();
+    sigpending(&signals);
+    bool is_pending = sigismember(&signals, SIGPIPE) == 1;
+    sigemptyset(&signals);
+    sigaddset(&signals, SIGPIPE);
+    if (is_pending)
+        sigtimedwait(&signals, NULL, &no_time);
+    change_signals(SIG_UNBLOCK);
+    return is_pending;
+}
+
+/* One that it has blocked itself stays pending, and one that it hasn't doesn't reach it. */
+static void test_pending_signal(void) {
+    CHECK(leaves_signal(SIG_BLOCK));
+    CHECK(!leaves_signal(SIG_UNBLOCK));
+}
+
 /* ---- Memory */
 
 static void use_and_end(void) {
@@ -2522,6 +2751,7 @@ static const struct test tests[] = {
     {"functions that aren't supported say so in a session, and write nothing",
      test_unsupported_in_session},
     {"bad arguments of C_Initialize", test_bad_arguments},
+    {"an application that can't make its mutex", test_no_mutex},
     {"flags of C_Initialize", test_flags_of_initialize},
     {"the application's mutex functions are called in pairs, around every call",
      test_mutex_functions},
@@ -2532,6 +2762,8 @@ static const struct test tests[] = {
     {"NULL pointers: objects, searches and keys", test_null_objects},
     {"empty lists, where the module has had none before", test_empty_lists},
     {"NULL pointers: digests, signing and verifying", test_null_operations},
+    {"NULL pointers: updates above 2^20 bytes", test_null_updates},
+    {"no bytes, at pointers that aren't NULL", test_no_bytes},
     {"lengths of attributes that no memory can have", test_bad_lengths},
     {"lengths of messages, PINs and random bytes that no memory has", test_lengths_of_no_memory},
     {"templates of 2^20 attributes and of one more", test_most_attributes},
@@ -2577,7 +2809,7 @@ static const struct test tests[] = {
      test_update_and_another_mutex},
     {"an application's mutex that is NULL", test_mutex_that_is_null},
     {"PINs of 3 to 200 bytes", test_pins},
-    {"slots that aren't there", test_slots},
+    {"the slot, and slots that aren't there", test_slots},
     {"what is said of the library", test_info},
     {"what is said of the slot", test_slot_info},
     {"what is said of a new token", test_new_token_info},
@@ -2595,10 +2827,13 @@ static const struct test tests[] = {
     {"a child of a fork begins anew, and its parent goes on", test_fork},
     {"a child of a fork leaves the parent's file and its lock alone", test_fork_with_file},
     {"bad environment variables, and then none", test_bad_variables},
+    {"control bytes in environment variables and in files", test_control_bytes},
     {"an environment that is NULL", test_no_environment},
     {"a bad environment variable and the application's mutex", test_bad_variable_and_mutexes},
     {"bad files in environment variables, and then none", test_bad_files},
     {"a file that is no journal is left as it is", test_no_journals},
+    {"the signals that the application has blocked are the same behind calls", test_signals},
+    {"a signal that the application has blocked stays pending", test_pending_signal},
     {"no memory is lost, by C_Finalize or by a C_Initialize that fails", test_leaks},
 };
 

@@ -121,6 +121,7 @@ static const char added_line[] = "1 GetTokenInfo -> 0 4 64 0 0\n";
 static const char *added_file;         /* gets that line before the next lock is taken */
 static bool refuses_truncation;
 static size_t left_interruptions;      /* of write */
+static int write_error;                /* by which each write fails, without a signal */
 static size_t most_written = SIZE_MAX; /* by one call of write */
 static size_t writes;                  /* how often write was called */
 static size_t draws, draws_under_lock; /* of random bytes */
@@ -152,10 +153,10 @@ int ftruncate(int file, off_t length) {
 
 ssize_t write(int file, const void *bytes, size_t length) {
     writes++;
-    if (left_interruptions == 0)
+    if (left_interruptions == 0 && write_error == 0)
         return syscall(SYS_write, file, bytes, length < most_written ? length : most_written);
-    left_interruptions--;
-    errno = EINTR;
+    errno = left_interruptions > 0 ? EINTR : write_error;
+    left_interruptions -= left_interruptions > 0;
     return -1;
 }
 
@@ -1347,6 +1348,28 @@ static void test_interrupted_write(void) {
     unsetenv("OSPREYRACK_JOURNAL");
 }
 
+/* These errors come with a signal where the process has the limit, or where nobody reads. Another
+ * file system may answer them without one, and the module mustn't wait for it: the alarm would end
+ * this program. */
+static void test_errors_without_signals(void) {
+    enum { MOST_SECONDS = 60 };
+    static const int without_signal[] = {EFBIG, EPIPE};
+    struct result ignored;
+    for (size_t i = 0; i < sizeof without_signal / sizeof *without_signal; i++) {
+        unlink(journal);
+        setenv("OSPREYRACK_JOURNAL", journal, 1);
+        begin_library();
+        write_error = without_signal[i];
+        alarm(MOST_SECONDS);
+        EXPECT(CKR_DEVICE_ERROR, get_token_info(&ignored));
+        alarm(0);
+        write_error = 0;
+        EXPECT(CKR_DEVICE_ERROR, get_token_info(&ignored));
+        end_library();
+        unsetenv("OSPREYRACK_JOURNAL");
+    }
+}
+
 /* What the module writes to standard error goes to a file until `read_errors`. */
 static char errors[4096];
 static int hidden_errors = -1;
@@ -1469,6 +1492,7 @@ static const struct test tests[] = {
     {"a file to which another process adds before it is locked", test_file_of_another},
     {"a file whose last line can't be cut off", test_refused_truncation},
     {"a call whose line is written after interruptions", test_interrupted_write},
+    {"a call whose line can't be written, where no signal says so", test_errors_without_signals},
     {"a line that is written in part, and a part that can't be cut off", test_parts},
     {"a call behind the library's end writes nothing to another file", test_call_behind_end},
 };

@@ -27,6 +27,7 @@ ARGUMENTS_BAD = 7
 NOT_INITIALIZED = 0x190
 SEED_NOT_SUPPORTED = 0x120
 HOST_MEMORY = "2"
+TEMPLATE_INCONSISTENT = "d1"
 DEVICE_ERROR = "30"
 LONGEST_LINE = 4194304
 LONGEST_PIECE = 1 << 20
@@ -271,6 +272,19 @@ def errors_in(path):
         os.close(kept)
 
 
+@contextlib.contextmanager
+def limited_memory(more):
+    """This process can take only so many bytes more."""
+    with open("/proc/self/statm", encoding="ascii") as file:
+        taken = int(file.read().split()[0]) * resource.getpagesize()
+    before = resource.getrlimit(resource.RLIMIT_AS)
+    resource.setrlimit(resource.RLIMIT_AS, (taken + more, before[1]))
+    try:
+        yield
+    finally:
+        resource.setrlimit(resource.RLIMIT_AS, before)
+
+
 def read(path):
     with open(path, "rb") as file:
         return file.read()
@@ -483,16 +497,21 @@ class Tests:
     def test_callers(self):
         """Threads are numbered from 1 to 8 in the order of their first calls, and then from 1."""
         path = self.file("callers.cases")
+        # The last message is long, and its line is written while the lock is free.
+        calls = ["1 GetTokenInfo", "1 DigestInit 1 250", f"1 Digest 1 {'61' * 5000} 32"]
         self.begin(JOURNAL=path)
+        self.say_all(LOG_IN[:2])
         for _ in range(10):
-            thread = threading.Thread(target=self.module.say, args=["1 GetTokenInfo"])
+            thread = threading.Thread(target=self.say_all, args=[calls])
             thread.start()
             thread.join()
         self.end()
-        lines = read(path).decode().split("\n")
-        numbers = [int(line[0]) for line in lines if "GetTokenInfo" in line]
+        lines = [line.split(" ") for line in read(path).decode().split("\n")]
+        numbers, *others = ([int(words[0]) for words in lines if words[1:2] == [name]]
+                            for name in ["GetTokenInfo", "DigestInit", "Digest"])
         self.checks.equal(len(numbers), 10, "the calls in the file")
         self.checks.equal(numbers[1:], [it % 8 + 1 for it in numbers[:-1]], "the callers' numbers")
+        self.checks.equal(others, [numbers] * 2, "the numbers of each thread's other calls")
         support.audit(self.checks, self.ck_cases, path)
 
     def check_longest_comment(self, variable):
@@ -502,7 +521,8 @@ class Tests:
             write(path, b"#" * length + b"\n1 InitToken 31323334 -> 0\n")
             code, errors = self.initialize(**{variable: path})
             self.checks.equal(code, expected, f"C_Initialize with {variable} of {length} bytes")
-            line = f"ospreyrack: OSPREYRACK_{variable}: {path}, line 1: this is no call\n"
+            line = (f"ospreyrack: OSPREYRACK_{variable}: {path}, line 1: a line has at most "
+                    "4194304 bytes\n")
             self.checks.equal(errors, "" if expected == 0 else line, "the errors")
             if code == 0:
                 self.end()
@@ -580,16 +600,48 @@ class Tests:
         for variable in ["SCRIPT", "TOKEN"]:
             self.check_longest_comment(variable)
 
+    def test_line_without_end(self):
+        """A line that is too long isn't read to its end, and a reply may be longer."""
+        zeros = self.file("zeros")
+        with open(zeros, "wb") as file:
+            file.truncate(1 << 40)
+        for variable, path in [("SCRIPT", "/dev/zero"), ("SCRIPT", zeros), ("TOKEN", zeros)]:
+            with limited_memory(64 << 20):
+                code, errors = self.initialize(**{variable: path})
+            self.checks.equal(code, GENERAL_ERROR, f"C_Initialize with {variable}={path}")
+            self.checks.equal(errors, f"ospreyrack: OSPREYRACK_{variable}: {path}, line 1: a line "
+                              "has at most 4194304 bytes\n", "the errors")
+        self.checks.equal(os.path.getsize(zeros), 1 << 40, "the file's length")
+        path = self.file("long_reply.cases")
+        self.begin(TOKEN=path)
+        self.say_all(LOG_IN[:2] + [f"1 CreateObject 1 0=0000000000000000,2=00,11={'61' * 100000}"])
+        reply = self.module.say("1 GetAttributeValue 1 1 " + ",".join(["11:100000"] * 25))
+        self.checks.check(len(reply) > LONGEST_LINE, f"a reply of {len(reply)} bytes")
+        self.end()
+        self.begin(TOKEN=path)
+        self.end()
+
+    def test_absent_script(self):
+        """A script that isn't there is told of, and no journal is made, not even of its name."""
+        script = self.file("absent")
+        for path in [script, self.file("beside_absent.cases")]:
+            for variable in ["JOURNAL", "TOKEN"]:
+                code, errors = self.initialize(SCRIPT=script, **{variable: path})
+                self.checks.equal(code, GENERAL_ERROR, f"C_Initialize with {variable}={path}")
+                self.checks.equal(errors, f"ospreyrack: OSPREYRACK_SCRIPT: {script}: the file "
+                                  "can't be opened: No such file or directory\n", "the errors")
+                self.checks.check(not os.path.exists(path), f"{path} isn't made")
+
     def test_failed_start(self):
         """A C_Initialize that fails leaves neither its seed nor its journal to the next one."""
-        path = self.file("failed.cases")
+        path, script = self.file("failed.cases"), self.file("failed.script")
+        write(script, b"1 OpenSession six\n")
         made = []
         for _ in range(2):
-            script = self.file("absent")
             code, errors = self.initialize(SEED=1, JOURNAL=path, SCRIPT=script)
-            self.checks.equal(code, GENERAL_ERROR, "C_Initialize with a script that isn't there")
-            self.checks.equal(errors, f"ospreyrack: OSPREYRACK_SCRIPT: {script}: the file can't be "
-                              "opened: No such file or directory\n", "the errors")
+            self.checks.equal(code, GENERAL_ERROR, "C_Initialize with a bad script")
+            self.checks.equal(errors, f"ospreyrack: OSPREYRACK_SCRIPT: {script}, line 1: this is "
+                              "no call\n", "the errors")
             made.append(self.random_of_start())
         self.checks.check(made[0] != made[1], "random bytes that follow from no seed")
         self.checks.equal(read(path), b"", "the journal")
@@ -1039,10 +1091,14 @@ class Tests:
         key = self.module.say("1 GenerateKey 1 350 161=0b00000000000000,162=01,103=00")
         value = self.module.say(f"1 GetAttributeValue 1 {key[2:]} 11:64")
         self.checks.equal(value, f"0 ={seven[:11].hex()}", "the key's value")
-        drawn = [self.draw(count) for count in [3, 8, 1]]
+        drawn = [self.draw(3)]
+        # One that is refused takes its bytes, too: its class is that of data.
+        refused = self.module.say("1 GenerateKey 1 350 161=0500000000000000,0=0000000000000000")
+        self.checks.equal(refused, TEMPLATE_INCONSISTENT, "C_GenerateKey of another class")
+        drawn.append(self.draw(8))
         self.end()
         # Each draw begins with a new number of eight bytes.
-        self.checks.equal(drawn, [seven[16:19], seven[24:32], seven[32:33]], "what is drawn later")
+        self.checks.equal(drawn, [seven[16:19], seven[32:40]], "what is drawn later")
 
     def run_memory(self, kind, cut, last):
         run = subprocess.run([sys.executable, os.path.abspath(__file__), kind, self.path],
@@ -1108,7 +1164,8 @@ TESTS = [Tests.test_file, Tests.test_mode, Tests.test_going_on, Tests.test_new_l
          Tests.test_no_label, Tests.test_script, Tests.test_script_and_journal,
          Tests.test_only_reply, Tests.test_calls_beside, Tests.test_callers,
          Tests.test_bad_pointers, Tests.test_quiet, Tests.test_longest_line,
-         Tests.test_failed_start, Tests.test_bad_variable_and_file, Tests.test_cut_off,
+         Tests.test_line_without_end, Tests.test_absent_script, Tests.test_failed_start,
+         Tests.test_bad_variable_and_file, Tests.test_cut_off,
          Tests.test_changed, Tests.test_lacking_reply, Tests.test_two_processes,
          Tests.test_second_run, Tests.test_fork, Tests.test_fork_that_stays, Tests.test_exec,
          Tests.test_unload, Tests.test_unload_with_functions, Tests.test_rights, Tests.test_kills,

@@ -87,7 +87,10 @@ int run_tests(const char *name, const struct test *tests, size_t count) {
 
 CK_UTF8CHAR so_pin[4] = {'1', '2', '3', '4'};
 CK_UTF8CHAR user_pin[4] = {'u', 's', 'e', 'r'};
-CK_UTF8CHAR token_label[32] = "a token for tests               ";
+CK_UTF8CHAR token_label[32] = {
+    'a', ' ', 't', 'o', 'k', 'e', 'n', ' ', 'f', 'o', 'r', ' ', 't', 'e', 's', 't',
+    's', ' ', ' ', ' ', ' ', ' ', ' ', ' ', ' ', ' ', ' ', ' ', ' ', ' ', ' ', ' ',
+};
 
 static CK_BBOOL yes = CK_TRUE;
 static CK_BBOOL no = CK_FALSE;
@@ -202,6 +205,10 @@ bool guarded_is_intact(const uint8_t *memory, size_t length, size_t used) {
         && is_filled(memory + used, end, FILL_BYTE) && is_filled(end, end + GUARD, GUARD_BYTE);
 }
 
+bool guarded_is_written(const uint8_t *memory, size_t length) {
+    return !is_filled(memory, memory + length, FILL_BYTE);
+}
+
 void guarded_free(uint8_t *memory) {
     free(memory - GUARD);
 }
@@ -212,5 +219,8 @@ const char sha256_of_abc[] = "ba7816bf8f01cfea414140de5dae2223b00361a396177a9cb4
 const char sha512_of_abc[] =
     "ddaf35a193617abacc417349ae20413112e6fa4e89a97ea20a9eeee64b55d39a"
     "2192992a274fc1a836ba3c23a3feebbd454d4423643ce80e2a9ac94fa54ca49f";
-CK_BYTE hmac_message[28] = "what do ya want for nothing?";
+CK_BYTE hmac_message[28] = {
+    'w', 'h', 'a', 't', ' ', 'd', 'o', ' ', 'y', 'a', ' ', 'w', 'a', 'n',
+    't', ' ', 'f', 'o', 'r', ' ', 'n', 'o', 't', 'h', 'i', 'n', 'g', '?',
+};
 const char hmac_of_message[] = "5bdcc146bf60754e6a042426089575c75a003f089d2739839dec58b964ec3843";

@@ -86,6 +86,9 @@ uint8_t *guarded_new(size_t length);
 
 /* Whether nothing was written beyond `used` bytes of it, nor before it. */
 bool guarded_is_intact(const uint8_t *memory, size_t length, size_t used);
+
+/* Whether one of these bytes has another value than it is filled with. */
+bool guarded_is_written(const uint8_t *memory, size_t length);
 void guarded_free(uint8_t *memory);
 
 /* ---- Vectors: the digests and HMACs of messages, from FIPS 180-4's examples and RFC 4231 */

@@ -11,6 +11,7 @@
 #include <stdlib.h>
 #include <string.h>
 #include <sys/wait.h>
+#include <time.h>
 #include <unistd.h>
 
 enum { MOST_THREADS = 64, SHARED_SESSIONS = 4 };
@@ -397,17 +398,20 @@ static void *fork_children(void *ignored) {
 /* ---- The application's mutex functions */
 
 static bool has_mutexes;
+static atomic_int mutexes; /* that are there */
 
 static CK_RV create_mutex(CK_VOID_PTR_PTR mutex) {
     *mutex = malloc(sizeof(pthread_mutex_t));
     if (*mutex == NULL)
         return CKR_HOST_MEMORY;
+    mutexes++;
     return pthread_mutex_init(*mutex, NULL) == 0 ? CKR_OK : CKR_GENERAL_ERROR;
 }
 
 static CK_RV destroy_mutex(CK_VOID_PTR mutex) {
     pthread_mutex_destroy(mutex);
     free(mutex);
+    mutexes--;
     return CKR_OK;
 }
 
@@ -422,14 +426,14 @@ static CK_RV unlock_mutex(CK_VOID_PTR mutex) {
 static atomic_int initialized;
 
 static void *initialize(void *argument) {
-    CK_C_INITIALIZE_ARGS mutexes = {
+    CK_C_INITIALIZE_ARGS functions = {
         .CreateMutex = create_mutex,
         .DestroyMutex = destroy_mutex,
         .LockMutex = lock_mutex,
         .UnlockMutex = unlock_mutex,
     };
     (void)argument;
-    CK_RV code = p11->C_Initialize(has_mutexes ? &mutexes : NULL);
+    CK_RV code = p11->C_Initialize(has_mutexes ? &functions : NULL);
     check(code == CKR_OK || code == CKR_CRYPTOKI_ALREADY_INITIALIZED, "C_Initialize");
     initialized += code == CKR_OK;
     return NULL;
@@ -468,7 +472,182 @@ static void *finalize(void *ignored) {
     return ignored;
 }
 
-/* ---- Tests. The library stays initialized from the first to the last but one. */
+/* ---- Lives of the library: two threads finalize it and initialize it anew, again and again, and
+ * others make calls without pause. The standard leaves undefined what C_Finalize does beside calls.
+ * Here each call is made before it, or is answered CKR_CRYPTOKI_NOT_INITIALIZED, or is made in
+ * a later life (docs/module.md, What it answers).
+ *
+ * A later life's token may give the same handles. So a thread works only in sessions of which the
+ * handle, divided by the number of these threads, leaves its own number: no other thread has an
+ * operation there, and one that can go on was begun by this thread in the same life. */
+
+enum { PARTS = 5, OWN_LENGTH = 1 << 16, MOST_SECONDS = 10 };
+
+/* Of a thread's own message, long parts and short ones. */
+static const CK_ULONG parts[PARTS] = {20000, 4095, 4096, 34000, 3345};
+static CK_BYTE own_digests[MOST_THREADS][32];
+
+/* Where a journal file is kept, the token goes on from another one in each life. */
+static char token_file[4096];
+
+static atomic_int whole_digests, broken_digests; /* of those that were begun */
+static atomic_int refused_calls, late_calls;      /* without a life, and in a later one */
+static atomic_int ends_begun, ends_made;          /* calls of C_Finalize */
+static atomic_int renewers;
+static time_t last_second;
+
+static bool has_seen_all(void) {
+    return whole_digests > 0 && broken_digests > 0 && refused_calls > 0 && late_calls > 0;
+}
+
+/* Where other programs have the processors, few lives begin in these seconds. So the time isn't
+ * over before all was seen. */
+static bool has_time(void) {
+    return time(NULL) <= last_second || !has_seen_all();
+}
+
+static CK_BYTE *own_message(int number) {
+    return long_message + 4096 * number;
+}
+
+static void make_own_digests(void) {
+    CK_MECHANISM sha256 = mechanism_of(CKM_SHA256);
+    CK_SESSION_HANDLE session = log_in();
+    fill_long_message();
+    for (int i = 0; i < threads / 2; i++) {
+        CK_ULONG room = sizeof own_digests[i];
+        EXPECT(CKR_OK, p11->C_DigestInit(session, &sha256));
+        add_in_short_pieces(p11->C_DigestUpdate, session, own_message(i), OWN_LENGTH);
+        EXPECT(CKR_OK, p11->C_DigestFinal(session, own_digests[i], &room));
+    }
+}
+
+/* What calls may be answered beside CKR_OK: the token of a later life isn't initialized at first,
+ * and doesn't have the session, or has one of this handle without an operation. */
+static const CK_RV without_token[] = {
+    CKR_CRYPTOKI_NOT_INITIALIZED, CKR_TOKEN_NOT_RECOGNIZED,
+};
+static const CK_RV without_session[] = {
+    CKR_CRYPTOKI_NOT_INITIALIZED, CKR_SESSION_HANDLE_INVALID,
+};
+static const CK_RV without_operation[] = {
+    CKR_CRYPTOKI_NOT_INITIALIZED, CKR_SESSION_HANDLE_INVALID, CKR_OPERATION_NOT_INITIALIZED,
+};
+
+static bool is_made(CK_RV code, const CK_RV *refusals, size_t count, const char *what) {
+    check_code(is_one_of(code, refusals, count) ? CKR_OK : code, CKR_OK, what);
+    refused_calls += code == CKR_CRYPTOKI_NOT_INITIALIZED;
+    late_calls += code == CKR_SESSION_HANDLE_INVALID;
+    return code == CKR_OK;
+}
+
+#define IS_MADE(call, refusals) is_made((call), refusals, sizeof refusals / sizeof *refusals, #call)
+
+/* Adds the parts until one is refused, as the next one must be where C_Finalize was called and
+ * answered since the start of the digest. */
+static bool add_own_parts(CK_SESSION_HANDLE session, int number) {
+    CK_BYTE *part = own_message(number);
+    int begun = ends_begun;
+    bool is_added = true;
+    for (int i = 0; is_added && i < PARTS; i++) {
+        bool has_ended = ends_made > begun;
+        is_added = IS_MADE(p11->C_DigestUpdate(session, part, parts[i]), without_operation);
+        CHECK(!(is_added && has_ended));
+        part += parts[i];
+    }
+    return is_added;
+}
+
+static void digest_own_message(CK_SESSION_HANDLE session, int number) {
+    CK_MECHANISM sha256 = mechanism_of(CKM_SHA256);
+    CK_BYTE digest[32];
+    CK_ULONG room = sizeof digest;
+    if (!IS_MADE(p11->C_DigestInit(session, &sha256), without_session))
+        return;
+    bool is_whole = add_own_parts(session, number)
+        && IS_MADE(p11->C_DigestFinal(session, digest, &room), without_operation);
+    if (is_whole)
+        CHECK(room == 32 && memcmp(digest, own_digests[number], sizeof digest) == 0);
+    whole_digests += is_whole;
+    broken_digests += !is_whole;
+}
+
+static void *call_through_lives(void *argument) {
+    int number = *(int *)argument;
+    CK_ULONG callers = (CK_ULONG)(threads / 2);
+    CK_SESSION_INFO info;
+    while (renewers > 0) {
+        CK_SESSION_HANDLE session = 0;
+        if (!IS_MADE(p11->C_OpenSession(0, read_write, NULL, NULL, &session), without_token))
+            continue;
+        if (IS_MADE(p11->C_GetSessionInfo(session, &info), without_session))
+            CHECK(info.flags == read_write && info.state == CKS_RW_PUBLIC_SESSION);
+        if (session % callers == (CK_ULONG)number)
+            digest_own_message(session, number);
+        IS_MADE(p11->C_CloseSession(session), without_session);
+    }
+    return NULL;
+}
+
+/* The other thread may have begun this life, so that sessions are open, or have ended it again. */
+static void begin_life(void) {
+    initialize(NULL);
+    CK_RV code = p11->C_InitToken(0, so_pin, sizeof so_pin, token_label);
+    check(code == CKR_OK || code == CKR_CRYPTOKI_NOT_INITIALIZED || code == CKR_SESSION_EXISTS,
+          "C_InitToken");
+}
+
+static void wait_a_moment(void) {
+    const struct timespec moment = {.tv_nsec = 20000};
+    nanosleep(&moment, NULL);
+}
+
+static void wait_for_digests(int more) {
+    int wanted = whole_digests + more;
+    while (whole_digests < wanted && has_time())
+        wait_a_moment();
+}
+
+/* Or until the other thread has begun one life more than these: in it no call is refused. */
+static void wait_for_refusals(int more, int lives) {
+    int wanted = refused_calls + more;
+    while (refused_calls < wanted && initialized == lives && has_time())
+        wait_a_moment();
+}
+
+/* Each C_Initialize makes the calls of a token's file again, so with one the lives are fewer. */
+static bool has_more_lives(int round) {
+    int lives = token_file[0] == '\0' ? rounds : long_rounds();
+    return has_time() && (round < lives || !has_seen_all());
+}
+
+/* Some lives end at once, and others when digests were made in them. Some begin at once, and others
+ * when calls were refused. */
+static void *renew(void *argument) {
+    int number = *(int *)argument - threads / 2;
+    for (int round = 0; number < 2 && has_more_lives(round); round++) {
+        wait_for_digests(round % 4);
+        int lives = initialized;
+        ends_begun++;
+        finalize(NULL);
+        ends_made++;
+        wait_for_refusals(round % 3, lives);
+        begin_life();
+    }
+    renewers--;
+    return NULL;
+}
+
+static void use_last_life(void) {
+    char label[] = "in the last life";
+    initialize(NULL);
+    CK_SESSION_HANDLE session = log_in();
+    make_round(session, create_key(session, "Jefe"), label);
+    end_token();
+    EXPECT(CKR_CRYPTOKI_NOT_INITIALIZED, p11->C_Finalize(NULL));
+}
+
+/* ---- Tests. The library stays initialized from the first to the last but two. */
 
 static void test_initialize(void) {
     run_threads(initialize, initialize);
@@ -556,6 +735,25 @@ static void test_finalize(void) {
     }
 }
 
+/* The two threads end with C_Initialize, so with one more C_Finalize all lives have ended. */
+static void test_lives(void) {
+    if (token_file[0] != '\0')
+        setenv("OSPREYRACK_TOKEN", token_file, 1);
+    initialized = finalized = 0;
+    initialize(NULL);
+    make_own_digests();
+    finalize(NULL);
+    begin_life();
+    renewers = threads - threads / 2;
+    last_second = time(NULL) + MOST_SECONDS;
+    run_threads(call_through_lives, renew);
+    finalize(NULL);
+    CHECK(has_seen_all());
+    CHECK(initialized == finalized && mutexes == 0);
+    use_last_life();
+    unsetenv("OSPREYRACK_TOKEN");
+}
+
 static const struct test tests[] = {
     {"threads initialize at once, and one of them does it", test_initialize},
     {"threads in sessions of their own", test_own_sessions},
@@ -569,6 +767,7 @@ static const struct test tests[] = {
     {"threads make calls, and others fork", test_forks},
     {"threads log in and out; C_Finalize", test_logins},
     {"threads finalize the library, and others make calls", test_finalize},
+    {"threads make calls through many lives of the library", test_lives},
 };
 
 int main(int count, char **arguments) {
@@ -586,6 +785,8 @@ int main(int count, char **arguments) {
              getenv("OSPREYRACK_JOURNAL") == NULL ? "" : " with a journal",
              getenv("OSPREYRACK_SEED") == NULL ? "" : " with a seed",
              has_mutexes ? " with the application's mutexes" : "");
+    if (getenv("OSPREYRACK_JOURNAL") != NULL)
+        snprintf(token_file, sizeof token_file, "%s.lives", getenv("OSPREYRACK_JOURNAL"));
     load_module(arguments[1]);
     return run_tests(name, tests, sizeof tests / sizeof *tests);
 }
