@@ -3,8 +3,8 @@
 //! with all calls in a set order and with only the first ones. Then callers ask for the state of a
 //! session while another logs in, two callers are held at their calls, one caller makes calls under
 //! one lock and the token is taken back without its callers, long messages are taken in before
-//! their calls, a token counts how it is used, and eight callers make the calls of their scripts and
-//! drawn calls at once. What is written is the same in every order of the calls.
+//! their calls, a token counts how it is used, and eight callers make the calls of their scripts
+//! and drawn calls at once. What is written is the same in every order of the calls.
 //!
 //! With the word `alone` before the files only the calls of each race are made, one after the
 //! other: on a shared token, by `run` and by `run_scripts`. Where there was no memory they are made

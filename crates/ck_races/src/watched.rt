@@ -135,6 +135,7 @@ pub(crate) fn run_watched<R: Runtime>(rt: R) -> anyhow::Result<u64> {
     }
     expect(token.works.load(Ordering::SeqCst) == 1)?;
     expect(token.worked.load(Ordering::SeqCst) == 1)?;
+    // Once where the token is shared, and by the two calls that may change the board.
     expect(token.boards.load(Ordering::SeqCst) == 3)?;
     check_audit(alloc, &token.token)
 }

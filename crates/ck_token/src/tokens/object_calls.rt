@@ -14,7 +14,8 @@ use ck_sessions::Session;
 use ck_types::{Mechanism, Rv, RvError, error_if, is_key_generator};
 use std::alloc::Global;
 
-/// CKR_ACTION_PROHIBITED (1b) where the flag (CKA_COPYABLE, CKA_MODIFIABLE or CKA_DESTROYABLE) is false.
+/// CKR_ACTION_PROHIBITED (1b) where the flag (CKA_COPYABLE, CKA_MODIFIABLE or CKA_DESTROYABLE) is
+/// false.
 fn check_flag(attributes: &Record, flag: Attribute) -> Result<(), RvError>
     ensures { result ≡ check_of (prohibited_error flag attributes.now) }
 {
@@ -46,8 +47,8 @@ fn check_transition(key: &Record, number: u64) -> Result<KeyState, RvError>
     Ok(after)
 }
 
-/// Creating, copying, reading, changing and destroying objects (PKCS #11 Base 3.0, Object management
-/// functions; Key management functions).
+/// Creating, copying, reading, changing and destroying objects (PKCS #11 Base 3.0, Object
+/// management functions; Key management functions).
 impl Token {
     ghost use Rattle.std.specs.Prelude.{◌+◌, ◌<◌, ◌^◌, ℕ};
     ghost use Rattle.ck_journal.specs.Answers.{ok, read_only_session_error, placement_error};

@@ -150,7 +150,8 @@ impl Token {
         Ok(())
     }
 
-    /// CKR_SESSION_READ_ONLY_EXISTS (b7) for the security officer where a read-only session is open.
+    /// CKR_SESSION_READ_ONLY_EXISTS (b7) for the security officer where a read-only session is
+    /// open.
     fn check_read_write(&self, user: UserType) -> Result<(), RvError>
         ensures { result ≡ check_of (read_only_error user self.now.history) }
     {
