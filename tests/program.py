@@ -28,6 +28,9 @@ LARGE_OBJECTS = b"".join([
     b"1 CopyObject 1 1 -\n" * 63])
 ROOM = 110_000_000
 
+# What most systems give the stack of a thread, which lies in that room, too.
+STACK = 8 << 20
+
 # A thread's stack has the size of the limit on stacks. No address space has room for one of these.
 STACK_WITHOUT_ROOM = 1 << 48
 
@@ -325,8 +328,15 @@ def callers(tests):
     tests.end("callers in threads")
 
 
+def leave_little_room():
+    most = resource.getrlimit(resource.RLIMIT_STACK)[1]
+    stack = STACK if most == resource.RLIM_INFINITY else min(STACK, most)
+    resource.setrlimit(resource.RLIMIT_STACK, (stack, most))
+    resource.setrlimit(resource.RLIMIT_AS, (ROOM, ROOM))
+
+
 def audits(tests):
-    short = {"preexec_fn": lambda: resource.setrlimit(resource.RLIMIT_AS, (ROOM, ROOM))}
+    short = {"preexec_fn": leave_little_room}
     words = ["--callers", "1"]
     tests.check(words, LARGE_OBJECTS + b"1 CloseAllSessions\n", b"entries 67\naudit ok\n", b"", 0,
                 **short)
