@@ -66,6 +66,7 @@ CHANGES = [
     ("another definition", "crates/*/specs/*.antt", "^pub record ", "pub  record "),
     ("another reply of a race", "crates/*/data/*.races", " -> 0$", " -> 1"),
     ("another output", "crates/*/stdout", "1", "2"),
+    ("a comparison that may end early", "crates/*/src/*.rt", "constant_time_eq\\(&", "same(&"),
     ("a part of check that is gone", "check", "^part .*\n", ""),
     ("a condition of module/tests/run that is gone", "module/tests/run", " && \\[ -s .* \\]", ""),
     ("a check in Rust that is gone", "crates/ck_run/src/*.rt", "^ *assert.*\n", ""),

@@ -61,7 +61,7 @@ where the arguments are bad or a file can't be read.
 """
 
 # The file of the help's example, and what the help says of it.
-EXAMPLE = HELP[HELP.index(b"  # Comments"):HELP.index(b"A line 'limits'")]
+EXAMPLE = HELP[HELP.index(b"  # Bytes"):HELP.index(b"A line 'limits'")]
 EXAMPLE_REPORT = HELP[HELP.index(b"  token.cases: line 5"):HELP.index(b"To play the run")]
 
 # A file `t`, the report on it that names at most two lines, and the status.
