@@ -105,8 +105,9 @@ fn run_shared<R: Runtime>(rt: R, race: &Race, callers: &[u32]) -> anyhow::Result
 fn run_scripted<R: Runtime>(rt: R, race: &Race, callers: &[u32]) -> anyhow::Result<u64> {
     let alloc = rt.alloc();
     let order = CallOrder::new(callers);
+    // The race is lent anew: the work lives no longer than the order.
     let work = SharedWork::HeldScripts {
-        race,
+        race: &*race,
         order: &order,
     };
     let token = prepared_token(alloc, race)?;
