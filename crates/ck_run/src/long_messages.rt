@@ -5,6 +5,7 @@ use ck_token::{
     SHA256_HMAC, Template, Token,
 };
 use std::alloc::Global;
+use std::process::Abort;
 use std::test::Fail;
 use std::time::{CpuClock, Duration};
 
@@ -16,6 +17,23 @@ const LONGEST: usize = 1 << 20;
 
 /// The length of the digests and of the signatures.
 const ROOM: Option<u64> = Some(32);
+
+/// The length of messages, the room for what they give, and how many of three whole messages and of
+/// three pieces are taken in.
+type Row = (usize, Option<u64>, (usize, usize));
+
+const WITHOUT_OPERATIONS: [Row; 1] = [(LONG, ROOM, (0, 0))];
+
+const WITHOUT_PIECES: [Row; 6] = [
+    (LONG, ROOM, (3, 3)),
+    (LONGEST, ROOM, (3, 3)),
+    (LONG - 1, ROOM, (0, 0)),
+    (LONGEST + 1, ROOM, (0, 0)),
+    (LONG, None, (1, 3)),
+    (LONG, Some(31), (1, 3)),
+];
+
+const BEHIND_PIECES: [Row; 1] = [(LONG, ROOM, (0, 3))];
 
 /// How many times the call is timed.
 const TRIES: u32 = 5;
@@ -117,33 +135,28 @@ fn begin_all(alloc: Global, token: &mut Token, key: u64) -> Result<(), Fail> {
     Ok(())
 }
 
-#[test]
-fn long_messages_are_taken_in_before_their_calls(rt: HostRuntime) -> Result<(), Fail> {
-    let alloc = rt.alloc();
-    let (mut token, key) = token_with_key(alloc)?;
-    assert!(rt; count_taken_in(alloc, &token, LONG, ROOM)? == (0, 0));
-    begin_all(alloc, &mut token, key)?;
-    assert!(rt; count_taken_in(alloc, &token, LONG, ROOM)? == (3, 3));
-    assert!(rt; count_taken_in(alloc, &token, LONGEST, ROOM)? == (3, 3));
+/// Fails where other messages than those of the rows are taken in.
+fn check_rows(rt: &impl Abort, alloc: Global, token: &Token, rows: &[Row]) -> Result<(), Fail> {
+    for (count, room, wanted) in rows {
+        let taken_in = count_taken_in(alloc, token, *count, *room)?;
+        assert!(rt; taken_in == *wanted);
+    }
     Ok(())
 }
 
-/// There is nothing to take in for a short message, for one that is too long, where only a length
-/// is answered, and for a whole message behind a piece.
+/// Long messages are taken in before their calls, but not before an operation is active, where they
+/// are too long, where only a length is answered, and behind a piece where they are whole.
 #[test]
-fn other_messages_are_not(rt: HostRuntime) -> Result<(), Fail> {
+fn messages_are_taken_in_before_their_calls(rt: HostRuntime) -> Result<(), Fail> {
     let alloc = rt.alloc();
     let (mut token, key) = token_with_key(alloc)?;
+    check_rows(&rt, alloc, &token, &WITHOUT_OPERATIONS)?;
     begin_all(alloc, &mut token, key)?;
-    assert!(rt; count_taken_in(alloc, &token, LONG - 1, ROOM)? == (0, 0));
-    assert!(rt; count_taken_in(alloc, &token, LONGEST + 1, ROOM)? == (0, 0));
-    assert!(rt; count_taken_in(alloc, &token, LONG, None)? == (1, 3));
-    assert!(rt; count_taken_in(alloc, &token, LONG, Some(31))? == (1, 3));
+    check_rows(&rt, alloc, &token, &WITHOUT_PIECES)?;
     for call in piece_calls(alloc, 1)? {
         token.try_call(alloc, 1, call)?;
     }
-    assert!(rt; count_taken_in(alloc, &token, LONG, ROOM)? == (0, 3));
-    Ok(())
+    check_rows(&rt, alloc, &token, &BEHIND_PIECES)
 }
 
 /// Takes a long piece in and makes its call. Gives what each took of the processor.
