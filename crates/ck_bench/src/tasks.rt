@@ -11,7 +11,7 @@ use std::sync::atomic::{AtomicBool, Ordering};
 use std::time::{Clock, Instant};
 
 /// The bytes of the message that is digested, 1 MiB.
-const LONG_MESSAGE: usize = 1 << 20;
+const MESSAGE_LENGTH: usize = 1 << 20;
 
 /// What a caller does in one round.
 #[derive(Clone, Copy, PartialEq)]
@@ -155,7 +155,7 @@ fn pause<R: Clock>(rt: &R) -> anyhow::Result<u128> {
 
 impl<'a> Tasks<'a> {
     pub(crate) fn new(alloc: Global, tasks: &'a [Task]) -> Result<Tasks<'a>, NoMemory> {
-        let message = Bytes::from_vec(vec![in alloc; 0u8; LONG_MESSAGE]?);
+        let message = Bytes::from_vec(vec![in alloc; 0u8; MESSAGE_LENGTH]?);
         let is_done = AtomicBool::new(false);
         Ok(Tasks {
             tasks,

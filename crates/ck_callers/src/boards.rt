@@ -3,7 +3,7 @@ ghost use Rattle.ck_journal.specs.Boards.{board_of};
 
 use crate::identity::TokenId;
 use crate::known_histories::KnownHistory;
-use crate::slots::EntrySlot;
+use crate::slots::BoardSlot;
 use ck_journal::TokenBoard;
 use left_right::Absorb;
 use std::alloc::AllocError;
@@ -79,7 +79,7 @@ impl<K: TokenId> BoardCopy<K> {
 
 /// No contract says which history the two copies are of once they have taken in a slot: that is
 /// read off the published copy.
-impl<K: TokenId> Absorb<EntrySlot<K>> for BoardCopy<K> {
+impl<K: TokenId> Absorb<BoardSlot<K>> for BoardCopy<K> {
     type State = ();
 
     ghost state = { λ b. tt };
@@ -90,7 +90,7 @@ impl<K: TokenId> Absorb<EntrySlot<K>> for BoardCopy<K> {
 
     fn absorb_first(
         &mut self,
-        slot: &EntrySlot<K>,
+        slot: &BoardSlot<K>,
         _other: &BoardCopy<K>,
     ) -> Result<(), AllocError> {
         if let Some(content) = slot.content.try_lock()

@@ -2,7 +2,7 @@
 //! front; how many calls of each were answered; the board that callers read without the lock; and
 //! runs of callers through a gate, each in a thread of its own.
 //!
-//! `Front`, `Head`, `KnownHistory`, `CallBooks`, `EntrySlot`, `BoardCopy`, `CallerCount`, `Opened`
+//! `Front`, `Head`, `KnownHistory`, `CallBooks`, `BoardSlot`, `BoardCopy`, `CallerCount`, `Opened`
 //! and `Account` are public only for ck_shared, which has what lies under the lock, with the types
 //! that they name (`HistoryId`, `NewHistory`, `CallerLedger`, `NewLedgers`).
 #![tactic(auto)]
@@ -36,5 +36,5 @@ pub use ledgers::{Account, CallBooks, CallerLedger, NewLedgers};
 pub use openings::Opened;
 pub use runs::{run_scripts, run_steps};
 pub use scripts::Script;
-pub use slots::EntrySlot;
+pub use slots::BoardSlot;
 pub use steps::{Answered, Step};

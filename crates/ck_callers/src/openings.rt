@@ -12,7 +12,7 @@ use crate::histories::Head;
 use crate::identity::{NewIdentity, TokenId};
 use crate::known_histories::KnownHistory;
 use crate::ledgers::{Account, CallBooks};
-use crate::slots::EntrySlot;
+use crate::slots::BoardSlot;
 use ck_journal::TokenBoard;
 use ck_types::NoMemory;
 use left_right::{Absorb, WriteHandle};
@@ -25,7 +25,7 @@ pub struct Opened<K: TokenId, R: Wait + Drop>
 // `impl Absorb for BoardCopy` gives this bound. The prover wants it repeated, since a field's type
 // needs it.
 where
-    BoardCopy<K>: Absorb<EntrySlot<K>>,
+    BoardCopy<K>: Absorb<BoardSlot<K>>,
 {
     pub books: CallBooks<K>,
     /// What is known of the history: only the base.
@@ -33,7 +33,7 @@ where
     /// The length of the one history.
     pub head: Head<K>,
     /// The writer of the board's two copies.
-    pub writer: WriteHandle<BoardCopy<K>, EntrySlot<K>, R>,
+    pub writer: WriteHandle<BoardCopy<K>, BoardSlot<K>, R>,
     pub callers: Vec<Caller<K>>,
 }
 
@@ -41,7 +41,7 @@ where
 fn caller_of<K: TokenId, R: Wait + Drop>(
     account: Account<K>,
     known: &KnownHistory<K>,
-    writer: &WriteHandle<BoardCopy<K>, EntrySlot<K>, R>,
+    writer: &WriteHandle<BoardCopy<K>, BoardSlot<K>, R>,
 ) -> Result<Caller<K>, NoMemory>
     requires count { account.count ≡ 0 }
     requires known { known.now.history ≡ start K.base }
@@ -56,7 +56,7 @@ fn callers_of<K: TokenId, R: Wait + Drop>(
     alloc: Global,
     accounts: Vec<Account<K>>,
     known: &KnownHistory<K>,
-    writer: &WriteHandle<BoardCopy<K>, EntrySlot<K>, R>,
+    writer: &WriteHandle<BoardCopy<K>, BoardSlot<K>, R>,
 ) -> Result<Vec<Caller<K>>, NoMemory>
     requires counts { AreNew accounts.items }
     requires known { known.now.history ≡ start K.base }
@@ -77,7 +77,7 @@ fn writer_and_callers<K: TokenId, R: Wait + Drop>(
     callers: u32,
     accounts: Vec<Account<K>>,
     known: &KnownHistory<K>,
-) -> Result<(WriteHandle<BoardCopy<K>, EntrySlot<K>, R>, Vec<Caller<K>>), NoMemory>
+) -> Result<(WriteHandle<BoardCopy<K>, BoardSlot<K>, R>, Vec<Caller<K>>), NoMemory>
     requires board { board ≡ board_of K.limits (start K.base) }
     requires callers { (1 ≤ callers) × (callers ≤ 8) }
     requires counts { AreNew accounts.items }

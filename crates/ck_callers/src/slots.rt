@@ -13,16 +13,16 @@ use std::sync::{Arc, Mutex};
 /// afterwards. It has two handles: one is appended to the board's operations. Only the thread that
 /// holds the token's lock uses them, so nobody waits for the slot's own lock.
 #[derive(Drop)]
-pub struct EntrySlot<K: TokenId> {
+pub struct BoardSlot<K: TokenId> {
     pub(crate) content: Arc<Mutex<Option<BoardCopy<K>>>>,
 }
 
-impl<K: TokenId> EntrySlot<K> {
+impl<K: TokenId> BoardSlot<K> {
     /// The two handles of a slot that isn't filled. No clause can name what lies under its lock.
-    pub fn vacant(alloc: Global) -> Result<(EntrySlot<K>, EntrySlot<K>), NoMemory> {
+    pub fn vacant(alloc: Global) -> Result<(BoardSlot<K>, BoardSlot<K>), NoMemory> {
         let content = Arc::new(alloc, Mutex::new(None))?;
         let other = Arc::try_clone(&content)?;
-        Ok((EntrySlot { content }, EntrySlot { content: other }))
+        Ok((BoardSlot { content }, BoardSlot { content: other }))
     }
 
     /// Fills the slot with the board after a call and the history that it is of, without memory.

@@ -43,7 +43,7 @@ use Rattle.ck_journal.specs.declared.replies.Reply.{Reply}
 use Rattle.ck_journal.specs.Histories.{History, start, ◌◁◌}
 use Rattle.ck_journal.specs.Objects.{creations, view_of, is_user_in, handle_with, handle_of}
 use Rattle.ck_journal.specs.Objects.{object_at, attributes_named, attributes_or_empty, key_named}
-use Rattle.ck_journal.specs.Operations.{is_active, is_updated, is_long_piece, key_in}
+use Rattle.ck_journal.specs.Operations.{is_active, is_updated, is_too_long, key_in}
 use Rattle.ck_journal.specs.Operations.{computation_in, message_in}
 use Rattle.ck_journal.specs.Pins.{is_initialized, is_pin, pin_owner, present_pin, user_pin}
 use Rattle.ck_journal.specs.Pins.{tries, is_locked, is_user}
@@ -329,7 +329,7 @@ present_key_error k h (Some n) =
     option_map_or (key_state_error k) (object_at h n) (Some rv_error.KeyHandleInvalid)
 
 abbrev pub piece_error : List ℕ → Option RvError
-piece_error bytes = error_if (is_long_piece bytes) rv_error.DataLenRange
+piece_error bytes = error_if (is_too_long bytes) rv_error.DataLenRange
 
 -- a single-part message; a message that an update has begun is finished only by the kind's final
 -- call

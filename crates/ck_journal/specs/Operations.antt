@@ -153,5 +153,5 @@ message_in k h s = concat (pieces_in k h s)
 abbrev pub piece_limit : ℕ
 piece_limit = 2 ^ 20
 
-abbrev pub is_long_piece : List ℕ → Bool
-is_long_piece bytes = nat_lt piece_limit (length bytes)
+abbrev pub is_too_long : List ℕ → Bool
+is_too_long bytes = nat_lt piece_limit (length bytes)

@@ -23,7 +23,7 @@ pub use calls::{AttributeQuery, Call, Entry, MOST_CALLERS};
 pub use cuts::{base_law, cut_law};
 pub use entry_lists::Entries;
 pub use journals::Journal;
-pub use operations::{OperationKind, is_long_piece};
+pub use operations::{OperationKind, is_too_long};
 pub use replies::{Answer, Body, Reply};
 pub use session_flags::{READ_WRITE, RW_SESSION, SERIAL_SESSION, is_read_write};
 pub use tokens::JournaledToken;

@@ -1,5 +1,5 @@
 ghost use Rattle.std.specs.Prelude.{◌≡◌};
-ghost use Rattle.ck_journal.specs.Operations.{is_long_piece};
+ghost use Rattle.ck_journal.specs.Operations.{is_too_long};
 
 /// The kinds of operations that take a message: a single-part one at once, or a multiple-part one
 /// in pieces. A session has at most one active operation of each kind (PKCS #11 Base 3.0, Message
@@ -36,12 +36,12 @@ impl OperationKind {
 
 /// The most bytes that a single-part message, or one piece of a multiple-part one, may have: a
 /// limit of this token.
-const PIECE_LIMIT: usize = 0x10_0000;
+const LONGEST_PIECE: usize = 0x10_0000;
 
 /// Whether the bytes are more than a single-part message, or one piece of a multiple-part one, may
 /// have, which is 2^20 (CKR_DATA_LEN_RANGE).
-pub fn is_long_piece(bytes: &[u8]) -> bool
-    ensures { result ≡ is_long_piece bytes.now }
+pub fn is_too_long(bytes: &[u8]) -> bool
+    ensures { result ≡ is_too_long bytes.now }
 {
-    bytes.len() > PIECE_LIMIT
+    bytes.len() > LONGEST_PIECE
 }

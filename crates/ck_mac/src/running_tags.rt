@@ -36,16 +36,30 @@ impl RunningTag {
         }
     }
 
+    /// A copy. Unlike `clone` of most types, that of a running tag takes no memory and never fails.
+    pub fn duplicate(&self) -> RunningTag
+        ensures { result ≡ self.now }
+    {
+        self.clone().unwrap()
+    }
+
+    /// The tag of the message.
+    fn finish(self) -> Tag
+        ensures { (computation : Computation) (message : List ℕ)
+            → HoldsTag computation self message → result ≡ tag_of computation message }
+    {
+        match self {
+            RunningTag::Digest(running) => running.finish(),
+            RunningTag::Mac(mac) => mac.finish(),
+        }
+    }
+
     /// The tag of the message so far.
     pub fn tag(&self) -> Tag
         ensures { (computation : Computation) (message : List ℕ)
             → HoldsTag computation self.now message → result ≡ tag_of computation message }
     {
-        // The copies take no memory and never fail.
-        match self {
-            RunningTag::Digest(running) => running.clone().unwrap().finish(),
-            RunningTag::Mac(mac) => mac.clone().unwrap().finish(),
-        }
+        self.duplicate().finish()
     }
 
     /// The tag of the message so far with these bytes at its end. They aren't added to the message.
@@ -54,18 +68,8 @@ impl RunningTag {
             → HoldsTag computation self.now message
             → result ≡ tag_of computation (message ++ bytes.now) }
     {
-        // The copies take no memory and never fail.
-        match self {
-            RunningTag::Digest(running) => {
-                let mut running = running.clone().unwrap();
-                running.update(bytes);
-                running.finish()
-            }
-            RunningTag::Mac(mac) => {
-                let mut mac = mac.clone().unwrap();
-                mac.update(bytes);
-                mac.finish()
-            }
-        }
+        let mut whole = self.duplicate();
+        whole.update(bytes);
+        whole.finish()
     }
 }

@@ -136,9 +136,8 @@ impl Operation {
           entries = entries;
         }) self.old self.new }
     {
-        // A copy of a running tag takes no memory and never fails.
         match ready {
-            Some(running) => self.running = running.clone().unwrap(),
+            Some(running) => self.running = running.duplicate(),
             None => self.running.update(bytes),
         }
         self.updated = true;

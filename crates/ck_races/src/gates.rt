@@ -80,7 +80,7 @@ impl<'a, K: TokenId, G: JournaledToken, R: Wait + Drop> Gate<K> for TakingGate<'
     ) -> Result<Reply, NoMemory> {
         let message = self.token.take_in(rt, &call);
         self.order.hold(rt, caller.number());
-        let reply = self.token.call_with(rt, alloc, caller, call, message);
+        let reply = self.token.call_after(rt, alloc, caller, call, message);
         self.order.count_made();
         reply
     }

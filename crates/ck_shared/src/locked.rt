@@ -5,7 +5,7 @@ ghost use Rattle.ck_journal.specs.Histories.{◌◁◌, entry_count};
 ghost use Rattle.ck_callers.specs.KnownHistories.{Covers};
 ghost use Rattle.ck_journal.specs.declared.calls.Entry.{Entry};
 
-use ck_callers::{BoardCopy, CallBooks, Caller, EntrySlot, Front, Head, KnownHistory, TokenId};
+use ck_callers::{BoardCopy, CallBooks, Caller, BoardSlot, Front, Head, KnownHistory, TokenId};
 use ck_journal::{Call, JournaledToken, Reply, Work};
 use ck_types::NoMemory;
 use left_right::{Absorb, WriteHandle};
@@ -20,18 +20,18 @@ pub struct Locked<K: TokenId, G: JournaledToken, R: Wait + Drop>
 // `impl Absorb for BoardCopy` gives this bound. The prover wants it repeated, since a field's type
 // needs it.
 where
-    BoardCopy<K>: Absorb<EntrySlot<K>, State = ()>,
+    BoardCopy<K>: Absorb<BoardSlot<K>, State = ()>,
 {
     token: G,
     books: CallBooks<K>,
     known: KnownHistory<K>,
     head: Head<K>,
-    writer: WriteHandle<BoardCopy<K>, EntrySlot<K>, R>,
+    writer: WriteHandle<BoardCopy<K>, BoardSlot<K>, R>,
 }
 
 impl<K: TokenId, G: JournaledToken, R: Wait + Drop> Model for Locked<K, G, R>
 where
-    BoardCopy<K>: Absorb<EntrySlot<K>, State = ()>,
+    BoardCopy<K>: Absorb<BoardSlot<K>, State = ()>,
 {
     ghost use Rattle.std.specs.Prelude.{◌≡◌, []};
     ghost use Rattle.std.specs.Coded.{codes};
@@ -54,9 +54,9 @@ where
 /// call leaves the board as it is.
 fn add_slot<K: TokenId, R: Wait + Drop>(
     alloc: Global,
-    writer: &mut WriteHandle<BoardCopy<K>, EntrySlot<K>, R>,
+    writer: &mut WriteHandle<BoardCopy<K>, BoardSlot<K>, R>,
     keeps_board: bool,
-) -> Result<Option<EntrySlot<K>>, NoMemory>
+) -> Result<Option<BoardSlot<K>>, NoMemory>
     ensures published { published writer.new ≡ published writer.old }
     ensures unchanged { OnErr result (pending writer.new ≡ pending writer.old) }
     ensures none { IfOk result (λ slot. IfNone slot
@@ -66,7 +66,7 @@ fn add_slot<K: TokenId, R: Wait + Drop>(
     if keeps_board {
         return Ok(None);
     }
-    let (slot, pending) = EntrySlot::vacant(alloc)?;
+    let (slot, pending) = BoardSlot::vacant(alloc)?;
     match writer.append(pending) {
         Ok(()) => Ok(Some(slot)),
         Err(_) => Err(NoMemory),
@@ -76,8 +76,8 @@ fn add_slot<K: TokenId, R: Wait + Drop>(
 /// Fills a pending slot with the token's board and publishes it.
 fn publish_slot<K: TokenId, G: JournaledToken, R: Wait + Drop, W: Wait>(
     rt: &W,
-    writer: &mut WriteHandle<BoardCopy<K>, EntrySlot<K>, R>,
-    slot: &EntrySlot<K>,
+    writer: &mut WriteHandle<BoardCopy<K>, BoardSlot<K>, R>,
+    slot: &BoardSlot<K>,
     token: &G,
     known: &KnownHistory<K>,
 )
@@ -100,8 +100,8 @@ fn publish_slot<K: TokenId, G: JournaledToken, R: Wait + Drop, W: Wait>(
 /// Publishes the token's board by way of a slot. Where there is none, it is published already.
 fn publish_board<K: TokenId, G: JournaledToken, R: Wait + Drop, W: Wait>(
     rt: &W,
-    writer: &mut WriteHandle<BoardCopy<K>, EntrySlot<K>, R>,
-    slot: Option<EntrySlot<K>>,
+    writer: &mut WriteHandle<BoardCopy<K>, BoardSlot<K>, R>,
+    slot: Option<BoardSlot<K>>,
     token: &G,
     known: &KnownHistory<K>,
 )
@@ -175,7 +175,7 @@ impl<K: TokenId, G: JournaledToken, R: Wait + Drop> Locked<K, G, R> {
         books: CallBooks<K>,
         known: KnownHistory<K>,
         head: Head<K>,
-        writer: WriteHandle<BoardCopy<K>, EntrySlot<K>, R>,
+        writer: WriteHandle<BoardCopy<K>, BoardSlot<K>, R>,
     ) -> Locked<K, G, R>
         requires tied { IsTied K.limits K.callers (G.state token) books known
             (published writer) }

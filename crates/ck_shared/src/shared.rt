@@ -172,7 +172,7 @@ impl<K: TokenId, G: JournaledToken, R: Wait + Drop> SharedToken<K, G, R> {
         ensures caller { OnErr result (caller.new ≡ caller.old) }
     {
         let message = self.take_in(rt, &call);
-        self.call_with(rt, alloc, caller, call, message)
+        self.call_after(rt, alloc, caller, call, message)
     }
 
     /// Takes in the bytes of a long message that the call brings. The lock is held only while the
@@ -187,7 +187,7 @@ impl<K: TokenId, G: JournaledToken, R: Wait + Drop> SharedToken<K, G, R> {
 
     /// One call of a caller, under the lock. Where its message is taken in, its bytes are taken in
     /// once more only if the operation has changed since.
-    pub fn call_with<W: Wait>(
+    pub fn call_after<W: Wait>(
         &self,
         rt: &W,
         alloc: Global,

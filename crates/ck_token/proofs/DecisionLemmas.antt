@@ -26,7 +26,7 @@ use Rattle.ck_journal.specs.declared.replies.Body.TheVariants as body
 use Rattle.ck_journal.specs.OperationCalls.{Step, initialize, single_part, add_piece, finish}
 use Rattle.ck_journal.specs.OperationCalls.{OperationStep, operation_step}
 use Rattle.ck_journal.specs.Operations.{leaves_active, message_in, is_active, is_updated}
-use Rattle.ck_journal.specs.Operations.{is_long_piece}
+use Rattle.ck_journal.specs.Operations.{is_too_long}
 use Rattle.ck_journal.specs.Operations.{key_in}
 use Rattle.ck_journal.specs.Answers.{ok, too_small, bytes_reply, unless, answer, allowed_reply}
 use Rattle.ck_journal.specs.Answers.{call_error, session_error, object_error, operation_error}
@@ -376,7 +376,7 @@ final-message k h session bytes =
     final-or_else (operation_error k h session) _ (final-operation k h session)
     (final-or_else (error_if (is_updated k h session) rv_error.OperationNotInitialized) _
     (final-if (is_updated k h session) rv_error.OperationNotInitialized refl)
-    (final-or_else (piece_error bytes) _ (final-if (is_long_piece bytes) rv_error.DataLenRange refl)
+    (final-or_else (piece_error bytes) _ (final-if (is_too_long bytes) rv_error.DataLenRange refl)
     (final-or_else _ None (final-key k h (key_in k h session)) refl)))
 
 final-final : (k : OperationKind) (h : History) (session : ℕ)

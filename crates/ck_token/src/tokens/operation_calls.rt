@@ -13,7 +13,7 @@ ghost use Rattle.ck_token.specs.declared.decisions.Refused.TheVariants as refuse
 use super::Token;
 use super::object_calls::check_no_parameter;
 use crate::decisions::{Decision, Refused};
-use ck_journal::{Body, OperationKind, is_long_piece};
+use ck_journal::{Body, OperationKind, is_too_long};
 use ck_mac::{RunningTag, Tag};
 use ck_objects::{Attribute, KeyState, Record};
 use ck_operations::Operation;
@@ -268,7 +268,7 @@ impl Token {
     {
         let operation = self.check_active(kind, session)?;
         error_if(operation.is_updated(), RvError::OperationNotInitialized)?;
-        error_if(is_long_piece(bytes), RvError::DataLenRange)?;
+        error_if(is_too_long(bytes), RvError::DataLenRange)?;
         self.check_present_key(kind, operation.key())?;
         Ok(operation)
     }
@@ -335,7 +335,7 @@ impl Token {
             (λ b. change.AddPiece kind session) (end_if_too_long kind session) false result }
     {
         self.check_active(kind, session)?;
-        if is_long_piece(bytes) {
+        if is_too_long(bytes) {
             return Err(ending_refusal(kind, session, RvError::DataLenRange));
         }
         Ok(Decision::of_change(Change::AddPiece { kind, session }))

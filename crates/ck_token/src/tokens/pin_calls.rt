@@ -95,7 +95,7 @@ impl Token {
     {
         let row = self.session(session)?;
         error_if(
-            !matches!(self.state(row), SessionState::RwSo),
+            self.state_of(row) != SessionState::RwSo,
             RvError::UserNotLoggedIn,
         )?;
         error_if(!pin.fits(), RvError::PinLenRange)?;
@@ -110,7 +110,7 @@ impl Token {
     {
         let row = self.session(session)?;
         error_if(!row.is_read_write(), RvError::SessionReadOnly)?;
-        let owner = pin_owner(self.state(row));
+        let owner = pin_owner(self.state_of(row));
         let credential = self.credential(owner);
         error_if(credential.pin.is_none(), RvError::UserPinNotInitialized)?;
         check_lock(credential)?;

@@ -1,6 +1,4 @@
 ghost use Rattle.std.specs.Prelude.{◌≡◌};
-ghost use Rattle.ck_types.specs.declared.users.UserType.TheVariants as user;
-ghost use Rattle.ck_journal.specs.Pins.{is_user};
 
 use super::Token;
 use ck_journal::{OperationKind, View, session_state};
@@ -8,13 +6,6 @@ use ck_objects::{Class, Record};
 use ck_operations::Operation;
 use ck_sessions::{Credential, Session};
 use ck_types::{RvError, SessionState, UserType};
-
-/// Whether the normal user is logged in.
-fn is_user_in(login: Option<UserType>) -> bool
-    ensures { result ≡ is_user user.User login }
-{
-    matches!(login, Some(UserType::User))
-}
 
 /// Readings of the token's parts. Their contracts say what they are in the history.
 impl Token {
@@ -31,24 +22,28 @@ impl Token {
     ghost use Rattle.ck_operations.specs.Agreement.{OperationAgrees, active_operation};
     ghost use Rattle.ck_sessions.specs.Agreement.{session_row};
 
+    /// Whether the token has been initialized, and so has a PIN of the security officer.
     pub(super) fn is_initialized(&self) -> bool
         ensures { result ≡ is_initialized self.now.history }
     {
         self.parts.sessions.is_initialized()
     }
 
+    /// How many sessions are open.
     pub(super) fn session_count(&self) -> u64
         ensures { result ≡ length (open_sessions self.now.history) }
     {
         self.parts.sessions.count()
     }
 
+    /// How many read/write sessions are open.
     pub(super) fn read_write_count(&self) -> u64
         ensures { result ≡ length (rw_sessions self.now.history) }
     {
         self.parts.sessions.read_write_count()
     }
 
+    /// Whether a read-only session is open.
     pub(super) fn has_read_only(&self) -> bool
         ensures { result ≡ list_any (λ s. not (is_read_write self.now.history s))
             (open_sessions self.now.history) }
@@ -56,6 +51,7 @@ impl Token {
         self.parts.sessions.has_read_only()
     }
 
+    /// How many sessions have been opened.
     pub(super) fn openings(&self) -> u64
         ensures { result ≡ openings self.now.history }
     {
@@ -77,7 +73,7 @@ impl Token {
     }
 
     /// The state of an open session.
-    pub(super) fn state(&self, row: &Session) -> SessionState
+    pub(super) fn state_of(&self, row: &Session) -> SessionState
         ensures { (s : ℕ) → row.now ≡ session_row self.now.history s
             → result ≡ state_of self.now.history s }
     {
@@ -91,12 +87,14 @@ impl Token {
         self.parts.sessions.login()
     }
 
+    /// Whether the normal user is logged in.
     pub(super) fn is_user_in(&self) -> bool
         ensures { result ≡ is_user_in self.now.history }
     {
-        is_user_in(self.logged_in())
+        self.logged_in() == Some(UserType::User)
     }
 
+    /// How many times the normal user has logged in.
     pub(super) fn user_logins(&self) -> u64
         ensures logins { result ≡ user_logins self.now.history }
         ensures bound { result < 2 ^ 31 }
@@ -123,6 +121,7 @@ impl Token {
         }
     }
 
+    /// How many objects have been created.
     pub(super) fn creations(&self) -> u64
         ensures { result ≡ creations self.now.history }
     {

@@ -58,7 +58,7 @@ impl Token {
     {
         let row = self.session(session)?;
         Ok(Decision::of_body(Body::Session {
-            state: self.state(row),
+            state: self.state_of(row),
             flags: row.flags(),
         }))
     }

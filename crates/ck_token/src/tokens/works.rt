@@ -1,12 +1,12 @@
 use super::Token;
-use ck_journal::{Call, Work, is_long_piece};
+use ck_journal::{Call, Work, is_too_long};
 use ck_mac::RunningTag;
 use ck_operations::Operation;
 
 /// Whether the call takes in a long message: it isn't refused for its length or for an earlier
 /// update, and its reply isn't only a length.
 fn takes_long_message(call: &Call, operation: &Operation) -> bool {
-    if !call.brings_long_message() || is_long_piece(call.taken_bytes()) {
+    if !call.brings_long_message() || is_too_long(call.taken_bytes()) {
         return false;
     }
     match call {
@@ -36,10 +36,9 @@ impl Token {
         if !takes_long_message(call, operation) {
             return None;
         }
-        // A copy of a running tag takes no memory and never fails.
         Some(Work {
             entries: self.journal.len(),
-            running: operation.running().clone().unwrap(),
+            running: operation.running().duplicate(),
         })
     }
 
