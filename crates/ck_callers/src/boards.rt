@@ -32,7 +32,8 @@ impl<K: TokenId> Model for BoardCopy<K> {
 }
 
 impl<K: TokenId> BoardCopy<K> {
-    /// The two copies, before the first entry.
+    /// The two copies, before the first entry. The clause is about the one that is published first:
+    /// nothing rests on which history the other one is of.
     pub(crate) fn pair(board: &TokenBoard, known: &KnownHistory<K>) -> (BoardCopy<K>, BoardCopy<K>)
         requires { board.now ≡ board_of K.limits known.now.history }
         ensures { result.0 ≡ known.now.history }
@@ -43,6 +44,7 @@ impl<K: TokenId> BoardCopy<K> {
         )
     }
 
+    /// A copy of this board, which is of the known history.
     pub(crate) fn new(board: TokenBoard, known: &KnownHistory<K>) -> BoardCopy<K>
         requires { board ≡ board_of K.limits known.now.history }
         ensures { result ≡ known.now.history }
@@ -53,6 +55,7 @@ impl<K: TokenId> BoardCopy<K> {
         }
     }
 
+    /// One more copy, which takes no memory.
     fn duplicate(&self) -> BoardCopy<K>
         ensures { result ≡ self.now }
     {

@@ -181,14 +181,14 @@ fn look<K: TokenId>(
         reply_of found.0 ≡ answer K.limits found.1.history (call_of ask)) }
 {
     let board = reader.enter()?;
-    let newest = seen.newest(board.known())?;
+    let longer = seen.longer(board.known())?;
     // The counts are the same, since only this caller makes its calls. The test tells the prover.
-    if newest.calls(account.number()) != account.count() {
+    if longer.calls(account.number()) != account.count() {
         return None;
     }
     // Tells the prover that the history is legal.
-    let _entries = newest.front().len();
-    Some((status_on(board.board(), ask), newest.duplicate()))
+    let _entries = longer.front().len();
+    Some((status_on(board.board(), ask), longer.duplicate()))
 }
 
 impl<K: TokenId> Caller<K> {

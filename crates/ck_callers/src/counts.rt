@@ -42,10 +42,11 @@ impl<K: TokenId> CallerCount<K> {
     pub fn are_all(&self, callers: &[Caller<K>]) -> bool
         ensures { result ≡ are_all K.callers callers.now }
     {
-        are_all(self.count, callers)
+        covers_all(self.count, callers)
     }
 }
 
+/// Whether one of the callers has the number.
 fn has_caller<K: TokenId>(number: u32, callers: &[Caller<K>]) -> bool
     ensures { result ≡ list_any (λ caller. caller.number == number) callers.now }
 {
@@ -54,8 +55,8 @@ fn has_caller<K: TokenId>(number: u32, callers: &[Caller<K>]) -> bool
 
 /// Whether each of the numbers 1 to `most` is that of one of the callers.
 // By recursion, as the definition goes.
-fn are_all<K: TokenId>(most: u32, callers: &[Caller<K>]) -> bool
+fn covers_all<K: TokenId>(most: u32, callers: &[Caller<K>]) -> bool
     ensures { result ≡ are_all most callers.now }
 {
-    most == 0 || (has_caller(most, callers) && are_all(most - 1, callers))
+    most == 0 || (has_caller(most, callers) && covers_all(most - 1, callers))
 }

@@ -10,8 +10,8 @@ use crate::identity::TokenId;
 use ck_journal::MOST_CALLERS;
 use std::marker::Model;
 
-/// How many callers a token may have.
-const COUNTS: usize = MOST_CALLERS as usize;
+/// `MOST_CALLERS`, as the length of an array.
+const CALLERS: usize = MOST_CALLERS as usize;
 
 /// A history with how many calls of each caller it has, and a front of it since which no entry has
 /// changed the board. Contracts see the two histories.
@@ -19,7 +19,7 @@ const COUNTS: usize = MOST_CALLERS as usize;
 pub struct KnownHistory<K: TokenId> {
     front: Front<K>,
     changed: Front<K>,
-    calls: [u64; COUNTS],
+    calls: [u64; CALLERS],
 }
 
 impl<K: TokenId> Model for KnownHistory<K> {
@@ -61,7 +61,7 @@ impl<K: TokenId> KnownHistory<K> {
         KnownHistory {
             front: front.duplicate(),
             changed: front.duplicate(),
-            calls: [0; COUNTS],
+            calls: [0; CALLERS],
         }
     }
 
@@ -98,12 +98,12 @@ impl<K: TokenId> KnownHistory<K> {
         self.changed.begins(&other.front) && other.front.begins(&self.front)
     }
 
-    /// A history that is no shorter than this one, and whose board is that of another history: the
-    /// longer one of the two. `None` where the other lacks an entry which changed the board.
-    pub(crate) fn newest<'a>(&'a self, other: &'a KnownHistory<K>) -> Option<&'a KnownHistory<K>>
-        ensures front { IfSome result (λ newest. IsFront self.now.history newest.now.history) }
-        ensures board { IfSome result (λ newest. board_of K.limits other.now.history
-            ≡ board_of K.limits newest.now.history) }
+    /// The longer of this history and the other one, where both have the same board. `None` where
+    /// the other lacks an entry that changed the board.
+    pub(crate) fn longer<'a>(&'a self, other: &'a KnownHistory<K>) -> Option<&'a KnownHistory<K>>
+        ensures front { IfSome result (λ longer. IsFront self.now.history longer.now.history) }
+        ensures board { IfSome result (λ longer. board_of K.limits other.now.history
+            ≡ board_of K.limits longer.now.history) }
         ensures none { IfNone result (Covers self.now other.now.history → ⊥) }
     {
         if self.front.begins(&other.front) {

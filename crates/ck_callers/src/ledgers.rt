@@ -9,7 +9,7 @@ use std::alloc::Global;
 use std::marker::{Model, PhantomData};
 use std::sync::ledger::{Blank, Book, Ledger, Share};
 
-/// The ledger of the calls of the caller of this number. Its one part is the caller's.
+/// A ledger that counts the calls of caller `N`. Only that caller has a part of it.
 pub struct CallerLedger<K: TokenId, const N: u64> {
     of: PhantomData<K>,
 }
@@ -213,7 +213,7 @@ impl NewLedgers {
 }
 
 /// Shows that the book has as many calls as the caller's part, and counts `calls` more in both.
-fn enter<L: Ledger>(book: &mut Book<L>, share: &mut Share<L>, calls: u64)
+fn enter_in<L: Ledger>(book: &mut Book<L>, share: &mut Share<L>, calls: u64)
     requires { (L.parts ≡ 1) × (share.old.parts ≡ 1) }
     ensures parts { share.new.parts ≡ 1 }
     ensures share { share.new.amount ≡ share.old.amount + calls }
@@ -241,14 +241,14 @@ impl<K: TokenId> CallBooks<K> {
         ensures none { calls ≡ 0 → self.new ≡ self.old }
     {
         match share {
-            CallerShare::One(share) => enter(&mut self.one, share, calls),
-            CallerShare::Two(share) => enter(&mut self.two, share, calls),
-            CallerShare::Three(share) => enter(&mut self.three, share, calls),
-            CallerShare::Four(share) => enter(&mut self.four, share, calls),
-            CallerShare::Five(share) => enter(&mut self.five, share, calls),
-            CallerShare::Six(share) => enter(&mut self.six, share, calls),
-            CallerShare::Seven(share) => enter(&mut self.seven, share, calls),
-            CallerShare::Eight(share) => enter(&mut self.eight, share, calls),
+            CallerShare::One(share) => enter_in(&mut self.one, share, calls),
+            CallerShare::Two(share) => enter_in(&mut self.two, share, calls),
+            CallerShare::Three(share) => enter_in(&mut self.three, share, calls),
+            CallerShare::Four(share) => enter_in(&mut self.four, share, calls),
+            CallerShare::Five(share) => enter_in(&mut self.five, share, calls),
+            CallerShare::Six(share) => enter_in(&mut self.six, share, calls),
+            CallerShare::Seven(share) => enter_in(&mut self.seven, share, calls),
+            CallerShare::Eight(share) => enter_in(&mut self.eight, share, calls),
         }
     }
 

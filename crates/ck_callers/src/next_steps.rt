@@ -8,7 +8,7 @@ use std::alloc::Global;
 use std::sync::Wait;
 
 /// What a caller does next at a gate: a call, or a call or a question. `A` is what is answered.
-pub trait NextStep<K: TokenId, A: Drop>: Drop {
+pub(crate) trait NextStep<K: TokenId, A: Drop>: Drop {
     ghost use Rattle.ck_callers.specs.Callers.{CallerState};
 
     // what it does: the caller before it, the step, what is answered, the caller after it

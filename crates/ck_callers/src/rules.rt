@@ -2,7 +2,7 @@ use ck_journal::Entry;
 use logbook::{Gain, Plain, Play, Rule};
 
 /// The rule of the one word that threads share: it is the length of the log.
-pub struct LengthOfLog;
+pub(crate) struct LengthOfLog;
 
 impl Rule<Entry, u64> for LengthOfLog {
     ghost use Rattle.std.specs.Prelude.{[]};
@@ -23,7 +23,7 @@ impl Rule<Entry, u64> for LengthOfLog {
 }
 
 /// What a caller gains by a step beside the entry: nothing.
-pub struct Nothing;
+pub(crate) struct Nothing;
 
 impl Gain<Entry, u64> for Nothing {
     ghost use base.Fml.{ftrue};
@@ -32,7 +32,7 @@ impl Gain<Entry, u64> for Nothing {
 }
 
 /// The step that adds an entry.
-pub struct Add;
+pub(crate) struct Add;
 
 impl Play<Entry, u64> for Add {
     ghost use Rattle.ck_callers.specs.Rules.{Adds};

@@ -132,7 +132,8 @@ pub(crate) fn flag_or(items: &[Item], attribute: Attribute, other: bool) -> bool
     }
 }
 
-/// Copies of the items, whose values then move into the attributes of an object.
+/// Copies of the items, whose values then move into the attributes of an object. All memory is
+/// taken here, before the first value moves, so the moves can't fail.
 pub(crate) fn copied_items(alloc: Global, items: &[Item]) -> Result<Vec<Item>, NoMemory>
     ensures { IfOk result (λ copies. copies.items ≡ items.now) }
 {

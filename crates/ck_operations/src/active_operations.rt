@@ -46,18 +46,21 @@ impl Operation {
         }
     }
 
-    pub(crate) fn is_of(&self, kind: OperationKind, session: u64) -> bool
+    /// Whether it is the session's operation of the kind.
+    pub(crate) fn is_operation(&self, kind: OperationKind, session: u64) -> bool
         ensures { result ≡ is_operation kind session self.now }
     {
         self.session == session && self.kind == kind
     }
 
+    /// Whether it is an operation of the session.
     pub(crate) fn is_of_session(&self, session: u64) -> bool
         ensures { result ≡ is_of_session session self.now }
     {
         self.session == session
     }
 
+    /// Whether it is an operation of the session whose kind the flags name.
     pub(crate) fn is_named(&self, session: u64, flags: u64) -> bool
         ensures { result ≡ is_named session flags self.now }
     {

@@ -9,6 +9,7 @@ use crate::active_operations::Operation;
 use ck_journal::OperationKind;
 use ck_mac::RunningTag;
 
+/// The session's operation of the kind.
 pub(crate) fn find_operation(
     rows: &[Operation],
     kind: OperationKind,
@@ -16,14 +17,15 @@ pub(crate) fn find_operation(
 ) -> Option<&Operation>
     ensures { option_copied result ≡ find (is_operation kind session) rows.now }
 {
-    rows.iter().find(|row| row.is_of(kind, session))
+    rows.iter().find(|row| row.is_operation(kind, session))
 }
 
+/// Where the session's operation of the kind stands.
 // By position: no contract says what becomes of a row that `iter_mut().find` lends.
 fn position_of(rows: &[Operation], kind: OperationKind, session: u64) -> Option<usize>
     ensures { result ≡ position (is_operation kind session) rows.now }
 {
-    rows.iter().position(|row| row.is_of(kind, session))
+    rows.iter().position(|row| row.is_operation(kind, session))
 }
 
 /// Adds a piece to the message of the session's operation of the kind, where there is one.
@@ -46,13 +48,15 @@ pub(crate) fn add_piece(
     }
 }
 
+/// Ends the session's operation of the kind, where there is one.
 pub(crate) fn remove_operation(rows: &mut Vec<Operation>, kind: OperationKind, session: u64)
     ensures { rows.new.items
         ≡ filter (λ (row : Operation). not (is_operation kind session row)) rows.old.items }
 {
-    rows.retain(|row| !row.is_of(kind, session));
+    rows.retain(|row| !row.is_operation(kind, session));
 }
 
+/// Ends all operations of the session.
 pub(crate) fn remove_session(rows: &mut Vec<Operation>, session: u64)
     ensures { rows.new.items
         ≡ filter (λ (row : Operation). not (is_of_session session row)) rows.old.items }
@@ -60,6 +64,7 @@ pub(crate) fn remove_session(rows: &mut Vec<Operation>, session: u64)
     rows.retain(|row| !row.is_of_session(session));
 }
 
+/// Ends the session's operations whose kinds the flags of C_SessionCancel name.
 pub(crate) fn remove_named(rows: &mut Vec<Operation>, session: u64, flags: u64)
     ensures { rows.new.items
         ≡ filter (λ (row : Operation). not (is_named session flags row)) rows.old.items }

@@ -21,6 +21,7 @@ pub enum Change {
         owner: UserType,
         pin: Pin,
     },
+    /// The session's number isn't here: ck_sessions counts on by one, as the reply did.
     OpenSession {
         flags: u64,
     },
@@ -32,7 +33,8 @@ pub enum Change {
         user: UserType,
     },
     LogOut,
-    /// A creation, or a copy, in this session.
+    /// A creation, or a copy, in this session. The object's number isn't here: ck_store counts on by
+    /// one, as the handle in the reply did.
     CreateObject {
         session: u64,
         attributes: Boxed<Record>,

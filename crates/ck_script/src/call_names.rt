@@ -29,7 +29,7 @@ impl fmt::Display for Arity {
 
 /// The functions that a script calls: all except `SetKeyState` are the standard's.
 #[derive(Clone, Copy, Debug, PartialEq, Eq)]
-pub enum Function {
+pub(crate) enum Function {
     InitToken,
     InitPin,
     SetPin,

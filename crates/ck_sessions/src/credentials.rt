@@ -3,7 +3,7 @@ ghost use Rattle.std.specs.Prelude.{◌≡◌, Some};
 use ck_types::Pin;
 
 /// A user's PIN, and how many wrong tries of it were made since they last went back to 0.
-#[derive(Clone, Copy, PartialEq, Eq)]
+#[derive(Clone, Copy)]
 pub struct Credential {
     pub pin: Option<Pin>,
     pub tries: u64,

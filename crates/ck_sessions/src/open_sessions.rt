@@ -38,12 +38,14 @@ impl Session {
         }
     }
 
+    /// Whether this is its handle.
     pub(crate) fn has_handle(&self, handle: u64) -> bool
         ensures { result ≡ is_session handle self.now }
     {
         self.handle == handle
     }
 
+    /// Its handle.
     pub(crate) fn handle(&self) -> u64
         ensures { result ≡ self.now.handle }
     {

@@ -12,6 +12,7 @@ use crate::open_sessions::Session;
 use crate::searches::Search;
 use ck_journal::TokenBoard;
 
+/// The session that has the handle.
 pub(crate) fn find_session(rows: &[Session], session: u64) -> Option<&Session>
     ensures { option_copied result ≡ find (is_session session) rows.now }
 {
@@ -32,6 +33,7 @@ pub(crate) fn has_read_only(rows: &[Session]) -> bool
     rows.iter().any(|row| !row.is_read_write())
 }
 
+/// Closes the session that has the handle.
 pub(crate) fn remove_session(rows: &mut Vec<Session>, session: u64)
     ensures { rows.new.items
         ≡ filter (λ (row : SessionRow). not (is_session session row)) rows.old.items }
@@ -39,6 +41,7 @@ pub(crate) fn remove_session(rows: &mut Vec<Session>, session: u64)
     rows.retain(|row| !row.has_handle(session));
 }
 
+/// Where the session that has the handle stands.
 // By position: no contract says what becomes of a row that `iter_mut().find` lends.
 fn position_of(rows: &[Session], session: u64) -> Option<usize>
     ensures { result ≡ position (is_session session) rows.now }

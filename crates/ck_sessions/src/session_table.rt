@@ -204,6 +204,7 @@ impl Sessions {
         }
     }
 
+    /// What C_GetTokenInfo and C_GetSessionInfo read of the login and the PINs.
     fn login_status(&self) -> LoginStatus
         ensures { (h : History) → SessionsAgree h self.now → result ≡ login_status h }
     {

@@ -5,7 +5,7 @@ ghost use Rattle.ck_journal.specs.Histories.{◌◁◌, entry_count};
 ghost use Rattle.ck_callers.specs.KnownHistories.{Covers};
 ghost use Rattle.ck_journal.specs.declared.calls.Entry.{Entry};
 
-use ck_callers::{BoardCopy, CallBooks, Caller, BoardSlot, Front, Head, KnownHistory, TokenId};
+use ck_callers::{BoardCopy, BoardSlot, CallBooks, Caller, Front, Head, KnownHistory, TokenId};
 use ck_journal::{Call, JournaledToken, Reply, Work};
 use ck_types::NoMemory;
 use left_right::{Absorb, WriteHandle};
@@ -50,8 +50,8 @@ where
         (published l.writer) × (pending l.writer ≡ []) };
 }
 
-/// Makes a slot for the board after a call, one handle of which is then pending. `None` where the
-/// call leaves the board as it is.
+/// Makes an empty slot for the board after a call, and appends one of its two handles to the
+/// writer's operations. `None` where the call leaves the board as it is.
 fn add_slot<K: TokenId, R: Wait + Drop>(
     alloc: Global,
     writer: &mut WriteHandle<BoardCopy<K>, BoardSlot<K>, R>,
@@ -144,7 +144,7 @@ fn extend<K: TokenId, G: JournaledToken, W: Wait>(
 }
 
 /// Shows that the history is no shorter than another front of it.
-fn show_front<K: TokenId, W: Wait>(rt: &W, other: &Front<K>, front: &Front<K>)
+fn show_is_front<K: TokenId, W: Wait>(rt: &W, other: &Front<K>, front: &Front<K>)
     ensures { IsFront other.now front.now }
 {
     // The first pass returns: the history under the lock has all entries. No contract says so of
@@ -198,7 +198,7 @@ impl<K: TokenId, G: JournaledToken, R: Wait + Drop> Locked<K, G, R> {
         ensures settled { IsSettled self.old.history caller }
     {
         caller.compare(&mut self.books);
-        show_front(rt, caller.known().front(), self.known.front());
+        show_is_front(rt, caller.known().front(), self.known.front());
     }
 
     /// The token without its lock. It may wait for those who still read the board.
@@ -234,7 +234,7 @@ impl<K: TokenId, G: JournaledToken, R: Wait + Drop> Locked<K, G, R> {
     pub(crate) fn show_front<W: Wait>(&self, rt: &W, front: &Front<K>)
         ensures { IsFront front.now self.now.history }
     {
-        show_front(rt, front, self.known.front());
+        show_is_front(rt, front, self.known.front());
     }
 
     /// One call of a caller. Where there is no memory for it, nothing has changed. Where the call

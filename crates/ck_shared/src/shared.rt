@@ -15,7 +15,8 @@ pub struct SharedToken<K: TokenId, G: JournaledToken, R: Wait + Drop> {
     callers: CallerCount<K>,
 }
 
-/// What sharing a token gives: the shared token, and its callers in the order of their numbers.
+/// The two ends of a shared token: what all threads are lent, and the callers in the order of their
+/// numbers.
 #[derive(Drop)]
 pub struct Ends<K: TokenId, G: JournaledToken, R: Wait + Drop> {
     pub token: SharedToken<K, G, R>,

@@ -20,8 +20,8 @@ use std::sync::Wait;
 use std::thread::Threads;
 use std::{mem, thread};
 
-/// The work of each caller of a shared token. Its method is over any `K`, so who implements it
-/// needs no proof file for `K`. `R` is the runtime.
+/// The work of each caller of a shared token. `R` is the runtime. `act` is over any `K`, so an
+/// implementation needs no proof file that says what `K` stands for.
 pub trait CallerWork<R> {
     ghost use Rattle.ck_callers.specs.Callers.{CallerState};
 

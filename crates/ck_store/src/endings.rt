@@ -46,6 +46,7 @@ fn end_object(objects: &mut Slab<StoredObject>, place: Place, ending: Ending)
     }
 }
 
+/// Ends those objects of these places that the ending ends.
 fn end_objects(objects: &mut Slab<StoredObject>, places: &[Place], ending: Ending)
     ensures left { IsLeft (is_ended_by ending) objects.old objects.new }
     ensures ended { (p : Place) → Contains places.now p

@@ -12,7 +12,8 @@ const FNV_BASIS: u32 = 0x811c_9dc5;
 const FNV_PRIME: u32 = 0x0100_0193;
 
 /// The mark of a label, a hash of 32 bits: FNV-1, except that each byte is added, and not combined
-/// by exclusive or. Equal labels have equal marks, and others seldom have.
+/// by exclusive or, so that the definition is plain arithmetic. Equal labels have equal marks, and
+/// others seldom have.
 fn label_mark(label: &[u8]) -> u32
     ensures { result ≡ label_mark label.now }
 {

@@ -38,6 +38,7 @@ pub(crate) fn object_at(objects: &Slab<StoredObject>, place: Place) -> Option<&S
     }
 }
 
+/// Whether the object of the place hasn't ended.
 fn is_there(objects: &Slab<StoredObject>, place: Place) -> bool
     ensures { result ≡ is_there objects.now place }
 {
@@ -206,8 +207,7 @@ pub(crate) fn remove_numbered(objects: &mut Slab<StoredObject>, index: &[Place],
     }
 }
 
-/// Drops the places of ended objects, where the index has more than twice as many places as there
-/// are objects, and one.
+/// Drops the places of ended objects, where the index has more than 2n + 1 places for n objects.
 pub(crate) fn compact(objects: &Slab<StoredObject>, index: &mut Vec<Place>)
     ensures objects { objects_at objects.now index.new.items
         ≡ objects_at objects.now index.old.items }

@@ -21,6 +21,7 @@ pub(crate) struct SessionList {
 }
 
 impl SessionList {
+    /// A list without places.
     fn new(alloc: Global, session: u64, private: bool) -> SessionList
         ensures session { result.session ≡ session }
         ensures private { result.private ≡ private }
@@ -71,6 +72,7 @@ fn make_room(objects: &Slab<StoredObject>, places: &mut Vec<Place>) -> Result<()
     Ok(())
 }
 
+/// Where the session's list for private objects, or that for public ones, stands.
 fn position_of(lists: &[SessionList], session: u64, private: bool) -> Option<usize>
     ensures within { IfSome result (λ i. i < length lists.now) }
     ensures position { result ≡ position (is_list_of session private) lists.now }

@@ -53,12 +53,14 @@ impl StoredObject {
         }
     }
 
+    /// Its number: that of the creation that made it.
     pub(crate) fn number(&self) -> u64
         ensures { result ≡ self.now.number }
     {
         self.number
     }
 
+    /// Its attributes.
     pub(crate) fn attributes(&self) -> &Record
         ensures { result.now ≡ self.now.attributes }
     {
@@ -75,12 +77,14 @@ impl StoredObject {
         self.attributes.change(values);
     }
 
+    /// Gives a key another state.
     pub(crate) fn set_state(&mut self, state: KeyState)
         ensures { self.new ≡ record self.old { attributes = with_state state self.old.attributes } }
     {
         self.attributes.set_state(state);
     }
 
+    /// Whether a view shows it: a private object only while the normal user is logged in.
     fn is_visible(&self, view: View) -> bool
         ensures { result ≡ is_visible_with view self.now.attributes }
     {
@@ -106,6 +110,7 @@ impl StoredObject {
         self.is_visible(view) && self.attributes.matches(template)
     }
 
+    /// Whether it is private (CKA_PRIVATE).
     pub(crate) fn is_private(&self) -> bool
         ensures { result ≡ is_private_row self.now }
     {

@@ -18,7 +18,7 @@ use std::marker::Model;
 pub struct Store {
     objects: Slab<StoredObject>,
     /// The places of all objects, in rising numbers. A place stays in it for a while after its
-    /// object has ended: until the places are more than twice as many as the objects, and one.
+    /// object has ended: until there are more than 2n + 1 places for n objects.
     index: Vec<Place>,
     lists: Vec<SessionList>,
     /// The newest object, until its session's list takes it, which is before the next object is

@@ -14,6 +14,7 @@ use std::alloc::Global;
 use std::marker::Model;
 use std::mem;
 
+mod mechanisms;
 mod object_calls;
 mod operation_calls;
 mod pin_calls;
@@ -51,7 +52,7 @@ impl Model for Token {
     ghost invariant = { λ t. TokenAgrees t.limits t.journal.history t.parts };
 }
 
-/// `NoMemory`, for a call of which this is left: `drop_apart` drops it.
+/// Drops what is left of a call, and answers `NoMemory`.
 #[inline(always)]
 fn out_of_memory<T: Drop>(left: T) -> NoMemory {
     drop_apart(left);

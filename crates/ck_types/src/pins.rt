@@ -10,7 +10,8 @@ const SHORTEST_PIN: u64 = 4;
 const LONGEST_PIN: u64 = 64;
 
 /// What the token keeps of a PIN: its length and its SHA-256 digest (FIPS 180-4). Two PINs count as
-/// the same where both are equal.
+/// the same where both are equal. `==` may stop at the first difference; the token compares by
+/// `matches`.
 #[derive(Clone, Copy, PartialEq, Eq)]
 pub struct Pin {
     /// The length of the PIN in bytes.

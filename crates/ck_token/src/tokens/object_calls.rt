@@ -2,9 +2,10 @@ ghost use Rattle.std.specs.Prelude.{◌≡◌, Some, None, IfOk, IfErr};
 ghost use Rattle.ck_types.specs.Checks.{check_of};
 ghost use Rattle.ck_objects.specs.KeyStates.{state_of_number};
 ghost use Rattle.ck_objects.specs.Records.{state_in};
-ghost use Rattle.ck_journal.specs.Answers.{prohibited_error, parameter_error, transition_error};
+ghost use Rattle.ck_journal.specs.Answers.{prohibited_error, transition_error};
 
 use super::Token;
+use super::mechanisms::check_no_parameter;
 use crate::decisions::{Decision, Refused};
 use crate::queries::queries_reply;
 use ck_journal::{AttributeQuery, Body};
@@ -20,14 +21,6 @@ fn check_flag(attributes: &Record, flag: Attribute) -> Result<(), RvError>
     ensures { result ≡ check_of (prohibited_error flag attributes.now) }
 {
     error_if(!attributes.is_set(flag), RvError::ActionProhibited)
-}
-
-/// CKR_MECHANISM_PARAM_INVALID (71) where the mechanism has a parameter.
-pub(super) fn check_no_parameter(mechanism: &Mechanism) -> Result<(), RvError>
-    ensures { result ≡ check_of (parameter_error mechanism.now) }
-{
-    let has_parameter = !mechanism.parameter.as_slice().is_empty();
-    error_if(has_parameter, RvError::MechanismParamInvalid)
 }
 
 /// The state of this number, where the key may go over to it. Checks: CKR_ARGUMENTS_BAD (7) where
@@ -63,6 +56,7 @@ impl Token {
     // ---- checks
 
     /// CKR_SESSION_READ_ONLY (b5) where a read-only session writes a token object.
+    // A method only for its clause, which is about the token's history.
     fn check_writable(&self, row: &Session, placement: Placement) -> Result<(), RvError>
         ensures { (s : ℕ) → row.now ≡ session_row self.now.history s
             → result ≡ check_of (read_only_session_error self.now.history s placement) }

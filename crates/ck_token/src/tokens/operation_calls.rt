@@ -1,6 +1,6 @@
 ghost use Rattle.std.specs.Prelude.{◌≡◌, ℕ, true, List, length, IfOk, IfSome, MatchOption};
 ghost use Rattle.std.specs.Option.{option_copied};
-ghost use Rattle.ck_types.specs.Checks.{check_of};
+ghost use Rattle.ck_types.specs.Checks.{check_of, error_if};
 ghost use Rattle.ck_types.specs.declared.return_codes.Rv.TheVariants as rv;
 ghost use Rattle.ck_journal.specs.Answers.{ok, bytes_reply, key_state_error, may_serve, usage_flag};
 ghost use Rattle.ck_journal.specs.Answers.{usage_error};
@@ -11,7 +11,7 @@ ghost use Rattle.ck_parts.specs.declared.changes.Change.TheVariants as change;
 ghost use Rattle.ck_token.specs.declared.decisions.Refused.TheVariants as refused;
 
 use super::Token;
-use super::object_calls::check_no_parameter;
+use super::mechanisms::check_no_parameter;
 use crate::decisions::{Decision, Refused};
 use ck_journal::{Body, OperationKind, is_too_long};
 use ck_mac::{RunningTag, Tag};
@@ -140,14 +140,24 @@ impl Token {
     ghost use Rattle.ck_journal.specs.Answers.{final_error, verify_error, verify_final_error};
     ghost use Rattle.ck_journal.specs.Answers.{update_error, hmac_init_error, tag_in};
     ghost use Rattle.ck_journal.specs.Objects.{object_named};
-    ghost use Rattle.ck_journal.specs.Operations.{message_in, is_updated};
+    ghost use Rattle.ck_journal.specs.Operations.{is_active, message_in, is_updated};
     ghost use Rattle.ck_journal.specs.Works.{HoldsWith};
+    ghost use Rattle.ck_types.specs.declared.errors.RvError.TheVariants as rv_error;
     ghost use Rattle.ck_journal.specs.declared.calls.Call.TheVariants as call;
     ghost use Rattle.ck_operations.specs.Agreement.{OperationAgrees, active_operation};
     ghost use Rattle.ck_parts.specs.Changes.{end_if_too_long, start_hmac};
     ghost use Rattle.ck_token.specs.Decisions.{IsDecision, IsDecided};
 
     // ---- starts
+
+    /// CKR_OPERATION_ACTIVE (90) where the session has an active operation of the kind.
+    fn check_idle(&self, kind: OperationKind, session: u64) -> Result<(), RvError>
+        ensures { result ≡ check_of
+            (error_if (is_active kind self.now.history session) rv_error.OperationActive) }
+    {
+        let is_active = self.operation(kind, session).is_ok();
+        error_if(is_active, RvError::OperationActive)
+    }
 
     /// C_DigestInit. Checks: CKR_SESSION_HANDLE_INVALID (b3), CKR_OPERATION_ACTIVE (90),
     /// CKR_MECHANISM_INVALID (70), CKR_MECHANISM_PARAM_INVALID (71).
@@ -160,8 +170,7 @@ impl Token {
             (call.DigestInit session mechanism.now) result }
     {
         self.session(session)?;
-        let is_active = self.operation(OperationKind::Digest, session).is_ok();
-        error_if(is_active, RvError::OperationActive)?;
+        self.check_idle(OperationKind::Digest, session)?;
         let hash = digest_of(mechanism.kind).ok_or(RvError::MechanismInvalid)?;
         check_no_parameter(mechanism)?;
         Ok(Decision::of_change(Change::StartDigest { session, hash }))
@@ -199,8 +208,7 @@ impl Token {
             (λ code. change.Nothing) true result }
     {
         self.session(session)?;
-        let is_active = self.operation(kind, session).is_ok();
-        error_if(is_active, RvError::OperationActive)?;
+        self.check_idle(kind, session)?;
         let hash = mac_of(mechanism.kind).ok_or(RvError::MechanismInvalid)?;
         let len = mechanism
             .tag_length()
@@ -413,10 +421,12 @@ impl Token {
         ensures { IsDecision self.now.limits self.now.history
             (call.Verify session bytes.now signature.now) result }
     {
-        match self.check_verify(session, bytes, signature, ready) {
-            Err(error) => Err(ending_refusal(OperationKind::Verify, session, error)),
-            Ok(()) => Ok(Decision::of_change(operation_end(OperationKind::Verify, session, true))),
-        }
+        self.check_verify(session, bytes, signature, ready).map_err(|error| ending_refusal(
+            OperationKind::Verify,
+            session,
+            error,
+        ))?;
+        Ok(Decision::of_change(operation_end(OperationKind::Verify, session, true)))
     }
 
     /// C_VerifyFinal. Checks: CKR_SESSION_HANDLE_INVALID (b3), CKR_OPERATION_NOT_INITIALIZED (91),
@@ -426,9 +436,11 @@ impl Token {
         ensures { IsDecision self.now.limits self.now.history
             (call.VerifyFinal session signature.now) result }
     {
-        match self.check_verify_final(session, signature) {
-            Err(error) => Err(ending_refusal(OperationKind::Verify, session, error)),
-            Ok(()) => Ok(Decision::of_change(operation_end(OperationKind::Verify, session, true))),
-        }
+        self.check_verify_final(session, signature).map_err(|error| ending_refusal(
+            OperationKind::Verify,
+            session,
+            error,
+        ))?;
+        Ok(Decision::of_change(operation_end(OperationKind::Verify, session, true)))
     }
 }
