@@ -1,10 +1,14 @@
 ghost use Rattle.std.specs.Prelude.{◌≡◌, [], ◌∷◌, false, IfOk, OnErr};
 ghost use Rattle.ck_journal.specs.Lists.{is_empty};
 ghost use Rattle.ck_journal.specs.Queries.{query_answer, queries_code, queries_reply};
+ghost use Rattle.ck_parts.specs.declared.changes.Change.TheVariants as change;
+ghost use Rattle.ck_token.specs.Decisions.{reply_of};
 ghost use Rattle.ck_token.specs.QueryCodes.{rank, higher};
 
-use ck_journal::{Answer, AttributeQuery, Body, Reply};
+use crate::decisions::Decision;
+use ck_journal::{Answer, AttributeQuery, Body};
 use ck_objects::Record;
+use ck_parts::Change;
 use ck_types::{NoMemory, Rv, RvError, Sequence};
 use std::alloc::Global;
 
@@ -57,14 +61,16 @@ fn query_reply(
     }
 }
 
-/// The reply to queries of an object with these attributes: one answer for each, and one code.
-/// Without queries this takes no memory.
+/// The decision on queries of an object with these attributes: one answer for each, and one code.
+/// They change nothing. Without queries this takes no memory.
 pub(crate) fn queries_reply(
     alloc: Global,
     attributes: &Record,
     queries: &[AttributeQuery],
-) -> Result<Reply, NoMemory>
-    ensures reply { IfOk result (λ reply. reply ≡ queries_reply attributes.now queries.now) }
+) -> Result<Decision, NoMemory>
+    ensures reply { IfOk result (λ decision.
+        reply_of decision ≡ queries_reply attributes.now queries.now) }
+    ensures change { IfOk result (λ decision. decision.change ≡ change.Nothing) }
     ensures memory { OnErr result (is_empty queries.now ≡ false) }
 {
     let mut answers = Vec::with_capacity(alloc, queries.len())?;
@@ -74,8 +80,9 @@ pub(crate) fn queries_reply(
         answers.push(answer)?;
         rv = higher(rv, code);
     }
-    Ok(Reply {
+    Ok(Decision {
         rv,
         body: Body::Attributes(Sequence::from_vec(answers)),
+        change: Change::Nothing,
     })
 }

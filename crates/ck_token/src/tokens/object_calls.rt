@@ -216,12 +216,7 @@ impl Token {
     {
         self.session(session)?;
         let (_, attributes) = self.object(object)?;
-        let reply = queries_reply(alloc, attributes, queries)?;
-        Ok(Decision {
-            rv: reply.rv,
-            body: reply.body,
-            change: Change::Nothing,
-        })
+        Ok(queries_reply(alloc, attributes, queries)?)
     }
 
     /// C_SetAttributeValue. Checks: CKR_SESSION_HANDLE_INVALID (b3), CKR_OBJECT_HANDLE_INVALID
