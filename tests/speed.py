@@ -51,39 +51,68 @@ def searches(count, attribute):
         "1 FindObjectsFinal 1")]
 
 
+def changes(count):
+    """Calls that give these objects the labels that they have."""
+    return [f"1 SetAttributeValue 1 {number + 1} 3={number:08x}" for number in range(count)]
+
+
+def single_results(count):
+    """Calls that search for all of these objects, and get them one by one."""
+    return ["1 FindObjectsInit 1 -"] + ["1 FindObjects 1 1"] * count
+
+
+def sessions(count):
+    """Calls that open sessions, one after the other, and create a session object in each."""
+    return [line for number in range(count) for line in (
+        "1 OpenSession 6", f"1 CreateObject {number + 2} 0=0000000000000000",
+        f"1 CloseSession {number + 2}")]
+
+
+def long_template(count):
+    """A creation by so many equal labels, and as many equal applications."""
+    return [f"1 CreateObject 1 0=0000000000000000{',3=61' * count}{',10=61' * count}"]
+
+
 def label_searches(tests):
-    """A search by a label passes over most objects without reading them."""
+    """A search by a label passes over most objects without reading them, also where the template
+    begins with another attribute, and where the labels were given anew."""
     made = creations(20_000)
-    created = seconds_of(tests, made)
-    by_label = seconds_of(tests, made + searches(500, "3")) - created
-    by_application = seconds_of(tests, made + searches(500, "10")) - created
-    tests.expect(by_label * 3 < by_application,
-                 f"500 searches by label took {by_label:.3f} s, by application "
-                 f"{by_application:.3f} s")
+    for first, attributes in ((made, "3"), (made, "0=0000000000000000,3"),
+                              (made + changes(20_000), "3")):
+        before = seconds_of(tests, first)
+        by_label = seconds_of(tests, first + searches(500, attributes)) - before
+        by_application = seconds_of(tests, first + searches(500, "10")) - before
+        tests.expect(by_label * 3 < by_application,
+                     f"500 searches by {attributes} behind {len(first)} calls took "
+                     f"{by_label:.3f} s, by application {by_application:.3f} s")
     tests.end("searches by label")
 
 
-def many_objects(tests):
-    """The creation of an object takes as long among many."""
-    few, many = seconds_of(tests, creations(20_000)), seconds_of(tests, creations(80_000))
-    tests.expect(many < 8 * few, f"20,000 creations took {few:.3f} s, 80,000 {many:.3f} s")
-    tests.end("creations among many objects")
+# What takes as long among many as among few, how often, and the calls of so many.
+EVEN = [
+    ("creations of objects", 20_000, creations),
+    ("creations and destructions of objects", 20_000,
+     lambda count: creations(count) + destructions(count)),
+    ("results of a search, one by one,", 5_000,
+     lambda count: creations(count) + single_results(count)),
+    ("sessions with an object each, one after the other,", 10_000, sessions),
+    ("items of two attributes each in a template", 25_000, long_template),
+]
 
 
-def ended_objects(tests):
-    """The end of an object takes as long among many."""
-    few, many = [seconds_of(tests, creations(count) + destructions(count))
-                 for count in (20_000, 80_000)]
-    tests.expect(many < 8 * few, f"20,000 creations and destructions took {few:.3f} s, 80,000 "
-                 f"{many:.3f} s")
-    tests.end("destructions among many objects")
+def even_times(tests):
+    """Four times as many take less than eight times as long."""
+    for what, count, calls_of in EVEN:
+        few, many = seconds_of(tests, calls_of(count)), seconds_of(tests, calls_of(4 * count))
+        tests.expect(many < 8 * few,
+                     f"{count} {what} took {few:.3f} s, {4 * count} took {many:.3f} s")
+    tests.end("times among many")
 
 
 def main(path):
     tests = program.Tests(path, "speed")
     label_searches(tests)
-    many_objects(tests)
-    ended_objects(tests)
+    even_times(tests)
     return tests.status()
 
 
