@@ -14,11 +14,13 @@ CRATES = os.path.join(HERE, "..", "crates")
 
 HEAD = """# Contracts
 
-The contracts of all public functions, as they stand in the sources: what a caller must show first
-(`requires`) and what is proved of every call (`ensures`). `python3 docs/contracts.py` writes this
-page, and `./check` looks whether it is as the sources are. [proofs.md](proofs.md) says what the
-definitions mean that the clauses name; they stand in the `specs` folders. A function whose contract
-is its trait's isn't named here.
+The public functions that have a contract, with their signatures and clauses as they stand in the
+sources: what a caller must show first (`requires`) and what is proved of every call (`ensures`). A
+function without a clause, a conversion by `From` and a method whose contract is its trait's aren't
+named here. [proofs.md](proofs.md) says how a clause is read and what the definitions mean that
+clauses name; they stand in the `specs` folders.
+
+`python3 docs/contracts.py` writes this page, and `./check` looks whether it is as the sources are.
 """
 
 # The example of ck_token: the file in which it is run by a test, and those that show it, each with
@@ -29,6 +31,8 @@ SHOWN = [("crates/ck_token/src/lib.rt", "//! "), ("docs/rust.md", "    ")]
 FUNCTION = re.compile(
     r'^( *)(pub(?:\([a-z]+\))? )?(?:const )?(?:unsafe )?(?:extern "C" )?fn (\w+)')
 BLOCK = re.compile(r"^(?:pub(?:\([a-z]+\))? )?(?:unsafe )?(?:impl|trait)\b(.*?)\s*\{?$")
+# Where the clauses of a function begin.
+CLAUSE = re.compile(r"(requires|ensures|ghost)\b")
 # A line at the left side in which nothing begins.
 GOES_ON = re.compile(r"[ )}/#{]|where$")
 
@@ -65,7 +69,7 @@ def clauses_after(lines, start, indent):
         if line.startswith((indent + "{", indent + "}")):
             break
         text = line[len(indent) + 4:].rstrip()
-        begins = re.match(r"(requires|ensures|ghost)\b", text)
+        begins = CLAUSE.match(text)
         if (clauses or begins) and not text.startswith("//"):
             clauses.append(text)
         joined = "\n".join(clauses)
@@ -74,6 +78,14 @@ def clauses_after(lines, start, indent):
             clauses = joined.rstrip(";").split("\n") if clauses else []
             break
     return [clause for clause in clauses if clause]
+
+
+def signature(lines, start, indent):
+    """The lines of the function whose name stands in this line, up to its clauses."""
+    rest = itertools.takewhile(
+        lambda line: not CLAUSE.match(line.strip()) and not line.startswith(indent + "{"),
+        lines[start + 1:])
+    return [line[len(indent):].rstrip() for line in [lines[start], *rest]]
 
 
 def first_sentence(lines, start):
@@ -114,12 +126,14 @@ def functions_in(lines):
 
 def contracts_in(path):
     """The public functions of a file with contracts: their names, what they do, and their
-    clauses."""
+    signatures with their clauses."""
     lines = lines_of(path)
     for function in functions_in(lines):
         clauses = clauses_after(lines, function.start, function.indent)
         if function.is_public and clauses:
-            yield function.name, first_sentence(lines, function.start), clauses
+            head = signature(lines, function.start, function.indent)
+            yield (function.name, first_sentence(lines, function.start),
+                   head + ["    " + clause for clause in clauses])
 
 
 def files_of(crate):
@@ -135,9 +149,9 @@ def page():
         if not functions:
             continue
         text.append(f"## {crate}\n")
-        for name, what, clauses in functions:
+        for name, what, contract in functions:
             text.append(f"`{name}`" + (f": {what}" if what else "") + "\n")
-            text.append("\n".join("    " + clause for clause in clauses) + "\n")
+            text.append("\n".join("    " + line for line in contract) + "\n")
     return "\n".join(text)
 
 
