@@ -311,8 +311,8 @@ usage_error k attributes = first_of (
     ∷ key_state_error k attributes
     ∷ [])
 
--- the start of a signing or a verifying: another of the kind is active, the mechanism is no HMAC's
--- or its parameter isn't as it must be, or the key may not be used
+-- the start of a signature or a verification: another of the kind is active, the mechanism is no
+-- HMAC's, its parameter isn't as it must be, or the key may not be used
 abbrev pub hmac_init_error : OperationKind → History → ℕ → Mechanism → ℕ → Option RvError
 hmac_init_error k h session mechanism key = first_of (
     session_error h session

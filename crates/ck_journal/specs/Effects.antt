@@ -8,7 +8,7 @@ use Rattle.ck_journal.specs.Histories.{done}
 use Rattle.ck_journal.specs.OperationCalls.{operation_step}
 
 -- sessions, the login, PINs, or wrong tries that go back to 0 (one more wrong try isn't marked: see
--- `wrong_try`); objects; searches; digests, signings and verifyings
+-- `wrong_try`); objects; searches; digests, signatures and verifications
 pub record Effects : Type 0 where
   pub sessions : Bool
   pub objects : Bool

@@ -72,13 +72,13 @@ verifies (Some (call.Verify session bytes signature)) s = session == s
 verifies (Some (call.VerifyFinal session signature)) s = session == s
 verifies other s = false
 
--- where a signing is answered OK, its key hasn't ended just before and is of a state that signs
+-- where a signature is answered OK, its key hasn't ended just before and is of a state that signs
 abbrev pub SigningKeysMaySign : Type 0
 SigningKeysMaySign =
     (limits : Ranges) (e : Entry) (h : History) → IsSoundHistory limits (e ◁ h) → (session : ℕ)
     → signs (done e) session ≡ true → HasKey kind.Sign may_sign h session
 
--- where a verifying is answered OK, its key hasn't ended just before and is of a state that
+-- where a verification is answered OK, its key hasn't ended just before and is of a state that
 -- verifies
 abbrev pub VerifyingKeysMayVerify : Type 0
 VerifyingKeysMayVerify =

@@ -1,4 +1,4 @@
--- What calls do with digests, signings and verifyings (PKCS #11 Base 3.0, Message digesting
+-- What calls do with digests, signatures and verifications (PKCS #11 Base 3.0, Message digesting
 -- functions, Signing and MACing functions, Functions for verifying signatures and MACs)
 use Rattle.std.specs.Prelude.{ℕ, Bool, true, false, List, [], ◌∷◌, Option, Some, None, ◌==◌, ◌&&◌}
 use Rattle.std.specs.Prelude.{if◌then◌else◌}

@@ -1,5 +1,5 @@
--- Digests, signings and verifyings of sessions (PKCS #11 Base 3.0, Message digesting functions,
--- Signing and MACing functions, Functions for verifying signatures and MACs)
+-- Digests, signatures and verifications of sessions (PKCS #11 Base 3.0, Message digesting
+-- functions, Signing and MACing functions, Functions for verifying signatures and MACs)
 use Rattle.std.specs.Prelude.{ℕ, ◌^◌, Bool, true, false, List, [], ◌++◌, Option, Some, None}
 use Rattle.std.specs.Prelude.{◌==◌, ◌&&◌, ◌||◌, not, nat_lt, length, bit_and}
 use Rattle.std.specs.Prelude.{option_map, option_and_then, if◌then◌else◌}
@@ -49,7 +49,7 @@ is_data_len_range (rv.Error rv_error.DataLenRange) = true
 is_data_len_range other = false
 
 -- a step ends the operation by this reply. One that takes in a single-part message or finishes a
--- multiple-part one does, unless the reply leaves it active, which no reply to a verifying does.
+-- multiple-part one does, unless the reply leaves it active, which no reply to a verification does.
 -- One that adds a piece does where the piece is refused as too long.
 abbrev pub ends_by : Option Step → Reply → Bool
 ends_by (Some (single_part bytes)) reply = not (leaves_active reply.rv reply.body)

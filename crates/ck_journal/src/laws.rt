@@ -88,8 +88,8 @@ pub fn private_keys_serve_the_user()
     ensures { PrivateKeysServeTheUser }
 {}
 
-/// No reply to C_GetAttributeValue, whatever its code, has the bytes of a CKA_VALUE that may not be
-/// revealed just before it.
+/// No reply to C_GetAttributeValue, whatever its code, answers a query for CKA_VALUE with bytes
+/// where that value may not be revealed just before it.
 pub fn hidden_values_are_not_given()
     ensures { HiddenValuesAreNotGiven }
 {}

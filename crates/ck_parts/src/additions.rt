@@ -67,9 +67,9 @@ fn key_value(objects: &Store, number: u64) -> &[u8]
 }
 
 impl Parts {
-    /// Starts a signing or a verification under the key of this number, where the session has none
-    /// of the kind, by the entry after the first `entries` ones. There must be room for it. `len`
-    /// is how many bytes a signature has.
+    /// Starts a signature or a verification under the key of this number, where the session has
+    /// none of the kind, by the entry after the first `entries` ones. There must be room for it.
+    /// `len` is how many bytes a signature has.
     #[inline(never)]
     pub(crate) fn start_hmac(
         &mut self,

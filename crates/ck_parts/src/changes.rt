@@ -33,8 +33,8 @@ pub enum Change {
         user: UserType,
     },
     LogOut,
-    /// A creation, or a copy, in this session. The object's number isn't here: ck_store counts on by
-    /// one, as the handle in the reply did.
+    /// A creation, or a copy, in this session. The object's number isn't here: ck_store counts on
+    /// by one, as the handle in the reply did.
     CreateObject {
         session: u64,
         attributes: Boxed<Record>,

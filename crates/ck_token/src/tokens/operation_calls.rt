@@ -300,7 +300,7 @@ impl Token {
 
     /// C_Digest and C_Sign, of a single-part message. Checks: CKR_SESSION_HANDLE_INVALID (b3),
     /// CKR_OPERATION_NOT_INITIALIZED (91) where none is active or there was an update,
-    /// CKR_DATA_LEN_RANGE (21); of a signing CKR_KEY_HANDLE_INVALID (60),
+    /// CKR_DATA_LEN_RANGE (21); of a signature CKR_KEY_HANDLE_INVALID (60),
     /// CKR_KEY_FUNCTION_NOT_PERMITTED (68) for the key's state; then CKR_BUFFER_TOO_SMALL (150).
     /// Each reply ends the operation, except one that has only a length. `ready` is as that of
     /// `Operation::tag_with`.
@@ -350,7 +350,7 @@ impl Token {
     }
 
     /// C_DigestFinal and C_SignFinal, of a multiple-part message. Checks:
-    /// CKR_SESSION_HANDLE_INVALID (b3), CKR_OPERATION_NOT_INITIALIZED (91); of a signing
+    /// CKR_SESSION_HANDLE_INVALID (b3), CKR_OPERATION_NOT_INITIALIZED (91); of a signature
     /// CKR_KEY_HANDLE_INVALID (60), CKR_KEY_FUNCTION_NOT_PERMITTED (68) for the key's state; then
     /// CKR_BUFFER_TOO_SMALL (150). Each reply ends the operation, except one that has only a
     /// length.
