@@ -8,7 +8,7 @@ use crate::reports::Report;
 use crate::retries::RetryingToken;
 use ck_audit::Verdict;
 use ck_script::{BadLine, Line, LineError};
-use ck_token::{Limits, NoMemory, Uncut};
+use ck_token::{Limits, NoMemory};
 use std::alloc::Global;
 use std::fmt;
 
@@ -194,9 +194,8 @@ impl<'a> Player<'a> {
 
     fn cut(&mut self) -> anyhow::Result<Outcome> {
         match self.token.cut(self.alloc)? {
-            Ok(journal) => Ok(Outcome::Cut(journal.len())),
-            Err(Uncut::Session) => Ok(Outcome::Uncut),
-            Err(Uncut::Memory) => Err(NoMemory.into()),
+            Some(journal) => Ok(Outcome::Cut(journal.len())),
+            None => Ok(Outcome::Uncut),
         }
     }
 
