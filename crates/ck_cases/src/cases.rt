@@ -131,9 +131,15 @@ impl<'a> Player<'a> {
     /// Audits the journal of a case. That the journal of a token is legal is proved; this shows it
     /// of the program as it was built.
     fn audit(&mut self) -> anyhow::Result<()> {
-        match self.token.audit_own(self.alloc)? {
+        let verdict = self.token.audit_own(self.alloc)?;
+        Ok(self.report_verdict(verdict)?)
+    }
+
+    /// Reports the wrong entry that an audit finds.
+    fn report_verdict(&mut self, verdict: Verdict) -> Result<(), NoMemory> {
+        match verdict {
             Verdict::Legal => Ok(()),
-            Verdict::Wrong(entry) => Ok(self.report(&Finding::WrongEntry(entry))?),
+            Verdict::Wrong(entry) => self.report(&Finding::WrongEntry(entry)),
         }
     }
 
@@ -192,11 +198,14 @@ impl<'a> Player<'a> {
         }
     }
 
+    /// Cuts the journal, and audits what is taken out.
     fn cut(&mut self) -> anyhow::Result<Outcome> {
-        match self.token.cut(self.alloc)? {
-            Some(journal) => Ok(Outcome::Cut(journal.len())),
-            None => Ok(Outcome::Uncut),
-        }
+        let Some(journal) = self.token.cut(self.alloc)? else {
+            return Ok(Outcome::Uncut);
+        };
+        let verdict = self.token.audit_taken(self.alloc, &journal)?;
+        self.report_verdict(verdict)?;
+        Ok(Outcome::Cut(journal.len()))
     }
 
     /// Makes the call of a line of a script.

@@ -96,6 +96,21 @@ impl RetryingToken {
         audit::<Token>(alloc, self.token.journal(), limits).context(AGAIN)
     }
 
+    /// Audits a journal that was taken out, under the limits of the token.
+    pub(crate) fn audit_taken(
+        &mut self,
+        alloc: Global,
+        journal: &Journal,
+    ) -> anyhow::Result<Verdict> {
+        let entries = self.token.journal().len();
+        let limits = self.token.limits();
+        if let Ok(verdict) = audit::<Token>(alloc, journal, limits) {
+            return Ok(verdict);
+        }
+        self.retry(alloc, entries)?;
+        audit::<Token>(alloc, journal, limits).context(AGAIN)
+    }
+
     /// Cuts the journal and takes it out, where no session is open.
     pub(crate) fn cut(&mut self, alloc: Global) -> anyhow::Result<Option<Journal>> {
         let entries = self.token.journal().len();
