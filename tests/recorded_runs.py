@@ -88,6 +88,10 @@ REPORTS = [
      b"t: line 1: 1 Logn 1 1 39: no call has this name, the nearest is Login\n"
      b"t: line 2: foo: a line is a caller, a call and its arguments\n"
      b"t: 1 passed, 2 bad\n", 1),
+    # a bad line of which another reason is recorded
+    (b"1 Nope -> bad script: x\n",
+     b"t: line 1: 1 Nope: came bad script: no call has this name, and not bad script: x\n"
+     b"t: 0 passed, 1 differ\n", 1),
     (b"limits 65 1 1 1\ncut -> entries 0\n",
      b"t: line 1: limits 65 1 1 1: " + BAD_LIMITS + b"\nt: 1 passed, 1 bad\n", 1),
     # bad limits begin a new case, too
@@ -305,7 +309,10 @@ def audits(tests):
     for next_case in (b"", b"limits largest\n"):
         tests.check_file(ended + next_case, ["t"], report, b"", 0, **short)
         tests.check_file(LARGE_CASE + next_case, ["t"], b"t: out of memory\n", b"", 1, **short)
-    tests.end("the last case and one before it are audited, and find no memory for it")
+    tests.check_file(LARGE_CASE, ["--replies", "t"], b"", b"t: out of memory\n", 1, **short)
+    cut = LARGE_CASE + b"cut -> a session is open\n1 CloseAllSessions -> 0\n"
+    tests.check_file(cut, ["t"], b"t: out of memory\n", b"", 1, **short)
+    tests.end("cases are audited at their end and before a cut, and find no memory for it")
 
 
 def arguments(tests):

@@ -8,7 +8,7 @@ use crate::reports::Report;
 use crate::retries::RetryingToken;
 use ck_audit::Verdict;
 use ck_script::{BadLine, Line, LineError};
-use ck_token::{Limits, NoMemory, Uncut};
+use ck_token::{Limits, NoMemory};
 use std::alloc::Global;
 use std::fmt;
 
@@ -131,9 +131,15 @@ impl<'a> Player<'a> {
     /// Audits the journal of a case. That the journal of a token is legal is proved; this shows it
     /// of the program as it was built.
     fn audit(&mut self) -> anyhow::Result<()> {
-        match self.token.audit_own(self.alloc)? {
+        let verdict = self.token.audit_own(self.alloc)?;
+        Ok(self.report_verdict(verdict)?)
+    }
+
+    /// Reports the wrong entry that an audit finds.
+    fn report_verdict(&mut self, verdict: Verdict) -> Result<(), NoMemory> {
+        match verdict {
             Verdict::Legal => Ok(()),
-            Verdict::Wrong(entry) => Ok(self.report(&Finding::WrongEntry(entry))?),
+            Verdict::Wrong(entry) => self.report(&Finding::WrongEntry(entry)),
         }
     }
 
@@ -192,12 +198,14 @@ impl<'a> Player<'a> {
         }
     }
 
+    /// Cuts the journal, and audits what is taken out.
     fn cut(&mut self) -> anyhow::Result<Outcome> {
-        match self.token.cut(self.alloc)? {
-            Ok(journal) => Ok(Outcome::Cut(journal.len())),
-            Err(Uncut::Session) => Ok(Outcome::Uncut),
-            Err(Uncut::Memory) => Err(NoMemory.into()),
-        }
+        let Some(journal) = self.token.cut(self.alloc)? else {
+            return Ok(Outcome::Uncut);
+        };
+        let verdict = self.token.audit_taken(self.alloc, &journal)?;
+        self.report_verdict(verdict)?;
+        Ok(Outcome::Cut(journal.len()))
     }
 
     /// Makes the call of a line of a script.

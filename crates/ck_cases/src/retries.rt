@@ -1,8 +1,11 @@
 //! A token whose calls, cuts and audits are made again where they find no memory.
-use anyhow::ensure;
+use anyhow::{Context, bail, ensure};
 use ck_audit::{Verdict, audit, audit_token};
 use ck_token::{Call, Journal, Limits, NoMemory, Reply, Token, Uncut};
 use std::alloc::Global;
+
+/// What is said of a second try that finds no memory either.
+const AGAIN: &str = "memory lacks a second time";
 
 /// A token, and how many times it found no memory. What found none must have left the journal as
 /// long as it was, and legal.
@@ -67,7 +70,8 @@ impl RetryingToken {
             return Ok(reply);
         }
         self.retry(alloc, entries)?;
-        Ok(self.token.call(alloc, caller, copy_of(call)?)?)
+        let copy = copy_of(call).context(AGAIN)?;
+        self.token.call(alloc, caller, copy).context(AGAIN)
     }
 
     /// Audits the journal under the limits of its token, and finds it legal.
@@ -79,7 +83,7 @@ impl RetryingToken {
             return Ok(verdict);
         }
         self.retry(alloc, entries)?;
-        Ok(audit_token(alloc, &self.token)?)
+        audit_token(alloc, &self.token).context(AGAIN)
     }
 
     /// Audits the journal under these limits.
@@ -89,18 +93,36 @@ impl RetryingToken {
             return Ok(verdict);
         }
         self.retry(alloc, entries)?;
-        Ok(audit::<Token>(alloc, self.token.journal(), limits)?)
+        audit::<Token>(alloc, self.token.journal(), limits).context(AGAIN)
     }
 
-    /// Cuts the journal, or says why it isn't cut.
-    pub(crate) fn cut(&mut self, alloc: Global) -> anyhow::Result<Result<Journal, Uncut>> {
+    /// Audits a journal that was taken out, under the limits of the token.
+    pub(crate) fn audit_taken(
+        &mut self,
+        alloc: Global,
+        journal: &Journal,
+    ) -> anyhow::Result<Verdict> {
         let entries = self.token.journal().len();
-        match self.token.cut(alloc) {
-            Err(Uncut::Memory) => {
-                self.retry(alloc, entries)?;
-                Ok(self.token.cut(alloc))
-            }
-            cut => Ok(cut),
+        let limits = self.token.limits();
+        if let Ok(verdict) = audit::<Token>(alloc, journal, limits) {
+            return Ok(verdict);
+        }
+        self.retry(alloc, entries)?;
+        audit::<Token>(alloc, journal, limits).context(AGAIN)
+    }
+
+    /// Cuts the journal and takes it out, where no session is open.
+    pub(crate) fn cut(&mut self, alloc: Global) -> anyhow::Result<Option<Journal>> {
+        let entries = self.token.journal().len();
+        let mut cut = self.token.cut(alloc);
+        if let Err(Uncut::Memory) = cut {
+            self.retry(alloc, entries)?;
+            cut = self.token.cut(alloc);
+        }
+        match cut {
+            Ok(journal) => Ok(Some(journal)),
+            Err(Uncut::Session) => Ok(None),
+            Err(Uncut::Memory) => bail!("{AGAIN}"),
         }
     }
 }

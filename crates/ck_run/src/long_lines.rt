@@ -1,4 +1,4 @@
-//! Lines of the greatest length and longer, and templates of many items.
+//! Lines of the greatest length and longer, lists of many items, and a long value.
 use crate::devices::{Devices, End, check_play, check_script};
 use ck_script::LONGEST_LINE;
 use std::alloc::Global;
@@ -30,20 +30,80 @@ fn a_comment_may_be_as_long_as_a_line(rt: HostRuntime) -> Result<(), Fail> {
     check_comment(&rt, alloc, LONGEST + 1, "", End::Line(1))
 }
 
-/// How many times a template of a data object gives its label, which is `a`.
-const LABELS: usize = 10_000;
+/// How many times a row gives what stands in parentheses.
+const MANY: usize = 10_000;
 
-/// What is given behind the labels, and the reply.
-const LAST_ITEMS: [(&str, &str); 3] = [("", "0 1"), (",3=62", "d1"), (",103=01", "12")];
+/// A call and its reply. In both, what stands in parentheses is given many times.
+type Answered = (&'static str, &'static str);
 
-/// Creates a data object by a template of many labels and what is given behind them.
-fn check_template(rt: &impl Abort, alloc: Global, last: &str, reply: &str) -> Result<(), Fail> {
-    let labels = ",3=61".repeat(alloc, LABELS)?;
-    let script = format!(in alloc;
-        "1 InitToken 31323334\n1 OpenSession 6\n\
-        1 CreateObject 1 0=0000000000000000{labels}{last}\n"
-    )?;
-    let replies = format!(in alloc; "0\n0 1\n{reply}\n")?;
+/// Templates of many labels, each equal to the others, and of one more item.
+#[rattlefmt::skip]
+const TEMPLATES: [Answered; 20] = [
+    ("1 CreateObject 1 0=0000000000000000(,3=61)", "0 1"),
+    ("1 CreateObject 1 0=0000000000000000(,3=61),3=62", "d1"),
+    ("1 CreateObject 1 0=0000000000000000(,3=61),103=01", "12"),
+    ("1 CopyObject 1 1 10=63(,3=62)", "0 2"),
+    ("1 CopyObject 1 1 10=63(,3=62),3=61", "d1"),
+    ("1 GenerateKey 1 350 2=00,161=0100000000000000(,3=61) ff", "0 3"),
+    ("1 GenerateKey 1 350 2=00,161=0100000000000000(,3=61),3=62 ff", "d1"),
+    ("1 SetAttributeValue 1 3 102=63(,3=62)", "0"),
+    ("1 SetAttributeValue 1 3 102=63(,3=62),3=61", "d1"),
+    ("1 GetAttributeValue 1 1 3:8,10:8", "0 =61,=-"),
+    ("1 GetAttributeValue 1 2 3:8,10:8", "0 =62,=63"),
+    ("1 GetAttributeValue 1 3 3:8,102:8", "0 =62,=63"),
+    ("1 FindObjectsInit 1 3=62(,3=62)", "0"),
+    ("1 FindObjects 1 9", "0 2,3"),
+    ("1 FindObjectsFinal 1", "0"),
+    ("1 FindObjectsInit 1 3=62(,3=62),10=63", "0"),
+    ("1 FindObjects 1 9", "0 2"),
+    ("1 FindObjectsFinal 1", "0"),
+    ("1 FindObjectsInit 1 3=62(,3=62),3=61", "0"),
+    ("1 FindObjects 1 9", "0 -"),
+];
+
+/// Many queries. The last of some is refused.
+#[rattlefmt::skip]
+const QUERIES: [Answered; 4] = [
+    ("1 CreateObject 1 0=0000000000000000,3=6162", "0 1"),
+    ("1 GetAttributeValue 1 1 10:8(,3:8),3:?", "0 =-(,=6162),:2"),
+    ("1 GetAttributeValue 1 1 10:?(,3:8),3:1", "150 :0(,=6162),!"),
+    ("1 GetAttributeValue 1 1 3:8(,3:?),103:8", "12 =6162(,:2),!"),
+];
+
+/// A value of 100,000 bytes, which are ten bytes many times.
+#[rattlefmt::skip]
+const VALUES: [Answered; 8] = [
+    ("1 CreateObject 1 0=0000000000000000,11=(6162636465666768696a)", "0 1"),
+    ("1 GetAttributeValue 1 1 11:?", "0 :100000"),
+    ("1 GetAttributeValue 1 1 11:99999", "150 !"),
+    ("1 GetAttributeValue 1 1 11:100000", "0 =(6162636465666768696a)"),
+    ("1 FindObjectsInit 1 11=(6162636465666768696a)", "0"),
+    ("1 FindObjects 1 9", "0 1"),
+    ("1 SetAttributeValue 1 1 11=(6a696867666564636261)", "0"),
+    ("1 GetAttributeValue 1 1 11:100000", "0 =(6a696867666564636261)"),
+];
+
+/// A text of a row, written out.
+fn written_out(alloc: Global, text: &str) -> Result<String, Fail> {
+    let Some((front, rest)) = text.split_once('(') else {
+        return Ok(String::from_str(alloc, text)?);
+    };
+    let (item, back) = rest
+        .split_once(')')
+        .ok_or("there is no end of what is repeated")?;
+    let items = item.repeat(alloc, MANY)?;
+    Ok(format!(in alloc; "{front}{items}{back}")?)
+}
+
+/// Plays these calls in session 1 of a new token: these replies are written.
+fn check_calls(rt: &impl Abort, alloc: Global, calls: &[Answered]) -> Result<(), Fail> {
+    let mut script = String::from_str(alloc, "1 InitToken 31323334\n1 OpenSession 6\n")?;
+    let mut replies = String::from_str(alloc, "0\n0 1\n")?;
+    for (call, reply) in calls {
+        let (call, reply) = (written_out(alloc, call)?, written_out(alloc, reply)?);
+        write!(script, "{call}\n")?;
+        write!(replies, "{reply}\n")?;
+    }
     let devices = Devices::of(LONGEST_LINE);
     check_script(
         rt,
@@ -56,8 +116,15 @@ fn check_template(rt: &impl Abort, alloc: Global, last: &str, reply: &str) -> Re
 
 #[test]
 fn a_template_may_have_many_items(rt: HostRuntime) -> Result<(), Fail> {
-    for (last, reply) in LAST_ITEMS.as_slice() {
-        check_template(&rt, rt.alloc(), last, reply)?;
-    }
-    Ok(())
+    check_calls(&rt, rt.alloc(), &TEMPLATES)
+}
+
+#[test]
+fn many_queries_may_be_asked_at_once(rt: HostRuntime) -> Result<(), Fail> {
+    check_calls(&rt, rt.alloc(), &QUERIES)
+}
+
+#[test]
+fn a_value_may_be_long(rt: HostRuntime) -> Result<(), Fail> {
+    check_calls(&rt, rt.alloc(), &VALUES)
 }

@@ -45,27 +45,27 @@ fn message_of(alloc: Global, count: usize) -> Result<Bytes, NoMemory> {
 /// The calls of session 1 that bring a whole message of this length.
 fn whole_calls(alloc: Global, count: usize, room: Option<u64>) -> Result<Vec<Call>, NoMemory> {
     let session = 1;
-    let mut calls = Vec::new(alloc);
-    let bytes = message_of(alloc, count)?;
-    calls.push(Call::Digest {
-        session,
-        bytes,
-        room,
-    })?;
-    let bytes = message_of(alloc, count)?;
-    calls.push(Call::Sign {
-        session,
-        bytes,
-        room,
-    })?;
-    let bytes = message_of(alloc, count)?;
+    let digested = message_of(alloc, count)?;
+    let signed = message_of(alloc, count)?;
+    let verified = message_of(alloc, count)?;
     let signature = Bytes::new(alloc);
-    calls.push(Call::Verify {
-        session,
-        bytes,
-        signature,
-    })?;
-    Ok(calls)
+    Ok(vec![in alloc;
+        Call::Digest {
+            session,
+            bytes: digested,
+            room
+        },
+        Call::Sign {
+            session,
+            bytes: signed,
+            room
+        },
+        Call::Verify {
+            session,
+            bytes: verified,
+            signature
+        },
+    ]?)
 }
 
 /// The calls of session 1 that bring a piece of this length.

@@ -7,9 +7,11 @@ use std::alloc::Global;
 use std::process::Abort;
 use std::test::Fail;
 
-/// The arguments of the program; a script; the read and the write that fail, 0 for none; what the
-/// program writes, and its status.
-type Play = (&'static str, &'static str, u64, u64, &'static str, u8);
+/// The arguments of the program, a script, what the program writes, and its status.
+type Play = (&'static str, &'static str, &'static str, u8);
+
+/// The same, and behind the script the read and the write that fail, 0 for none.
+type FailingPlay = (&'static str, &'static str, u64, u64, &'static str, u8);
 
 /// A script of two callers.
 const SCRIPT: &str = "1 InitToken 31323334\n1 OpenSession 6\n2 CloseSession 7\n";
@@ -38,35 +40,44 @@ Options:
 ";
 
 #[rattlefmt::skip]
-const PLAYS: [Play; 28] = [
-    ("ck_run", "", 0, 0, "", 0),
-    ("ck_run", "1 InitToken 31323334", 0, 0, "0\n", 0),
-    ("ck_run", "1 InitToken 31\n1 Login", 0, 0, "a2\n", 1),
+const PLAYS: [Play; 11] = [
+    ("ck_run", "", "", 0),
+    ("ck_run", "1 InitToken 31323334", "0\n", 0),
+    ("ck_run", "1 InitToken 31\n1 Login", "a2\n", 1),
+    ("ck_run --callers 1", SCRIPT, "", 1),
+    ("ck_run --callers 2", SCRIPT, "entries 3\naudit ok\n", 0),
+    ("ck_run --callers=2", SCRIPT, "entries 3\naudit ok\n", 0),
+    ("ck_run --callers 2", CLOSED_TWICE, "entries 8\naudit ok\n", 0),
+    ("ck_run --callers 2", "1 GetTokenInfo\n1 Nope\n", "", 1),
+    ("ck_run --callers 2", "1 GetTokenInfo\n3 GetTokenInfo\n", "", 1),
+    ("ck_run --callers 8", "", "entries 0\naudit ok\n", 0),
+    ("ck_run --help", "", HELP, 0),
+];
+
+/// In the first row the program ends before the read that fails.
+#[rattlefmt::skip]
+const FAILING: [FailingPlay; 8] = [
     ("ck_run", "Nope\n", 6, 0, "", 1),
     ("ck_run", "Nope\n", 5, 0, "", 3),
     ("ck_run", "Nope", 5, 0, "", 3),
     ("ck_run", "1 InitToken 31\n", 16, 0, "a2\n", 3),
     ("ck_run", "1 InitToken 31\n", 0, 2, "a", 3),
-    ("ck_run --callers 1", SCRIPT, 0, 0, "", 1),
-    ("ck_run --callers 2", SCRIPT, 0, 0, "entries 3\naudit ok\n", 0),
-    ("ck_run --callers=2", SCRIPT, 0, 0, "entries 3\naudit ok\n", 0),
-    ("ck_run --callers 2", CLOSED_TWICE, 0, 0, "entries 8\naudit ok\n", 0),
-    ("ck_run --callers 2", "1 GetTokenInfo\n1 Nope\n", 0, 0, "", 1),
-    ("ck_run --callers 2", "1 GetTokenInfo\n3 GetTokenInfo\n", 0, 0, "", 1),
     ("ck_run --callers 2", SCRIPT, 5, 0, "", 3),
     ("ck_run --callers 2", SCRIPT, 0, 2, "e", 3),
-    ("ck_run --callers 8", "", 0, 0, "entries 0\naudit ok\n", 0),
-    ("ck_run --help", "", 0, 0, HELP, 0),
     ("ck_run --help", "", 0, 1, "", 3),
-    ("ck_run x", "", 0, 0, "", 2),
-    ("ck_run --callers", "", 0, 0, "", 2),
-    ("ck_run --callers 0", "", 0, 0, "", 2),
-    ("ck_run --callers 9", "", 0, 0, "", 2),
-    ("ck_run --callers 02", "", 0, 0, "", 2),
-    ("ck_run --callers +2", "", 0, 0, "", 2),
-    ("ck_run --callers x", "", 0, 0, "", 2),
-    ("ck_run --callers 2 x", "", 0, 0, "", 2),
-    ("ck_run --callers 2 --callers 2", "", 0, 0, "", 2),
+];
+
+/// Arguments with which nothing is read or written.
+const BAD_ARGUMENTS: [&str; 9] = [
+    "ck_run x",
+    "ck_run --callers",
+    "ck_run --callers 0",
+    "ck_run --callers 9",
+    "ck_run --callers 02",
+    "ck_run --callers +2",
+    "ck_run --callers x",
+    "ck_run --callers 2 x",
+    "ck_run --callers 2 --callers 2",
 ];
 
 fn arguments_of(alloc: Global, text: &str) -> Result<Vec<String>, Fail> {
@@ -90,7 +101,11 @@ fn status_of<RT: Eprint + Runtime>(
     run::<Token, _, _, _>(rt, alloc, options_of(alloc, arguments), &mut reader, writer)
 }
 
-fn check_play<RT: Abort + Eprint + Runtime>(rt: RT, alloc: Global, play: Play) -> Result<(), Fail> {
+fn check_play<RT: Abort + Eprint + Runtime>(
+    rt: RT,
+    alloc: Global,
+    play: FailingPlay,
+) -> Result<(), Fail> {
     let (arguments, script, read_fails_at, write_fails_at, written, status) = play;
     let devices = Devices {
         read_fails_at,
@@ -107,18 +122,26 @@ fn check_play<RT: Abort + Eprint + Runtime>(rt: RT, alloc: Global, play: Play) -
     Ok(())
 }
 
-fn check_plays<RT: Abort + Eprint + Runtime>(
-    rt: RT,
-    alloc: Global,
-    plays: &[Play],
-) -> Result<(), Fail> {
-    for play in plays {
-        check_play(rt, alloc, *play)?;
+#[test]
+fn the_program_writes_and_ends(rt: HostRuntime) -> Result<(), Fail> {
+    for (arguments, script, written, status) in &PLAYS {
+        check_play(rt, rt.alloc(), (arguments, script, 0, 0, written, *status))?;
     }
     Ok(())
 }
 
 #[test]
-fn the_program_writes_and_ends(rt: HostRuntime) -> Result<(), Fail> {
-    check_plays(rt, rt.alloc(), &PLAYS)
+fn devices_fail(rt: HostRuntime) -> Result<(), Fail> {
+    for play in &FAILING {
+        check_play(rt, rt.alloc(), *play)?;
+    }
+    Ok(())
+}
+
+#[test]
+fn bad_arguments_are_refused(rt: HostRuntime) -> Result<(), Fail> {
+    for arguments in &BAD_ARGUMENTS {
+        check_play(rt, rt.alloc(), (arguments, "", 0, 0, "", 2))?;
+    }
+    Ok(())
 }
