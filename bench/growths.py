@@ -5,12 +5,13 @@ the races of a shared token.
 Each case of the files in crates/ck_cases/data except many_objects.cases, which has too many
 growths, or of the files that are named, is played once for each growth of memory, which is refused.
 What finds no memory, a call, a cut or an audit, the program of cases makes again after a look at
-the journal: so the case passes, or the program itself is out of memory. The calls of a case are
-also played as a script: all replies are written, or whole lines at their front, and then the
-program says that it is out of memory. The same script is played in threads, with `--callers 8`: it
-is summed up, or nothing is written, since there was no memory or no thread. Where anything else
-comes, it is printed, and the status is 1. Bad lines are left out: they make no call, and without
-memory one may have another reason.
+the journal: so the case passes, or the program itself is out of memory. Where it finds none a
+second time either, it says so in other words, and that is a fault. The calls of a case are also
+played as a script: all replies are written, or whole lines at their front, and then the program
+says that it is out of memory. The same script is played in threads, with `--callers 8`: it is
+summed up, or nothing is written, since there was no memory or no thread. Where anything else comes,
+it is printed, and the status is 1. Bad lines are left out: they make no call, and without memory
+one may have another reason.
 
 The calls of each race in crates/ck_races/data are made one after the other, in three ways. By two
 callers of a shared token in turn: where one finds no memory, it knows what it did before and is
