@@ -44,6 +44,11 @@ FIRST_CALLS = b"""\
 """
 FIRST_REPLIES = b"0\n0 1\n0 1\n0 =6162,:0\n0\n82\n"
 
+# More calls than any bound on their number lets through, and the reply to each.
+MANY = 1_000_000
+MANY_CALLS = b"1 GetTokenInfo\n" * MANY
+REPLY_TO_EACH = b"0 4 64 0 0\n"
+
 # Two callers: the first makes six calls, the second two.
 TWO_CALLERS = FIRST_CALLS + b"2 CloseSession 1\n2 CloseSession 1\n"
 
@@ -224,6 +229,7 @@ def scripts(tests):
     tests.check([], b"1 InitToken 31323334", b"0\n", b"", 0)
     tests.check([], FIRST_CALLS, FIRST_REPLIES, b"", 0)
     tests.check([], TWO_CALLERS, FIRST_REPLIES + b"0\nb3\n", b"", 0)
+    tests.check([], MANY_CALLS, REPLY_TO_EACH * MANY, b"", 0)
     tests.check([], b"1 InitToken 31323334\n\n# x\n1 Nope\n", b"0\n",
                 b"ck_run: line 4: bad script: no call has this name\n", 1)
     tests.end("a script is played line by line")
@@ -317,6 +323,7 @@ def callers(tests):
     for words in (["--callers", "2"], ["--callers=2"], ["--callers", "8"]):
         tests.check(words, TWO_CALLERS, b"entries 8\naudit ok\n", b"", 0)
     tests.check(["--callers", "1"], FIRST_CALLS, b"entries 6\naudit ok\n", b"", 0)
+    tests.check(["--callers", "1"], MANY_CALLS, b"entries %d\naudit ok\n" % MANY, b"", 0)
     tests.check(["--callers=3"], b"3 GetTokenInfo\n", b"entries 1\naudit ok\n", b"", 0)
     tests.check(["--callers", "2"], b"", b"entries 0\naudit ok\n", b"", 0)
     tests.check(["--callers", "2"], TWO_CALLERS + b"3 GetTokenInfo\n", b"",
