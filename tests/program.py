@@ -93,6 +93,8 @@ BYTE_ORDER_MARK = b"a byte order mark stands before the line"
 CARRIAGE_RETURN = b"a carriage return stands at the end of the line"
 TAB = b"there is a tab in the line: single spaces separate its words"
 NOT_DECIMAL = b"a number is written in decimal digits"
+NO_CODE_NUMBER = b"a code number is written in the digits 0 to 9 and a to f, without 0x"
+NO_TEMPLATE = b"a template is written as type=bytes,.. and an empty one as -"
 NO_CALL = b"no call has this name"
 
 # A bad line, and the reason that is given.
@@ -107,8 +109,7 @@ BAD_LINES = [
     (b"1 Logout x", NOT_DECIMAL),
     (b"1 Logout 01", b"a number has no leading zero"),
     (b"1 Logout 18446744073709551616", b"a number is below 2^64"),
-    (b"1 OpenSession 0x6",
-     b"a code number is written in the digits 0 to 9 and a to f, without 0x"),
+    (b"1 OpenSession 0x6", NO_CODE_NUMBER),
     (b"1 InitToken 313",
      b"bytes are written in two hexadecimal digits each, and no bytes as -"),
     (b"1 Logout  1", TOO_MANY_SPACES),
@@ -122,7 +123,7 @@ BAD_LINES = [
     (b"\xef\xbb\xbf1 Logout 1", BYTE_ORDER_MARK),
     (b"1 DigestInit 1 250:00:00",
      b"a mechanism is written as type, or with its parameter as type:bytes"),
-    (b"1 CreateObject 1 3", b"a template is written as type=bytes,.. and an empty one as -"),
+    (b"1 CreateObject 1 3", NO_TEMPLATE),
     (b"1 GetAttributeValue 1 1 3", b"queries are written as type:room,.. and none as -"),
 ]
 
@@ -143,8 +144,22 @@ LINES_WITH_FAULTS = [
     (b"9 Nope", b"the caller is a number from 1 to 8"),
     (b"1 Nope x 01", NO_CALL),
     (b"1 Login x 1", b"Login takes 3 arguments"),
+    # the first bad argument of two, of three and of four
+    (b"1 SessionCancel x 0x400", NOT_DECIMAL),
     (b"1 Login x 01 3", NOT_DECIMAL),
     (b"1 Login 1 01 3", b"a number has no leading zero"),
+    (b"1 SignInit x 251 01", NOT_DECIMAL),
+    (b"1 GenerateKey x 0x350 - 6", NOT_DECIMAL),
+    (b"1 GenerateKey x 350 3 00", NOT_DECIMAL),
+    (b"1 GenerateKey 1 0x350 - 6", NO_CODE_NUMBER),
+    (b"1 GenerateKey 1 0x350 3 00", NO_CODE_NUMBER),
+    (b"1 GenerateKey 1 350 3 6", NO_TEMPLATE),
+    # the first bad part of a mechanism, of an item and of a query, and the first bad item
+    (b"1 DigestInit 1 0x250:6", NO_CODE_NUMBER),
+    (b"1 CreateObject 1 0x3=6", NO_CODE_NUMBER),
+    (b"1 GetAttributeValue 1 1 0x3:x", NO_CODE_NUMBER),
+    (b"1 CreateObject 1 0x3=00,3", NO_CODE_NUMBER),
+    (b"1 CreateObject 1 3,0x3=00", NO_TEMPLATE),
 ]
 
 # A name with two letters too many, or three, after the longest name and the front of the standard.
