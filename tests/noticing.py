@@ -142,6 +142,8 @@ WRONG_ENDS = [
     (is_case_right, ended(0, b"t: out of memory\n")),
     (is_case_right, ended(-1, b"")),
     (is_case_right, ended(1, b"", b"Error: line 1\n")),
+    (is_case_right, ended(1, b"t: memory lacks a second time\n")),
+    (is_case_right, ended(1, b"", b"Error: memory lacks a second time\n")),
     (is_script_right, ended(0, b"0\n")),
     (is_script_right, ended(0, SCRIPT.output, NO_MEMORY)),
     (is_script_right, ended(3, b"0", NO_MEMORY)),
@@ -155,6 +157,31 @@ WRONG_ENDS = [
     (is_summary_right, ended(3, b"entries 1\n", NO_MEMORY)),
     (is_summary_right, ended(3, b"", b"ck_run: read fault\n")),
 ]
+
+
+# A program that plays a case, a script, a script in threads, a race and calls with reserved room as
+# it must, and says that it has so many growths. Where one of them is refused it first does
+# something else.
+GROWING = """\
+shift
+printf %s >&3
+[ "$REFUSED_GROWTH $REFUSED_FROM" = "0 0" ] || { %s; }
+case "$*" in
+"") echo "0 4 64 0 0" ;;
+--callers*) echo "entries 1"; echo "audit ok" ;;
+reserve*) ;;
+*) for file; do :; done; echo "$file: 1 passed$again" ;;
+esac
+"""
+MADE_AGAIN = 'again=", 1 made again"'
+GROWING_CASE = [growths.LARGEST, "1 GetTokenInfo -> 0 4 64 0 0"]
+
+# Of each of these: how many growths are refused, after how many something is made again, and how
+# many faults are found where the program is wrong then.
+GROWING_ENDS = [(9, 9, 9), (9, 0, 9), (9, 0, 9), (9, 9, 9), (0, 0, 1)]
+
+# What is wrong then.
+WRONG_GROWING = ["echo nonsense; exit 1", "echo nonsense; exit 3", "kill -9 $$"]
 
 
 @contextlib.contextmanager
@@ -314,6 +341,52 @@ def refused_growths(checks):
     checks.end("refused growths of a program that does nothing")
 
 
+def growths_of(folder, count, refused):
+    """How many growths are refused, how often something is made again, and how many faults are
+    found, of each kind, where the program has so many growths and does this where one is refused.
+    """
+    path = write_program(folder, GROWING % (count, refused), "/bin/true")
+    growths.CASES = growths.SCRIPTS = growths.RACES = path
+    made = [*growths.checks_of_case("", "a case", GROWING_CASE, 1),
+            *growths.checks_of_races("", [(1, ["race"])], 1)]
+    results = [check(*arguments) for check, *arguments in made]
+    return [(numbers, retries, len(faults)) for numbers, retries, faults in results]
+
+
+def status_of_short(path, least, least_again):
+    """How growths.py ends with the argument `short`, where so many growths must be refused, and
+    something made again after so many."""
+    growths.LEAST_OF_SHORT, growths.LEAST_MADE_AGAIN = least, least_again
+    with unseen():
+        return growths.main([path], [], is_short=True)
+
+
+def judged_growths(checks):
+    growths.build = lambda folder: ""
+    with tempfile.TemporaryDirectory() as folder:
+        for refused in WRONG_GROWING:
+            came = [faults for _, _, faults in growths_of(folder, 9, refused)]
+            checks.expect(came == [faults for _, _, faults in GROWING_ENDS], f"{refused}: {came}")
+        came = growths_of(folder, 0, MADE_AGAIN)
+        checks.expect(came == [(0, 0, 1)] * len(GROWING_ENDS), f"without growths: {came}")
+        came = growths_of(folder, 9, MADE_AGAIN)
+        checks.expect(came == [(*ends, 0) for *ends, _ in GROWING_ENDS], f"made again: {came}")
+        path = os.path.join(folder, "a.cases")
+        write(path, "\n".join(GROWING_CASE) + "\n")
+        for least, least_again, status in ((1, 1, 0), (99, 1, 1), (1, 99, 1)):
+            came = status_of_short(path, least, least_again)
+            checks.expect(came == status, f"{least} growths, {least_again} made again: {came}")
+    checks.end("refused growths of a program that is wrong when they are refused")
+
+
+def passed_over(checks):
+    firsts = {growths.refused_numbers(f"case {number}", 9, 4)[0] for number in range(99)}
+    checks.expect(firsts == {1, 2, 3, 4}, f"the first growths of 9 that are refused: {firsts}")
+    checks.expect([*growths.refused_numbers("a case", 9, 1)] == [*range(1, 10)],
+                  "not each growth is refused")
+    checks.end("which growths are refused, where not all are")
+
+
 def refused_edits(checks):
     path = os.path.join(ROOT, "crates", REFUSED[0], "src", "locked.rt")
     lines = {name: first for first, name in refusals.functions_of(path)}
@@ -335,6 +408,8 @@ def main():
     ends(checks)
     refused_edits(checks)
     refused_growths(checks)
+    judged_growths(checks)
+    passed_over(checks)
     changes(checks)
     return checks.status()
 
