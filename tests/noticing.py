@@ -48,12 +48,34 @@ SILENT = {
     "nothing on standard error": [program.dialogue, program.side_by_side, recorded_runs.reports,
                                   recorded_runs.limits_of_first_case, recorded_runs.long_texts,
                                   recorded_runs.audits, races.whole_file, races.set_orders,
-                                  rules.attributes, rules.values, rules.key_states,
-                                  rules.mechanisms, rules.session_states, rules.pieces],
+                                  rules.attributes, rules.unknown_attributes, rules.values,
+                                  rules.key_states, rules.mechanisms, rules.session_states,
+                                  rules.pieces],
 }
 
 # Tests of a file, to which it is all the same which program is there.
-OTHERS = (races.shapes,)
+OTHERS = (races.shapes, rules.codes, rules.reasons, rules.statuses, rules.names_of_mechanisms)
+
+# Changes of pages, and the test of a right program that must notice each: what stands there, and
+# what stands there then.
+PAGES = [
+    (rules.attributes, "rules.md", r"^\| 108 \| CKA_SIGN .*\n", ""),
+    (rules.unknown_attributes, "rules.md", r"^\| 108 \| CKA_SIGN ", "| 10b | CKA_SIGN "),
+    (rules.values, "rules.md", r"^\| 170 .*\n", ""),
+    (rules.key_states, "rules.md", r"^\| 4 \| destroyed \|", "| 6 | destroyed |"),
+    (rules.mechanisms, "rules.md", r"^\| SHA-384 .*\n", ""),
+    (rules.session_states, "rules.md", r"^(\| nobody .*\n)(\| the user .*\n)", r"\2\1"),
+    (rules.calls, "script.md", r"^\| `SetPIN` \| session, ", "| `SetPIN` | "),
+    (rules.calls, "script.md", r"^\| `SetPIN` .*\n", ""),
+    (rules.codes, "script.md", r"^\| `b3` \| CKR_", "| `b4` | CKR_"),
+    (rules.codes, "script.md", r"^\| `b3` \| CKR_.*\n", ""),
+    (rules.reasons, "script.md", r"^\| a tab \| `there is ", "| a tab | `there isn't "),
+    (rules.reasons, "script.md", r"^\| a tab .*\n", ""),
+    (rules.statuses, "script.md", r"^\| 3 \| reading failed ", "| 2 | reading failed "),
+    (rules.statuses, "script.md", r"^\| 3 \| reading failed .*\n", ""),
+    (rules.names_of_mechanisms, "rust.md", "250, 260, 270", "260, 250, 270"),
+    (rules.names_of_mechanisms, "rules.md", "251 CKM_SHA256_HMAC ", "251 CKM_SHA384_HMAC "),
+]
 
 EDITS = "crates/*/must-fail/*.edit"
 
@@ -293,6 +315,19 @@ def say_of_checks(copy, *words):
     return run.returncode, run.stdout + run.stderr
 
 
+def changed_pages(checks):
+    docs = rules.DOCS
+    with tempfile.TemporaryDirectory() as folder:
+        rules.DOCS = shutil.copytree(docs, os.path.join(folder, "docs"))
+        for test, *change_of in PAGES:
+            path, text = change(rules.DOCS, *change_of)
+            words = words_of(rules, test, rules.PROGRAM)
+            checks.expect(fails(words), f"{test.__name__} on another {change_of}: {words}")
+            write(path, text)
+    rules.DOCS = docs
+    checks.end("changes of pages")
+
+
 def check_change(checks, copy, front, what, *change_of):
     """A change is told by lines that begin so. One that is wrong is so where it is listed, too."""
     path, text = change(copy, *change_of)
@@ -410,6 +445,7 @@ def main():
     refused_growths(checks)
     judged_growths(checks)
     passed_over(checks)
+    changed_pages(checks)
     changes(checks)
     return checks.status()
 
