@@ -22,6 +22,7 @@ import races
 import recorded_runs
 import refusals
 import rules
+import speed
 
 ROOT = os.path.dirname(program.HERE)
 sys.path.insert(0, os.path.join(ROOT, "bench"))
@@ -40,6 +41,14 @@ WRONG = {
 # The tests of each program, with the class that keeps what comes of them.
 TESTS = {program: program.Tests, rules: program.Tests, recorded_runs: recorded_runs.Files,
          races: recorded_runs.Files}
+
+# A program of which each call takes as many steps, and a search by another attribute than the label
+# twenty times as many; and one of which each call takes as many as there were calls before it. And
+# how many objects speed.py then makes, and searches among the few, so that neither takes long.
+QUICK = """exec awk '{ n = /FindObjectsInit 1 10=/ ? 20000 : 1000 }
+{ for (i = 0; i < n; i++) x += i; print 0 }'"""
+SLOW = "exec awk '{ for (i = 0; i < NR; i++) x += i; print 0 }'"
+FEW_OBJECTS = (600, 2_400, 300)
 
 # Tests in which a right program writes nothing there, so that they pass on one that never does.
 SILENT = {
@@ -236,7 +245,7 @@ def tests_of(module):
 def words_of(module, test, path):
     """How the lines begin that a test writes of this program."""
     with unseen() as output:
-        test(TESTS[module](path))
+        test(TESTS.get(module, program.Tests)(path))
     return {line.split(" ")[0] for line in output.getvalue().splitlines()}
 
 
@@ -276,6 +285,17 @@ def idle_programs(checks):
         checks.expect(status == 1, f"{module.__name__}.py passes on a program that does nothing")
         judge(checks, module, "/bin/true", "a program that does nothing")
     checks.end("a program that does nothing")
+
+
+def slow_programs(checks):
+    speed.FEW, speed.MANY, speed.SEARCHES = FEW_OBJECTS
+    with tempfile.TemporaryDirectory() as folder:
+        for text, is_right in ((QUICK, passes), (SLOW, fails)):
+            path = write_program(folder, text, "/bin/true")
+            for test in tests_of(speed):
+                words = words_of(speed, test, path)
+                checks.expect(is_right(words), f"{test.__name__} of speed.py on {text}: {words}")
+    checks.end("a program whose time grows with the square of the calls")
 
 
 def no_checks(checks):
@@ -439,6 +459,7 @@ def main():
     checks = program.Checks("noticing")
     wrong_programs(checks)
     idle_programs(checks)
+    slow_programs(checks)
     no_checks(checks)
     ends(checks)
     refused_edits(checks)

@@ -16,6 +16,10 @@ PROGRAM = program.PROGRAM
 FIRST_CALLS = ["1 InitToken 31323334", "1 OpenSession 6"]
 TRIES = 3
 
+# How many objects there are, in scripts that are compared, and how many searches among the few.
+FEW, MANY = 20_000, 80_000
+SEARCHES = 500
+
 
 def seconds_of(tests, calls):
     """The least processor time of a few times that the program plays these calls."""
@@ -53,28 +57,28 @@ def searches(count, attribute):
 
 def label_searches(tests):
     """A search by a label passes over most objects without reading them."""
-    made = creations(20_000)
+    made = creations(FEW)
     created = seconds_of(tests, made)
-    by_label = seconds_of(tests, made + searches(500, "3")) - created
-    by_application = seconds_of(tests, made + searches(500, "10")) - created
+    by_label = seconds_of(tests, made + searches(SEARCHES, "3")) - created
+    by_application = seconds_of(tests, made + searches(SEARCHES, "10")) - created
     tests.expect(by_label * 3 < by_application,
-                 f"500 searches by label took {by_label:.3f} s, by application "
+                 f"{SEARCHES} searches by label took {by_label:.3f} s, by application "
                  f"{by_application:.3f} s")
     tests.end("searches by label")
 
 
 def many_objects(tests):
     """The creation of an object takes as long among many."""
-    few, many = seconds_of(tests, creations(20_000)), seconds_of(tests, creations(80_000))
-    tests.expect(many < 8 * few, f"20,000 creations took {few:.3f} s, 80,000 {many:.3f} s")
+    few, many = seconds_of(tests, creations(FEW)), seconds_of(tests, creations(MANY))
+    tests.expect(many < 8 * few, f"{FEW} creations took {few:.3f} s, {MANY} {many:.3f} s")
     tests.end("creations among many objects")
 
 
 def ended_objects(tests):
     """The end of an object takes as long among many."""
     few, many = [seconds_of(tests, creations(count) + destructions(count))
-                 for count in (20_000, 80_000)]
-    tests.expect(many < 8 * few, f"20,000 creations and destructions took {few:.3f} s, 80,000 "
+                 for count in (FEW, MANY)]
+    tests.expect(many < 8 * few, f"{FEW} creations and destructions took {few:.3f} s, {MANY} "
                  f"{many:.3f} s")
     tests.end("destructions among many objects")
 
