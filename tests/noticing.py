@@ -42,13 +42,10 @@ WRONG = {
 TESTS = {program: program.Tests, rules: program.Tests, recorded_runs: recorded_runs.Files,
          races: recorded_runs.Files}
 
-# A program of which each call takes as many steps, and a search by another attribute than the label
-# twenty times as many; and one of which each call takes as many as there were calls before it. And
-# how many objects speed.py then makes, and searches among the few, so that neither takes long.
-QUICK = """exec awk '{ n = /FindObjectsInit 1 10=/ ? 20000 : 1000 }
-{ for (i = 0; i < n; i++) x += i; print 0 }'"""
-SLOW = "exec awk '{ for (i = 0; i < NR; i++) x += i; print 0 }'"
-FEW_OBJECTS = (600, 2_400, 300)
+# A program whose call of number n takes n * n steps; and how many objects speed.py then makes, and
+# searches among the few, so that it doesn't take long.
+SLOW = "exec awk '{ for (i = 0; i < NR * NR; i++) x += i; print 0 }'"
+FEW_OBJECTS = (40, 160, 40)
 
 # Tests in which a right program writes nothing there, so that they pass on one that never does.
 SILENT = {
@@ -290,12 +287,11 @@ def idle_programs(checks):
 def slow_programs(checks):
     speed.FEW, speed.MANY, speed.SEARCHES = FEW_OBJECTS
     with tempfile.TemporaryDirectory() as folder:
-        for text, is_right in ((QUICK, passes), (SLOW, fails)):
-            path = write_program(folder, text, "/bin/true")
-            for test in tests_of(speed):
-                words = words_of(speed, test, path)
-                checks.expect(is_right(words), f"{test.__name__} of speed.py on {text}: {words}")
-    checks.end("a program whose time grows with the square of the calls")
+        path = write_program(folder, SLOW, "/bin/true")
+        for test in tests_of(speed):
+            words = words_of(speed, test, path)
+            checks.expect(fails(words), f"{test.__name__} of speed.py: {words}")
+    checks.end("a program that takes ever more time for a call")
 
 
 def no_checks(checks):
