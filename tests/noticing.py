@@ -113,6 +113,16 @@ WRONG_CHANGES = [
     ("a status that is always 0", "check", "^.*failed. -eq 0 .*\n", "true\n"),
 ]
 
+# Changes that the script of contracts must show: of its page, of a source, and of its example.
+CONTRACTS = "docs/contracts.py"
+CONTRACT_CHANGES = [
+    ("docs/contracts.md", "^ *ensures .*\n", ""),
+    ("docs/contracts.md", "^ *requires .*\n", ""),
+    ("crates/ck_types/src/*.rt", "^ *ensures .*\n", ""),
+    ("docs/rust.md", "^    fn sign.*\n", ""),
+    ("crates/ck_token/src/lib.rt", "^//! +token[.]try_call.*\n", ""),
+]
+
 # What is said of an edit with the clause `publish_board published`, and whether it is said of this
 # clause: behind `refused, as it must be`.
 REFUSALS = [
@@ -324,11 +334,15 @@ def change(copy, pattern, old, new):
     return path, text
 
 
-def say_of_checks(copy, *words):
-    """What inventory.py of a copy of the repository says: its status, and its text."""
-    run = subprocess.run([sys.executable, os.path.join(copy, "tests", "inventory.py"), *words],
-                         capture_output=True, timeout=program.SECONDS, text=True)
+def run_script(copy, path, *words):
+    """What a script of a copy of the repository says: its status, and its text."""
+    run = subprocess.run([sys.executable, os.path.join(copy, path), *words], capture_output=True,
+                         timeout=program.SECONDS, text=True)
     return run.returncode, run.stdout + run.stderr
+
+
+def say_of_checks(copy, *words):
+    return run_script(copy, os.path.join("tests", "inventory.py"), *words)
 
 
 def changed_pages(checks):
@@ -359,6 +373,14 @@ def check_change(checks, copy, front, what, *change_of):
     write(listed, list_before)
 
 
+def check_contract_change(checks, copy, *change_of):
+    """A change of what contracts.py writes or compares is told."""
+    path, text = change(copy, *change_of)
+    status, said = run_script(copy, CONTRACTS, "check")
+    checks.expect(status == 1, f"{change_of}: status {status}, {said}")
+    write(path, text)
+
+
 def changes(checks):
     with tempfile.TemporaryDirectory() as folder:
         copy = os.path.join(folder, "copy")
@@ -369,6 +391,10 @@ def changes(checks):
             check_change(checks, copy, "gone or changed: ", *what)
         for what in WRONG_CHANGES:
             check_change(checks, copy, "wrong: ", *what)
+        status, said = run_script(copy, CONTRACTS, "check")
+        checks.expect(status == 0, f"the contracts of the copy: {said}")
+        for what in CONTRACT_CHANGES:
+            check_contract_change(checks, copy, *what)
         status, said = say_of_checks(copy)
         checks.expect(status == 0, f"the copy as it was: {said}")
     checks.end("changes of checks")
