@@ -132,6 +132,8 @@ REFUSALS = [
     (": note: src/locked.rt:{add_slot}:1: it is not proved that (`returns`)", False),
     (": ./proofs/locked/add_slot/Answers.antt:1:1: error: `returns`", False),
     (": note: src/shared.rt:1:1: (`add_slot-requires-clause-published`)", False),
+    (": note: src/shared.rt:1:1: (`publish_board-requires-clause-history`)", False),
+    (": note: src/shared.rt:1:1: (`publish_board-requires`)", False),
     (" (only by a limit): note: src/locked.rt:{publish_board}:1: (`returns`)", False),
     (" (only because a proof file): ./proofs/locked/publish_board/Answers.antt:1:1:", False),
     ("", False),
