@@ -27,7 +27,9 @@ Each run without a refused growth must have growths, and in all some must be ref
 made again: else the library that refuses them isn't loaded.
 
 With the argument `short` every fourth growth of a case and of a script is refused, except of
-long_journal.cases, and every second one of a race, so that it takes less time.
+long_journal.cases, and every second one of a race, so that it takes less time. Which one is the
+first follows from the name of the case, so that it isn't the same growths of all cases that are
+passed over.
 
 The programs are crates/ck_cases/out/ck_cases, crates/ck_run/out/ck_run and
 crates/ck_races/out/ck_races, built by `rt run` in their folders. This needs Linux with the GNU C
@@ -40,6 +42,7 @@ import os
 import subprocess
 import sys
 import tempfile
+import zlib
 
 HERE = os.path.dirname(os.path.abspath(__file__))
 CRATES = os.path.join(HERE, "..", "crates")
@@ -63,9 +66,10 @@ MEMORY_ERRORS = (
     b"ck_cases: out of memory\n",
 )
 
-# With `short` some 21,000 growths are refused. Far fewer are so where cases, races or growths are
-# passed over.
+# With `short` some 21,000 growths are refused, and after some 3,300 of them something is made again.
+# These are far fewer where cases, races or growths are passed over.
 LEAST_OF_SHORT = 20_000
+LEAST_MADE_AGAIN = 2_000
 
 Ended = collections.namedtuple("Ended", "status output errors growths")
 
@@ -161,6 +165,12 @@ def is_summary_right(ended, plain):
     return (ended.status, ended.output) == (3, b"") and ended.errors in THREAD_ERRORS
 
 
+def refused_numbers(name, growths, step):
+    """The numbers of the growths that are refused of so many: one in `step`. The first of them
+    follows from the name."""
+    return range(1 + zlib.crc32(name.encode()) % step, growths + 1, step)
+
+
 def check_case(library, command, name, lines, passed, step):
     """How many growths the case is refused, after how many something was made again, and what was
     wrong. Without a refused growth this many pass: the lines of a case, or one race. Of the growths
@@ -174,7 +184,7 @@ def check_case(library, command, name, lines, passed, step):
             return 0, 0, [f"{name}: {plain}"]
         retries = 0
         faults = []
-        numbers = range(1, plain.growths + 1, step)
+        numbers = refused_numbers(name, plain.growths, step)
         for growth in numbers:
             ended = play(library, words, b"", growth)
             retries += ended.output.endswith(b" made again\n")
@@ -190,7 +200,7 @@ def check_calls(library, words, name, text, output, is_right, step):
     if (plain.status, plain.output) != (0, output) or plain.growths == 0:
         return 0, 0, [f"{name}: {plain}"]
     faults = []
-    numbers = range(1, plain.growths + 1, step)
+    numbers = refused_numbers(name, plain.growths, step)
     for growth in numbers:
         ended = play(library, words, text, growth)
         if not is_right(ended, plain):
@@ -248,8 +258,9 @@ def main(paths, races, is_short=False):
     faults = [fault for _, _, of_case in results for fault in of_case]
     growths = sum(refused for refused, _, _ in results)
     retries = sum(made_again for _, made_again, _ in results)
-    if growths < (LEAST_OF_SHORT if is_short else 1) or retries == 0:
-        faults.append("too few growths were refused, or nothing was made again")
+    least, least_again = (LEAST_OF_SHORT, LEAST_MADE_AGAIN) if is_short else (1, 1)
+    if growths < least or retries < least_again:
+        faults.append("too few growths were refused, or too little was made again")
     for fault in faults:
         print(fault)
     print(f"{growths} growths refused, {retries} times made again, {len(faults)} faults")

@@ -22,6 +22,7 @@ import races
 import recorded_runs
 import refusals
 import rules
+import speed
 
 ROOT = os.path.dirname(program.HERE)
 sys.path.insert(0, os.path.join(ROOT, "bench"))
@@ -41,6 +42,11 @@ WRONG = {
 TESTS = {program: program.Tests, rules: program.Tests, recorded_runs: recorded_runs.Files,
          races: recorded_runs.Files}
 
+# A program whose call of number n takes n * n steps; and how many objects speed.py then makes, and
+# searches among the few, so that it doesn't take long.
+SLOW = "exec awk '{ for (i = 0; i < NR * NR; i++) x += i; print 0 }'"
+FEW_OBJECTS = (40, 160, 40)
+
 # Tests in which a right program writes nothing there, so that they pass on one that never does.
 SILENT = {
     "nothing on standard output": [program.readers, races.each_wrong_reply, races.wrong_in_parts,
@@ -48,12 +54,34 @@ SILENT = {
     "nothing on standard error": [program.dialogue, program.side_by_side, recorded_runs.reports,
                                   recorded_runs.limits_of_first_case, recorded_runs.long_texts,
                                   recorded_runs.audits, races.whole_file, races.set_orders,
-                                  rules.attributes, rules.values, rules.key_states,
-                                  rules.mechanisms, rules.session_states, rules.pieces],
+                                  rules.attributes, rules.unknown_attributes, rules.values,
+                                  rules.key_states, rules.mechanisms, rules.session_states,
+                                  rules.pieces],
 }
 
 # Tests of a file, to which it is all the same which program is there.
-OTHERS = (races.shapes,)
+OTHERS = (races.shapes, rules.codes, rules.reasons, rules.statuses, rules.names_of_mechanisms)
+
+# Changes of pages, and the test of a right program that must notice each: what stands there, and
+# what stands there then.
+PAGES = [
+    (rules.attributes, "rules.md", r"^\| 108 \| CKA_SIGN .*\n", ""),
+    (rules.unknown_attributes, "rules.md", r"^\| 108 \| CKA_SIGN ", "| 10b | CKA_SIGN "),
+    (rules.values, "rules.md", r"^\| 170 .*\n", ""),
+    (rules.key_states, "rules.md", r"^\| 4 \| destroyed \|", "| 6 | destroyed |"),
+    (rules.mechanisms, "rules.md", r"^\| SHA-384 .*\n", ""),
+    (rules.session_states, "rules.md", r"^(\| nobody .*\n)(\| the user .*\n)", r"\2\1"),
+    (rules.calls, "script.md", r"^\| `SetPIN` \| session, ", "| `SetPIN` | "),
+    (rules.calls, "script.md", r"^\| `SetPIN` .*\n", ""),
+    (rules.codes, "script.md", r"^\| `b3` \| CKR_", "| `b4` | CKR_"),
+    (rules.codes, "script.md", r"^\| `b3` \| CKR_.*\n", ""),
+    (rules.reasons, "script.md", r"^\| a tab \| `there is ", "| a tab | `there isn't "),
+    (rules.reasons, "script.md", r"^\| a tab .*\n", ""),
+    (rules.statuses, "script.md", r"^\| 3 \| reading failed ", "| 2 | reading failed "),
+    (rules.statuses, "script.md", r"^\| 3 \| reading failed .*\n", ""),
+    (rules.names_of_mechanisms, "rust.md", "250, 260, 270", "260, 250, 270"),
+    (rules.names_of_mechanisms, "rules.md", "251 CKM_SHA256_HMAC ", "251 CKM_SHA384_HMAC "),
+]
 
 EDITS = "crates/*/must-fail/*.edit"
 
@@ -85,6 +113,16 @@ WRONG_CHANGES = [
     ("a status that is always 0", "check", "^.*failed. -eq 0 .*\n", "true\n"),
 ]
 
+# Changes that the script of contracts must show: of its page, of a source, and of its example.
+CONTRACTS = "docs/contracts.py"
+CONTRACT_CHANGES = [
+    ("docs/contracts.md", "^ *ensures .*\n", ""),
+    ("docs/contracts.md", "^ *requires .*\n", ""),
+    ("crates/ck_types/src/*.rt", "^ *ensures .*\n", ""),
+    ("docs/rust.md", "^    fn sign.*\n", ""),
+    ("crates/ck_token/src/lib.rt", "^//! +token[.]try_call.*\n", ""),
+]
+
 # What is said of an edit with the clause `publish_board published`, and whether it is said of this
 # clause: behind `refused, as it must be`.
 REFUSALS = [
@@ -94,6 +132,8 @@ REFUSALS = [
     (": note: src/locked.rt:{add_slot}:1: it is not proved that (`returns`)", False),
     (": ./proofs/locked/add_slot/Answers.antt:1:1: error: `returns`", False),
     (": note: src/shared.rt:1:1: (`add_slot-requires-clause-published`)", False),
+    (": note: src/shared.rt:1:1: (`publish_board-requires-clause-history`)", False),
+    (": note: src/shared.rt:1:1: (`publish_board-requires`)", False),
     (" (only by a limit): note: src/locked.rt:{publish_board}:1: (`returns`)", False),
     (" (only because a proof file): ./proofs/locked/publish_board/Answers.antt:1:1:", False),
     ("", False),
@@ -142,6 +182,8 @@ WRONG_ENDS = [
     (is_case_right, ended(0, b"t: out of memory\n")),
     (is_case_right, ended(-1, b"")),
     (is_case_right, ended(1, b"", b"Error: line 1\n")),
+    (is_case_right, ended(1, b"t: memory lacks a second time\n")),
+    (is_case_right, ended(1, b"", b"Error: memory lacks a second time\n")),
     (is_script_right, ended(0, b"0\n")),
     (is_script_right, ended(0, SCRIPT.output, NO_MEMORY)),
     (is_script_right, ended(3, b"0", NO_MEMORY)),
@@ -155,6 +197,31 @@ WRONG_ENDS = [
     (is_summary_right, ended(3, b"entries 1\n", NO_MEMORY)),
     (is_summary_right, ended(3, b"", b"ck_run: read fault\n")),
 ]
+
+
+# A program that plays a case, a script, a script in threads, a race and calls with reserved room as
+# it must, and says that it has so many growths. Where one of them is refused it first does
+# something else.
+GROWING = """\
+shift
+printf %s >&3
+[ "$REFUSED_GROWTH $REFUSED_FROM" = "0 0" ] || { %s; }
+case "$*" in
+"") echo "0 4 64 0 0" ;;
+--callers*) echo "entries 1"; echo "audit ok" ;;
+reserve*) ;;
+*) for file; do :; done; echo "$file: 1 passed$again" ;;
+esac
+"""
+MADE_AGAIN = 'again=", 1 made again"'
+GROWING_CASE = [growths.LARGEST, "1 GetTokenInfo -> 0 4 64 0 0"]
+
+# Of each of these: how many growths are refused, after how many something is made again, and how
+# many faults are found where the program is wrong then.
+GROWING_ENDS = [(9, 9, 9), (9, 0, 9), (9, 0, 9), (9, 9, 9), (0, 0, 1)]
+
+# What is wrong then.
+WRONG_GROWING = ["echo nonsense; exit 1", "echo nonsense; exit 3", "kill -9 $$"]
 
 
 @contextlib.contextmanager
@@ -187,7 +254,7 @@ def tests_of(module):
 def words_of(module, test, path):
     """How the lines begin that a test writes of this program."""
     with unseen() as output:
-        test(TESTS[module](path))
+        test(TESTS.get(module, program.Tests)(path))
     return {line.split(" ")[0] for line in output.getvalue().splitlines()}
 
 
@@ -229,6 +296,16 @@ def idle_programs(checks):
     checks.end("a program that does nothing")
 
 
+def slow_programs(checks):
+    speed.FEW, speed.MANY, speed.SEARCHES = FEW_OBJECTS
+    with tempfile.TemporaryDirectory() as folder:
+        path = write_program(folder, SLOW, "/bin/true")
+        for test in tests_of(speed):
+            words = words_of(speed, test, path)
+            checks.expect(fails(words), f"{test.__name__} of speed.py: {words}")
+    checks.end("a program that takes ever more time for a call")
+
+
 def no_checks(checks):
     tests = program.Tests("/bin/true")
     with unseen():
@@ -259,11 +336,28 @@ def change(copy, pattern, old, new):
     return path, text
 
 
-def say_of_checks(copy, *words):
-    """What inventory.py of a copy of the repository says: its status, and its text."""
-    run = subprocess.run([sys.executable, os.path.join(copy, "tests", "inventory.py"), *words],
-                         capture_output=True, timeout=program.SECONDS, text=True)
+def run_script(copy, path, *words):
+    """What a script of a copy of the repository says: its status, and its text."""
+    run = subprocess.run([sys.executable, os.path.join(copy, path), *words], capture_output=True,
+                         timeout=program.SECONDS, text=True)
     return run.returncode, run.stdout + run.stderr
+
+
+def say_of_checks(copy, *words):
+    return run_script(copy, os.path.join("tests", "inventory.py"), *words)
+
+
+def changed_pages(checks):
+    docs = rules.DOCS
+    with tempfile.TemporaryDirectory() as folder:
+        rules.DOCS = shutil.copytree(docs, os.path.join(folder, "docs"))
+        for test, *change_of in PAGES:
+            path, text = change(rules.DOCS, *change_of)
+            words = words_of(rules, test, rules.PROGRAM)
+            checks.expect(fails(words), f"{test.__name__} on another {change_of}: {words}")
+            write(path, text)
+    rules.DOCS = docs
+    checks.end("changes of pages")
 
 
 def check_change(checks, copy, front, what, *change_of):
@@ -281,6 +375,14 @@ def check_change(checks, copy, front, what, *change_of):
     write(listed, list_before)
 
 
+def check_contract_change(checks, copy, *change_of):
+    """A change of what contracts.py writes or compares is told."""
+    path, text = change(copy, *change_of)
+    status, said = run_script(copy, CONTRACTS, "check")
+    checks.expect(status == 1, f"{change_of}: status {status}, {said}")
+    write(path, text)
+
+
 def changes(checks):
     with tempfile.TemporaryDirectory() as folder:
         copy = os.path.join(folder, "copy")
@@ -291,6 +393,10 @@ def changes(checks):
             check_change(checks, copy, "gone or changed: ", *what)
         for what in WRONG_CHANGES:
             check_change(checks, copy, "wrong: ", *what)
+        status, said = run_script(copy, CONTRACTS, "check")
+        checks.expect(status == 0, f"the contracts of the copy: {said}")
+        for what in CONTRACT_CHANGES:
+            check_contract_change(checks, copy, *what)
         status, said = say_of_checks(copy)
         checks.expect(status == 0, f"the copy as it was: {said}")
     checks.end("changes of checks")
@@ -314,6 +420,52 @@ def refused_growths(checks):
     checks.end("refused growths of a program that does nothing")
 
 
+def growths_of(folder, count, refused):
+    """How many growths are refused, how often something is made again, and how many faults are
+    found, of each kind, where the program has so many growths and does this where one is refused.
+    """
+    path = write_program(folder, GROWING % (count, refused), "/bin/true")
+    growths.CASES = growths.SCRIPTS = growths.RACES = path
+    made = [*growths.checks_of_case("", "a case", GROWING_CASE, 1),
+            *growths.checks_of_races("", [(1, ["race"])], 1)]
+    results = [check(*arguments) for check, *arguments in made]
+    return [(numbers, retries, len(faults)) for numbers, retries, faults in results]
+
+
+def status_of_short(path, least, least_again):
+    """How growths.py ends with the argument `short`, where so many growths must be refused, and
+    something made again after so many."""
+    growths.LEAST_OF_SHORT, growths.LEAST_MADE_AGAIN = least, least_again
+    with unseen():
+        return growths.main([path], [], is_short=True)
+
+
+def judged_growths(checks):
+    growths.build = lambda folder: ""
+    with tempfile.TemporaryDirectory() as folder:
+        for refused in WRONG_GROWING:
+            came = [faults for _, _, faults in growths_of(folder, 9, refused)]
+            checks.expect(came == [faults for _, _, faults in GROWING_ENDS], f"{refused}: {came}")
+        came = growths_of(folder, 0, MADE_AGAIN)
+        checks.expect(came == [(0, 0, 1)] * len(GROWING_ENDS), f"without growths: {came}")
+        came = growths_of(folder, 9, MADE_AGAIN)
+        checks.expect(came == [(*ends, 0) for *ends, _ in GROWING_ENDS], f"made again: {came}")
+        path = os.path.join(folder, "a.cases")
+        write(path, "\n".join(GROWING_CASE) + "\n")
+        for least, least_again, status in ((1, 1, 0), (99, 1, 1), (1, 99, 1)):
+            came = status_of_short(path, least, least_again)
+            checks.expect(came == status, f"{least} growths, {least_again} made again: {came}")
+    checks.end("refused growths of a program that is wrong when they are refused")
+
+
+def passed_over(checks):
+    firsts = {growths.refused_numbers(f"case {number}", 9, 4)[0] for number in range(99)}
+    checks.expect(firsts == {1, 2, 3, 4}, f"the first growths of 9 that are refused: {firsts}")
+    checks.expect([*growths.refused_numbers("a case", 9, 1)] == [*range(1, 10)],
+                  "not each growth is refused")
+    checks.end("which growths are refused, where not all are")
+
+
 def refused_edits(checks):
     path = os.path.join(ROOT, "crates", REFUSED[0], "src", "locked.rt")
     lines = {name: first for first, name in refusals.functions_of(path)}
@@ -331,10 +483,14 @@ def main():
     checks = program.Checks("noticing")
     wrong_programs(checks)
     idle_programs(checks)
+    slow_programs(checks)
     no_checks(checks)
     ends(checks)
     refused_edits(checks)
     refused_growths(checks)
+    judged_growths(checks)
+    passed_over(checks)
+    changed_pages(checks)
     changes(checks)
     return checks.status()
 

@@ -44,6 +44,11 @@ FIRST_CALLS = b"""\
 """
 FIRST_REPLIES = b"0\n0 1\n0 1\n0 =6162,:0\n0\n82\n"
 
+# More calls than any bound on their number lets through, and the reply to each.
+MANY = 1_000_000
+MANY_CALLS = b"1 GetTokenInfo\n" * MANY
+REPLY_TO_EACH = b"0 4 64 0 0\n"
+
 # Two callers: the first makes six calls, the second two.
 TWO_CALLERS = FIRST_CALLS + b"2 CloseSession 1\n2 CloseSession 1\n"
 
@@ -82,12 +87,16 @@ BAD_ARGUMENTS = [
     (["\udcff"], b"an argument isn't text in UTF-8"),
 ]
 
+TOO_LONG = b"a line has at most 4194304 bytes"
+CALLER_ABOVE_2 = b"the caller is a number from 1 to 2"
 TOO_MANY_SPACES = (b"there are two spaces in a row, or one at an end of the line: "
                    b"single spaces separate its words")
 BYTE_ORDER_MARK = b"a byte order mark stands before the line"
 CARRIAGE_RETURN = b"a carriage return stands at the end of the line"
 TAB = b"there is a tab in the line: single spaces separate its words"
 NOT_DECIMAL = b"a number is written in decimal digits"
+NO_CODE_NUMBER = b"a code number is written in the digits 0 to 9 and a to f, without 0x"
+NO_TEMPLATE = b"a template is written as type=bytes,.. and an empty one as -"
 NO_CALL = b"no call has this name"
 
 # A bad line, and the reason that is given.
@@ -98,12 +107,10 @@ BAD_LINES = [
     (b"1 Nope", NO_CALL),
     (b"1 Logn 1 1 31", NO_CALL + b", the nearest is Login"),
     (b"1 Login 1 1", b"Login takes 3 arguments"),
-    (b"1 GetTokenInfo 1", b"GetTokenInfo takes no arguments"),
     (b"1 Logout x", NOT_DECIMAL),
     (b"1 Logout 01", b"a number has no leading zero"),
     (b"1 Logout 18446744073709551616", b"a number is below 2^64"),
-    (b"1 OpenSession 0x6",
-     b"a code number is written in the digits 0 to 9 and a to f, without 0x"),
+    (b"1 OpenSession 0x6", NO_CODE_NUMBER),
     (b"1 InitToken 313",
      b"bytes are written in two hexadecimal digits each, and no bytes as -"),
     (b"1 Logout  1", TOO_MANY_SPACES),
@@ -117,7 +124,7 @@ BAD_LINES = [
     (b"\xef\xbb\xbf1 Logout 1", BYTE_ORDER_MARK),
     (b"1 DigestInit 1 250:00:00",
      b"a mechanism is written as type, or with its parameter as type:bytes"),
-    (b"1 CreateObject 1 3", b"a template is written as type=bytes,.. and an empty one as -"),
+    (b"1 CreateObject 1 3", NO_TEMPLATE),
     (b"1 GetAttributeValue 1 1 3", b"queries are written as type:room,.. and none as -"),
 ]
 
@@ -138,8 +145,22 @@ LINES_WITH_FAULTS = [
     (b"9 Nope", b"the caller is a number from 1 to 8"),
     (b"1 Nope x 01", NO_CALL),
     (b"1 Login x 1", b"Login takes 3 arguments"),
+    # the first bad argument of two, of three and of four
+    (b"1 SessionCancel x 0x400", NOT_DECIMAL),
     (b"1 Login x 01 3", NOT_DECIMAL),
     (b"1 Login 1 01 3", b"a number has no leading zero"),
+    (b"1 SignInit x 251 01", NOT_DECIMAL),
+    (b"1 GenerateKey x 0x350 - 6", NOT_DECIMAL),
+    (b"1 GenerateKey x 350 3 00", NOT_DECIMAL),
+    (b"1 GenerateKey 1 0x350 - 6", NO_CODE_NUMBER),
+    (b"1 GenerateKey 1 0x350 3 00", NO_CODE_NUMBER),
+    (b"1 GenerateKey 1 350 3 6", NO_TEMPLATE),
+    # the first bad part of a mechanism, of an item and of a query, and the first bad item
+    (b"1 DigestInit 1 0x250:6", NO_CODE_NUMBER),
+    (b"1 CreateObject 1 0x3=6", NO_CODE_NUMBER),
+    (b"1 GetAttributeValue 1 1 0x3:x", NO_CODE_NUMBER),
+    (b"1 CreateObject 1 0x3=00,3", NO_CODE_NUMBER),
+    (b"1 CreateObject 1 3,0x3=00", NO_TEMPLATE),
 ]
 
 # A name with two letters too many, or three, after the longest name and the front of the standard.
@@ -156,6 +177,29 @@ DIALOGUE = [
     (b"1 OpenSession 6\n", b"0 1\n"),
     (b"# x\n1 GetTokenInfo\n", b"0 404 64 1 1\n"),
 ]
+
+# How the program ends: what it writes to standard error, and its status.
+PLAYED = (b"", 0)
+READ_FAULT = (b"ck_run: read fault\n", 3)
+WRITE_FAULT = (b"ck_run: write fault\n", 3)
+NO_MEMORY = (b"ck_run: out of memory\n", 3)
+NO_THREAD = (b"ck_run: thread not started\n", 3)
+
+
+def bad_script(line, reason):
+    return b"ck_run: line %d: bad script: %b\n" % (line, reason), 1
+
+
+def bad_arguments(reason):
+    return b"ck_run: bad arguments: %b\n" % reason, 2
+
+
+# All ends that are tried, with nothing for the reason of a bad line and of bad arguments.
+ENDS = [PLAYED, bad_script(2, b""), bad_arguments(b""), READ_FAULT, WRITE_FAULT, NO_MEMORY,
+        NO_THREAD]
+
+# All reasons of bad lines that are tried.
+REASONS = [TOO_LONG, CALLER_ABOVE_2, *(reason for _, reason in BAD_LINES)]
 
 # The seconds in which a reply comes.
 SECONDS_OF_REPLY = 10
@@ -220,12 +264,12 @@ class Tests(Checks):
 
 
 def scripts(tests):
-    tests.check([], b"", b"", b"", 0)
-    tests.check([], b"1 InitToken 31323334", b"0\n", b"", 0)
-    tests.check([], FIRST_CALLS, FIRST_REPLIES, b"", 0)
-    tests.check([], TWO_CALLERS, FIRST_REPLIES + b"0\nb3\n", b"", 0)
-    tests.check([], b"1 InitToken 31323334\n\n# x\n1 Nope\n", b"0\n",
-                b"ck_run: line 4: bad script: no call has this name\n", 1)
+    tests.check([], b"", b"", *PLAYED)
+    tests.check([], b"1 InitToken 31323334", b"0\n", *PLAYED)
+    tests.check([], FIRST_CALLS, FIRST_REPLIES, *PLAYED)
+    tests.check([], TWO_CALLERS, FIRST_REPLIES + b"0\nb3\n", *PLAYED)
+    tests.check([], MANY_CALLS, REPLY_TO_EACH * MANY, *PLAYED)
+    tests.check([], b"1 InitToken 31323334\n\n# x\n1 Nope\n", b"0\n", *bad_script(4, NO_CALL))
     tests.end("a script is played line by line")
 
 
@@ -258,15 +302,14 @@ def dialogue(tests):
             if came != reply:
                 break
         end = end_of(process)
-        tests.expect(end == (b"", b"", 0), f"after the last line: {end}")
+        tests.expect(end == (b"", *PLAYED), f"after the last line: {end}")
     tests.end("each line is answered before the next one comes")
 
 
 def check_bad_line(tests, line, reason):
-    errors = b"ck_run: line 2: bad script: " + reason + b"\n"
     script = b"1 InitToken 31323334\n" + line + b"\n1 GetTokenInfo\n"
-    tests.check([], script, b"0\n", errors, 1)
-    tests.check(["--callers", "8"], script, b"", errors, 1)
+    tests.check([], script, b"0\n", *bad_script(2, reason))
+    tests.check(["--callers", "8"], script, b"", *bad_script(2, reason))
 
 
 def bad_lines(tests):
@@ -297,34 +340,35 @@ def names(tests):
 
 
 def longest_lines(tests):
-    errors = b"ck_run: line 1: bad script: a line has at most 4194304 bytes\n"
+    end = bad_script(1, TOO_LONG)
     comment = b"#" * LONGEST_LINE
     call = b"1 InitToken " + b"31" * ((LONGEST_LINE - 12) // 2)
-    tests.check([], comment, b"", b"", 0)
-    tests.check([], comment + b"\n1 InitToken 31323334\n", b"0\n", b"", 0)
-    tests.check([], comment + b"#\n", b"", errors, 1)
-    tests.check([], comment + b"#", b"", errors, 1)
-    tests.check([], b"\xef\xbb\xbf" + b"1" * LONGEST_LINE + b"\r", b"", errors, 1)
-    tests.check([], call + b"\n", b"a2\n", b"", 0)
-    tests.check([], call + b"3\n", b"", errors, 1)
+    tests.check([], comment, b"", *PLAYED)
+    tests.check([], comment + b"\n1 InitToken 31323334\n", b"0\n", *PLAYED)
+    tests.check([], comment + b"#\n", b"", *end)
+    tests.check([], comment + b"#", b"", *end)
+    tests.check([], b"\xef\xbb\xbf" + b"1" * LONGEST_LINE + b"\r", b"", *end)
+    tests.check([], call + b"\n", b"a2\n", *PLAYED)
+    tests.check([], call + b"3\n", b"", *end)
     for words in (["--callers", "1"], ["--callers", "8"]):
-        tests.check(words, comment, b"entries 0\naudit ok\n", b"", 0)
-        tests.check(words, comment + b"#\n", b"", errors, 1)
+        tests.check(words, comment, b"entries 0\naudit ok\n", *PLAYED)
+        tests.check(words, comment + b"#\n", b"", *end)
     tests.end("lines of 4,194,304 bytes and of one more")
 
 
 def callers(tests):
     for words in (["--callers", "2"], ["--callers=2"], ["--callers", "8"]):
-        tests.check(words, TWO_CALLERS, b"entries 8\naudit ok\n", b"", 0)
-    tests.check(["--callers", "1"], FIRST_CALLS, b"entries 6\naudit ok\n", b"", 0)
-    tests.check(["--callers=3"], b"3 GetTokenInfo\n", b"entries 1\naudit ok\n", b"", 0)
-    tests.check(["--callers", "2"], b"", b"entries 0\naudit ok\n", b"", 0)
+        tests.check(words, TWO_CALLERS, b"entries 8\naudit ok\n", *PLAYED)
+    tests.check(["--callers", "1"], FIRST_CALLS, b"entries 6\naudit ok\n", *PLAYED)
+    tests.check(["--callers", "1"], MANY_CALLS, b"entries %d\naudit ok\n" % MANY, *PLAYED)
+    tests.check(["--callers=3"], b"3 GetTokenInfo\n", b"entries 1\naudit ok\n", *PLAYED)
+    tests.check(["--callers", "2"], b"", b"entries 0\naudit ok\n", *PLAYED)
     tests.check(["--callers", "2"], TWO_CALLERS + b"3 GetTokenInfo\n", b"",
-                b"ck_run: line 9: bad script: the caller is a number from 1 to 2\n", 1)
+                *bad_script(9, CALLER_ABOVE_2))
     tests.check(["--callers", "5"], b"1 GetTokenInfo\n8 GetTokenInfo\n", b"",
-                b"ck_run: line 2: bad script: the caller is a number from 1 to 5\n", 1)
+                *bad_script(2, b"the caller is a number from 1 to 5"))
     tests.check(["--callers", "2"], b"3 Login x\n", b"",
-                b"ck_run: line 1: bad script: Login takes 3 arguments\n", 1)
+                *bad_script(1, b"Login takes 3 arguments"))
     tests.end("callers in threads")
 
 
@@ -338,9 +382,9 @@ def leave_little_room():
 def audits(tests):
     short = {"preexec_fn": leave_little_room}
     words = ["--callers", "1"]
-    tests.check(words, LARGE_OBJECTS + b"1 CloseAllSessions\n", b"entries 67\naudit ok\n", b"", 0,
+    tests.check(words, LARGE_OBJECTS + b"1 CloseAllSessions\n", b"entries 67\naudit ok\n", *PLAYED,
                 **short)
-    tests.check(words, LARGE_OBJECTS, b"", b"ck_run: out of memory\n", 3, **short)
+    tests.check(words, LARGE_OBJECTS, b"", *NO_MEMORY, **short)
     tests.end("the journal of callers is audited, and an audit finds no memory for many objects")
 
 
@@ -365,7 +409,7 @@ def side_by_side(tests):
     script = b"".join(b"%d GetTokenInfo\n" % (1 + count % 8) for count in range(200_000))
     most, end = count_threads(tests, ["--callers", "8"], script)
     tests.expect(most >= 5, f"with eight callers there are {most} threads at once")
-    tests.expect(end == (b"entries 200000\naudit ok\n", b"", 0), f"with eight callers: {end}")
+    tests.expect(end == (b"entries 200000\naudit ok\n", *PLAYED), f"with eight callers: {end}")
     tests.end("callers have their threads at the same time")
 
 
@@ -379,47 +423,42 @@ def threads(tests):
     refused = {"preexec_fn": lambda: resource.setrlimit(resource.RLIMIT_STACK, limits)}
     for words in (["--callers", "1"], ["--callers", "8"]):
         for script in (FIRST_CALLS, b""):
-            tests.check(words, script, b"", b"ck_run: thread not started\n", 3, **refused)
-    tests.check(["--callers", "8"], b"1 Nope\n", b"",
-                b"ck_run: line 1: bad script: no call has this name\n", 1, **refused)
-    tests.check([], FIRST_CALLS, FIRST_REPLIES, b"", 0, **refused)
+            tests.check(words, script, b"", *NO_THREAD, **refused)
+    tests.check(["--callers", "8"], b"1 Nope\n", b"", *bad_script(1, NO_CALL), **refused)
+    tests.check([], FIRST_CALLS, FIRST_REPLIES, *PLAYED, **refused)
     tests.end("threads that can't be made")
 
 
 def arguments(tests):
     for words in (["--help"], ["-h"], ["--callers", "2", "--help"]):
-        tests.check(words, b"Nope\n", HELP, b"", 0)
+        tests.check(words, b"Nope\n", HELP, *PLAYED)
     for words, reason in BAD_ARGUMENTS:
-        errors = b"ck_run: bad arguments: " + reason + b"\n"
-        tests.check(words, b"1 InitToken 31323334\n", b"", errors, 2)
+        tests.check(words, b"1 InitToken 31323334\n", b"", *bad_arguments(reason))
     tests.end("arguments")
 
 
 def readers(tests):
-    errors = b"ck_run: read fault\n"
     folder = os.open("/", os.O_RDONLY)
     for words in ([], ["--callers", "2"]):
-        tests.check(words, None, b"", errors, 3, stdin=folder)
-        tests.check(words, None, b"", errors, 3, stdin=subprocess.DEVNULL,
+        tests.check(words, None, b"", *READ_FAULT, stdin=folder)
+        tests.check(words, None, b"", *READ_FAULT, stdin=subprocess.DEVNULL,
                     preexec_fn=lambda: os.close(0))
     os.close(folder)
     tests.end("a reader that fails")
 
 
 def writers(tests):
-    errors = b"ck_run: write fault\n"
     for words in ([], ["--callers", "2"], ["--help"]):
         with open("/dev/full", "wb") as full:
-            tests.check(words, TWO_CALLERS, None, errors, 3, stdout=full)
+            tests.check(words, TWO_CALLERS, None, *WRITE_FAULT, stdout=full)
         reading, writing = os.pipe()
         os.close(reading)
-        tests.check(words, TWO_CALLERS, None, errors, 3, stdout=writing)
+        tests.check(words, TWO_CALLERS, None, *WRITE_FAULT, stdout=writing)
         os.close(writing)
-        tests.check(words, TWO_CALLERS, b"", errors, 3, preexec_fn=lambda: os.close(1))
+        tests.check(words, TWO_CALLERS, b"", *WRITE_FAULT, preexec_fn=lambda: os.close(1))
     with open("/dev/full", "wb") as full:
-        tests.check([], b"", None, b"", 0, stdout=full)
-        tests.check(["--callers", "9"], b"", None,
-                    b"ck_run: bad arguments: " + CALLERS + b"\n", 2, stdout=full)
+        tests.check([], b"", None, *PLAYED, stdout=full)
+        tests.check(["--callers", "9"], b"", None, *bad_arguments(CALLERS), stdout=full)
         tests.check([], b"Nope\n", b"", None, 1, stderr=full)
     tests.end("a writer that fails")
 

@@ -3,7 +3,7 @@
 `clause:` of the edit names, and not for another reason.
 
 Called with a file that has the output of `rt ci`. Where the clause is one that callers must show,
-the edit may be refused at a call. An edit of a definition is refused in a proof of the law that it
+the edit may be refused at a call, where that clause isn't shown and not another one. An edit of a definition is refused in a proof of the law that it
 names, or in a lemma of that proof, so the place doesn't count there. Prints each edit that has no
 such verdict; the status is 1 then.
 """
@@ -17,7 +17,8 @@ import contracts
 
 VERDICT = re.compile(r"rt: must-fail (\w+)/(\w+)\.edit: refused, as it must be(.*)")
 PLACE = re.compile(r"\b((?:src|specs|proofs)/[\w./+-]+):(\d+):\d+:")
-CLAUSE = re.compile(r"^clause: (?:\w+::)*(\w+)", re.MULTILINE)
+# The function or the type, and the clause of it if one is named.
+CLAUSE = re.compile(r"^clause: (?:\w+::)*(\w+)(?: (\w+))?$", re.MULTILINE)
 # How `rt` begins where it refuses an edit for another reason than a goal.
 OTHER_REASONS = (" (only because a proof file", " (only by a limit")
 
@@ -51,11 +52,12 @@ def names_at(crate, path, line):
 def is_at_clause(crate, edit, said):
     """Whether this is said of a goal of the edit's clause."""
     text = inventory.text_of(f"crates/{crate}/must-fail/{edit}.edit")
-    clause, place = CLAUSE.search(text)[1], PLACE.search(said)
+    (name, label), place = CLAUSE.search(text).groups(), PLACE.search(said)
     if said.startswith(OTHER_REASONS) or not place:
         return False
-    return ("file: specs/" in text or f"`{clause}-requires" in said
-            or clause in names_at(crate, place[1], int(place[2])))
+    shown_at_call = f"`{name}-requires-clause-{label}`" if label else f"`{name}-requires"
+    return ("file: specs/" in text or shown_at_call in said
+            or name in names_at(crate, place[1], int(place[2])))
 
 
 def faults_in(output):

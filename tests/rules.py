@@ -1,19 +1,38 @@
 #!/usr/bin/env python3
 """Plays the tables of docs/rules.md on the built program ck_run: which templates an attribute may
 stand in, its forms, and its value where no template gives it; which key state may become which, and
-what a key does in it; mechanisms, the states of sessions, and the longest pieces of messages.
+what a key does in it; mechanisms, the states of sessions, and the longest pieces of messages. Of
+docs/script.md it plays how many arguments each call takes.
 
-The replies that are wanted are read off the page. The program is crates/ck_run/out/ck_run, which
+The replies that are wanted are read off the pages. So that no row is passed over, each table must
+have as many rows as are said here, and attributes and states that it doesn't have must be refused.
+Last, return codes, reasons of bad lines, statuses and names of mechanisms on the pages are compared
+with those that the sources and other tests have. The program is crates/ck_run/out/ck_run, which
 `rt ci` leaves, or the one that is named. For each test a line is printed that begins with passed or
 FAILED, and the status is 1 where one failed.
 """
 import os
+import re
 import sys
 
 import program
 
 PROGRAM = program.PROGRAM
-PAGE = os.path.join(program.HERE, "..", "docs", "rules.md")
+DOCS = os.path.join(program.HERE, "..", "docs")
+CRATES = os.path.join(program.HERE, "..", "crates")
+
+# The tables that are read, by the first cells of their heads: the page of each, and its rows.
+TABLES = {
+    "type | name": ("rules.md", 27),
+    "number | state": ("rules.md", 6),
+    "hash function (FIPS 180-4)": ("rules.md", 4),
+    "login | read-only session": ("rules.md", 3),
+    "call | arguments": ("script.md", 34),
+    "code | name": ("script.md", 38),
+    "status | when": ("script.md", 8),
+    "what is wrong | text": ("script.md", 18),
+    "name | the standard's": ("rust.md", 10),
+}
 
 # A token that is initialized, with the user logged in in session 1. Private objects then have
 # handles above FIRST_PRIVATE.
@@ -45,17 +64,39 @@ COMPUTED = {"11": "00010203", "161": "0400000000000000", "164": "00", "165": "00
 
 LONGEST_PIECE = 1 << 20
 
+# Types of attributes, among them those of the standard and of this vendor, and numbers of states.
+ATTRIBUTE_TYPES = [*range(0x800), *range(0x80000000, 0x80000010)]
+STATE_NUMBERS = range(16)
 
-def rows(first):
-    """The rows of the page's table whose head begins with these cells, as lists of cells."""
-    with open(PAGE, encoding="utf-8") as file:
-        lines = file.read().split("\n")
+# The mechanism that has no hash function.
+GENERATION = ["350", "CKM_GENERIC_SECRET_KEY_GEN"]
+
+# Codes that no call answers, and a status to which no test of the program can come.
+UNANSWERED = ("CKR_HOST_MEMORY", "CKR_KEY_TYPE_INCONSISTENT")
+UNTRIED = (3, "ck_run: reader does not end")
+
+CODE = re.compile(r'\(0x([0-9a-f]+), "(CKR_\w+)"\)')
+MECHANISM = re.compile(r"pub const (\w+): u64 = 0x([0-9a-f]+);")
+QUOTED = re.compile("`([^`]*)`")
+
+
+def read(*names):
+    with open(os.path.join(*names), encoding="utf-8") as file:
+        return file.read()
+
+
+def rows(tests, first):
+    """The rows of the table whose head begins with these cells, as lists of cells."""
+    page, count = TABLES[first]
+    lines = read(DOCS, page).split("\n")
     start = next(i for i, line in enumerate(lines) if line.startswith(f"| {first} |"))
     table = []
     for line in lines[start + 2:]:
         if not line.startswith("|"):
-            return table
+            break
         table.append([cell.strip() for cell in line.strip().strip("|").split("|")])
+    tests.expect(len(table) == count,
+                 f"{page}: the table {first} has {len(table)} rows, and not {count}")
     return table
 
 
@@ -176,10 +217,20 @@ def give_all_ways(script, attribute, kind):
 def attributes(tests):
     script = Script()
     script.prepare(USER)
-    for cells in rows("type | name"):
+    for cells in rows(tests, "type | name"):
         for kind in ("data", "key"):
             give_all_ways(script, Attribute(cells), kind)
     script.play(tests, "which templates an attribute may stand in, and its forms")
+
+
+def unknown_attributes(tests):
+    script = Script()
+    script.prepare(USER)
+    known = {int(cells[0], 16) for cells in rows(tests, "type | name")}
+    for unknown in sorted(set(ATTRIBUTE_TYPES) - known):
+        for kind in ("data", "key"):
+            script.call(creation(kind, f"{unknown:x}=00"), "12")
+    script.play(tests, "attributes that aren't in the table")
 
 
 def value_of(attribute, kind):
@@ -200,7 +251,7 @@ def values(tests):
         "key": script.create(f"1 CreateObject 1 {KEY_CLASS},{KEY_TYPE},{KEY_VALUE}", True),
         "generated": script.create(f"1 GenerateKey 1 350 161={number('4')} {COMPUTED['11']}", True),
     }
-    for cells in rows("type | name"):
+    for cells in rows(tests, "type | name"):
         attribute = Attribute(cells)
         for kind, handle in made.items():
             is_there = attribute.is_of("data" if kind == "data" else "key")
@@ -225,7 +276,7 @@ def key_in(script, state):
 def key_states(tests):
     script = Script()
     script.prepare(USER)
-    table = rows("number | state")
+    table = rows(tests, "number | state")
     names = {cells[1]: cells[0] for cells in table}
     for state, _, becomes, signs, verifies in table:
         nexts = {names[name] for name in becomes.split(", ") if name}
@@ -233,7 +284,8 @@ def key_states(tests):
             handle = key_in(script, state)
             script.call(f"1 SetKeyState 1 {handle} {after}", "0" if after in nexts else "1b")
         handle = key_in(script, state)
-        script.call(f"1 SetKeyState 1 {handle} {len(names)}", "7")
+        for unknown in sorted(set(map(str, STATE_NUMBERS)) - set(names.values())):
+            script.call(f"1 SetKeyState 1 {handle} {unknown}", "7")
         script.call(f"1 SignInit 1 251 {handle}", "0" if signs else "68")
         script.call(f"1 VerifyInit 1 251 {handle}", "0" if verifies else "68")
         script.call("1 SessionCancel 1 2800", "0")
@@ -247,8 +299,8 @@ def mechanisms(tests):
     script = Script()
     script.prepare(USER)
     key = script.create(creation("key"))
-    types = ["350"]
-    for _, digest, mac, general, length in rows("hash function (FIPS 180-4)"):
+    types = [GENERATION[0]]
+    for _, digest, mac, general, length in rows(tests, "hash function (FIPS 180-4)"):
         digest, mac, general = (cell.split()[0] for cell in (digest, mac, general))
         types += [digest, mac, general]
         script.call(f"1 DigestInit 1 {digest}", "0")
@@ -272,10 +324,11 @@ def session_states(tests):
                     "1 InitPIN 1 75736572", "1 Logout 1"])
     logins = {"nobody": [], "the user": ["1 Login 1 1 75736572"],
               "the security officer": ["1 CloseSession {only}", "1 Login 1 0 31323334"]}
-    for count, (login, read_only, read_write) in enumerate(rows("login | read-only session")):
-        only = count + 2
+    table = rows(tests, "login | read-only session")
+    tests.expect([cells[0] for cells in table] == [*logins], f"the logins are not {[*logins]}")
+    for only, (lines, (_, read_only, read_write)) in enumerate(zip(logins.values(), table), 2):
         script.call("1 OpenSession 4", f"0 {only}")
-        script.prepare([line.format(only=only) for line in logins[login]])
+        script.prepare([line.format(only=only) for line in lines])
         state = read_only.split()[0]
         script.call(f"1 GetSessionInfo {only}", f"0 {state} 4" if state.isdigit() else "b3")
         script.call("1 GetSessionInfo 1", f"0 {read_write.split()[0]} 6")
@@ -309,14 +362,86 @@ def pieces(tests):
     script.play(tests, "the longest pieces of messages")
 
 
+# ---- Scripts
+
+
+def calls(tests):
+    for name, arguments, _ in rows(tests, "call | arguments"):
+        name, count = name.strip("`"), 0 if arguments == "none" else len(arguments.split(", "))
+        said = ["no arguments", "1 argument", f"{count} arguments"][min(count, 2)]
+        line = f"1 {name}" + " x" * (count + 1)
+        program.check_bad_line(tests, line.encode(), f"{name} takes {said}".encode())
+    tests.end("how many arguments each call takes")
+
+
+# ---- What pages say that is said elsewhere
+
+
+def codes(tests):
+    """The codes are those of the tests in the crate ck_run."""
+    said = {(code.strip("`"), name.split()[0]) for code, name, _ in rows(tests, "code | name")}
+    known = {(code, name) for code, name in CODE.findall(read(CRATES, "ck_run", "src", "texts.rt"))
+             if name not in UNANSWERED}
+    tests.expect(said == known, f"said on the page, or known, and not both: {said ^ known}")
+    tests.end("return codes on the page of scripts")
+
+
+def reasons(tests):
+    """The reasons are those that program.py tries."""
+    table = rows(tests, "what is wrong | text")
+    said = {reason for _, reasons in table for reason in QUOTED.findall(reasons)}
+    tried = {reason.decode() for reason in program.REASONS}
+    tests.expect(said == tried, f"said on the page, or tried, and not both: {said ^ tried}")
+    tests.end("reasons of bad lines on the page of scripts")
+
+
+def statuses(tests):
+    """The statuses, with what is on standard error, are those that program.py tries."""
+    said = [(int(status), "".join(QUOTED.findall(errors)).replace("line N", "line 2"))
+            for status, _, errors in rows(tests, "status | when")]
+    tried = [(status, errors.decode().rstrip("\n")) for errors, status in program.ENDS]
+    tests.expect(said == [*tried, UNTRIED], f"{said}, and not {tried} and {UNTRIED}")
+    tests.end("statuses on the page of scripts")
+
+
+def columns_of_mechanisms(tests):
+    """The numbers and the names of the mechanisms of each kind."""
+    table = rows(tests, "hash function (FIPS 180-4)")
+    columns = [[row[kind].split() for row in table] for kind in (1, 2, 3)]
+    for column in [*columns, [GENERATION]]:
+        numbers, names = zip(*column)
+        yield [*numbers], [name.removeprefix("CKM_") for name in names]
+
+
+def names_of_mechanisms(tests):
+    """The page of programs has the same names and numbers as that of rules, and so has the code."""
+    columns = list(columns_of_mechanisms(tests))
+    said = [row for row in rows(tests, "name | the standard's") if row[1].startswith("CKM_")]
+    tests.expect(len(said) == len(columns), f"{len(said)} rows of mechanisms")
+    for (names, standard, numbers), (known_numbers, known) in zip(said, columns):
+        shown = [known[0], known[-1]] if ".." in names else known
+        tests.expect((QUOTED.findall(names), standard.split()[0], numbers.split(", ")) ==
+                     (shown, f"CKM_{known[0]}", known_numbers), f"{names}: {numbers}")
+    constants = MECHANISM.findall(read(CRATES, "ck_types", "src", "mechanism_numbers.rt"))
+    known = {pair for numbers, names in columns for pair in zip(names, numbers)}
+    tests.expect(set(constants) == known, f"mechanism_numbers.rt: {set(constants) ^ known}")
+    tests.end("names of mechanisms on the page of programs")
+
+
 def main(path):
     tests = program.Tests(path, "rules")
     attributes(tests)
+    unknown_attributes(tests)
     values(tests)
     key_states(tests)
     mechanisms(tests)
     session_states(tests)
     pieces(tests)
+    calls(tests)
+    codes(tests)
+    reasons(tests)
+    statuses(tests)
+    names_of_mechanisms(tests)
     return tests.status()
 
 

@@ -16,6 +16,10 @@ PROGRAM = program.PROGRAM
 FIRST_CALLS = ["1 InitToken 31323334", "1 OpenSession 6"]
 TRIES = 3
 
+# How many objects there are, in scripts that are compared, and how many searches among the few.
+FEW, MANY = 20_000, 80_000
+SEARCHES = 500
+
 
 def seconds_of(tests, calls):
     """The least processor time of a few times that the program plays these calls."""
@@ -76,36 +80,33 @@ def long_template(count):
 def label_searches(tests):
     """A search by a label passes over most objects without reading them, also where the template
     begins with another attribute, and where the labels were given anew."""
-    made = creations(20_000)
+    made = creations(FEW)
     for first, attributes in ((made, "3"), (made, "0=0000000000000000,3"),
-                              (made + changes(20_000), "3")):
+                              (made + changes(FEW), "3")):
         before = seconds_of(tests, first)
-        by_label = seconds_of(tests, first + searches(500, attributes)) - before
-        by_application = seconds_of(tests, first + searches(500, "10")) - before
+        by_label = seconds_of(tests, first + searches(SEARCHES, attributes)) - before
+        by_application = seconds_of(tests, first + searches(SEARCHES, "10")) - before
         tests.expect(by_label * 3 < by_application,
-                     f"500 searches by {attributes} behind {len(first)} calls took "
+                     f"{SEARCHES} searches by {attributes} after {len(first)} calls took "
                      f"{by_label:.3f} s, by application {by_application:.3f} s")
     tests.end("searches by label")
 
 
-# What takes as long among many as among few, how often, and the calls of so many.
+# What takes as long among many as among few, and the calls of so many.
 EVEN = [
-    ("creations of objects", 20_000, creations),
-    ("creations and destructions of objects", 20_000,
-     lambda count: creations(count) + destructions(count)),
-    ("results of a search, one by one,", 5_000,
-     lambda count: creations(count) + single_results(count)),
-    ("sessions with an object each, one after the other,", 10_000, sessions),
-    ("items of two attributes each in a template", 25_000, long_template),
+    ("creations", creations),
+    ("creations and destructions", lambda count: creations(count) + destructions(count)),
+    ("results of a search, one by one,", lambda count: creations(count) + single_results(count)),
+    ("sessions with an object each, one after the other,", sessions),
+    ("items of two attributes each in a template", long_template),
 ]
 
 
 def even_times(tests):
     """Four times as many take less than eight times as long."""
-    for what, count, calls_of in EVEN:
-        few, many = seconds_of(tests, calls_of(count)), seconds_of(tests, calls_of(4 * count))
-        tests.expect(many < 8 * few,
-                     f"{count} {what} took {few:.3f} s, {4 * count} took {many:.3f} s")
+    for what, calls_of in EVEN:
+        few, many = seconds_of(tests, calls_of(FEW)), seconds_of(tests, calls_of(MANY))
+        tests.expect(many < 8 * few, f"{FEW} {what} took {few:.3f} s, {MANY} took {many:.3f} s")
     tests.end("times among many")
 
 
