@@ -421,12 +421,10 @@ impl Token {
         ensures { IsDecision self.now.limits self.now.history
             (call.Verify session bytes.now signature.now) result }
     {
-        self.check_verify(session, bytes, signature, ready).map_err(|error| ending_refusal(
-            OperationKind::Verify,
-            session,
-            error,
-        ))?;
-        Ok(Decision::of_change(operation_end(OperationKind::Verify, session, true)))
+        match self.check_verify(session, bytes, signature, ready) {
+            Err(error) => Err(ending_refusal(OperationKind::Verify, session, error)),
+            Ok(()) => Ok(Decision::of_change(operation_end(OperationKind::Verify, session, true))),
+        }
     }
 
     /// C_VerifyFinal. Checks: CKR_SESSION_HANDLE_INVALID (b3), CKR_OPERATION_NOT_INITIALIZED (91),
@@ -436,11 +434,9 @@ impl Token {
         ensures { IsDecision self.now.limits self.now.history
             (call.VerifyFinal session signature.now) result }
     {
-        self.check_verify_final(session, signature).map_err(|error| ending_refusal(
-            OperationKind::Verify,
-            session,
-            error,
-        ))?;
-        Ok(Decision::of_change(operation_end(OperationKind::Verify, session, true)))
+        match self.check_verify_final(session, signature) {
+            Err(error) => Err(ending_refusal(OperationKind::Verify, session, error)),
+            Ok(()) => Ok(Decision::of_change(operation_end(OperationKind::Verify, session, true))),
+        }
     }
 }
