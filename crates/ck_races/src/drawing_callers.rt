@@ -45,7 +45,7 @@ fn row_of(number: u64) -> &'static str {
 /// Keeps the handle of a reply, where there is one, for the word behind its call.
 fn keep_handle(handles: &Handles, word: &str, reply: &Reply) {
     if let (Rv::Ok, Body::Handle(number)) = (&reply.rv, &reply.body)
-        && let Some(handle) = handles.named(word)
+        && let Some(handle) = handles.get(word)
     {
         handle.store(*number, Ordering::SeqCst);
     }
