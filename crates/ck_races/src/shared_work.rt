@@ -210,7 +210,7 @@ pub(crate) fn share_with<R: Runtime>(
         Ok(done) => done,
         Err(token) => match share_once(rt, token, callers, work) {
             Ok(done) => done,
-            Err(_) => Err(NoMemory.into()),
+            Err(_) => bail!("memory lacks a second time"),
         },
     }
 }
