@@ -18,8 +18,9 @@ callers of a shared token in turn: where one finds no memory, it knows what it d
 answered without the lock as before, and the other caller makes the call, which is one entry more.
 By `run` on a token: where it stops, the journal has as many entries as calls were answered, and it
 goes on. By a script of one caller, by `run_scripts`: the same. In the end the journal has an entry
-for each call. Where there is no memory to share a token, it is shared then. With the argument
-`shared` only these are played.
+for each call. Where there is no memory to share a token, it is shared then. Memory that lacks a
+second time is a fault, for which ck_races has words of its own. With the argument `shared` only
+these are played.
 
 Calls for which room in the journal is reserved are made while every growth is refused.
 

@@ -112,7 +112,7 @@ impl<'a, K: TokenId, G: Gate<K>, R: Wait + Clock> Client<'a, K, G, R> {
 
     /// Asks for the state of a session, which must be open, without the lock.
     fn ask(&mut self, session: u64) -> anyhow::Result<()> {
-        let status = self.gate.status(self.caller, Ask::Session(session));
+        let status = self.caller.status(Ask::Session(session));
         ensure!(is_open(status), "a session isn't open");
         Ok(())
     }

@@ -24,14 +24,10 @@ fn time_of<R: Clock + Runtime>(rt: R, alloc: Global, tasks: &[Task]) -> anyhow::
 {
     let mut token = Token::new(alloc, Limits::largest());
     initialize(alloc, &mut token)?;
+    let work = Tasks::new(alloc, tasks)?;
+    let times = share(rt, alloc, &mut token, tasks.len() as u32, &work)?;
     let mut slowest = 0;
-    for time in share(
-        rt,
-        alloc,
-        &mut token,
-        tasks.len() as u32,
-        &Tasks::new(alloc, tasks)?,
-    )? {
+    for time in times {
         slowest = time?.max(slowest);
     }
     Ok(slowest)

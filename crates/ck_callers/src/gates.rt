@@ -1,4 +1,3 @@
-use crate::asks::{Ask, Status};
 use crate::callers::Caller;
 use crate::identity::TokenId;
 use ck_journal::{Call, Reply};
@@ -6,14 +5,9 @@ use ck_types::NoMemory;
 use std::alloc::Global;
 use std::sync::Wait;
 
-/// What answers the calls and the questions of callers: a shared token, or something that hands
-/// them on to one.
+/// What answers the calls of callers: a shared token, or something that hands them on to one.
 pub trait Gate<K: TokenId> {
-    ghost use Rattle.std.specs.Prelude.{◌≡◌, IfOk, OnErr, IfSome, IfNone, OnSome};
-    ghost use Rattle.ck_journal.specs.Answers.{IsLegal, answer};
-    ghost use Rattle.ck_journal.specs.Callers.{entries_by};
-    ghost use Rattle.ck_journal.specs.Fronts.{IsFront};
-    ghost use Rattle.ck_callers.specs.Asks.{call_of, reply_of};
+    ghost use Rattle.std.specs.Prelude.{◌≡◌, IfOk, OnErr};
     ghost use Rattle.ck_callers.specs.Callers.{HasCalled};
 
     /// One call of a caller.
@@ -27,16 +21,4 @@ pub trait Gate<K: TokenId> {
         ensures called { IfOk result (λ reply.
             HasCalled K.limits caller.old call reply caller.new) }
         ensures caller { OnErr result (caller.new ≡ caller.old) };
-
-    /// Answers a question as the token would have answered it after all calls that the caller knows
-    /// of afterwards. `None` where that can't be seen: then the caller knows what it knew.
-    fn status(&self, caller: &mut Caller<K>, ask: Ask) -> Option<Status>
-        ensures answer { IfSome result (λ status.
-            reply_of status ≡ answer K.limits caller.new.seen (call_of ask)) }
-        ensures legal { OnSome result (IsLegal K.limits caller.new.seen) }
-        ensures own { OnSome result (entries_by caller.new.number caller.new.seen
-            ≡ entries_by caller.new.number caller.new.last) }
-        ensures front { IsFront caller.old.seen caller.new.seen }
-        ensures same { caller.new ≡ record caller.old { seen = caller.new.seen } }
-        ensures unchanged { IfNone result (caller.new ≡ caller.old) };
 }

@@ -110,17 +110,24 @@ fn state_after(entries: u64) -> &'static str {
 }
 
 /// All steps of a script were taken. With each answer comes how many entries the caller knows: it
-/// is that of their state, and what is known stays. Says how many questions were answered.
+/// is that of their state, and what is known stays. A reply makes it more, by the entry of its call
+/// at least. Says how many questions were answered.
 fn check_script<K: TokenId>(alloc: Global, script: &AskingScript<K>) -> anyhow::Result<u64> {
     check_taken(script)?;
     let mut known = FIRST;
     let mut answered = 0u64;
     for answer in script.replies() {
-        if let Answered::Status { status, seen } = answer {
-            expect(known <= *seen)?;
-            check_status(alloc, status, state_after(*seen))?;
-            known = *seen;
-            answered = answered.saturating_add(1);
+        match answer {
+            Answered::Reply { seen, .. } => {
+                expect(known < *seen)?;
+                known = *seen;
+            }
+            Answered::Status { status, seen } => {
+                expect(known <= *seen)?;
+                check_status(alloc, status, state_after(*seen))?;
+                known = *seen;
+                answered = answered.saturating_add(1);
+            }
         }
     }
     Ok(answered)

@@ -45,7 +45,7 @@ fn row_of(number: u64) -> &'static str {
 /// Keeps the handle of a reply, where there is one, for the word behind its call.
 fn keep_handle(handles: &Handles, word: &str, reply: &Reply) {
     if let (Rv::Ok, Body::Handle(number)) = (&reply.rv, &reply.body)
-        && let Some(handle) = handles.named(word)
+        && let Some(handle) = handles.get(word)
     {
         handle.store(*number, Ordering::SeqCst);
     }
@@ -81,7 +81,7 @@ impl<'a, 'c, K: TokenId, G: Gate<K>, R: Wait> DrawingCaller<'a, 'c, K, G, R> {
         let handles = &sets[number as usize % SETS];
         self.make_row(handles, row)?;
         let session = handles.session.load(Ordering::SeqCst);
-        let status = self.gate.status(self.caller, Ask::Session(session));
+        let status = self.caller.status(Ask::Session(session));
         ensure!(status.is_some(), "a question is not answered");
         Ok(())
     }

@@ -1,7 +1,7 @@
 //! Gates before a shared token. They hold calls until others have come, or do some work before a
 //! call.
 use crate::orders::CallOrder;
-use ck_shared::{Ask, Caller, Gate, SharedToken, Status, TokenId};
+use ck_shared::{Caller, Gate, SharedToken, TokenId};
 use ck_token::{Call, JournaledToken, NoMemory, Reply};
 use std::alloc::Global;
 use std::sync::Wait;
@@ -18,7 +18,7 @@ const MOST_LOOKS: u32 = 1_000_000;
 const LONGEST_SLEEP: u64 = 20;
 
 /// A gate that holds each call until it is the next one of an order, and until those that other
-/// callers make next have come too. What is asked isn't held.
+/// callers make next have come too.
 #[derive(Drop)]
 pub(crate) struct HeldGate<'a, G> {
     gate: &'a G,
@@ -44,10 +44,6 @@ impl<'a, K: TokenId, G: Gate<K>> Gate<K> for HeldGate<'a, G> {
         let reply = self.gate.call(rt, alloc, caller, call);
         self.order.count_made();
         reply
-    }
-
-    fn status(&self, caller: &mut Caller<K>, ask: Ask) -> Option<Status> {
-        self.gate.status(caller, ask)
     }
 }
 
@@ -83,10 +79,6 @@ impl<'a, K: TokenId, G: JournaledToken, R: Wait + Drop> Gate<K> for TakingGate<'
         let reply = self.token.call_after(rt, alloc, caller, call, message);
         self.order.count_made();
         reply
-    }
-
-    fn status(&self, caller: &mut Caller<K>, ask: Ask) -> Option<Status> {
-        caller.status(ask)
     }
 }
 
@@ -154,9 +146,5 @@ impl<'a, K: TokenId, G: JournaledToken, R: Wait + Drop> Gate<K> for LockingGate<
         let reply = self.token.call(rt, alloc, caller, call);
         self.messages.fetch_sub(1, Ordering::SeqCst);
         reply
-    }
-
-    fn status(&self, caller: &mut Caller<K>, ask: Ask) -> Option<Status> {
-        caller.status(ask)
     }
 }

@@ -10,6 +10,15 @@ use std::alloc::Global;
 /// A caller's number, and the replies that it got, in the order of its calls.
 pub(crate) type CallerReplies = (u32, Vec<Reply>);
 
+/// Of callers in the order of their numbers, the one at this index has this number.
+pub(crate) fn check_number(index: usize, number: u32) -> anyhow::Result<()> {
+    ensure!(
+        number as usize == index.saturating_add(1),
+        "what comes of the callers is not in the order of their numbers"
+    );
+    Ok(())
+}
+
 /// What `share` gave of each caller: all made their calls, and stand in the order of their numbers.
 pub(crate) fn in_order_of_callers(
     alloc: Global,
@@ -18,10 +27,7 @@ pub(crate) fn in_order_of_callers(
     let mut all = Vec::new(alloc);
     for (index, output) in outputs.into_iter().enumerate() {
         let (number, replies) = output?;
-        ensure!(
-            number as usize == index.saturating_add(1),
-            "what comes of the callers is not in the order of their numbers"
-        );
+        check_number(index, number)?;
         all.push((number, replies))?;
     }
     Ok(all)

@@ -1,8 +1,8 @@
 //! The mix of calls: what the callers draw from, and how a call is made of a drawn line.
 use crate::words::push_word;
 use anyhow::bail;
-use ck_script::{Line, LineError};
-use ck_token::{Call, NoMemory};
+use ck_script::Line;
+use ck_token::Call;
 use std::alloc::{AllocError, Global};
 use std::sync::atomic::{AtomicU64, Ordering};
 
@@ -103,7 +103,7 @@ impl Handles {
     }
 
     /// The handle that a word stands for.
-    pub(crate) fn named(&self, word: &str) -> Option<&AtomicU64> {
+    pub(crate) fn get(&self, word: &str) -> Option<&AtomicU64> {
         match word {
             "$session" => Some(&self.session),
             "$object" => Some(&self.object),
@@ -116,7 +116,7 @@ impl Handles {
 /// Adds a space and a word, or the number of the handle that the word stands for.
 fn push_named(line: &mut String, handles: &Handles, word: &str) -> Result<(), AllocError> {
     line.push(' ')?;
-    match handles.named(word) {
+    match handles.get(word) {
         Some(handle) => write!(line, "{}", handle.load(Ordering::SeqCst)),
         None => push_word(line, word),
     }
@@ -134,10 +134,8 @@ fn line_of(alloc: Global, handles: &Handles, text: &str) -> Result<String, Alloc
 /// The call that a line stands for, with these handles.
 pub(crate) fn call_of(alloc: Global, handles: &Handles, text: &str) -> anyhow::Result<Call> {
     let line = line_of(alloc, handles, text)?;
-    match Line::parse(alloc, line.as_bytes()) {
-        Ok(Line::Called { call, .. }) => Ok(call),
-        Err(LineError::Memory) => Err(NoMemory.into()),
-        Ok(Line::Skipped) => bail!("a row has no call"),
-        Err(LineError::Bad(reason)) => bail!("a row is bad: {reason}"),
+    match Line::parse(alloc, line.as_bytes())? {
+        Line::Called { call, .. } => Ok(call),
+        Line::Skipped => bail!("a row has no call"),
     }
 }

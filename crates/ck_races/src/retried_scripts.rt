@@ -7,7 +7,7 @@ use crate::shared_work::{Shared, SharedWork, share_with};
 use crate::tokens::prepared_token;
 use anyhow::{Context, ensure};
 use ck_shared::{Caller, Runtime, Script, TokenId, run_scripts};
-use ck_token::{Call, NoMemory};
+use ck_token::Call;
 use std::alloc::Global;
 
 /// A script of a caller. Where there is no room for its replies, the caller and the calls come back
@@ -25,7 +25,9 @@ fn script_of<K: TokenId>(
                 caller.count() == made && calls.len() == left,
                 "a script without room has made a call"
             );
-            Ok(Script::new(alloc, caller, calls).ok().ok_or(NoMemory)?)
+            Script::new(alloc, caller, calls)
+                .ok()
+                .context("memory lacks a second time")
         }
     }
 }
@@ -72,9 +74,7 @@ impl<'a, K: TokenId + Send + Sync, R: Runtime> Shared<'a, K, R> {
         }
         let (caller, answered) = self.make_by_script(caller, left)?;
         callers.push(caller)?;
-        if answered < left.len() {
-            return Err(NoMemory.into());
-        }
+        ensure!(answered == left.len(), "memory lacks a second time");
         Ok(1)
     }
 }

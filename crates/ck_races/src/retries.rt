@@ -9,7 +9,7 @@ use crate::tokens::prepared_token;
 use anyhow::{bail, ensure};
 use ck_audit::are_same_replies;
 use ck_shared::{Ask, Caller, Runtime, Status, TokenId};
-use ck_token::{NoMemory, Reply};
+use ck_token::Reply;
 use std::alloc::Global;
 
 /// What a caller knows, and what it is answered without the lock.
@@ -78,9 +78,7 @@ impl<'a, K: TokenId, R: Runtime> Shared<'a, K, R> {
             return Ok(false);
         }
         check_unchanged(caller, &before)?;
-        if !self.make_once(other, line)? {
-            return Err(NoMemory.into());
-        }
+        ensure!(self.make_once(other, line)?, "memory lacks a second time");
         ensure!(
             other.seen() == entries.saturating_add(1),
             "line {} is not one entry more",

@@ -20,9 +20,9 @@ const RUNS: u64 = 100;
 
 /// Calls, the first of which are made in an order of their callers.
 #[derive(Drop)]
-struct OrderedCalls<'a> {
-    lines: &'a [RaceLine<'a>],
-    order: &'a CallOrder<'a>,
+pub(crate) struct OrderedCalls<'a> {
+    pub(crate) lines: &'a [RaceLine<'a>],
+    pub(crate) order: &'a CallOrder<'a>,
 }
 
 impl<'a> OrderedCalls<'a> {

@@ -3,7 +3,7 @@ ghost use Rattle.std.specs.Prelude.{◌≡◌, ◌≤◌, ℕ, IfErr};
 ghost use Rattle.ck_journal.specs.Histories.{start, start_of};
 ghost use Rattle.ck_callers.specs.Accounts.{name_of};
 
-use crate::journals::CallerReplies;
+use crate::journals::{CallerReplies, check_number};
 use crate::orders::CallOrder;
 use crate::races::Race;
 use anyhow::{bail, ensure};
@@ -65,6 +65,14 @@ impl Outcome {
 /// A token that was taken back, and what came of the work.
 pub(crate) type Returned = (Token, Outcome);
 
+/// Callers stand in the order of their numbers.
+fn check_numbers<K: TokenId>(callers: &[Caller<K>]) -> anyhow::Result<()> {
+    for (index, caller) in callers.iter().enumerate() {
+        check_number(index, caller.number())?;
+    }
+    Ok(())
+}
+
 /// The token isn't taken back where a caller is missing: the other callers come back with it.
 fn try_without_one<K: TokenId, R: Runtime>(
     rt: &R,
@@ -80,6 +88,7 @@ fn try_without_one<K: TokenId, R: Runtime>(
         Err((token, mut callers)) => {
             ensure!(callers.len() == others, "another caller is missing");
             callers.push(missing)?;
+            check_numbers(&callers)?;
             Ok((token, callers))
         }
     }
@@ -210,7 +219,7 @@ pub(crate) fn share_with<R: Runtime>(
         Ok(done) => done,
         Err(token) => match share_once(rt, token, callers, work) {
             Ok(done) => done,
-            Err(_) => Err(NoMemory.into()),
+            Err(_) => bail!("memory lacks a second time"),
         },
     }
 }

@@ -4,15 +4,28 @@
 ghost use Rattle.std.specs.Prelude.{◌≡◌};
 
 use crate::asks::expect;
-use crate::journals::check_audit;
-use ck_shared::{Caller, CallerWork, Gate, Runtime, TokenId, share};
+use crate::journals::{check_audit, check_entries, check_replies, in_order_of_callers};
+use crate::orders::CallOrder;
+use crate::races::races_in;
+use crate::runs::OrderedCalls;
+use anyhow::Context;
+use ck_shared::{Runtime, share};
 use ck_token::{
-    Base, Bytes, Call, Journal, JournaledToken, Limits, Mechanism, NoMemory, Pin, READ_WRITE,
-    Reply, SHA256, Token, TokenBoard, Work,
+    Base, Call, Journal, JournaledToken, Limits, NoMemory, Reply, Token, TokenBoard, Work,
 };
 use std::alloc::Global;
-use std::sync::Wait;
 use std::sync::atomic::{AtomicU64, Ordering};
+
+/// What the one caller does: two short calls that change the board, two that don't, and one with a
+/// long message.
+const FIVE_CALLS: &str = "\
+race
+1 InitToken 31323334 -> 0
+1 OpenSession 6 -> 0 1
+1 DigestInit 1 250 -> 0
+1 GetTokenInfo -> 0 404 64 1 1
+1 DigestUpdate 1 61*4096 -> 0
+";
 
 /// A token that counts how it is used.
 #[derive(Drop)]
@@ -86,53 +99,20 @@ impl JournaledToken for WatchedToken {
     }
 }
 
-/// What the one caller does: two short calls that change the board, two that don't, and one with a
-/// long message.
-#[derive(Drop)]
-struct FiveCalls;
-
-fn five_calls(alloc: Global) -> Result<Vec<Call>, NoMemory> {
-    let mechanism = Mechanism::new(alloc, SHA256);
-    let bytes = Bytes::from_slice(alloc, &[97; 4096])?;
-    let session = 1;
-    Ok(vec![in alloc;
-        Call::InitToken {
-            pin: Pin::of(b"1234")
-        },
-        Call::OpenSession { flags: READ_WRITE },
-        Call::DigestInit { session, mechanism },
-        Call::GetTokenInfo,
-        Call::DigestUpdate { session, bytes },
-    ]?)
-}
-
-impl<R: Wait + AllocGlobal> CallerWork<R> for FiveCalls {
-    ghost use Rattle.std.specs.Prelude.{⊤};
-
-    type Output = anyhow::Result<()>;
-
-    ghost holds = { λ work before after done. ⊤ };
-
-    fn act<K: TokenId, G: Gate<K>>(
-        &self,
-        rt: &R,
-        gate: &G,
-        caller: &mut Caller<K>,
-    ) -> Self::Output {
-        for call in five_calls(rt.alloc())? {
-            gate.call(rt, rt.alloc(), caller, call)?.ok()?;
-        }
-        Ok(())
-    }
-}
-
 /// Makes the calls on a new token. Says how many there are.
 pub(crate) fn run_watched<R: Runtime>(rt: R) -> anyhow::Result<u64> {
     let alloc = rt.alloc();
+    let races = races_in(alloc, FIVE_CALLS)?;
+    let race = races.first().context("the calls are missing")?;
+    let order = CallOrder::new(&[]);
+    let calls = OrderedCalls {
+        lines: &race.lines,
+        order: &order,
+    };
     let mut token = WatchedToken::new(alloc, Limits::largest());
-    for done in share(rt, alloc, &mut token, 1, &FiveCalls)? {
-        done?;
-    }
+    let all = share(rt, alloc, &mut token, 1, &calls)?;
+    check_replies(token.journal(), in_order_of_callers(alloc, all)?)?;
+    check_entries(alloc, &race.lines, token.journal())?;
     expect(token.works.load(Ordering::SeqCst) == 1)?;
     expect(token.worked.load(Ordering::SeqCst) == 1)?;
     // Once where the token is shared, and by the two calls that may change the board.

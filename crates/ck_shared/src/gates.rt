@@ -1,5 +1,5 @@
 use crate::shared::SharedToken;
-use ck_callers::{Ask, Caller, Gate, Status, TokenId};
+use ck_callers::{Caller, Gate, TokenId};
 use ck_journal::{Call, JournaledToken, Reply};
 use ck_types::NoMemory;
 use std::alloc::Global;
@@ -17,10 +17,5 @@ impl<K: TokenId, G: JournaledToken, R: Wait + Drop> Gate<K> for SharedToken<K, G
         call: Call,
     ) -> Result<Reply, NoMemory> {
         SharedToken::call(self, rt, alloc, caller, call)
-    }
-
-    fn status(&self, caller: &mut Caller<K>, ask: Ask) -> Option<Status> {
-        // No token is needed: the caller has its own reader of the board.
-        caller.status(ask)
     }
 }
