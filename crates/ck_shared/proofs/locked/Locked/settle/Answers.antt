@@ -9,5 +9,5 @@ returns-clause-settled g c =
     subst (λ seen. IsFront seen h)
     (c.front.ensures ∙ c.known.ensures ∙ ap (λ caller. caller.seen) c.compare.ensures.caller)
     (subst (IsFront c.front.result.now) (c.front-2.ensures ∙ c.self.invariant.0.history)
-    c.show_front.ensures) in
+    c.show_is_front.ensures) in
     rw (← c.self.view_is) (c.compare.ensures.settled h c.self.invariant.0.books front)
