@@ -1,8 +1,9 @@
 #!/usr/bin/env python3
-"""Tests of the tests of programs: program.py, rules.py, recorded_runs.py and races.py beside this
-file, and bench/growths.py. Each must pass on a right program, and fail on one that is wrong in one
-thing that it can see. And refusals.py must notice an edit that isn't refused at its clause, and
-inventory.py each change of a copy of the repository.
+"""Tests of the tests of programs: program.py, rules.py, speed.py, recorded_runs.py, races.py and
+figures.py beside this file, and bench/growths.py. Each must pass on a right program, and fail on
+one that is wrong in one thing that it can see. And refusals.py must notice an edit that isn't
+refused at its clause, rules.py other pages, and inventory.py and docs/contracts.py changes of a
+copy of the repository.
 
 The programs are those that `rt ci` leaves. This needs a C compiler, `cc`, as growths.py does.
 """
@@ -17,6 +18,7 @@ import subprocess
 import sys
 import tempfile
 
+import figures
 import program
 import races
 import recorded_runs
@@ -40,7 +42,7 @@ WRONG = {
 
 # The tests of each program, with the class that keeps what comes of them.
 TESTS = {program: program.Tests, rules: program.Tests, recorded_runs: recorded_runs.Files,
-         races: recorded_runs.Files}
+         races: recorded_runs.Files, figures: program.Tests}
 
 # A program whose call of number n takes n * n steps; and how many objects speed.py then makes, and
 # searches among the few, so that it doesn't take long.
@@ -56,11 +58,13 @@ SILENT = {
                                   recorded_runs.audits, races.whole_file, races.set_orders,
                                   rules.attributes, rules.unknown_attributes, rules.values,
                                   rules.key_states, rules.mechanisms, rules.session_states,
-                                  rules.pieces],
+                                  rules.pieces, figures.scripts, figures.judges],
 }
 
 # Tests of a file, to which it is all the same which program is there.
-OTHERS = (races.shapes, rules.codes, rules.reasons, rules.statuses, rules.names_of_mechanisms)
+OTHERS = (races.shapes, rules.codes, rules.reasons, rules.statuses, rules.names_of_mechanisms,
+          figures.readings, figures.readings_of_module, figures.bounds, figures.bounds_of_module,
+          figures.sections)
 
 # Changes of pages, and the test of a right program that must notice each: what stands there, and
 # what stands there then.

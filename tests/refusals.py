@@ -3,9 +3,9 @@
 `clause:` of the edit names, and not for another reason.
 
 Called with a file that has the output of `rt ci`. Where the clause is one that callers must show,
-the edit may be refused at a call, where that clause isn't shown and not another one. An edit of a definition is refused in a proof of the law that it
-names, or in a lemma of that proof, so the place doesn't count there. Prints each edit that has no
-such verdict; the status is 1 then.
+the edit may be refused at a call, where that clause isn't shown and not another one. An edit of a
+definition is refused in a proof of the law that it names, or in a lemma of that proof, so the place
+doesn't count there. Prints each edit that has no such verdict; the status is 1 then.
 """
 import functools
 import os

@@ -1,0 +1,320 @@
+#!/usr/bin/env python3
+"""Looks at the scripts of bench/ that measure: whether they read the figures of programs, and judge
+them as is wanted. Nothing is measured: small programs and tables give fixed figures. First all are
+at their bounds, which is good, and then one after the other is beyond its bound, which must be
+told. And the scripts of calls that are measured are played.
+
+The program that plays them is crates/ck_run/out/ck_run, which `rt ci` leaves, or the one that is
+named. For each test a line is printed that begins with passed or FAILED, and the status is 1 where
+one failed.
+"""
+import contextlib
+import copy
+import io
+import os
+import sys
+import tempfile
+from unittest import mock
+
+import program
+
+sys.path.insert(0, os.path.join(program.HERE, "..", "bench"))
+import make_script
+import measure
+import module
+
+PROGRAM = program.PROGRAM
+
+# How many lines or objects the scripts have that are played, and in a crowd how many labels are
+# read, so that this doesn't take long.
+SIZE = 30
+make_script.LABEL_ROUNDS = 1_000
+
+# How many rounds a section of single calls has, and how many times it stands there.
+ROUNDS = 1_000
+TIMES = 10
+
+# How many times as long as among 1,000 objects a call may take among 100,000, which is 1,000 ns.
+GROWTHS = {"create": 2, "get label": 2, "change": 2, "destroy": 2, "destroy all, each": 2,
+           "open and close (both together)": 1.5, "login and logout (both together)": 1.5}
+
+# The nanoseconds of sections of ck_bench, by where they are measured: all at their bounds.
+FIGURES = {
+    **{(1_000, name): 1_000 / growth for name, growth in GROWTHS.items()},
+    **{(100_000, name): 1_000 for name in GROWTHS},
+    (1_000, make_script.SEARCH): 12 * 1_000,
+    (50_000, make_script.SEARCH): 30 * 50_000,
+    **{(way, name): 100 * calls for way in ("alone", "locked")
+       for name, calls, _ in make_script.SINGLE_CALLS},
+    ("locked", "session info"): (100 + 150) * 1_000,
+    ("locked", "open and close, each"): (100 + 400) * 2_000,
+    ("alone", "audit"): 70,
+    ("threads", "asks of one caller"): 100_000_000,
+    ("threads", "asks of four callers"): 133_300_000,
+    ("threads", "asks beside changes"): 111_100_000,
+    ("threads", "changes of one caller"): 617_000_000,
+    ("threads", "changes of four callers"): 685_000_000,
+    ("threads", "digests of one caller"): 3_000,
+    ("threads", "digests of four callers"): 4_000,
+    ("threads", "wait beside digests"): 200_000,
+    ("threads", "pause beside digests"): 900_000,
+}
+
+# Changes after each of which one figure isn't as wanted.
+BEYOND = [
+    *({(1_000, name): 1_000 / growth - 1} for name, growth in GROWTHS.items()),
+    *({(1_000, name): 1_001, (100_000, name): 1_001} for name in GROWTHS),
+    {(1_000, make_script.SEARCH): 12_001},
+    {(50_000, make_script.SEARCH): 1_500_001},
+    {("locked", "session info"): 250_001},
+    {("locked", "open and close, each"): 1_000_001},
+    {("threads", "asks of one caller"): 100_000_001},
+    {("threads", "asks of four callers"): 133_400_000},
+    {("threads", "asks beside changes"): 112_000_000},
+    {("threads", "changes of one caller"): 616_000_000},
+    {("threads", "changes of one caller"): 700_000_000,
+     ("threads", "changes of four callers"): 686_000_000},
+    {("threads", "digests of four callers"): 4_020},
+    {("threads", "wait beside digests"): 200_001},
+]
+
+# The nanoseconds of rows of the module and its peers, by one thread and by four, all at their
+# bounds; and of the token's own calls.
+TIMES_OF_MODULES = {threads: {peer: {"label": 500, "search": 500} for peer in
+                              ("module", "SoftHSM", "NSS")} for threads in (1, 4)}
+TIMES_OF_MODULES[4]["module"].update({module.MEDIAN_WAIT: 200_000, module.LONGEST_WAIT: 900_000})
+TIMES_OF_TOKEN = {"label": 500}
+
+# Another time of these rows, and how many faults are told then. Beside NSS only those rows are
+# judged that the token's own call is fast enough for.
+OTHER_TIMES = [
+    ((1, "module", "label"), 501, 2),
+    ((4, "module", "label"), 501, 2),
+    ((1, "module", "search"), 501, 1),
+    ((4, "module", "search"), 501, 1),
+    ((1, "SoftHSM", "label"), 499, 1),
+    ((4, "SoftHSM", "label"), 499, 1),
+    ((1, "NSS", "label"), 499, 0),
+    ((4, "NSS", "label"), 499, 1),
+    ((4, "module", module.MEDIAN_WAIT), 200_001, 1),
+    ((4, "module", module.LONGEST_WAIT), 900_001, 0),
+]
+
+# What a program of figures may write, with the least of them last.
+BENCH_OUTPUT = """\
+get label: 1000 calls, 0 refused
+get label: 5000 ns
+audit of 10 entries: true
+audit: 700 ns
+get label: 1000 calls, 0 refused
+get label: 4000 ns
+"""
+
+# A client that has other times in each run.
+CLIENT = f"""\
+#!/bin/sh
+echo >> "$0.runs"
+runs=$(wc -l < "$0.runs")
+echo "label: $((40 - 10 * runs))"
+echo "{module.WAIT}: $((10 * runs))"
+"""
+
+
+@contextlib.contextmanager
+def unseen():
+    with contextlib.redirect_stdout(io.StringIO()):
+        yield
+
+
+def stops(function, *arguments):
+    """Whether a script ends at once, since what a program wrote is wrong."""
+    try:
+        function(*arguments)
+    except SystemExit:
+        return True
+    return False
+
+
+def write_program(folder, text):
+    path = os.path.join(folder, "program")
+    with open(path, "w", encoding="utf-8") as file:
+        file.write(text)
+    os.chmod(path, 0o700)
+    return path
+
+
+def program_of(folder, output):
+    """A program that writes this, whatever it is given."""
+    return write_program(folder, f"#!/bin/sh\n/bin/cat > /dev/null\n/bin/cat << end\n{output}end\n")
+
+
+# ---- What is read
+
+
+def readings(tests):
+    with tempfile.TemporaryDirectory() as folder:
+        measure.FIGURES_PROGRAM = program_of(folder, BENCH_OUTPUT)
+        times = measure.times_of("", "alone")
+        tests.expect(times == {"get label": [5000, 4000] * 5, "audit": [70] * 5}, f"{times}")
+        tests.expect(measure.best_of(times) == {"get label": 4000, "audit": 70}, "the best times")
+        for right, wrong in ((" 0 refused", " 1 refused"), (": true", ": false")):
+            program_of(folder, BENCH_OUTPUT.replace(right, wrong))
+            tests.expect(stops(measure.times_of, "", "alone"), f"figures with{wrong} are taken")
+        among = make_script.crowd_sections(SIZE)
+        program_of(folder, "".join(f"{name}: {5 * rounds} ns\n" for name, rounds, _ in among))
+        with mock.patch.object(measure, "check_crowd"):
+            times = measure.times_among(PROGRAM, SIZE)
+        tests.expect(times == {name: 5 for name, _, _ in among}, f"{times}")
+    tests.end("figures of ck_bench")
+
+
+def readings_of_module(tests):
+    with tempfile.TemporaryDirectory() as folder:
+        best = module.measure([write_program(folder, CLIENT)], dict(os.environ))
+        tests.expect(best == {"label": 10, module.MEDIAN_WAIT: 20, module.LONGEST_WAIT: 30},
+                     f"{best}")
+        sections = [section for section, _ in module.TOKEN_CALLS.values()]
+        module.BENCH = program_of(folder, "".join(
+            BENCH_OUTPUT.replace("get label", section) for section in sections))
+        times = module.token_times()
+        wanted = {name: 4 * calls for name, (_, calls) in module.TOKEN_CALLS.items()}
+        tests.expect(times == wanted, f"{times}, and not {wanted}")
+    tests.end("figures of the module and of the token's calls")
+
+
+# ---- What is judged
+
+
+def figures_at(figures, where):
+    return {name: time for (at, name), time in figures.items() if at == where}
+
+
+def count_unmet(changes):
+    """How many of the last figures aren't as wanted, after these changes of good ones."""
+    figures = {**FIGURES, **changes}
+    made = mock.patch.multiple(
+        measure, script=lambda kind: "",
+        times_among=lambda _, count: figures_at(figures, count),
+        times_of=lambda _, way, *rest: {
+            name: [time] for name, time in figures_at(figures, way).items()})
+    with made, unseen():
+        return measure.measure_figures(PROGRAM).count(False)
+
+
+def bounds(tests):
+    unmet = count_unmet({})
+    tests.expect(unmet == 0, f"{unmet} of good figures aren't as wanted")
+    for changes in BEYOND:
+        unmet = count_unmet(changes)
+        tests.expect(unmet == 1, f"{changes}: {unmet} figures aren't as wanted")
+    with unseen():
+        growths = [measure.is_within("lines", [1, 5, most], [1, 2, 3]) for most in (3, 3.01)]
+        waits = [measure.is_wait_met({"wait beside digests": [1, wait, 900_000],
+                                      "pause beside digests": [1]}) for wait in (200_000, 200_001)]
+    tests.expect(growths == [True, False], f"3 and 3.01 times as much time: {growths}")
+    tests.expect(waits == [True, False], f"medians of 200,000 and 200,001 ns: {waits}")
+    tests.end("bounds of figures")
+
+
+def faults_of_module(place, time):
+    times = copy.deepcopy(TIMES_OF_MODULES)
+    threads, name, row = place
+    times[threads][name][row] = time
+    return list(module.faults_of(times, TIMES_OF_TOKEN))
+
+
+def faults_of_share(name, share):
+    with mock.patch.object(module, "shares", lambda *_: [(name, share, 7)]), unseen():
+        return list(module.share_faults("client", "folder"))
+
+
+def bounds_of_module(tests):
+    faults = list(module.faults_of(TIMES_OF_MODULES, TIMES_OF_TOKEN))
+    tests.expect(faults == [], f"good times: {faults}")
+    for place, time, count in OTHER_TIMES:
+        faults = faults_of_module(place, time)
+        tests.expect(len(faults) == count, f"{place}, {time} ns: {faults}")
+    for peer in ("SoftHSM", "NSS"):
+        times = {threads: {name: rows for name, rows in measured.items() if name != peer}
+                 for threads, measured in TIMES_OF_MODULES.items()}
+        faults = list(module.faults_of(times, TIMES_OF_TOKEN))
+        tests.expect(len(faults) == 1, f"without {peer}: {faults}")
+    for name in ("session info", "token info", "open and close", "label"):
+        counts = [len(faults_of_share(name, share)) for share in (100, 101)]
+        tests.expect(counts == [0, int(name != "label")], f"the module's share of {name}: {counts}")
+    tests.end("bounds of the module's times")
+
+
+# ---- Scripts that are measured
+
+
+def sections_in(text):
+    """The sections of a script: of each its name, and how many calls it has."""
+    sections = []
+    for line in text.splitlines():
+        if line.startswith("#measure "):
+            sections.append([line.removeprefix("#measure "), 0])
+        elif sections:
+            sections[-1][1] += 1
+    return sections
+
+
+def sections(tests):
+    wanted = [[name, ROUNDS * len(calls(1, 1))] for name, _, calls in make_script.SINGLE_CALLS
+              for _ in range(TIMES)]
+    tests.expect(sections_in(make_script.script("single-calls")) == wanted, "single calls")
+    wanted = [[name, rounds * len(calls(0))] for name, rounds, calls in
+              make_script.crowd_sections(SIZE)]
+    tests.expect(sections_in(make_script.script("crowd", SIZE)) == wanted, "a crowd")
+    for words, is_right in (
+            (["objects", "3"], True), (["single-calls"], True), (["objects"], False),
+            (["objects", "x"], False), (["nothing", "3"], False), ([], False)):
+        with mock.patch.object(sys, "argv", ["make_script.py", *words]), unseen():
+            is_stopped = stops(make_script.main)
+        tests.expect(is_stopped != is_right, f"make_script.py {words}: stopped: {is_stopped}")
+    tests.end("sections of scripts, and the arguments of make_script.py")
+
+
+def scripts(tests):
+    for kind in (*make_script.ROUNDS, *make_script.OBJECTS):
+        text = make_script.script(kind, SIZE)
+        output, errors, status = tests.run([], text.encode())
+        calls = [line for line in text.splitlines() if not line.startswith("#")]
+        codes = [reply.split(b" ")[0] for reply in output.splitlines()]
+        tests.expect((errors, status, codes) == (b"", 0, [b"0"] * len(calls)),
+                     f"{kind}: {len(calls)} calls, {codes.count(b'0')} of {len(codes)} replies are "
+                     f"CKR_OK, {errors!r:.300}, status {status}")
+    tests.end("the calls of scripts")
+
+
+def judges(tests):
+    """Scripts of each kind whose replies are looked at, and others in their place."""
+    searches, labels = (make_script.script(kind, SIZE) for kind in ("searches", "labels"))
+    objects, crowd = (make_script.script(kind, SIZE) for kind in ("objects", "crowd"))
+    wrong = "1 FindObjects 1 9\n"
+    for is_right, judge, *arguments in (
+            (True, measure.check_replies, objects, "objects", SIZE),
+            (False, measure.check_replies, wrong, "objects", 1),
+            (False, measure.check_replies, objects, "objects", SIZE + 1),
+            (True, measure.check_searches, searches, SIZE),
+            (False, measure.check_searches, labels, SIZE),
+            (True, measure.check_crowd, crowd), (False, measure.check_crowd, wrong)):
+        is_stopped = stops(judge, tests.program, *arguments)
+        tests.expect(is_stopped != is_right, f"{judge.__name__}: stopped: {is_stopped}")
+    tests.end("looks at the replies of scripts")
+
+
+def main(path):
+    tests = program.Tests(path, "figures")
+    readings(tests)
+    readings_of_module(tests)
+    bounds(tests)
+    bounds_of_module(tests)
+    sections(tests)
+    scripts(tests)
+    judges(tests)
+    return tests.status()
+
+
+if __name__ == "__main__":
+    sys.exit(main(sys.argv[1] if len(sys.argv) > 1 else PROGRAM))
