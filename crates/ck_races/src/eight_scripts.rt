@@ -2,10 +2,9 @@
 //! others may come. Then the token is taken back, and each caller got the replies of its entries.
 use crate::journals::{CallerReplies, check_audit, check_replies};
 use crate::mix::{Handles, call_of};
-use crate::scripts::{finish, scripts_of};
 use crate::shared_work::{Shared, SharedWork, share_with};
 use anyhow::{Context, ensure};
-use ck_shared::{Caller, Runtime, TokenId, run_scripts};
+use ck_shared::{Caller, Runtime, TokenId};
 use ck_token::{Call, Limits, Pin, Token};
 use std::alloc::Global;
 use std::sync::atomic::Ordering;
@@ -62,10 +61,7 @@ impl<'a, K: TokenId + Send + Sync, R: Runtime> Shared<'a, K, R> {
         let first = callers.first_mut().context("a caller is missing")?;
         let pin = Pin::of(b"1234");
         let reply = self.call(first, Call::InitToken { pin })?;
-        let scripts = scripts_of(alloc, callers, |caller| calls_of(alloc, caller))?;
-        let scripts = run_scripts(self.rt, alloc, self.token, scripts);
-        let mut all = Vec::new(alloc);
-        finish(scripts, callers, &mut all)?;
+        let mut all = self.run_at(self.token, callers, |caller| calls_of(alloc, caller))?;
         let (_, replies) = all.first_mut().context("a caller is missing")?;
         replies.insert(0, reply)?;
         Ok(all)

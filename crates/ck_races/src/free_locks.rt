@@ -2,9 +2,8 @@
 //! again.
 use crate::asks::expect;
 use crate::gates::LockingGate;
-use crate::scripts::{finish, scripts_of};
 use crate::shared_work::Shared;
-use ck_shared::{Caller, Runtime, TokenId, run_scripts};
+use ck_shared::{Caller, Runtime, TokenId};
 use ck_token::{Bytes, Call};
 use std::alloc::Global;
 
@@ -36,11 +35,9 @@ impl<'a, K: TokenId + Send + Sync, R: Runtime> Shared<'a, K, R> {
     /// One of two callers adds messages to the digest of session 1, and the other takes the lock
     /// meanwhile.
     pub(crate) fn add_messages(&self, callers: &mut Vec<Caller<K>>) -> anyhow::Result<()> {
-        let (rt, alloc) = (self.rt, self.rt.alloc());
-        let scripts = scripts_of(alloc, callers, |caller| calls_of(alloc, caller))?;
+        let alloc = self.rt.alloc();
         let gate = LockingGate::new(self.token, MESSAGES);
-        let scripts = run_scripts(rt, alloc, &gate, scripts);
-        finish(scripts, callers, &mut Vec::new(alloc))?;
+        self.run_at(&gate, callers, |caller| calls_of(alloc, caller))?;
         expect(gate.locks() >= LEAST_LOCKS)
     }
 }

@@ -17,6 +17,17 @@ const MOST_LOOKS: u32 = 1_000_000;
 
 const LONGEST_SLEEP: u64 = 20;
 
+/// Waits until the lock was taken, of which this is the count.
+pub(crate) fn await_lock<W: Wait>(rt: &W, locks: &AtomicU64) {
+    let longest = Duration::from_micros(LONGEST_SLEEP);
+    for _ in 0..MOST_LOOKS {
+        if locks.load(Ordering::SeqCst) > 0 {
+            return;
+        }
+        locks.park_timeout(rt, 0, longest);
+    }
+}
+
 /// A gate that holds each call until it is the next one of an order, and until those that other
 /// callers make next have come too.
 #[derive(Drop)]
@@ -107,17 +118,6 @@ impl<'a, K: TokenId, G: JournaledToken, R: Wait + Drop> LockingGate<'a, K, G, R>
         self.locks.load(Ordering::SeqCst)
     }
 
-    /// Waits until the lock was taken.
-    fn await_lock<W: Wait>(&self, rt: &W) {
-        for _ in 0..MOST_LOOKS {
-            if self.locks() > 0 {
-                return;
-            }
-            let longest = Duration::from_micros(LONGEST_SLEEP);
-            self.locks.park_timeout(rt, 0, longest);
-        }
-    }
-
     /// Takes the lock again and again, until all calls with long messages are made.
     fn take_locks<W: Wait>(&self, rt: &W) {
         for _ in 0..MOST_LOCKS {
@@ -142,7 +142,7 @@ impl<'a, K: TokenId, G: JournaledToken, R: Wait + Drop> Gate<K> for LockingGate<
             self.take_locks(rt);
             return self.token.call(rt, alloc, caller, call);
         }
-        self.await_lock(rt);
+        await_lock(rt, &self.locks);
         let reply = self.token.call(rt, alloc, caller, call);
         self.messages.fetch_sub(1, Ordering::SeqCst);
         reply

@@ -61,7 +61,11 @@ pub(crate) fn check_retried(alloc: Global, token: &Token, retries: u64) -> anyho
 }
 
 /// Each call has an entry, and the first were made in this order of their callers.
-fn check_order(journal: &Journal, lines: &[RaceLine], callers: &[u32]) -> anyhow::Result<()> {
+pub(crate) fn check_order(
+    journal: &Journal,
+    lines: &[RaceLine],
+    callers: &[u32],
+) -> anyhow::Result<()> {
     let is_kept = journal.len() == lines.len() as u64
         && journal
             .iter()
@@ -121,7 +125,11 @@ fn check_texts(lines: &[RaceLine], texts: &[String]) -> anyhow::Result<()> {
 }
 
 /// The replies are those of the lines, to whichever callers.
-fn check_in_any_order(alloc: Global, lines: &[RaceLine], journal: &Journal) -> anyhow::Result<()> {
+pub(crate) fn check_in_any_order(
+    alloc: Global,
+    lines: &[RaceLine],
+    journal: &Journal,
+) -> anyhow::Result<()> {
     let texts = texts_of(alloc, journal)?;
     check_texts(lines, &texts)
 }

@@ -2,9 +2,10 @@
 //! that callers make, with the replies that they get. Each race is run by threads of its callers,
 //! with all calls in a set order and with only the first ones. Then callers ask for the state of a
 //! session while another logs in, two callers are held at their calls, one caller makes calls under
-//! one lock and the token is taken back without its callers, long messages are taken in before
-//! their calls, a token counts how it is used, and eight callers make the calls of their scripts
-//! and drawn calls at once. What is written is the same in every order of the calls.
+//! one lock and the token is taken back without its callers, one holds the lock while another sleeps
+//! before its call, long messages are taken in before their calls, a token counts how it is used,
+//! and eight callers make the calls of their scripts and drawn calls at once. What is written is
+//! the same in every order of the calls.
 //!
 //! With the word `alone` before the files only the calls of each race are made, one after the
 //! other: on a shared token, by `run` and by `run_scripts`. Where there was no memory they are made
@@ -21,6 +22,7 @@ mod free_locks;
 mod gates;
 mod held_steps;
 mod journals;
+mod judges;
 mod locked_calls;
 mod long_messages;
 mod mix;
@@ -33,6 +35,7 @@ mod retries;
 mod runs;
 mod scripts;
 mod shared_work;
+mod sleeping;
 mod tokens;
 mod watched;
 mod words;
@@ -43,13 +46,16 @@ use drawn_calls::make_drawn_calls;
 use eight_scripts::run_eight_scripts;
 use files::run_file;
 use held_steps::run_held_steps;
+use judges::check_judges;
 use locked_calls::run_locked_calls;
 use long_messages::run_long_messages;
 use reserved::{make_reserved_calls, reserved_token};
+use sleeping::run_sleeping;
 use std::alloc::AllocError;
 use std::env;
 use std::env::Env;
 use std::fs::Files;
+use std::time::CpuClock;
 use watched::run_watched;
 
 /// Adds a line: how many of these there were, and what came of them.
@@ -58,11 +64,18 @@ fn add_line(text: &mut String, what: &str, count: u64, end: &str) -> Result<(), 
 }
 
 /// What callers do at once, besides races. Adds a line for each that passes.
-fn run_together<R: Runtime>(rt: R, text: &mut String) -> anyhow::Result<()> {
+fn run_together<R: CpuClock + Runtime>(rt: R, text: &mut String) -> anyhow::Result<()> {
     let (answered, made) = ("answered", "made, audit ok");
+    add_line(
+        text,
+        "judges",
+        check_judges(rt.alloc())?,
+        "wrong inputs refused",
+    )?;
     add_line(text, "asks", run_asks(rt)?, answered)?;
     add_line(text, "held steps", run_held_steps(rt)?, answered)?;
     add_line(text, "calls under one lock", run_locked_calls(rt)?, made)?;
+    add_line(text, "calls beside a held lock", run_sleeping(rt)?, made)?;
     add_line(
         text,
         "calls with long messages",
@@ -77,7 +90,7 @@ fn run_together<R: Runtime>(rt: R, text: &mut String) -> anyhow::Result<()> {
 
 /// Runs the files that the arguments name and, where no word says otherwise, what callers do
 /// besides. Adds a line for each that passes.
-fn run_all<R: Env + Files + Runtime>(rt: R, text: &mut String) -> anyhow::Result<()> {
+fn run_all<R: CpuClock + Env + Files + Runtime>(rt: R, text: &mut String) -> anyhow::Result<()> {
     let mut is_alone = false;
     for word in env::args(&rt)?.skip(1) {
         match word.as_str() {

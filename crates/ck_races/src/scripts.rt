@@ -5,7 +5,7 @@ use crate::orders::CallOrder;
 use crate::races::{Race, RaceLine};
 use crate::shared_work::Shared;
 use anyhow::ensure;
-use ck_shared::{Caller, Runtime, Script, TokenId, run_scripts};
+use ck_shared::{Caller, Gate, Runtime, Script, TokenId, run_scripts};
 use ck_token::{Call, NoMemory};
 use std::alloc::Global;
 use std::mem;
@@ -60,22 +60,40 @@ pub(crate) fn check_taken<K: TokenId, S: Drop, A: Drop>(
     Ok(())
 }
 
-/// The callers of scripts come back. What each was answered is added to all replies.
-pub(crate) fn finish<K: TokenId>(
+/// The callers of scripts come back. Gives the replies to each.
+fn finish<K: TokenId>(
+    alloc: Global,
     scripts: Vec<Script<K>>,
     callers: &mut Vec<Caller<K>>,
-    all: &mut Vec<CallerReplies>,
-) -> anyhow::Result<()> {
+) -> anyhow::Result<Vec<CallerReplies>> {
+    let mut all = Vec::new(alloc);
     for script in scripts {
         check_taken(&script)?;
         let (caller, replies) = script.into_parts();
         all.push((caller.number(), replies))?;
         callers.push(caller)?;
     }
-    Ok(())
+    Ok(all)
 }
 
 impl<'a, K: TokenId + Send + Sync, R: Runtime> Shared<'a, K, R> {
+    /// The callers make these calls at a gate, by scripts. Gives the replies to each.
+    pub(crate) fn run_at<G, F>(
+        &self,
+        gate: &G,
+        callers: &mut Vec<Caller<K>>,
+        calls_for: F,
+    ) -> anyhow::Result<Vec<CallerReplies>>
+    where
+        G: Gate<K> + Sync,
+        F: Fn(u32) -> anyhow::Result<Vec<Call>>,
+        requires { F.IsAlwaysCallable calls_for }
+    {
+        let (rt, alloc) = (self.rt, self.rt.alloc());
+        let scripts = scripts_of(alloc, callers, calls_for)?;
+        finish(alloc, run_scripts(rt, alloc, gate, scripts), callers)
+    }
+
     /// The callers make their calls of a race by scripts. The bytes of a long message are taken in,
     /// and then each call is held until it is the next one. Gives the replies to each.
     pub(crate) fn run_held(
@@ -84,15 +102,12 @@ impl<'a, K: TokenId + Send + Sync, R: Runtime> Shared<'a, K, R> {
         race: &Race,
         order: &CallOrder,
     ) -> anyhow::Result<Vec<CallerReplies>> {
-        let (rt, alloc) = (self.rt, self.rt.alloc());
-        let scripts = scripts_of(
-            alloc,
+        let alloc = self.rt.alloc();
+        let gate = TakingGate::new(self.token, order);
+        self.run_at(
+            &gate,
             callers,
             |caller| calls_by(alloc, caller, &race.lines),
-        )?;
-        let scripts = run_scripts(rt, alloc, &TakingGate::new(self.token, order), scripts);
-        let mut all = Vec::new(alloc);
-        finish(scripts, callers, &mut all)?;
-        Ok(all)
+        )
     }
 }

@@ -35,6 +35,8 @@ pub(crate) enum SharedWork<'a> {
     EightScripts,
     /// One caller makes calls under one lock. Then both callers are lost.
     CallsUnderLock,
+    /// Two callers make a call each, one of them under a lock that it holds for long.
+    CallBesideLock,
     /// Messages are taken in before a caller adds them to a digest, and one adds some while another
     /// takes the lock.
     LongMessages,
@@ -142,6 +144,7 @@ impl<'a, K: TokenId, R: Runtime> Shared<'a, K, R> {
             }
             SharedWork::EightScripts => outcome.replies = self.run_eight(callers)?,
             SharedWork::CallsUnderLock => self.call_under_lock(callers)?,
+            SharedWork::CallBesideLock => outcome.replies = self.call_beside_lock(callers)?,
             SharedWork::LongMessages => {
                 self.take_in_messages(callers)?;
                 self.add_messages(callers)?;
