@@ -63,15 +63,12 @@ fn add_line(text: &mut String, what: &str, count: u64, end: &str) -> Result<(), 
     write!(text, "{what}: {count} {end}\n")
 }
 
-/// What callers do at once, besides races. Adds a line for each that passes.
+/// What callers do at once, besides races, once the judges of it are seen to refuse what is wrong.
+/// Adds a line for each that passes.
 fn run_together<R: CpuClock + Runtime>(rt: R, text: &mut String) -> anyhow::Result<()> {
     let (answered, made) = ("answered", "made, audit ok");
-    add_line(
-        text,
-        "judges",
-        check_judges(rt.alloc())?,
-        "wrong inputs refused",
-    )?;
+    let refused = check_judges(rt.alloc())?;
+    add_line(text, "judges", refused, "wrong inputs refused")?;
     add_line(text, "asks", run_asks(rt)?, answered)?;
     add_line(text, "held steps", run_held_steps(rt)?, answered)?;
     add_line(text, "calls under one lock", run_locked_calls(rt)?, made)?;
