@@ -2,8 +2,8 @@
 //! that callers make, with the replies that they get. Each race is run by threads of its callers,
 //! with all calls in a set order and with only the first ones. Then callers ask for the state of a
 //! session while another logs in, two callers are held at their calls, one caller makes calls under
-//! one lock and the token is taken back without its callers, one holds the lock while another sleeps
-//! before its call, long messages are taken in before their calls, a token counts how it is used,
+//! one lock and the token is taken back without its callers, one holds the lock for long while
+//! another sleeps, long messages are taken in before their calls, a token counts how it is used,
 //! and eight callers make the calls of their scripts and drawn calls at once. What is written is
 //! the same in every order of the calls.
 //!

@@ -72,7 +72,7 @@ impl<'a, K: TokenId + Send + Sync, R: Runtime> Shared<'a, K, R> {
     }
 }
 
-/// Makes the calls on a new token. Says how much processor time that takes, and how many calls there
+/// Makes the calls on a new token. Says how much processor time that takes, and how many calls they
 /// are.
 fn time_calls<R: CpuClock + Runtime>(rt: R) -> anyhow::Result<(Duration, u64)> {
     let alloc = rt.alloc();
