@@ -335,10 +335,13 @@ static bool reserve_room(void) {
 }
 
 /* The journal can be cut only where no session is open: after a call that needs none, or that was
- * refused since its session isn't open, or that has closed the last one. */
+ * refused since its session isn't open, or that has closed the last one. A line that this module
+ * writes is a call, so where the token takes it for none, the module is wrong. */
 static CK_RV make_checked_call(const struct call *call) {
     uint32_t outcome = library.journal.is_kept ? call_by_line(call) : call_by_arguments(call);
     drop_long_lists();
+    if (outcome == NO_CALL)
+        return CKR_GENERAL_ERROR;
     if (outcome != ANSWERED)
         return CKR_HOST_MEMORY;
     if (library.journal.has_failed)

@@ -219,7 +219,8 @@ CK_RV check_call(const struct call *call);
 
 /* Makes a call under the lock. Returns what is wrong with its arguments; CKR_HOST_MEMORY where
  * there is no memory for it, and nothing has changed; CKR_DEVICE_ERROR where the journal file can't
- * be written, or after `stop_answering`; or the reply's code. */
+ * be written, or after `stop_answering`; CKR_GENERAL_ERROR where the token takes the call's line for
+ * no call, and nothing has changed; or the reply's code. */
 CK_RV make_call(const struct call *call);
 
 /* The same of C_GetSessionInfo, by a shorter way where no journal file is kept. */
