@@ -12,6 +12,7 @@
 #include <fcntl.h>
 #include <malloc.h>
 #include <pthread.h>
+#include <stdarg.h>
 #include <stdio.h>
 #include <stdlib.h>
 #include <string.h>
@@ -119,10 +120,14 @@ static bool stop_refusing(void) {
 static const char added_line[] = "1 GetTokenInfo -> 0 4 64 0 0\n";
 
 static const char *added_file;         /* gets that line before the next lock is taken */
+static int lock_error;                 /* by which each lock of a file fails */
+static int status_error;               /* by which each fstat fails */
 static bool refuses_truncation;
 static size_t left_interruptions;      /* of write */
+static size_t open_interruptions, truncation_interruptions;
 static int write_error;                /* by which each write fails, without a signal */
 static size_t most_written = SIZE_MAX; /* by one call of write */
+static size_t left_room = SIZE_MAX;    /* for how many bytes there is room on the device */
 static size_t writes;                  /* how often write was called */
 static size_t draws, draws_under_lock; /* of random bytes */
 
@@ -141,23 +146,63 @@ int flock(int file, int operation) {
     if (added_file != NULL)
         write_file(added_file, added_line, "a");
     added_file = NULL;
-    return (int)syscall(SYS_flock, file, operation);
+    if (lock_error == 0)
+        return (int)syscall(SYS_flock, file, operation);
+    errno = lock_error;
+    return -1;
+}
+
+int fstat(int file, struct stat *status) {
+    if (status_error == 0)
+        return (int)syscall(SYS_fstat, file, status);
+    errno = status_error;
+    return -1;
+}
+
+static bool is_interrupted(size_t *left) {
+    if (*left == 0)
+        return false;
+    --*left;
+    errno = EINTR;
+    return true;
+}
+
+int open(const char *path, int flags, ...) {
+    va_list mode;
+    va_start(mode, flags);
+    int file = -1;
+    if (!is_interrupted(&open_interruptions))
+        file = (int)syscall(SYS_open, path, flags, (flags & O_CREAT) ? va_arg(mode, mode_t) : 0);
+    va_end(mode);
+    return file;
 }
 
 int ftruncate(int file, off_t length) {
+    if (is_interrupted(&truncation_interruptions))
+        return -1;
     if (!refuses_truncation)
         return (int)syscall(SYS_ftruncate, file, length);
     errno = EPERM;
     return -1;
 }
 
+static size_t least(size_t one, size_t other) {
+    return one < other ? one : other;
+}
+
 ssize_t write(int file, const void *bytes, size_t length) {
     writes++;
-    if (left_interruptions == 0 && write_error == 0)
-        return syscall(SYS_write, file, bytes, length < most_written ? length : most_written);
-    errno = left_interruptions > 0 ? EINTR : write_error;
-    left_interruptions -= left_interruptions > 0;
-    return -1;
+    if (is_interrupted(&left_interruptions))
+        return -1;
+    if (write_error != 0 || left_room == 0) {
+        errno = write_error != 0 ? write_error : ENOSPC;
+        return -1;
+    }
+    length = least(length, least(most_written, left_room));
+    ssize_t written = syscall(SYS_write, file, bytes, length);
+    if (left_room != SIZE_MAX && written > 0)
+        left_room -= (size_t)written;
+    return written;
 }
 
 ssize_t getrandom(void *out, size_t length, unsigned flags) {
@@ -1325,6 +1370,17 @@ static void test_file_of_another(void) {
     CHECK(added_file == NULL);
 }
 
+/* A file that has whole lines isn't cut off. */
+static void test_needless_truncation(void) {
+    write_file(journal, added_line, "w");
+    setenv("OSPREYRACK_TOKEN", journal, 1);
+    refuses_truncation = true;
+    begin_library();
+    refuses_truncation = false;
+    end_library();
+    unsetenv("OSPREYRACK_TOKEN");
+}
+
 /* The last line lacks its end, and can't be cut off. */
 static void test_refused_truncation(void) {
     static const char content[] = "1 InitToken 31323334 -> 0\n1 OpenSess";
@@ -1346,6 +1402,20 @@ static void test_interrupted_write(void) {
     }
     end_library();
     unsetenv("OSPREYRACK_JOURNAL");
+}
+
+/* The file is opened, and its last line, which lacks its end, is cut off. */
+static void test_interrupted_start(void) {
+    static const char content[] = "1 InitToken 31323334 -> 0\n1 OpenSess";
+    for (size_t count = 1; count <= 3; count++) {
+        write_file(journal, content, "w");
+        setenv("OSPREYRACK_TOKEN", journal, 1);
+        open_interruptions = truncation_interruptions = count;
+        begin_library();
+        CHECK(open_interruptions == 0 && truncation_interruptions == 0);
+        end_library();
+        unsetenv("OSPREYRACK_TOKEN");
+    }
 }
 
 /* These errors come with a signal where the process has the limit, or where nobody reads. Another
@@ -1392,6 +1462,24 @@ static void read_errors(char *said, size_t room) {
     fclose(file);
 }
 
+/* A call's line is written in parts where the file takes no more at once. */
+static void test_short_writes(void) {
+    struct result ignored;
+    unlink(journal);
+    setenv("OSPREYRACK_JOURNAL", journal, 1);
+    begin_library();
+    off_t length = length_of(journal);
+    most_written = 5;
+    writes = 0;
+    EXPECT(CKR_OK, get_token_info(&ignored));
+    most_written = SIZE_MAX;
+    CHECK(length_of(journal) == length + (off_t)strlen(added_line));
+    CHECK(writes == (strlen(added_line) + 4) / 5);
+    end_library();
+    check_journal();
+    unsetenv("OSPREYRACK_JOURNAL");
+}
+
 /* A line of which only a part can be written. Where that can't be cut off, standard error says
  * so, and whoever goes on from the file drops it. */
 static void check_part(bool stays, const char *expected) {
@@ -1401,12 +1489,12 @@ static void check_part(bool stays, const char *expected) {
     setenv("OSPREYRACK_JOURNAL", journal, 1);
     begin_library();
     off_t length = length_of(journal);
-    most_written = 5;
+    left_room = 5;
     refuses_truncation = stays;
     keep_errors();
     EXPECT(CKR_DEVICE_ERROR, get_token_info(&ignored));
+    left_room = SIZE_MAX;
     read_errors(said, sizeof said);
-    most_written = SIZE_MAX;
     check(strcmp(said, expected) == 0, said);
     EXPECT(CKR_DEVICE_ERROR, get_token_info(&ignored));
     CHECK(length_of(journal) == length + (stays ? 5 : 0));
@@ -1417,10 +1505,34 @@ static void check_part(bool stays, const char *expected) {
 }
 
 static void test_parts(void) {
-    check_part(false, "ospreyrack: OSPREYRACK_JOURNAL: a call can't be written: there is no room "
-               "for it\n");
-    check_part(true, "ospreyrack: OSPREYRACK_JOURNAL: a call can't be written: there is no room "
-               "for it, and a part of it stays in the file\n");
+    check_part(false, "ospreyrack: OSPREYRACK_JOURNAL: a call can't be written: No space left on "
+               "device\n");
+    check_part(true, "ospreyrack: OSPREYRACK_JOURNAL: a call can't be written: No space left on "
+               "device, and a part of it stays in the file\n");
+}
+
+/* C_Initialize where each of these system calls fails: standard error says by what. */
+static void check_fault(int *error, int number) {
+    char said[5000], expected[5000];
+    unlink(journal);
+    setenv("OSPREYRACK_JOURNAL", journal, 1);
+    keep_errors();
+    *error = number;
+    CK_RV code = p11->C_Initialize(NULL);
+    *error = 0;
+    read_errors(said, sizeof said);
+    unsetenv("OSPREYRACK_JOURNAL");
+    check_code(code, CKR_GENERAL_ERROR, "C_Initialize with a fault of the file");
+    snprintf(expected, sizeof expected, "ospreyrack: OSPREYRACK_JOURNAL: %s: %s\n", journal,
+             strerror(number));
+    check(strcmp(said, expected) == 0, said);
+    if (code == CKR_OK)
+        EXPECT(CKR_OK, p11->C_Finalize(NULL));
+}
+
+static void test_faults_of_file(void) {
+    check_fault(&lock_error, ENOLCK);
+    check_fault(&status_error, EIO);
 }
 
 /* ---- The end of a process */
@@ -1490,10 +1602,14 @@ static const struct test tests[] = {
     {"memory for 200,000 attributes is given back", test_many_attributes},
     {"a thread's first call without memory", test_first_call},
     {"a file to which another process adds before it is locked", test_file_of_another},
+    {"a file of whole lines, which isn't cut off", test_needless_truncation},
     {"a file whose last line can't be cut off", test_refused_truncation},
     {"a call whose line is written after interruptions", test_interrupted_write},
+    {"a file that is opened and cut off after interruptions", test_interrupted_start},
+    {"a call whose line is written in parts", test_short_writes},
     {"a call whose line can't be written, where no signal says so", test_errors_without_signals},
     {"a line that is written in part, and a part that can't be cut off", test_parts},
+    {"a file whose status can't be read, and one that can't be locked", test_faults_of_file},
     {"a call behind the library's end writes nothing to another file", test_call_behind_end},
 };
 

@@ -970,10 +970,8 @@ class Tests:
         errors = worker.end()
         self.checks.equal(worker.last, "0", "C_Finalize")
         content = read(path).decode()
-        # No byte of the line fits in where the lines before it fill the file.
-        reason = "File too large" if len(content) == limit else "there is no room for it"
-        self.checks.equal(errors, "ospreyrack: OSPREYRACK_TOKEN: a call can't be written: "
-                          f"{reason}\n", "the errors")
+        self.checks.equal(errors, "ospreyrack: OSPREYRACK_TOKEN: a call can't be written: File too "
+                          "large\n", "the errors")
         self.checks.equal(content.count("1 GetTokenInfo -> 0 4 64 0 0\n"), len(replies) - 1,
                           "the answered calls in the file")
         self.checks.check(content.endswith("0\n") and len(content) <= limit, "whole lines")
