@@ -107,7 +107,7 @@ void allow_cancel(int before);
  * mutex. */
 CK_RV open_lock(const CK_C_INITIALIZE_ARGS *arguments);
 
-/* Gives a lock back that no thread has used. */
+/* Gives a lock back that no thread has used. The caller clears the library's state. */
 void drop_lock(void);
 
 /* Clears the library's state and releases the lock, which is given back once no thread uses it. */
@@ -352,7 +352,7 @@ struct source {
     bool has_calls;
     size_t number;        /* of the line that was last read */
     off_t length;         /* of all lines with their ends */
-    uint8_t bytes[4096];  /* of the file, of which the first `used` stand in lines already */
+    uint8_t *bytes;       /* of the file, of which the first `used` stand in lines already */
     size_t count, used;
 };
 
