@@ -90,10 +90,13 @@ bool begin_file_text(void) {
         || report(library.journal.variable, "there is no memory for the journal");
 }
 
+/* How long a label's line is with its end. */
+enum { LABEL_LINE = sizeof label_start - 1 + 2 * LABEL_LENGTH + 1 };
+
 bool reserve_entry(size_t length) {
-    size_t label = sizeof label_start + 2 * LABEL_LENGTH + 1;
+    size_t line_with_end = length + 1;
     return !library.journal.is_kept
-        || buffer_reserve(&library.journal.text, length + 1 + label);
+        || buffer_reserve(&library.journal.text, line_with_end + LABEL_LINE);
 }
 
 /* The line and its end fit into the room that was reserved; the reply may need more. */

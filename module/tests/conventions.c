@@ -1545,9 +1545,6 @@ static void test_piece_in_between(void) {
 
 enum { LOCKS_OF_PIECE = 3 };
 
-/* A key of the current session that signs and verifies. */
-static CK_OBJECT_HANDLE current_key;
-
 static CK_RV digest_piece(void) {
     return p11->C_Digest(current_session, large, PIECE, result, &length);
 }
