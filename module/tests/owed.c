@@ -1,8 +1,8 @@
 /*
- * What C owes to the token's library (token.h), looked at where C calls it: the library itself isn't
- * sanitized. The script run links this into the module that finds bad addresses, and there each
- * function of the library that is named here has `__wrap_` in front of it. Whatever isn't as it must
- * be ends the program.
+ * What C owes to the token's library (token.h), looked at where C calls it, since the library itself
+ * isn't sanitized. The script run links this into the module that finds bad addresses: there a call
+ * of the library's function comes to the one of its name with `__wrap_` in front. What isn't as it
+ * must be ends the program.
  */
 #include <pthread.h>
 #include <sanitizer/asan_interface.h>
