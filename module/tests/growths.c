@@ -8,10 +8,13 @@
  */
 #include "support.h"
 
+#include <dlfcn.h>
 #include <errno.h>
 #include <fcntl.h>
 #include <malloc.h>
+#include <limits.h>
 #include <pthread.h>
+#include <signal.h>
 #include <stdarg.h>
 #include <stdio.h>
 #include <stdlib.h>
@@ -124,8 +127,9 @@ static int lock_error;                 /* by which each lock of a file fails */
 static int status_error;               /* by which each fstat fails */
 static bool refuses_truncation;
 static size_t left_interruptions;      /* of write */
-static size_t open_interruptions, truncation_interruptions;
-static int write_error;                /* by which each write fails, without a signal */
+static size_t open_interruptions, truncation_interruptions, wait_interruptions;
+static int write_error;                /* by which each write fails */
+static int write_signal;               /* which it raises then, or 0 */
 static size_t most_written = SIZE_MAX; /* by one call of write */
 static size_t left_room = SIZE_MAX;    /* for how many bytes there is room on the device */
 static size_t writes;                  /* how often write was called */
@@ -195,6 +199,8 @@ ssize_t write(int file, const void *bytes, size_t length) {
     if (is_interrupted(&left_interruptions))
         return -1;
     if (write_error != 0 || left_room == 0) {
+        if (write_signal != 0)
+            raise(write_signal);
         errno = write_error != 0 ? write_error : ENOSPC;
         return -1;
     }
@@ -203,6 +209,25 @@ ssize_t write(int file, const void *bytes, size_t length) {
     if (left_room != SIZE_MAX && written > 0)
         left_room -= (size_t)written;
     return written;
+}
+
+int sigtimedwait(const sigset_t *signals, siginfo_t *info, const struct timespec *time) {
+    if (is_interrupted(&wait_interruptions))
+        return -1;
+    return (int)syscall(SYS_rt_sigtimedwait, signals, info, time, _NSIG / 8);
+}
+
+/* How often a descriptor was copied, and how often so that programs that are executed have it. */
+static size_t copies, left_copies;
+
+int fcntl(int file, int command, ...) {
+    va_list rest;
+    va_start(rest, command);
+    long argument = va_arg(rest, long);
+    va_end(rest);
+    copies += command == F_DUPFD_CLOEXEC;
+    left_copies += command == F_DUPFD;
+    return (int)syscall(SYS_fcntl, file, command, argument);
 }
 
 ssize_t getrandom(void *out, size_t length, unsigned flags) {
@@ -724,6 +749,60 @@ static void test_lines(void) {
     unsetenv("OSPREYRACK_JOURNAL");
 }
 
+/* ---- The ends of lines */
+
+static bool has_line_end(const char *path) {
+    FILE *file = fopen(path, "r");
+    if (file == NULL || fseek(file, -1, SEEK_END) != 0)
+        exit(2);
+    bool is_end = fgetc(file) == '\n';
+    fclose(file);
+    return is_end;
+}
+
+/* Opens the library anew, and so many sessions. */
+static void begin_sessions(int count) {
+    unlink(journal);
+    begin_library();
+    EXPECT(CKR_OK, p11->C_InitToken(0, so_pin, sizeof so_pin, token_label));
+    for (int i = 0; i < count; i++)
+        EXPECT(CKR_OK, p11->C_OpenSession(0, read_write, NULL, NULL, &session));
+}
+
+/* From each allocation of C_Digest on, all are refused. An operation that is still active is begun
+ * before. */
+static void check_line_end(CK_ULONG count) {
+    struct result result, ignored;
+    bool was_refused;
+    size_t wrong = 0;
+    long number = 0;
+    do {
+        digest_init(&ignored);
+        result.length = sizeof result.bytes;
+        refuses_all = true;
+        refuse_after(number++);
+        p11->C_Digest(session, text, count, result.bytes, &result.length);
+        was_refused = stop_refusing();
+        refuses_all = false;
+        wrong += !has_line_end(journal);
+    } while (was_refused && number < MOST_GROWTHS);
+    CHECK(wrong == 0 && number > 1 && number < MOST_GROWTHS);
+}
+
+/* Lines of all lengths: one of them fills the room that the text of the file has, with its reply or
+ * without. */
+static void test_line_ends(void) {
+    setenv("OSPREYRACK_JOURNAL", journal, 1);
+    for (CK_ULONG count = 0; count <= 400; count++) {
+        for (int sessions = 1; sessions <= 10; sessions += 9) {
+            begin_sessions(sessions);
+            check_line_end(count);
+            end_library();
+        }
+    }
+    unsetenv("OSPREYRACK_JOURNAL");
+}
+
 /* ---- Updates that the module makes in pieces
  *
  * The application's function for the lock does what other threads do that have the lock before:
@@ -1227,6 +1306,51 @@ static void test_first_call(void) {
     end_token();
 }
 
+/* ---- Children, which may die */
+
+/* The status of a child that does this, or a negative number where a signal ends it. */
+static int status_of_child(void (*act)(void)) {
+    int status = -1;
+    fflush(NULL);
+    pid_t child = fork();
+    if (child == 0) {
+        act();
+        _exit(0);
+    }
+    waitpid(child, &status, 0);
+    return WIFEXITED(status) ? WEXITSTATUS(status) : -1;
+}
+
+/* ---- A small stack */
+
+static void *initialize_with_errors(void *ignored) {
+    CK_RV code = p11->C_Initialize(NULL);
+    _exit(code == CKR_GENERAL_ERROR ? 0 : 1);
+    return ignored;
+}
+
+static void initialize_on_small_stack(void) {
+    pthread_attr_t attributes_of_thread;
+    pthread_t thread;
+    pthread_attr_init(&attributes_of_thread);
+    pthread_attr_setstacksize(&attributes_of_thread, (size_t)PTHREAD_STACK_MIN);
+    if (pthread_create(&thread, &attributes_of_thread, initialize_with_errors, NULL) != 0)
+        _exit(2);
+    pthread_join(thread, NULL);
+    _exit(3);
+}
+
+/* A bad reply in a file, and a bad line in a script. */
+static void test_small_stack(void) {
+    write_file(journal, "1 InitToken 31323334 -> 0\n1 OpenSession 6 -> 0 2\n", "w");
+    setenv("OSPREYRACK_TOKEN", journal, 1);
+    CHECK(status_of_child(initialize_on_small_stack) == 0);
+    unsetenv("OSPREYRACK_TOKEN");
+    setenv("OSPREYRACK_SCRIPT", journal, 1);
+    CHECK(status_of_child(initialize_on_small_stack) == 0);
+    unsetenv("OSPREYRACK_SCRIPT");
+}
+
 /* ---- Growths of C_Initialize */
 
 static char script[4096];
@@ -1276,6 +1400,7 @@ static bool try_initialize(long number) {
         code = p11->C_Initialize(NULL);
     }
     check_code(code, CKR_OK, "C_Initialize");
+    check(!has_journal || length_of(journal) > 0, "the file has the name that is given");
     check_token();
     end_library();
     return was_refused;
@@ -1291,17 +1416,64 @@ static void check_initialize(void (*prepare)(void)) {
     CHECK(number > 1 && number < MOST_GROWTHS);
 }
 
+/* The file's name has the process's number in it. */
+static void check_expanded_name(void) {
+    char before[sizeof journal];
+    char pattern[sizeof journal + 16];
+    memcpy(before, journal, sizeof before);
+    snprintf(pattern, sizeof pattern, "%s-%%p-%%p", before);
+    snprintf(journal, sizeof journal, "%.4000s-%ld-%ld", before, (long)getpid(), (long)getpid());
+    setenv("OSPREYRACK_JOURNAL", pattern, 1);
+    check_initialize(begin_without_file);
+    unsetenv("OSPREYRACK_JOURNAL");
+    memcpy(journal, before, sizeof before);
+}
+
 static void test_initialize(void) {
     write_script();
     setenv("OSPREYRACK_SCRIPT", script, 1);
+    has_journal = false;
     check_initialize(begin_without_file);
+    has_journal = true;
     setenv("OSPREYRACK_TOKEN", journal, 1);
     check_initialize(begin_without_file);
     if (rename(journal, kept) != 0)
         exit(2);
     check_initialize(begin_with_file);
     unsetenv("OSPREYRACK_TOKEN");
+    check_expanded_name();
     unsetenv("OSPREYRACK_SCRIPT");
+}
+
+/* ---- The library's function for forks */
+
+static bool refuses_registration;
+static CK_RV code_without_registration;
+
+int __register_atfork(void (*prepare)(void), void (*parent)(void), void (*child)(void),
+                      void *library);
+
+int __register_atfork(void (*prepare)(void), void (*parent)(void), void (*child)(void),
+                      void *library) {
+    if (refuses_registration)
+        return ENOMEM;
+    void *symbol = dlsym(RTLD_NEXT, "__register_atfork");
+    int (*real)(void (*)(void), void (*)(void), void (*)(void), void *);
+    memcpy(&real, &symbol, sizeof real);
+    return real(prepare, parent, child, library);
+}
+
+/* To be called before the library is first initialized: it asks for its function only once. */
+static void initialize_without_registration(void) {
+    refuses_registration = true;
+    code_without_registration = p11->C_Initialize(NULL);
+    refuses_registration = false;
+    if (code_without_registration == CKR_OK)
+        p11->C_Finalize(NULL);
+}
+
+static void test_registration(void) {
+    check_code(code_without_registration, CKR_HOST_MEMORY, "C_Initialize");
 }
 
 /* ---- Growths of C_Initialize with the application's mutex functions */
@@ -1368,6 +1540,17 @@ static void test_file_of_another(void) {
     added_file = journal;
     check_refused("OSPREYRACK_JOURNAL", strlen(added_line));
     CHECK(added_file == NULL);
+}
+
+/* A program that is executed while the file is read has no descriptor of it, not even of a copy. */
+static void test_copied_descriptor(void) {
+    write_file(journal, added_line, "w");
+    setenv("OSPREYRACK_TOKEN", journal, 1);
+    copies = left_copies = 0;
+    begin_library();
+    CHECK(copies > 0 && left_copies == 0);
+    end_library();
+    unsetenv("OSPREYRACK_TOKEN");
 }
 
 /* A file that has whole lines isn't cut off. */
@@ -1438,6 +1621,25 @@ static void test_errors_without_signals(void) {
         end_library();
         unsetenv("OSPREYRACK_JOURNAL");
     }
+}
+
+/* The signal of a write is taken, although that is interrupted: else it would end the child. */
+static void write_with_signal(void) {
+    struct result ignored;
+    signal(SIGPIPE, SIG_DFL);
+    if (p11->C_Initialize(NULL) != CKR_OK)
+        _exit(1);
+    write_signal = SIGPIPE;
+    write_error = EPIPE;
+    wait_interruptions = 1;
+    _exit(get_token_info(&ignored) == CKR_DEVICE_ERROR && wait_interruptions == 0 ? 0 : 2);
+}
+
+static void test_interrupted_wait(void) {
+    unlink(journal);
+    setenv("OSPREYRACK_JOURNAL", journal, 1);
+    CHECK(status_of_child(write_with_signal) == 0);
+    unsetenv("OSPREYRACK_JOURNAL");
 }
 
 /* What the module writes to standard error goes to a file until `read_errors`. */
@@ -1539,6 +1741,7 @@ static void test_faults_of_file(void) {
 
 static char other_file[4096];
 static int journal_descriptor;
+static CK_RV code_behind_end;
 
 /* The C library writes what is left in streams behind the end of each library. By then the file is
  * closed, and another one has its descriptor, in which the call's line has no place. */
@@ -1549,7 +1752,7 @@ static ssize_t call_behind_end(void *cookie, const char *bytes, size_t length) {
     if (other != journal_descriptor)
         _exit(2);
     CK_RV code = get_token_info(&ignored);
-    _exit(code == CKR_DEVICE_ERROR && length_of(other_file) == 0 ? 0 : 1);
+    _exit(code == code_behind_end && length_of(other_file) == 0 ? 0 : 1);
 }
 
 static void end_as_child(void) {
@@ -1565,25 +1768,25 @@ static void end_as_child(void) {
 }
 
 static void test_call_behind_end(void) {
-    int status = -1;
     unlink(journal);
     setenv("OSPREYRACK_JOURNAL", journal, 1);
-    fflush(NULL);
-    pid_t child = fork();
-    if (child == 0)
-        end_as_child();
-    waitpid(child, &status, 0);
-    check(WIFEXITED(status) && WEXITSTATUS(status) == 0, "a call behind the library's end");
+    code_behind_end = CKR_DEVICE_ERROR;
+    check(status_of_child(end_as_child) == 0, "a call behind the library's end");
     check_journal();
     unsetenv("OSPREYRACK_JOURNAL");
+    code_behind_end = CKR_OK;
+    check(status_of_child(end_as_child) == 0, "a call behind the end of a library without a file");
 }
 
 static const struct test tests[] = {
     {"each growth of 43 calls is refused, typed", test_typed},
     {"each growth of 43 calls is refused, by lines", test_by_lines},
     {"each call's line is written when it is answered, and at once", test_lines},
+    {"lines of all lengths end where there is no memory for their replies", test_line_ends},
     {"each growth of C_Initialize is refused, with a script and a file", test_initialize},
     {"each growth of C_Initialize is refused, with the application's mutexes", test_mutexes},
+    {"C_Initialize where the system refuses the library's function for forks", test_registration},
+    {"C_Initialize on the smallest stack tells of bad lines", test_small_stack},
     {"a digest in pieces without memory takes nothing or ends, typed", test_digest_pieces},
     {"a digest in pieces without memory takes nothing or ends, by lines",
      test_digest_pieces_by_lines},
@@ -1602,12 +1805,14 @@ static const struct test tests[] = {
     {"memory for 200,000 attributes is given back", test_many_attributes},
     {"a thread's first call without memory", test_first_call},
     {"a file to which another process adds before it is locked", test_file_of_another},
+    {"a file whose descriptor is copied", test_copied_descriptor},
     {"a file of whole lines, which isn't cut off", test_needless_truncation},
     {"a file whose last line can't be cut off", test_refused_truncation},
     {"a call whose line is written after interruptions", test_interrupted_write},
     {"a file that is opened and cut off after interruptions", test_interrupted_start},
     {"a call whose line is written in parts", test_short_writes},
     {"a call whose line can't be written, where no signal says so", test_errors_without_signals},
+    {"a signal of a write that is taken after an interruption", test_interrupted_wait},
     {"a line that is written in part, and a part that can't be cut off", test_parts},
     {"a file whose status can't be read, and one that can't be locked", test_faults_of_file},
     {"a call behind the library's end writes nothing to another file", test_call_behind_end},
@@ -1638,6 +1843,7 @@ int main(int count, char **arguments) {
     setenv("OSPREYRACK_SEED", "1", 1);
     load_module(arguments[1]);
     vendor = vendor_functions();
+    initialize_without_registration();
     /* What the first calls of a process take stays. */
     begin_token();
     end_token();

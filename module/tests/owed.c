@@ -1,5 +1,5 @@
 /*
- * What C owes to the token's library (token.h), looked at where C calls it, since the library itself
+ * What C owes to the token's library (token.h), looked at where C calls it, since the library
  * isn't sanitized. The script run links this into the module that finds bad addresses: there a call
  * of the library's function comes to the one of its name with `__wrap_` in front. What isn't as it
  * must be ends the program.
