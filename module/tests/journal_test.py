@@ -1244,7 +1244,8 @@ TESTS = [Tests.test_file, Tests.test_mode, Tests.test_going_on, Tests.test_new_l
          Tests.test_second_run, Tests.test_fork, Tests.test_fork_that_stays, Tests.test_exec,
          Tests.test_exec_in_script, Tests.test_exit, Tests.test_unload,
          Tests.test_unload_with_functions, Tests.test_rights, Tests.test_kills, Tests.test_full,
-         Tests.test_filling, Tests.test_filling_in_update, Tests.test_filling_in_search, Tests.test_seed,
+         Tests.test_filling, Tests.test_filling_in_update, Tests.test_filling_in_search,
+         Tests.test_seed,
          Tests.test_nobody_reads_errors, Tests.test_seeded_bytes,
          Tests.test_long_template, Tests.test_cut, Tests.test_memory]
 
