@@ -372,7 +372,8 @@ static void check_work_without_lock(CK_RV (*make)(void), CK_RV expected, const c
     long long without_lock = LLONG_MAX, under_lock = LLONG_MAX;
     for (int i = 0; i < TRIES; i++) {
         note_times(make, expected, what);
-        without_lock = least(without_lock, noted_times[2] - noted_times[1] + noted_times[4] - noted_times[3]);
+        without_lock = least(without_lock, noted_times[2] - noted_times[1] + noted_times[4]
+                             - noted_times[3]);
         under_lock = least(under_lock, noted_times[5] - noted_times[4]);
     }
     check(without_lock > 5 * under_lock, what);
