@@ -90,7 +90,7 @@ bool begin_file_text(void) {
         || report(library.journal.variable, "there is no memory for the journal");
 }
 
-/* How long a label's line is with its end. */
+/* How long a label's line is: its start without the NUL, the label, and the end. */
 enum { LABEL_LINE = sizeof label_start - 1 + 2 * LABEL_LENGTH + 1 };
 
 bool reserve_entry(size_t length) {
