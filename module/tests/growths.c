@@ -612,7 +612,7 @@ static bool is_same_state(const struct state *made, const struct state *expected
 /* ---- Growths of calls */
 
 static bool has_journal;
-static char journal[4096];
+static char journal[100] = "growths.cases";
 
 /* C_Initialize and C_Finalize, between which all memory is given back. */
 static long live_at_start;
@@ -1355,8 +1355,8 @@ static void test_small_stack(void) {
 
 /* ---- Growths of C_Initialize */
 
-static char script[4096];
-static char kept[4096];
+static const char script[] = "growths.script";
+static const char kept[] = "kept.cases";
 
 static void write_script(void) {
     write_file(script, "1 InitToken 31323334\n1 OpenSession 6\n"
@@ -1380,7 +1380,7 @@ static void begin_without_file(void) {
 
 /* The file has the script's calls, and is a new copy each time. */
 static void begin_with_file(void) {
-    char command[9000];
+    char command[300];
     snprintf(command, sizeof command, "cp '%s' '%s'", kept, journal);
     if (system(command) != 0)
         exit(2);
@@ -1421,11 +1421,9 @@ static void check_initialize(void (*prepare)(void)) {
 /* The file's name has the process's number in it. */
 static void check_expanded_name(void) {
     char before[sizeof journal];
-    char pattern[sizeof journal + 16];
     memcpy(before, journal, sizeof before);
-    snprintf(pattern, sizeof pattern, "%s-%%p-%%p", before);
-    snprintf(journal, sizeof journal, "%.4000s-%ld-%ld", before, (long)getpid(), (long)getpid());
-    setenv("OSPREYRACK_JOURNAL", pattern, 1);
+    snprintf(journal, sizeof journal, "of-%ld-and-%ld", (long)getpid(), (long)getpid());
+    setenv("OSPREYRACK_JOURNAL", "of-%p-and-%p", 1);
     check_initialize(begin_without_file);
     unsetenv("OSPREYRACK_JOURNAL");
     memcpy(journal, before, sizeof before);
@@ -1645,7 +1643,7 @@ static void test_interrupted_wait(void) {
 }
 
 /* What the module writes to standard error goes to a file until `read_errors`. */
-static char errors[4096];
+static const char errors[] = "errors";
 static int hidden_errors = -1;
 
 static void keep_errors(void) {
@@ -1717,7 +1715,7 @@ static void test_parts(void) {
 
 /* C_Initialize where each of these system calls fails: standard error says by what. */
 static void check_fault(int *error, int number) {
-    char said[5000], expected[5000];
+    char said[1000], expected[1000];
     unlink(journal);
     setenv("OSPREYRACK_JOURNAL", journal, 1);
     keep_errors();
@@ -1741,7 +1739,7 @@ static void test_faults_of_file(void) {
 
 /* ---- The end of a process */
 
-static char other_file[4096];
+static const char other_file[] = "other";
 static int journal_descriptor;
 static CK_RV code_behind_end;
 
@@ -1834,16 +1832,13 @@ int main(int count, char **arguments) {
         fprintf(stderr, "growths MODULE FOLDER\n");
         return 2;
     }
-    const char *folder = arguments[2];
-    snprintf(journal, sizeof journal, "%s/growths.cases", folder);
-    snprintf(script, sizeof script, "%s/growths.script", folder);
-    snprintf(kept, sizeof kept, "%s/kept.cases", folder);
-    snprintf(errors, sizeof errors, "%s/errors", folder);
-    snprintf(other_file, sizeof other_file, "%s/other", folder);
+    load_module(arguments[1]);
+    /* A file of a wrong name comes to lie in the folder, too. */
+    if (chdir(arguments[2]) != 0)
+        return 2;
     memset(text, 'x', sizeof text);
     hide_lines_of_module();
     setenv("OSPREYRACK_SEED", "1", 1);
-    load_module(arguments[1]);
     vendor = vendor_functions();
     initialize_without_registration();
     /* What the first calls of a process take stays. */
