@@ -37,7 +37,7 @@ bool buffer_add_text(struct buffer *buffer, const char *text) {
 
 bool buffer_add_hexadecimal(struct buffer *buffer, const uint8_t *bytes, size_t length) {
     static const char digits[] = "0123456789abcdef";
-    if (length > SIZE_MAX / 2 || !buffer_reserve(buffer, 2 * length))
+    if (!buffer_reserve(buffer, 2 * length))
         return false;
     uint8_t *out = buffer->bytes + buffer->length;
     for (size_t i = 0; i < length; i++) {

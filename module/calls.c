@@ -140,12 +140,12 @@ static uint32_t call_by_line(const struct call *call) {
  * names go by a line also without a journal file: C_InitToken, the calls on PINs, C_Login,
  * C_GetMechanismList, C_GenerateKey, C_CopyObject and C_SetAttributeValue. */
 
-/* Gathers a template's items, and their values one after the other. */
+/* Gathers a template's items, and their values one after the other. The room that is made first is
+ * for a template without any: see `buffer_reserve`. */
 static bool gather_template(const struct call *call) {
     library.items.length = 0;
     library.values.length = 0;
-    bool is_added = buffer_reserve(&library.items, call->count * sizeof(struct item))
-        && buffer_reserve(&library.values, 0);
+    bool is_added = buffer_reserve(&library.items, 0) && buffer_reserve(&library.values, 0);
     for (CK_ULONG i = 0; is_added && i < call->count; i++) {
         const CK_ATTRIBUTE *attribute = &call->attributes[i];
         struct item item = {attribute->type, attribute->ulValueLen};
@@ -157,7 +157,7 @@ static bool gather_template(const struct call *call) {
 
 static bool gather_queries(const struct call *call) {
     library.items.length = 0;
-    bool is_added = buffer_reserve(&library.items, call->count * sizeof(struct query));
+    bool is_added = buffer_reserve(&library.items, 0);
     for (CK_ULONG i = 0; is_added && i < call->count; i++) {
         const CK_ATTRIBUTE *attribute = &call->attributes[i];
         struct query query = {attribute->type, attribute->ulValueLen, attribute->pValue != NULL};
@@ -335,10 +335,13 @@ static bool reserve_room(void) {
 }
 
 /* The journal can be cut only where no session is open: after a call that needs none, or that was
- * refused since its session isn't open, or that has closed the last one. */
+ * refused since its session isn't open, or that has closed the last one. A line that this module
+ * writes is a call, so where the token takes it for none, the module is wrong. */
 static CK_RV make_checked_call(const struct call *call) {
     uint32_t outcome = library.journal.is_kept ? call_by_line(call) : call_by_arguments(call);
     drop_long_lists();
+    if (outcome == NO_CALL)
+        return CKR_GENERAL_ERROR;
     if (outcome != ANSWERED)
         return CKR_HOST_MEMORY;
     if (library.journal.has_failed)

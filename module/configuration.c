@@ -30,9 +30,11 @@ static void replace_control_bytes(char *text) {
     }
 }
 
+/* The message isn't on the stack, since a thread may have a small one: this is called under the
+ * lock only, or by C_Initialize, before there are calls. */
 bool report(const char *variable, const char *format, ...) {
+    static char message[8192];
     char name[100];
-    char message[8192];
     va_list arguments;
     snprintf(name, sizeof name, "%s", variable);
     va_start(arguments, format);

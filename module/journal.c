@@ -1,8 +1,9 @@
 /*
  * The journal file: the calls of a run, each with its reply, in the form of case files.
  *
- * What is added to the journal is gathered as text, and written by one write(2) before the
- * application gets the answer. So a process that is killed loses no call that was answered.
+ * What is added to the journal is gathered as text, and written by one write(2), or more where the
+ * file doesn't take it whole, before the application gets the answer. So a process that is killed
+ * loses no call that was answered.
  */
 #include "module.h"
 
@@ -24,18 +25,25 @@ enum { HEADER_LENGTH = sizeof header - 1 };
 const char arrow[] = " -> ";
 const char label_start[] = "# label ";
 
+/* What a system call has answered that has failed. */
+static bool report_error(const struct journal *journal, const char *path) {
+    return report(journal->variable, "%s: %s", path, strerror(errno));
+}
+
 /* Whether the open file is a regular one that no other process has locked. */
 static bool lock_file(struct journal *journal, const char *path) {
     struct stat status;
-    if (fstat(journal->file, &status) != 0 || !S_ISREG(status.st_mode))
+    if (fstat(journal->file, &status) != 0)
+        return report_error(journal, path);
+    if (!S_ISREG(status.st_mode))
         return report(journal->variable, "%s: this is no regular file", path);
     if (flock(journal->file, LOCK_EX | LOCK_NB) != 0)
-        return report(journal->variable, "%s: %s", path,
-                      errno == EWOULDBLOCK ? "another process has locked the file"
-                                           : strerror(errno));
+        return errno == EWOULDBLOCK
+            ? report(journal->variable, "%s: another process has locked the file", path)
+            : report_error(journal, path);
     /* Read again under the lock: before it another process may have added to the file. */
     if (fstat(journal->file, &status) != 0)
-        return report(journal->variable, "%s: %s", path, strerror(errno));
+        return report_error(journal, path);
     journal->length = status.st_size;
     return true;
 }
@@ -43,7 +51,10 @@ static bool lock_file(struct journal *journal, const char *path) {
 /* Where the application has closed its standard error, what is written there mustn't get into the
  * file, so the descriptor is another than those of the standard streams. */
 static int open_file(const char *path) {
-    int file = open(path, O_RDWR | O_APPEND | O_CREAT | O_CLOEXEC, S_IRUSR | S_IWUSR);
+    int file;
+    do
+        file = open(path, O_RDWR | O_APPEND | O_CREAT | O_CLOEXEC, S_IRUSR | S_IWUSR);
+    while (file < 0 && errno == EINTR);
     if (file < 0 || file > STDERR_FILENO)
         return file;
     int moved = fcntl(file, F_DUPFD_CLOEXEC, STDERR_FILENO + 1);
@@ -79,10 +90,13 @@ bool begin_file_text(void) {
         || report(library.journal.variable, "there is no memory for the journal");
 }
 
+/* How long a label's line is: its start without the NUL, the label, and the end. */
+enum { LABEL_LINE = sizeof label_start - 1 + 2 * LABEL_LENGTH + 1 };
+
 bool reserve_entry(size_t length) {
-    size_t label = sizeof label_start + 2 * LABEL_LENGTH + 1;
+    size_t line_with_end = length + 1;
     return !library.journal.is_kept
-        || buffer_reserve(&library.journal.text, length + 1 + label);
+        || buffer_reserve(&library.journal.text, line_with_end + LABEL_LINE);
 }
 
 /* The line and its end fit into the room that was reserved; the reply may need more. */
@@ -111,33 +125,46 @@ static bool truncate_file(const struct journal *journal) {
     struct stat status;
     if (fstat(journal->file, &status) != 0)
         return false;
-    return status.st_size == journal->length || ftruncate(journal->file, journal->length) == 0;
+    if (status.st_size == journal->length)
+        return true;
+    int result;
+    do
+        result = ftruncate(journal->file, journal->length);
+    while (result != 0 && errno == EINTR);
+    return result == 0;
 }
 
-/* How many bytes were written, or a negative error number. */
-static ssize_t write_once(int file, const uint8_t *bytes, size_t length) {
-    sigset_t before;
-    ssize_t written;
-    block_write_signals(&before);
-    do
-        written = write(file, bytes, length);
-    while (written < 0 && errno == EINTR);
-    int error = written < 0 ? errno : 0;
-    unblock_write_signals(&before, error);
-    return error == 0 ? written : -error;
+/* Writes all bytes. One write takes them all, except where the file has no room for them: only the
+ * next write then says why. Answers its error, or 0 where all are written. */
+static int write_all(int file, const uint8_t *bytes, size_t length) {
+    int error = 0;
+    while (length > 0 && error == 0) {
+        ssize_t written = write(file, bytes, length);
+        if (written > 0) {
+            bytes += written;
+            length -= (size_t)written;
+        } else if (written == 0) {
+            error = ENOSPC;
+        } else if (errno != EINTR) {
+            error = errno;
+        }
+    }
+    return error;
 }
 
 /* What was written in part is taken back, since the application gets no answer to it. */
 static bool write_text(struct journal *journal, size_t length) {
-    ssize_t written = write_once(journal->file, journal->text.bytes, length);
-    if (written == (ssize_t)length) {
-        journal->length += written;
+    sigset_t before;
+    block_write_signals(&before);
+    int error = write_all(journal->file, journal->text.bytes, length);
+    unblock_write_signals(&before, error);
+    if (error == 0) {
+        journal->length += (off_t)length;
         return true;
     }
-    const char *reason = written < 0 ? strerror((int)-written) : "there is no room for it";
     const char *rest = truncate_file(journal) ? "" : ", and a part of it stays in the file";
     journal->has_failed = true;
-    return report(journal->variable, "a call can't be written: %s%s", reason, rest);
+    return report(journal->variable, "a call can't be written: %s%s", strerror(error), rest);
 }
 
 bool write_journal(void) {

@@ -22,6 +22,9 @@ static size_t key_length(const CK_ATTRIBUTE *attributes, CK_ULONG count) {
     return 0;
 }
 
+/* The bytes are drawn under the lock, also the system's, which C_GenerateRandom draws without it:
+ * only under the lock it is known whether there is a seed. They are few, but where the system is
+ * long about them, other threads wait. */
 static CK_RV generate_key(struct call call, CK_OBJECT_HANDLE *key) {
     uint8_t bytes[LONGEST_KEY];
     if (call.mechanism == NULL || key == NULL)

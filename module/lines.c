@@ -69,7 +69,8 @@ static const struct form forms[] = {
 };
 
 static bool add_text(struct buffer *line, const char *text) {
-    return strlen(text) <= LONGEST_LINE - line->length && buffer_add_text(line, text);
+    size_t length = strlen(text);
+    return length <= LONGEST_LINE - line->length && buffer_add(line, text, length);
 }
 
 static bool add_decimal(struct buffer *line, uint64_t number) {

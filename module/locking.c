@@ -29,7 +29,8 @@ struct library library;
 static pthread_mutex_t own_mutex = PTHREAD_MUTEX_INITIALIZER;
 
 /* Never read. By it the memory of the parent stays reachable in the child of a fork, so that nobody
- * takes it for lost. */
+ * takes it for lost. In a child of that child it is replaced, and the first parent's memory is no
+ * longer reachable. */
 static struct library left_by_parent __attribute__((used));
 
 static void pause_for(int count) {
@@ -163,6 +164,8 @@ static CK_RV code_of_creation(CK_RV code) {
     return is_handed_on ? code : CKR_GENERAL_ERROR;
 }
 
+/* CreateMutex, and in `drop_lock` DestroyMutex, are called under the module's own mutex: they
+ * mustn't wait for a thread that calls the library. */
 CK_RV open_lock(const CK_C_INITIALIZE_ARGS *arguments) {
     if (arguments == NULL || arguments->CreateMutex == NULL
         || (arguments->flags & CKF_OS_LOCKING_OK) != 0)
@@ -186,7 +189,6 @@ CK_RV open_lock(const CK_C_INITIALIZE_ARGS *arguments) {
 void drop_lock(void) {
     if (library.lock != NULL)
         destroy_lock(library.lock);
-    library.lock = NULL;
 }
 
 void close_library(void) {

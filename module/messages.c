@@ -75,13 +75,13 @@ static CK_RV make_piece(const struct call *piece, struct update *update) {
     return code;
 }
 
-/* Where the application's lock can't be taken, the operation can't be ended. So that nobody
- * finishes the message, its token answers no later call. */
+/* Where the lock can't be taken, the operation can't be ended. So that nobody finishes the message,
+ * its token answers no later call. Where the library was finalized, that token is gone anyway. */
 static CK_RV answer_piece(struct call piece, struct update *update) {
     CK_RV code = enter_with_work(&piece);
     if (code == CKR_OK)
         code = leave(make_piece(&piece, update));
-    else if (update->has_begun && code != CKR_CRYPTOKI_NOT_INITIALIZED)
+    else if (update->has_begun)
         stop_answering(update->journals);
     drop_work(&piece);
     return code;

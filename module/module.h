@@ -46,7 +46,7 @@ bool buffer_reserve(struct buffer *buffer, size_t more);
 bool buffer_add(struct buffer *buffer, const void *bytes, size_t length);
 bool buffer_add_text(struct buffer *buffer, const char *text);
 
-/* Adds two hexadecimal digits for each byte. */
+/* Adds two hexadecimal digits for each byte. There are at most LONGEST_LINE / 2 bytes. */
 bool buffer_add_hexadecimal(struct buffer *buffer, const uint8_t *bytes, size_t length);
 void buffer_free(struct buffer *buffer);
 
@@ -107,7 +107,7 @@ void allow_cancel(int before);
  * mutex. */
 CK_RV open_lock(const CK_C_INITIALIZE_ARGS *arguments);
 
-/* Gives a lock back that no thread has used. */
+/* Gives a lock back that no thread has used. The caller clears the library's state. */
 void drop_lock(void);
 
 /* Clears the library's state and releases the lock, which is given back once no thread uses it. */
@@ -218,8 +218,9 @@ struct bytes parameter_of(const CK_MECHANISM *mechanism);
 CK_RV check_call(const struct call *call);
 
 /* Makes a call under the lock. Returns what is wrong with its arguments; CKR_HOST_MEMORY where
- * there is no memory for it, and nothing has changed; CKR_DEVICE_ERROR where the journal file can't
- * be written, or after `stop_answering`; or the reply's code. */
+ * there is no memory for it, and CKR_GENERAL_ERROR where the token takes its line for no call, and
+ * nothing has changed; CKR_DEVICE_ERROR where the journal file can't be written, or after
+ * `stop_answering`; or the reply's code. */
 CK_RV make_call(const struct call *call);
 
 /* The same of C_GetSessionInfo, by a shorter way where no journal file is kept. */
@@ -279,7 +280,7 @@ const struct buffer *line_of_work(const struct call *call);
 /* Makes a call by its work. Answers false, and makes none, where it has none that can be used. */
 bool call_by_work(const struct call *call, uint32_t *outcome);
 
-/* Gives back the memory of a call's work, where it has any. */
+/* Gives back the memory of a call's work, where it has any. The call isn't used any more. */
 void drop_work(struct call *call);
 
 /* ---- Messages: messages.c */
@@ -351,7 +352,7 @@ struct source {
     bool has_calls;
     size_t number;        /* of the line that was last read */
     off_t length;         /* of all lines with their ends */
-    uint8_t bytes[4096];  /* of the file, of which the first `used` stand in lines already */
+    uint8_t *bytes;       /* of the file, of which the first `used` stand in lines already */
     size_t count, used;
 };
 

@@ -10,6 +10,9 @@
 #include <string.h>
 #include <unistd.h>
 
+/* How many bytes of a file are read at once. */
+enum { MOST_READ = 4096 };
+
 static const char too_long[] = "a line has at most 4194304 bytes";
 
 static bool report_line(const struct source *source, const char *reason) {
@@ -152,7 +155,7 @@ static bool answer_source_line(struct source *source, const uint8_t *line, size_
 static bool has_bytes(struct source *source) {
     if (source->used == source->count) {
         source->used = 0;
-        source->count = fread(source->bytes, 1, sizeof source->bytes, source->file);
+        source->count = fread(source->bytes, 1, MOST_READ, source->file);
     }
     return source->count > 0;
 }
@@ -195,7 +198,7 @@ static bool read_line(struct source *source, struct buffer *line) {
                   strerror(errno));
 }
 
-bool answer_lines(struct source *source) {
+static bool answer_each_line(struct source *source) {
     struct buffer line = {0};
     bool is_good;
     do
@@ -203,6 +206,16 @@ bool answer_lines(struct source *source) {
             && (line.length == 0 || answer_source_line(source, line.bytes, line.length));
     while (is_good && line.length > 0);
     buffer_free(&line);
+    return is_good;
+}
+
+bool answer_lines(struct source *source) {
+    source->bytes = malloc(MOST_READ);
+    bool is_good = source->bytes != NULL
+        ? answer_each_line(source)
+        : report(source->variable, "%s: there is no memory to read the file", source->path);
+    free(source->bytes);
+    source->bytes = NULL;
     return is_good;
 }
 

@@ -25,14 +25,14 @@ CK_RV C_CloseAllSessions(CK_SLOT_ID slot) {
 }
 
 static CK_RV get_session_info(CK_SESSION_HANDLE session, CK_SESSION_INFO *info) {
-    struct session answer;
+    struct session reply;
     if (info == NULL)
         return CKR_ARGUMENTS_BAD;
     CK_RV code = ask_for_session(session);
     if (code != CKR_OK)
         return code;
-    ospreyrack_session(&library.token, &answer);
-    *info = (CK_SESSION_INFO){.slotID = SLOT, .state = answer.state, .flags = answer.flags};
+    ospreyrack_session(&library.token, &reply);
+    *info = (CK_SESSION_INFO){.slotID = SLOT, .state = reply.state, .flags = reply.flags};
     return CKR_OK;
 }
 

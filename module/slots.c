@@ -92,19 +92,19 @@ static void describe_token(CK_TOKEN_INFO *info) {
 
 static CK_RV get_token_info(CK_TOKEN_INFO *info) {
     const struct call call = {.name = GET_TOKEN_INFO};
-    struct token_info answer;
+    struct token_info reply;
     if (info == NULL)
         return CKR_ARGUMENTS_BAD;
     CK_RV code = make_call(&call);
     if (code != CKR_OK)
         return code;
-    ospreyrack_token_info(&library.token, &answer);
+    ospreyrack_token_info(&library.token, &reply);
     describe_token(info);
-    info->flags = answer.flags | CKF_RNG;
-    info->ulMaxSessionCount = answer.limit;
-    info->ulSessionCount = answer.sessions;
-    info->ulMaxRwSessionCount = answer.limit;
-    info->ulRwSessionCount = answer.rw_sessions;
+    info->flags = reply.flags | CKF_RNG;
+    info->ulMaxSessionCount = reply.limit;
+    info->ulSessionCount = reply.sessions;
+    info->ulMaxRwSessionCount = reply.limit;
+    info->ulRwSessionCount = reply.rw_sessions;
     return CKR_OK;
 }
 

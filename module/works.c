@@ -19,10 +19,10 @@ struct work {
     max_align_t room[];
 };
 
-/* Whether the message is long enough to be taken in before the call. Where only the length of
+/* Whether the message is to be taken in before the call, as a long one is. Where only the length of
  * a digest or a signature is asked for, the message isn't needed. The message is copied before the
  * call is made, so the arguments are checked here, too. */
-static bool is_long(const struct call *call) {
+static bool is_taken_in_before(const struct call *call) {
     bool has_output = call->name == DIGEST || call->name == SIGN;
     return call->bytes.length >= SHORTEST_LONG_MESSAGE && (!has_output || call->room.has_room)
         && check_call(call) == CKR_OK;
@@ -57,7 +57,7 @@ static bool is_usable(const struct work *work) {
 
 CK_RV enter_with_work(struct call *call) {
     CK_RV code = enter();
-    if (code != CKR_OK || !is_long(call))
+    if (code != CKR_OK || !is_taken_in_before(call))
         return code;
     bool has_line = library.journal.is_kept;
     uint64_t journals = journals_begun;
@@ -93,5 +93,4 @@ void drop_work(struct call *call) {
     ospreyrack_message_reset(&work->call);
     buffer_free(&work->line);
     free(work);
-    call->work = NULL;
 }

@@ -38,6 +38,7 @@ class Client:
         self.journal = self.file(f"{name}.cases")
         self.environment = support.environment_of({"TOKEN": self.journal, "SEED": 1})
         self.environment.update({"HOME": folder, "LC_ALL": "C"})
+        self.prepared = 0
 
     def file(self, name, content=None):
         path = os.path.join(self.folder, name)
@@ -54,13 +55,14 @@ class Client:
         if shutil.which(program) is None:
             raise LeftOut(f"{program} isn't installed: apt-get install {package}")
 
-    def run(self, *command, contains="", **options):
-        """Runs a command, which must succeed and write this text. Answers all that it wrote."""
+    def run(self, *command, contains="", status=0, **options):
+        """Runs a command, which must end with this status and write this text. Answers all that it
+        wrote."""
         run = subprocess.run(command, env=self.environment, cwd=self.folder, timeout=60, text=True,
                              errors="replace", stdin=subprocess.DEVNULL, stdout=subprocess.PIPE,
                              stderr=subprocess.STDOUT, check=False, **options)
         text = " ".join(command[:1] + command[3:])
-        if run.returncode != 0:
+        if run.returncode != status:
             raise Failed(f"{text}: status {run.returncode}: {run.stdout[-600:]}")
         self.checks.check(contains in run.stdout, f"{text}: {contains!r} isn't in {run.stdout!r}")
         return run.stdout
@@ -70,6 +72,15 @@ class Client:
         self.needs("softhsm2-util", "softhsm2")
         self.run("softhsm2-util", "--module", self.module, "--init-token", "--slot", "0",
                  "--label", "tok", "--so-pin", SO_PIN, "--pin", USER_PIN, contains="initialized")
+        self.prepared = os.path.getsize(self.journal)
+
+    def calls(self):
+        """The names of the calls in the file, without those of `prepare`. What C_Initialize adds by
+        itself is no call of the client's."""
+        with open(self.journal, "rb") as file:
+            lines = file.read()[self.prepared:].decode().split("\n")
+        names = [line.split(" ")[1] for line in lines if " -> " in line]
+        return [name for name in names if name != "CloseAllSessions"]
 
 
 # ---- The clients
@@ -267,7 +278,7 @@ def use_softhsm2_util(client):
 
 
 def use_openssl(client):
-    """OpenSSL's engine pkcs11 (random bytes)"""
+    """OpenSSL's engine pkcs11 (a login, a search for a private key)"""
     client.needs("openssl", "openssl")
     if "pkcs11" not in client.run("openssl", "engine", "-t", "pkcs11"):
         raise LeftOut("the engine isn't installed: apt-get install libengine-pkcs11-openssl")
@@ -276,8 +287,11 @@ def use_openssl(client):
         "openssl.cnf", "openssl_conf = start\n[start]\nengines = engines\n[engines]\n"
         f"pkcs11 = pkcs11\n[pkcs11]\nengine_id = pkcs11\nMODULE_PATH = {client.module}\ninit = 0\n")
     client.run("openssl", "engine", "-t", "pkcs11", contains="available")
-    client.run("openssl", "rand", "-engine", "pkcs11", "-hex", "16",
-               contains='Engine "pkcs11" set.')
+    # The engine loads the module where a key is asked for. The token has no private keys.
+    client.run("openssl", "pkey", "-engine", "pkcs11", "-inform", "engine", "-in",
+               "pkcs11:token=tok;type=private;object=x", "-passin", f"pass:{USER_PIN}", "-noout",
+               status=1, contains='Engine "pkcs11" set.')
+    client.checks.check("OpenSession" in client.calls(), f"its calls: {client.calls()}")
 
 
 CLIENTS = {"pkcs11_tool": use_pkcs11_tool, "p11tool": use_p11tool, "pykcs11": use_pykcs11,
@@ -296,6 +310,7 @@ def run_client(checks, name, module, ck_cases, keep=None):
         client = Client(checks, module, folder, name)
         try:
             use(client)
+            checks.check(len(client.calls()) > 0, "the client has made calls")
             support.audit(checks, ck_cases, client.journal)
         except LeftOut as reason:
             checks.leave_out(use.__doc__, reason)

@@ -505,10 +505,13 @@ static CK_RV sign_and_verify(void) {
     code = p11->C_Sign(session, message.bytes, message.length, signature, &length);
     if (code != CKR_OK || p11->C_VerifyInit(session, &mechanism, key) != CKR_OK)
         return code;
-    if (one_in(2))
-        return p11->C_Verify(session, message.bytes, message.length, signature, length);
-    code = p11->C_VerifyUpdate(session, message.bytes, message.length);
-    return code == CKR_OK ? p11->C_VerifyFinal(session, signature, length) : code;
+    bool is_at_once = one_in(2);
+    code = is_at_once ? p11->C_Verify(session, message.bytes, message.length, signature, length)
+                      : p11->C_VerifyUpdate(session, message.bytes, message.length);
+    if (code == CKR_OK && !is_at_once)
+        code = p11->C_VerifyFinal(session, signature, length);
+    check_code(code, CKR_OK, "what was signed is verified");
+    return code;
 }
 
 static CK_RV verify_update(void) {

@@ -8,10 +8,14 @@
  */
 #include "support.h"
 
+#include <dlfcn.h>
 #include <errno.h>
 #include <fcntl.h>
 #include <malloc.h>
+#include <limits.h>
 #include <pthread.h>
+#include <signal.h>
+#include <stdarg.h>
 #include <stdio.h>
 #include <stdlib.h>
 #include <string.h>
@@ -119,10 +123,15 @@ static bool stop_refusing(void) {
 static const char added_line[] = "1 GetTokenInfo -> 0 4 64 0 0\n";
 
 static const char *added_file;         /* gets that line before the next lock is taken */
+static int lock_error;                 /* by which each lock of a file fails */
+static int status_error;               /* by which each fstat fails */
 static bool refuses_truncation;
 static size_t left_interruptions;      /* of write */
-static int write_error;                /* by which each write fails, without a signal */
+static size_t open_interruptions, truncation_interruptions, wait_interruptions;
+static int write_error;                /* by which each write fails */
+static int write_signal;               /* which it raises then, or 0 */
 static size_t most_written = SIZE_MAX; /* by one call of write */
+static size_t left_room = SIZE_MAX;    /* for how many bytes there is room on the device */
 static size_t writes;                  /* how often write was called */
 static size_t draws, draws_under_lock; /* of random bytes */
 
@@ -141,23 +150,84 @@ int flock(int file, int operation) {
     if (added_file != NULL)
         write_file(added_file, added_line, "a");
     added_file = NULL;
-    return (int)syscall(SYS_flock, file, operation);
+    if (lock_error == 0)
+        return (int)syscall(SYS_flock, file, operation);
+    errno = lock_error;
+    return -1;
+}
+
+int fstat(int file, struct stat *status) {
+    if (status_error == 0)
+        return (int)syscall(SYS_fstat, file, status);
+    errno = status_error;
+    return -1;
+}
+
+static bool is_interrupted(size_t *left) {
+    if (*left == 0)
+        return false;
+    --*left;
+    errno = EINTR;
+    return true;
+}
+
+int open(const char *path, int flags, ...) {
+    va_list mode;
+    va_start(mode, flags);
+    int file = -1;
+    if (!is_interrupted(&open_interruptions))
+        file = (int)syscall(SYS_open, path, flags, (flags & O_CREAT) ? va_arg(mode, mode_t) : 0);
+    va_end(mode);
+    return file;
 }
 
 int ftruncate(int file, off_t length) {
+    if (is_interrupted(&truncation_interruptions))
+        return -1;
     if (!refuses_truncation)
         return (int)syscall(SYS_ftruncate, file, length);
     errno = EPERM;
     return -1;
 }
 
+static size_t least(size_t one, size_t other) {
+    return one < other ? one : other;
+}
+
 ssize_t write(int file, const void *bytes, size_t length) {
     writes++;
-    if (left_interruptions == 0 && write_error == 0)
-        return syscall(SYS_write, file, bytes, length < most_written ? length : most_written);
-    errno = left_interruptions > 0 ? EINTR : write_error;
-    left_interruptions -= left_interruptions > 0;
-    return -1;
+    if (is_interrupted(&left_interruptions))
+        return -1;
+    if (write_error != 0 || left_room == 0) {
+        if (write_signal != 0)
+            raise(write_signal);
+        errno = write_error != 0 ? write_error : ENOSPC;
+        return -1;
+    }
+    length = least(length, least(most_written, left_room));
+    ssize_t written = syscall(SYS_write, file, bytes, length);
+    if (left_room != SIZE_MAX && written > 0)
+        left_room -= (size_t)written;
+    return written;
+}
+
+int sigtimedwait(const sigset_t *signals, siginfo_t *info, const struct timespec *time) {
+    if (is_interrupted(&wait_interruptions))
+        return -1;
+    return (int)syscall(SYS_rt_sigtimedwait, signals, info, time, _NSIG / 8);
+}
+
+/* How often a descriptor was copied, and how often so that programs that are executed have it. */
+static size_t copies, left_copies;
+
+int fcntl(int file, int command, ...) {
+    va_list rest;
+    va_start(rest, command);
+    long argument = va_arg(rest, long);
+    va_end(rest);
+    copies += command == F_DUPFD_CLOEXEC;
+    left_copies += command == F_DUPFD;
+    return (int)syscall(SYS_fcntl, file, command, argument);
 }
 
 ssize_t getrandom(void *out, size_t length, unsigned flags) {
@@ -542,7 +612,7 @@ static bool is_same_state(const struct state *made, const struct state *expected
 /* ---- Growths of calls */
 
 static bool has_journal;
-static char journal[4096];
+static char journal[100] = "growths.cases";
 
 /* C_Initialize and C_Finalize, between which all memory is given back. */
 static long live_at_start;
@@ -676,6 +746,60 @@ static void test_lines(void) {
     setenv("OSPREYRACK_JOURNAL", journal, 1);
     for (size_t i = 0; i < GROWTHS; i++)
         check_line(&growths[i]);
+    unsetenv("OSPREYRACK_JOURNAL");
+}
+
+/* ---- The ends of lines */
+
+static bool has_line_end(const char *path) {
+    FILE *file = fopen(path, "r");
+    if (file == NULL || fseek(file, -1, SEEK_END) != 0)
+        exit(2);
+    bool is_end = fgetc(file) == '\n';
+    fclose(file);
+    return is_end;
+}
+
+/* Opens the library anew, and so many sessions. */
+static void begin_sessions(int count) {
+    unlink(journal);
+    begin_library();
+    EXPECT(CKR_OK, p11->C_InitToken(0, so_pin, sizeof so_pin, token_label));
+    for (int i = 0; i < count; i++)
+        EXPECT(CKR_OK, p11->C_OpenSession(0, read_write, NULL, NULL, &session));
+}
+
+/* From each allocation of C_Digest on, all are refused. An operation that is still active is begun
+ * before. */
+static void check_line_end(CK_ULONG count) {
+    struct result result, ignored;
+    bool was_refused;
+    size_t wrong = 0;
+    long number = 0;
+    do {
+        digest_init(&ignored);
+        result.length = sizeof result.bytes;
+        refuses_all = true;
+        refuse_after(number++);
+        p11->C_Digest(session, text, count, result.bytes, &result.length);
+        was_refused = stop_refusing();
+        refuses_all = false;
+        wrong += !has_line_end(journal);
+    } while (was_refused && number < MOST_GROWTHS);
+    CHECK(wrong == 0 && number > 1 && number < MOST_GROWTHS);
+}
+
+/* Lines of all lengths: one of them fills the room that the text of the file has, with its reply or
+ * without. */
+static void test_line_ends(void) {
+    setenv("OSPREYRACK_JOURNAL", journal, 1);
+    for (CK_ULONG count = 0; count <= 400; count++) {
+        for (int sessions = 1; sessions <= 10; sessions += 9) {
+            begin_sessions(sessions);
+            check_line_end(count);
+            end_library();
+        }
+    }
     unsetenv("OSPREYRACK_JOURNAL");
 }
 
@@ -1182,10 +1306,57 @@ static void test_first_call(void) {
     end_token();
 }
 
+/* ---- Children, which may die */
+
+/* The status of a child that does this, or a negative number where a signal ends it. */
+static int status_of_child(void (*act)(void)) {
+    int status = -1;
+    fflush(NULL);
+    pid_t child = fork();
+    if (child == 0) {
+        act();
+        _exit(0);
+    }
+    waitpid(child, &status, 0);
+    return WIFEXITED(status) ? WEXITSTATUS(status) : -1;
+}
+
+/* ---- A small stack */
+
+/* The thread has used some of its stack. */
+static void *initialize_with_errors(void *ignored) {
+    volatile CK_BYTE own[2048] = {1};
+    CK_RV code = p11->C_Initialize(NULL);
+    _exit(code == CKR_GENERAL_ERROR ? 0 : own[0]);
+    return ignored;
+}
+
+static void initialize_on_small_stack(void) {
+    pthread_attr_t attributes_of_thread;
+    pthread_t thread;
+    pthread_attr_init(&attributes_of_thread);
+    pthread_attr_setstacksize(&attributes_of_thread, (size_t)PTHREAD_STACK_MIN);
+    if (pthread_create(&thread, &attributes_of_thread, initialize_with_errors, NULL) != 0)
+        _exit(2);
+    pthread_join(thread, NULL);
+    _exit(3);
+}
+
+/* A bad reply in a file, and a bad line in a script. */
+static void test_small_stack(void) {
+    write_file(journal, "1 InitToken 31323334 -> 0\n1 OpenSession 6 -> 0 2\n", "w");
+    setenv("OSPREYRACK_TOKEN", journal, 1);
+    CHECK(status_of_child(initialize_on_small_stack) == 0);
+    unsetenv("OSPREYRACK_TOKEN");
+    setenv("OSPREYRACK_SCRIPT", journal, 1);
+    CHECK(status_of_child(initialize_on_small_stack) == 0);
+    unsetenv("OSPREYRACK_SCRIPT");
+}
+
 /* ---- Growths of C_Initialize */
 
-static char script[4096];
-static char kept[4096];
+static const char script[] = "growths.script";
+static const char kept[] = "kept.cases";
 
 static void write_script(void) {
     write_file(script, "1 InitToken 31323334\n1 OpenSession 6\n"
@@ -1209,7 +1380,7 @@ static void begin_without_file(void) {
 
 /* The file has the script's calls, and is a new copy each time. */
 static void begin_with_file(void) {
-    char command[9000];
+    char command[300];
     snprintf(command, sizeof command, "cp '%s' '%s'", kept, journal);
     if (system(command) != 0)
         exit(2);
@@ -1231,6 +1402,7 @@ static bool try_initialize(long number) {
         code = p11->C_Initialize(NULL);
     }
     check_code(code, CKR_OK, "C_Initialize");
+    check(!has_journal || length_of(journal) > 0, "the file has the name that is given");
     check_token();
     end_library();
     return was_refused;
@@ -1246,17 +1418,62 @@ static void check_initialize(void (*prepare)(void)) {
     CHECK(number > 1 && number < MOST_GROWTHS);
 }
 
+/* The file's name has the process's number in it. */
+static void check_expanded_name(void) {
+    char before[sizeof journal];
+    memcpy(before, journal, sizeof before);
+    snprintf(journal, sizeof journal, "of-%ld-and-%ld", (long)getpid(), (long)getpid());
+    setenv("OSPREYRACK_JOURNAL", "of-%p-and-%p", 1);
+    check_initialize(begin_without_file);
+    unsetenv("OSPREYRACK_JOURNAL");
+    memcpy(journal, before, sizeof before);
+}
+
 static void test_initialize(void) {
     write_script();
     setenv("OSPREYRACK_SCRIPT", script, 1);
+    has_journal = false;
     check_initialize(begin_without_file);
+    has_journal = true;
     setenv("OSPREYRACK_TOKEN", journal, 1);
     check_initialize(begin_without_file);
     if (rename(journal, kept) != 0)
         exit(2);
     check_initialize(begin_with_file);
     unsetenv("OSPREYRACK_TOKEN");
+    check_expanded_name();
     unsetenv("OSPREYRACK_SCRIPT");
+}
+
+/* ---- The library's function for forks */
+
+static bool refuses_registration;
+static CK_RV code_without_registration;
+
+int __register_atfork(void (*prepare)(void), void (*parent)(void), void (*child)(void),
+                      void *library);
+
+int __register_atfork(void (*prepare)(void), void (*parent)(void), void (*child)(void),
+                      void *library) {
+    if (refuses_registration)
+        return ENOMEM;
+    void *symbol = dlsym(RTLD_NEXT, "__register_atfork");
+    int (*real)(void (*)(void), void (*)(void), void (*)(void), void *);
+    memcpy(&real, &symbol, sizeof real);
+    return real(prepare, parent, child, library);
+}
+
+/* To be called before the library is first initialized: it asks for its function only once. */
+static void initialize_without_registration(void) {
+    refuses_registration = true;
+    code_without_registration = p11->C_Initialize(NULL);
+    refuses_registration = false;
+    if (code_without_registration == CKR_OK)
+        p11->C_Finalize(NULL);
+}
+
+static void test_registration(void) {
+    check_code(code_without_registration, CKR_HOST_MEMORY, "C_Initialize");
 }
 
 /* ---- Growths of C_Initialize with the application's mutex functions */
@@ -1325,6 +1542,28 @@ static void test_file_of_another(void) {
     CHECK(added_file == NULL);
 }
 
+/* A program that is executed while the file is read has no descriptor of it, not even of a copy. */
+static void test_copied_descriptor(void) {
+    write_file(journal, added_line, "w");
+    setenv("OSPREYRACK_TOKEN", journal, 1);
+    copies = left_copies = 0;
+    begin_library();
+    CHECK(copies > 0 && left_copies == 0);
+    end_library();
+    unsetenv("OSPREYRACK_TOKEN");
+}
+
+/* A file that has whole lines isn't cut off. */
+static void test_needless_truncation(void) {
+    write_file(journal, added_line, "w");
+    setenv("OSPREYRACK_TOKEN", journal, 1);
+    refuses_truncation = true;
+    begin_library();
+    refuses_truncation = false;
+    end_library();
+    unsetenv("OSPREYRACK_TOKEN");
+}
+
 /* The last line lacks its end, and can't be cut off. */
 static void test_refused_truncation(void) {
     static const char content[] = "1 InitToken 31323334 -> 0\n1 OpenSess";
@@ -1346,6 +1585,20 @@ static void test_interrupted_write(void) {
     }
     end_library();
     unsetenv("OSPREYRACK_JOURNAL");
+}
+
+/* The file is opened, and its last line, which lacks its end, is cut off. */
+static void test_interrupted_start(void) {
+    static const char content[] = "1 InitToken 31323334 -> 0\n1 OpenSess";
+    for (size_t count = 1; count <= 3; count++) {
+        write_file(journal, content, "w");
+        setenv("OSPREYRACK_TOKEN", journal, 1);
+        open_interruptions = truncation_interruptions = count;
+        begin_library();
+        CHECK(open_interruptions == 0 && truncation_interruptions == 0);
+        end_library();
+        unsetenv("OSPREYRACK_TOKEN");
+    }
 }
 
 /* These errors come with a signal where the process has the limit, or where nobody reads. Another
@@ -1370,8 +1623,27 @@ static void test_errors_without_signals(void) {
     }
 }
 
+/* The signal of a write is taken, although that is interrupted: else it would end the child. */
+static void write_with_signal(void) {
+    struct result ignored;
+    signal(SIGPIPE, SIG_DFL);
+    if (p11->C_Initialize(NULL) != CKR_OK)
+        _exit(1);
+    write_signal = SIGPIPE;
+    write_error = EPIPE;
+    wait_interruptions = 1;
+    _exit(get_token_info(&ignored) == CKR_DEVICE_ERROR && wait_interruptions == 0 ? 0 : 2);
+}
+
+static void test_interrupted_wait(void) {
+    unlink(journal);
+    setenv("OSPREYRACK_JOURNAL", journal, 1);
+    CHECK(status_of_child(write_with_signal) == 0);
+    unsetenv("OSPREYRACK_JOURNAL");
+}
+
 /* What the module writes to standard error goes to a file until `read_errors`. */
-static char errors[4096];
+static const char errors[] = "errors";
 static int hidden_errors = -1;
 
 static void keep_errors(void) {
@@ -1392,6 +1664,24 @@ static void read_errors(char *said, size_t room) {
     fclose(file);
 }
 
+/* A call's line is written in parts where the file takes no more at once. */
+static void test_short_writes(void) {
+    struct result ignored;
+    unlink(journal);
+    setenv("OSPREYRACK_JOURNAL", journal, 1);
+    begin_library();
+    off_t length = length_of(journal);
+    most_written = 5;
+    writes = 0;
+    EXPECT(CKR_OK, get_token_info(&ignored));
+    most_written = SIZE_MAX;
+    CHECK(length_of(journal) == length + (off_t)strlen(added_line));
+    CHECK(writes == (strlen(added_line) + 4) / 5);
+    end_library();
+    check_journal();
+    unsetenv("OSPREYRACK_JOURNAL");
+}
+
 /* A line of which only a part can be written. Where that can't be cut off, standard error says
  * so, and whoever goes on from the file drops it. */
 static void check_part(bool stays, const char *expected) {
@@ -1401,12 +1691,12 @@ static void check_part(bool stays, const char *expected) {
     setenv("OSPREYRACK_JOURNAL", journal, 1);
     begin_library();
     off_t length = length_of(journal);
-    most_written = 5;
+    left_room = 5;
     refuses_truncation = stays;
     keep_errors();
     EXPECT(CKR_DEVICE_ERROR, get_token_info(&ignored));
+    left_room = SIZE_MAX;
     read_errors(said, sizeof said);
-    most_written = SIZE_MAX;
     check(strcmp(said, expected) == 0, said);
     EXPECT(CKR_DEVICE_ERROR, get_token_info(&ignored));
     CHECK(length_of(journal) == length + (stays ? 5 : 0));
@@ -1417,16 +1707,41 @@ static void check_part(bool stays, const char *expected) {
 }
 
 static void test_parts(void) {
-    check_part(false, "ospreyrack: OSPREYRACK_JOURNAL: a call can't be written: there is no room "
-               "for it\n");
-    check_part(true, "ospreyrack: OSPREYRACK_JOURNAL: a call can't be written: there is no room "
-               "for it, and a part of it stays in the file\n");
+    check_part(false, "ospreyrack: OSPREYRACK_JOURNAL: a call can't be written: No space left on "
+               "device\n");
+    check_part(true, "ospreyrack: OSPREYRACK_JOURNAL: a call can't be written: No space left on "
+               "device, and a part of it stays in the file\n");
+}
+
+/* C_Initialize where each of these system calls fails: standard error says by what. */
+static void check_fault(int *error, int number) {
+    char said[1000], expected[1000];
+    unlink(journal);
+    setenv("OSPREYRACK_JOURNAL", journal, 1);
+    keep_errors();
+    *error = number;
+    CK_RV code = p11->C_Initialize(NULL);
+    *error = 0;
+    read_errors(said, sizeof said);
+    unsetenv("OSPREYRACK_JOURNAL");
+    check_code(code, CKR_GENERAL_ERROR, "C_Initialize with a fault of the file");
+    snprintf(expected, sizeof expected, "ospreyrack: OSPREYRACK_JOURNAL: %s: %s\n", journal,
+             strerror(number));
+    check(strcmp(said, expected) == 0, said);
+    if (code == CKR_OK)
+        EXPECT(CKR_OK, p11->C_Finalize(NULL));
+}
+
+static void test_faults_of_file(void) {
+    check_fault(&lock_error, ENOLCK);
+    check_fault(&status_error, EIO);
 }
 
 /* ---- The end of a process */
 
-static char other_file[4096];
+static const char other_file[] = "other";
 static int journal_descriptor;
+static CK_RV code_behind_end;
 
 /* The C library writes what is left in streams behind the end of each library. By then the file is
  * closed, and another one has its descriptor, in which the call's line has no place. */
@@ -1437,7 +1752,7 @@ static ssize_t call_behind_end(void *cookie, const char *bytes, size_t length) {
     if (other != journal_descriptor)
         _exit(2);
     CK_RV code = get_token_info(&ignored);
-    _exit(code == CKR_DEVICE_ERROR && length_of(other_file) == 0 ? 0 : 1);
+    _exit(code == code_behind_end && length_of(other_file) == 0 ? 0 : 1);
 }
 
 static void end_as_child(void) {
@@ -1453,25 +1768,25 @@ static void end_as_child(void) {
 }
 
 static void test_call_behind_end(void) {
-    int status = -1;
     unlink(journal);
     setenv("OSPREYRACK_JOURNAL", journal, 1);
-    fflush(NULL);
-    pid_t child = fork();
-    if (child == 0)
-        end_as_child();
-    waitpid(child, &status, 0);
-    check(WIFEXITED(status) && WEXITSTATUS(status) == 0, "a call behind the library's end");
+    code_behind_end = CKR_DEVICE_ERROR;
+    check(status_of_child(end_as_child) == 0, "a call behind the library's end");
     check_journal();
     unsetenv("OSPREYRACK_JOURNAL");
+    code_behind_end = CKR_OK;
+    check(status_of_child(end_as_child) == 0, "a call behind the end of a library without a file");
 }
 
 static const struct test tests[] = {
     {"each growth of 43 calls is refused, typed", test_typed},
     {"each growth of 43 calls is refused, by lines", test_by_lines},
     {"each call's line is written when it is answered, and at once", test_lines},
+    {"lines of all lengths end where there is no memory for their replies", test_line_ends},
     {"each growth of C_Initialize is refused, with a script and a file", test_initialize},
     {"each growth of C_Initialize is refused, with the application's mutexes", test_mutexes},
+    {"C_Initialize where the system refuses the library's function for forks", test_registration},
+    {"C_Initialize on the smallest stack tells of bad lines", test_small_stack},
     {"a digest in pieces without memory takes nothing or ends, typed", test_digest_pieces},
     {"a digest in pieces without memory takes nothing or ends, by lines",
      test_digest_pieces_by_lines},
@@ -1490,10 +1805,16 @@ static const struct test tests[] = {
     {"memory for 200,000 attributes is given back", test_many_attributes},
     {"a thread's first call without memory", test_first_call},
     {"a file to which another process adds before it is locked", test_file_of_another},
+    {"a file whose descriptor is copied", test_copied_descriptor},
+    {"a file of whole lines, which isn't cut off", test_needless_truncation},
     {"a file whose last line can't be cut off", test_refused_truncation},
     {"a call whose line is written after interruptions", test_interrupted_write},
+    {"a file that is opened and cut off after interruptions", test_interrupted_start},
+    {"a call whose line is written in parts", test_short_writes},
     {"a call whose line can't be written, where no signal says so", test_errors_without_signals},
+    {"a signal of a write that is taken after an interruption", test_interrupted_wait},
     {"a line that is written in part, and a part that can't be cut off", test_parts},
+    {"a file whose status can't be read, and one that can't be locked", test_faults_of_file},
     {"a call behind the library's end writes nothing to another file", test_call_behind_end},
 };
 
@@ -1511,17 +1832,15 @@ int main(int count, char **arguments) {
         fprintf(stderr, "growths MODULE FOLDER\n");
         return 2;
     }
-    const char *folder = arguments[2];
-    snprintf(journal, sizeof journal, "%s/growths.cases", folder);
-    snprintf(script, sizeof script, "%s/growths.script", folder);
-    snprintf(kept, sizeof kept, "%s/kept.cases", folder);
-    snprintf(errors, sizeof errors, "%s/errors", folder);
-    snprintf(other_file, sizeof other_file, "%s/other", folder);
+    load_module(arguments[1]);
+    /* A file of a wrong name comes to lie in the folder, too. */
+    if (chdir(arguments[2]) != 0)
+        return 2;
     memset(text, 'x', sizeof text);
     hide_lines_of_module();
     setenv("OSPREYRACK_SEED", "1", 1);
-    load_module(arguments[1]);
     vendor = vendor_functions();
+    initialize_without_registration();
     /* What the first calls of a process take stays. */
     begin_token();
     end_token();

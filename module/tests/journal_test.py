@@ -19,6 +19,7 @@ import subprocess
 import sys
 import tempfile
 import threading
+import time
 
 import support
 
@@ -28,6 +29,7 @@ NOT_INITIALIZED = 0x190
 SEED_NOT_SUPPORTED = 0x120
 HOST_MEMORY = "2"
 TEMPLATE_INCONSISTENT = "d1"
+KEY_SIZE_RANGE = "62"
 DEVICE_ERROR = "30"
 LONGEST_LINE = 4194304
 LONGEST_PIECE = 1 << 20
@@ -140,6 +142,15 @@ def unload_and_load(path):
           module.say("1 OpenSession 6"), module.finalize())
 
 
+def exit_in_initialize(path):
+    """Ends the process by exit(3) while another thread reads the script, which has no end."""
+    module = support.Module(path)
+    threading.Thread(target=module.call, args=["Initialize", None], daemon=True).start()
+    # This waits until C_Initialize opens the script.
+    os.open(os.environ["OSPREYRACK_SCRIPT"], os.O_WRONLY)
+    ctypes.CDLL(None).exit(0)
+
+
 MUTEX_FUNCTION = ctypes.CFUNCTYPE(ctypes.c_ulong, ctypes.c_void_p)
 
 
@@ -245,6 +256,7 @@ WORKERS = {
     "memory": measure_memory,
     "polling": measure_polling,
     "asking": lambda path: measure_line(path, "1 GetSessionInfo 7"),
+    "exit": exit_in_initialize,
     "starting": lambda path: measure_line(path, "1 DigestInit 7 250"),
     "unload": unload_and_load,
     "unload_with_functions": unload_with_functions,
@@ -583,17 +595,39 @@ class Tests:
                               "the last replies")
             self.checks.equal(worker.end(), "", f"the errors with {variables}")
 
+    def test_cut_short(self):
+        """Of what is too long in any case the token gets one byte more than may be."""
+        path = self.file("cut_short.cases")
+        pin, parameter, signature, message = ("61" * count for count in [65, 9, 65, (1 << 20) + 1])
+        more = "61" * 4
+        self.begin(JOURNAL=path)
+        for start, end in [
+                (f"1 Login 1 1 {pin}", ""), (f"1 SetPIN 1 {pin}", " 6162"),
+                (f"1 SetPIN 1 6162 {pin}", ""), (f"1 DigestInit 1 250:{parameter}", ""),
+                (f"1 SignInit 1 251:{parameter}", " 1"), (f"1 VerifyInit 1 251:{parameter}", " 1"),
+                (f"1 Verify 1 6162 {signature}", ""), (f"1 VerifyFinal 1 {signature}", ""),
+                (f"1 Digest 1 {message}", " 64"), (f"1 Sign 1 {message}", " 64"),
+                (f"1 Verify 1 {message}", " 6162")]:
+            reply = self.module.say(start + more + end)
+            last = read(path).decode().split("\n")[-2]
+            self.checks.equal(last, f"{start}{end} -> {reply}", "the line of what is longer")
+        self.end()
+        support.audit(self.checks, self.ck_cases, path)
+
     def test_longest_line(self):
         """A line has at most 4,194,304 bytes, be it a call that is written or a comment."""
         path = self.file("longest.cases")
         self.begin(JOURNAL=path)
-        for start, length, reply in [("1 FindObjectsInit 1 3=", LONGEST_LINE, "b3"),
-                                     ("1 FindObjectsInit 1 11=", LONGEST_LINE + 1, HOST_MEMORY)]:
-            line = start + "00" * ((length - len(start)) // 2)
+        for start, end, length, reply in [
+                ("1 FindObjectsInit 1 3=", "", LONGEST_LINE, "b3"),
+                ("1 FindObjectsInit 1 11=", ",10=-", LONGEST_LINE, "b3"),
+                ("1 FindObjectsInit 1 11=", "", LONGEST_LINE + 1, HOST_MEMORY),
+                ("1 FindObjectsInit 1 3=", ",10=-", LONGEST_LINE + 1, HOST_MEMORY)]:
+            line = start + "00" * ((length - len(start + end)) // 2) + end
             self.checks.equal(len(line), length, "the length of the line")
             self.checks.equal(self.module.say(line), reply, f"a line of {length} bytes")
         self.end()
-        self.checks.equal(read(path).count(b"FindObjectsInit"), 1, "the calls in the file")
+        self.checks.equal(read(path).count(b"FindObjectsInit"), 2, "the calls in the file")
         support.audit(self.checks, self.ck_cases, path)
         self.begin(TOKEN=path)
         self.end()
@@ -631,6 +665,10 @@ class Tests:
                 self.checks.equal(errors, f"ospreyrack: OSPREYRACK_SCRIPT: {script}: the file "
                                   "can't be opened: No such file or directory\n", "the errors")
                 self.checks.check(not os.path.exists(path), f"{path} isn't made")
+        script += "/long" * ((4000 - len(script)) // 5)
+        self.checks.equal(self.initialize(SCRIPT=script), (
+            GENERAL_ERROR, f"ospreyrack: OSPREYRACK_SCRIPT: {script}: the file can't be opened: No "
+            "such file or directory\n"), "C_Initialize with a path of some 4,000 bytes")
 
     def test_failed_start(self):
         """A C_Initialize that fails leaves neither its seed nor its journal to the next one."""
@@ -711,10 +749,13 @@ class Tests:
         self.end()
 
     def test_lacking_reply(self):
-        """A line of which there was no memory for the reply."""
+        """Lines of which there was no memory for the reply, be it CKR_OK or another code."""
         content = read(self.journal_of_some_calls())
         path = self.file("lacking.cases")
-        write(path, content.replace(b"1 OpenSession 6 -> 0 1\n", b"1 OpenSession 6\n", 1))
+        for line in [b"1 OpenSession 6 -> 0 1\n", b"1 Login 1 1 31 -> 100\n"]:
+            self.checks.equal(content.count(line), 1, f"lines {line}")
+            content = content.replace(line, line[:line.index(b" -> ")] + b"\n")
+        write(path, content)
         self.begin(TOKEN=path)
         self.checks.equal(self.module.say("1 GetTokenInfo"), "0 40c 64 0 0", "GetTokenInfo")
         self.end()
@@ -836,6 +877,36 @@ class Tests:
             self.checks.equal(files_of_program().count(path), 1, "the program's, of one left to it")
             os.close(file)
             self.end()
+
+    def test_exec_in_script(self):
+        """A program that is executed while a script is read has no descriptor of it."""
+        path, codes = self.file("fifo"), []
+        os.mkfifo(path)
+        thread = threading.Thread(target=lambda: codes.append(self.module.initialize(SCRIPT=path)))
+        thread.start()
+        # This waits until C_Initialize opens the script.
+        with open(path, "wb"):
+            self.wait_for(lambda: open_files().count(path) == 2, "descriptors of the script")
+            self.checks.equal(files_of_program().count(path), 0, "the program's descriptors of it")
+        thread.join()
+        self.checks.equal(codes, [0], "C_Initialize")
+        self.end()
+
+    def wait_for(self, condition, what):
+        for _ in range(1000):
+            if condition():
+                break
+            time.sleep(0.01)
+        self.checks.check(condition(), what)
+
+    def test_exit(self):
+        """A process ends although one of its threads is in C_Initialize."""
+        path = self.file("unread_fifo")
+        os.mkfifo(path)
+        run = subprocess.run([sys.executable, os.path.abspath(__file__), "exit", self.path],
+                             env=support.environment_of({"SCRIPT": path}), capture_output=True,
+                             text=True, timeout=20)
+        self.checks.equal((run.returncode, run.stderr), (0, ""), "the status and the errors")
 
     def test_unload(self):
         """A library that is unloaded without C_Finalize leaves no lock on its file."""
@@ -970,10 +1041,8 @@ class Tests:
         errors = worker.end()
         self.checks.equal(worker.last, "0", "C_Finalize")
         content = read(path).decode()
-        # No byte of the line fits in where the lines before it fill the file.
-        reason = "File too large" if len(content) == limit else "there is no room for it"
-        self.checks.equal(errors, "ospreyrack: OSPREYRACK_TOKEN: a call can't be written: "
-                          f"{reason}\n", "the errors")
+        self.checks.equal(errors, "ospreyrack: OSPREYRACK_TOKEN: a call can't be written: File too "
+                          "large\n", "the errors")
         self.checks.equal(content.count("1 GetTokenInfo -> 0 4 64 0 0\n"), len(replies) - 1,
                           "the answered calls in the file")
         self.checks.check(content.endswith("0\n") and len(content) <= limit, "whole lines")
@@ -1096,9 +1165,14 @@ class Tests:
         refused = self.module.say("1 GenerateKey 1 350 161=0500000000000000,0=0000000000000000")
         self.checks.equal(refused, TEMPLATE_INCONSISTENT, "C_GenerateKey of another class")
         drawn.append(self.draw(8))
+        # One of a length that is too large takes those of the longest key.
+        refused = self.module.say("1 GenerateKey 1 350 161=8813000000000000")
+        self.checks.equal(refused, KEY_SIZE_RANGE, "C_GenerateKey of 5,000 bytes")
+        drawn.append(self.draw(8))
         self.end()
         # Each draw begins with a new number of eight bytes.
-        self.checks.equal(drawn, [seven[16:19], seven[32:40]], "what is drawn later")
+        later = self.random_of_start(40 + 4096 + 8, SEED=7)[-8:]
+        self.checks.equal(drawn, [seven[16:19], seven[32:40], later], "what is drawn later")
 
     def run_memory(self, kind, cut, last):
         run = subprocess.run([sys.executable, os.path.abspath(__file__), kind, self.path],
@@ -1163,14 +1237,15 @@ class Tests:
 TESTS = [Tests.test_file, Tests.test_mode, Tests.test_going_on, Tests.test_new_label,
          Tests.test_no_label, Tests.test_script, Tests.test_script_and_journal,
          Tests.test_only_reply, Tests.test_calls_beside, Tests.test_callers,
-         Tests.test_bad_pointers, Tests.test_quiet, Tests.test_longest_line,
+         Tests.test_bad_pointers, Tests.test_quiet, Tests.test_cut_short, Tests.test_longest_line,
          Tests.test_line_without_end, Tests.test_absent_script, Tests.test_failed_start,
          Tests.test_bad_variable_and_file, Tests.test_cut_off,
          Tests.test_changed, Tests.test_lacking_reply, Tests.test_two_processes,
          Tests.test_second_run, Tests.test_fork, Tests.test_fork_that_stays, Tests.test_exec,
-         Tests.test_unload, Tests.test_unload_with_functions, Tests.test_rights, Tests.test_kills,
-         Tests.test_full, Tests.test_filling, Tests.test_filling_in_update,
-         Tests.test_filling_in_search, Tests.test_seed,
+         Tests.test_exec_in_script, Tests.test_exit, Tests.test_unload,
+         Tests.test_unload_with_functions, Tests.test_rights, Tests.test_kills, Tests.test_full,
+         Tests.test_filling, Tests.test_filling_in_update, Tests.test_filling_in_search,
+         Tests.test_seed,
          Tests.test_nobody_reads_errors, Tests.test_seeded_bytes,
          Tests.test_long_template, Tests.test_cut, Tests.test_memory]
 
