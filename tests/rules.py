@@ -366,7 +366,7 @@ def pieces(tests):
 
 
 def calls(tests):
-    for name, arguments, _ in rows(tests, "call | arguments"):
+    for name, arguments in rows(tests, "call | arguments"):
         name, count = name.strip("`"), 0 if arguments == "none" else len(arguments.split(", "))
         said = ["no arguments", "1 argument", f"{count} arguments"][min(count, 2)]
         line = f"1 {name}" + " x" * (count + 1)
@@ -379,7 +379,7 @@ def calls(tests):
 
 def codes(tests):
     """The codes are those of the tests in the crate ck_run."""
-    said = {(code.strip("`"), name.split()[0]) for code, name, _ in rows(tests, "code | name")}
+    said = {(code.strip("`"), name.split()[0]) for code, name in rows(tests, "code | name")}
     known = {(code, name) for code, name in CODE.findall(read(CRATES, "ck_run", "src", "texts.rt"))
              if name not in UNANSWERED}
     tests.expect(said == known, f"said on the page, or known, and not both: {said ^ known}")
