@@ -162,7 +162,7 @@ fn messages_are_taken_in_before_their_calls(rt: HostRuntime) -> Result<(), Fail>
 /// What taking in a message took of the processor, and what its call took afterwards.
 type Times = (Duration, Duration);
 
-/// Takes in the message of a call, and makes the call after another caller's.
+/// Takes in the message of a call, and makes the call.
 fn times_of<R: CpuClock>(
     rt: &R,
     alloc: Global,
@@ -173,7 +173,6 @@ fn times_of<R: CpuClock>(
     let mut work = JournaledToken::work(token, &call).ok_or("no work")?;
     work.finish(&call);
     let taken_in = rt.process_cpu_time()?;
-    token.try_call(alloc, 2, Call::GetTokenInfo)?;
     JournaledToken::call_after(token, alloc, 1, call, Some(&work))?;
     let made = rt.process_cpu_time()?;
     Ok((
