@@ -55,10 +55,10 @@ SILENT = {
                                    races.bad_lines, races.bad_files],
     "nothing on standard error": [program.dialogue, program.side_by_side, recorded_runs.reports,
                                   recorded_runs.limits_of_first_case, recorded_runs.long_texts,
-                                  recorded_runs.audits, races.whole_file, races.set_orders,
-                                  rules.attributes, rules.unknown_attributes, rules.values,
-                                  rules.key_states, rules.mechanisms, rules.session_states,
-                                  rules.pieces, figures.scripts, figures.judges],
+                                  races.whole_file, races.set_orders, rules.attributes,
+                                  rules.unknown_attributes, rules.values, rules.key_states,
+                                  rules.mechanisms, rules.session_states, rules.pieces,
+                                  figures.scripts, figures.judges],
 }
 
 # Tests of a file, to which it is all the same which program is there.

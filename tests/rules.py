@@ -404,9 +404,8 @@ def statuses(tests):
     tests.end("statuses on the page of scripts")
 
 
-def columns_of_mechanisms(tests):
+def columns_of_mechanisms(table):
     """The numbers and the names of the mechanisms of each kind."""
-    table = rows(tests, "hash function (FIPS 180-4)")
     columns = [[row[kind].split() for row in table] for kind in (1, 2, 3)]
     for column in [*columns, [GENERATION]]:
         numbers, names = zip(*column)
@@ -415,7 +414,7 @@ def columns_of_mechanisms(tests):
 
 def names_of_mechanisms(tests):
     """The page of programs has the same names and numbers as that of rules, and so has the code."""
-    columns = list(columns_of_mechanisms(tests))
+    columns = list(columns_of_mechanisms(rows(tests, "hash function (FIPS 180-4)")))
     said = [row for row in rows(tests, "name | the standard's") if row[1].startswith("CKM_")]
     tests.expect(len(said) == len(columns), f"{len(said)} rows of mechanisms")
     for (names, standard, numbers), (known_numbers, known) in zip(said, columns):
