@@ -99,11 +99,10 @@ fn run_all<
     A: Drop + Send,
     G: Gate<K> + Sync,
     R: Threads + Wait + Sync,
->(rt: &R, alloc: Global, gate: &G, scripts: Vec<Script<K, S, A>>) -> Vec<Script<K, S, A>>
+>(rt: &R, alloc: Global, gate: &G, mut scripts: Vec<Script<K, S, A>>) -> Vec<Script<K, S, A>>
     ensures scripts { AllZip (HasRun S.does S.may_fail) scripts.items result.items }
     ensures room { vec_capacity scripts ≤ vec_capacity result }
 {
-    let mut scripts = scripts;
     let Some(script) = scripts.pop() else {
         return scripts;
     };

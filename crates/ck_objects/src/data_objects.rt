@@ -5,12 +5,12 @@ use crate::forms::DATA;
 use crate::items::{Item, copied_items, flag_or, take_value};
 use crate::object_flags::Placement;
 use ck_types::NoMemory;
-use std::alloc::{AllocError, Global};
+use std::alloc::Global;
 
 /// A data object (PKCS #11 Base 3.0, Data objects). Its class is no field. The fields that most
 /// calls read stand first and side by side, for calls that look at many objects: the label, and the
 /// flags that are read before it.
-#[derive(Drop)]
+#[derive(Clone, Drop)]
 pub(crate) struct Data {
     label: AttributeValue,
     token: bool,
@@ -21,27 +21,6 @@ pub(crate) struct Data {
     application: AttributeValue,
     pub(crate) value: AttributeValue,
     object_id: AttributeValue,
-}
-
-// Not derived: with this many fields, proving a derived clone takes many minutes.
-impl Clone for Data {
-    ghost use Rattle.std.specs.Prelude.{◌≡◌};
-
-    ghost is_clone = { λ object copy. copy ≡ object };
-
-    fn clone(&self) -> Result<Data, AllocError> {
-        Ok(Data {
-            label: self.label.clone()?,
-            token: self.token,
-            private: self.private,
-            modifiable: self.modifiable,
-            copyable: self.copyable,
-            destroyable: self.destroyable,
-            application: self.application.clone()?,
-            value: self.value.clone()?,
-            object_id: self.object_id.clone()?,
-        })
-    }
 }
 
 impl Data {

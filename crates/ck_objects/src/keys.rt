@@ -48,7 +48,8 @@ pub(crate) struct Key {
     origin: Origin,
 }
 
-// Not derived: with this many fields, proving a derived clone takes many minutes.
+// Not derived: with this many fields, proving a derived clone takes some six minutes, more than
+// the rest of the crate.
 impl Clone for Key {
     ghost use Rattle.std.specs.Prelude.{◌≡◌};
 

@@ -3,9 +3,9 @@
 //! with all calls in a set order and with only the first ones. Then callers ask for the state of a
 //! session while another logs in, two callers are held at their calls, one caller makes calls under
 //! one lock and the token is taken back without its callers, one holds the lock for long while
-//! another sleeps, long messages are taken in before their calls, a token counts how it is used,
-//! and eight callers make the calls of their scripts and drawn calls at once. What is written is
-//! the same in every order of the calls.
+//! another sleeps, long messages are taken in before their calls, also where another caller's calls
+//! come between, a token counts how it is used, and eight callers make the calls of their scripts
+//! and drawn calls at once. What is written is the same in every order of the calls.
 //!
 //! With the word `alone` before the files only the calls of each race are made, one after the
 //! other: on a shared token, by `run` and by `run_scripts`. Where there was no memory they are made
@@ -14,6 +14,7 @@
 #![tactic(auto)]
 
 mod asks;
+mod behind_calls;
 mod drawing_callers;
 mod drawn_calls;
 mod eight_scripts;
@@ -41,6 +42,7 @@ mod watched;
 mod words;
 
 use asks::run_asks;
+use behind_calls::run_behind_calls;
 use ck_shared::Runtime;
 use drawn_calls::make_drawn_calls;
 use eight_scripts::run_eight_scripts;
@@ -79,6 +81,7 @@ fn run_together<R: CpuClock + Runtime>(rt: R, text: &mut String) -> anyhow::Resu
         run_long_messages(rt)?,
         made,
     )?;
+    add_line(text, "calls in turns", run_behind_calls(rt)?, made)?;
     add_line(text, "calls of a watched token", run_watched(rt)?, made)?;
     add_line(text, "calls of eight scripts", run_eight_scripts(rt)?, made)?;
     add_line(text, "drawn calls", make_drawn_calls(rt)?, made)?;

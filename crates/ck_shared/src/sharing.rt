@@ -57,10 +57,9 @@ fn act_together<
     let done = thread::map_vec(
         rt,
         callers,
-        &|caller: Caller<K>|
+        &|mut caller: Caller<K>|
             ensures { S.holds work.entry.now caller result.1 result.0 }
         {
-            let mut caller = caller;
             let output = work.act(rt, gate, &mut caller);
             (output, caller)
         },

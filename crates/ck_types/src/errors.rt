@@ -1,52 +1,90 @@
 ghost use Rattle.std.specs.Prelude.{◌≡◌, Some, IfSome};
 
-use std::error::Error;
-use std::fmt;
+use thiserror::Error;
 
 /// A return code that the token knows, except CKR_OK (CK_RV; PKCS #11 Base 3.0, Function return
 /// values), with the number that the standard gives it. No call is answered `HostMemory` or
 /// `KeyTypeInconsistent`: a call without memory ends with `NoMemory`, for which the C module gives
 /// CKR_HOST_MEMORY, and all keys are of one key type.
-#[derive(Clone, Copy, Debug, PartialEq, Eq)]
+#[derive(Clone, Copy, Debug, Error, PartialEq, Eq)]
 pub enum RvError {
+    #[error("CKR_HOST_MEMORY")]
     HostMemory = 0x2,
+    #[error("CKR_ARGUMENTS_BAD")]
     ArgumentsBad = 0x7,
+    #[error("CKR_ATTRIBUTE_READ_ONLY")]
     AttributeReadOnly = 0x10,
+    #[error("CKR_ATTRIBUTE_SENSITIVE")]
     AttributeSensitive = 0x11,
+    #[error("CKR_ATTRIBUTE_TYPE_INVALID")]
     AttributeTypeInvalid = 0x12,
+    #[error("CKR_ATTRIBUTE_VALUE_INVALID")]
     AttributeValueInvalid = 0x13,
+    #[error("CKR_ACTION_PROHIBITED")]
     ActionProhibited = 0x1b,
+    #[error("CKR_DATA_LEN_RANGE")]
     DataLenRange = 0x21,
+    #[error("CKR_DEVICE_MEMORY")]
     DeviceMemory = 0x31,
+    #[error("CKR_KEY_HANDLE_INVALID")]
     KeyHandleInvalid = 0x60,
+    #[error("CKR_KEY_SIZE_RANGE")]
     KeySizeRange = 0x62,
+    #[error("CKR_KEY_TYPE_INCONSISTENT")]
     KeyTypeInconsistent = 0x63,
+    #[error("CKR_KEY_FUNCTION_NOT_PERMITTED")]
     KeyFunctionNotPermitted = 0x68,
+    #[error("CKR_MECHANISM_INVALID")]
     MechanismInvalid = 0x70,
+    #[error("CKR_MECHANISM_PARAM_INVALID")]
     MechanismParamInvalid = 0x71,
+    #[error("CKR_OBJECT_HANDLE_INVALID")]
     ObjectHandleInvalid = 0x82,
+    #[error("CKR_OPERATION_ACTIVE")]
     OperationActive = 0x90,
+    #[error("CKR_OPERATION_NOT_INITIALIZED")]
     OperationNotInitialized = 0x91,
+    #[error("CKR_PIN_INCORRECT")]
     PinIncorrect = 0xa0,
+    #[error("CKR_PIN_LEN_RANGE")]
     PinLenRange = 0xa2,
+    #[error("CKR_PIN_LOCKED")]
     PinLocked = 0xa4,
+    #[error("CKR_SESSION_COUNT")]
     SessionCount = 0xb1,
+    #[error("CKR_SESSION_HANDLE_INVALID")]
     SessionHandleInvalid = 0xb3,
+    #[error("CKR_SESSION_PARALLEL_NOT_SUPPORTED")]
     SessionParallelNotSupported = 0xb4,
+    #[error("CKR_SESSION_READ_ONLY")]
     SessionReadOnly = 0xb5,
+    #[error("CKR_SESSION_EXISTS")]
     SessionExists = 0xb6,
+    #[error("CKR_SESSION_READ_ONLY_EXISTS")]
     SessionReadOnlyExists = 0xb7,
+    #[error("CKR_SESSION_READ_WRITE_SO_EXISTS")]
     SessionReadWriteSoExists = 0xb8,
+    #[error("CKR_SIGNATURE_INVALID")]
     SignatureInvalid = 0xc0,
+    #[error("CKR_SIGNATURE_LEN_RANGE")]
     SignatureLenRange = 0xc1,
+    #[error("CKR_TEMPLATE_INCOMPLETE")]
     TemplateIncomplete = 0xd0,
+    #[error("CKR_TEMPLATE_INCONSISTENT")]
     TemplateInconsistent = 0xd1,
+    #[error("CKR_TOKEN_NOT_RECOGNIZED")]
     TokenNotRecognized = 0xe1,
+    #[error("CKR_USER_ALREADY_LOGGED_IN")]
     UserAlreadyLoggedIn = 0x100,
+    #[error("CKR_USER_NOT_LOGGED_IN")]
     UserNotLoggedIn = 0x101,
+    #[error("CKR_USER_PIN_NOT_INITIALIZED")]
     UserPinNotInitialized = 0x102,
+    #[error("CKR_USER_TYPE_INVALID")]
     UserTypeInvalid = 0x103,
+    #[error("CKR_USER_ANOTHER_ALREADY_LOGGED_IN")]
     UserAnotherAlreadyLoggedIn = 0x104,
+    #[error("CKR_BUFFER_TOO_SMALL")]
     BufferTooSmall = 0x150,
 }
 
@@ -110,59 +148,4 @@ impl RvError {
             _ => None,
         }
     }
-
-    /// The name that the standard gives the code.
-    // A match, since a derived `Display` formats each text in an arm of its own, which takes long
-    // to prove.
-    fn name(&self) -> &'static str {
-        match self {
-            RvError::HostMemory => "CKR_HOST_MEMORY",
-            RvError::ArgumentsBad => "CKR_ARGUMENTS_BAD",
-            RvError::AttributeReadOnly => "CKR_ATTRIBUTE_READ_ONLY",
-            RvError::AttributeSensitive => "CKR_ATTRIBUTE_SENSITIVE",
-            RvError::AttributeTypeInvalid => "CKR_ATTRIBUTE_TYPE_INVALID",
-            RvError::AttributeValueInvalid => "CKR_ATTRIBUTE_VALUE_INVALID",
-            RvError::ActionProhibited => "CKR_ACTION_PROHIBITED",
-            RvError::DataLenRange => "CKR_DATA_LEN_RANGE",
-            RvError::DeviceMemory => "CKR_DEVICE_MEMORY",
-            RvError::KeyHandleInvalid => "CKR_KEY_HANDLE_INVALID",
-            RvError::KeySizeRange => "CKR_KEY_SIZE_RANGE",
-            RvError::KeyTypeInconsistent => "CKR_KEY_TYPE_INCONSISTENT",
-            RvError::KeyFunctionNotPermitted => "CKR_KEY_FUNCTION_NOT_PERMITTED",
-            RvError::MechanismInvalid => "CKR_MECHANISM_INVALID",
-            RvError::MechanismParamInvalid => "CKR_MECHANISM_PARAM_INVALID",
-            RvError::ObjectHandleInvalid => "CKR_OBJECT_HANDLE_INVALID",
-            RvError::OperationActive => "CKR_OPERATION_ACTIVE",
-            RvError::OperationNotInitialized => "CKR_OPERATION_NOT_INITIALIZED",
-            RvError::PinIncorrect => "CKR_PIN_INCORRECT",
-            RvError::PinLenRange => "CKR_PIN_LEN_RANGE",
-            RvError::PinLocked => "CKR_PIN_LOCKED",
-            RvError::SessionCount => "CKR_SESSION_COUNT",
-            RvError::SessionHandleInvalid => "CKR_SESSION_HANDLE_INVALID",
-            RvError::SessionParallelNotSupported => "CKR_SESSION_PARALLEL_NOT_SUPPORTED",
-            RvError::SessionReadOnly => "CKR_SESSION_READ_ONLY",
-            RvError::SessionExists => "CKR_SESSION_EXISTS",
-            RvError::SessionReadOnlyExists => "CKR_SESSION_READ_ONLY_EXISTS",
-            RvError::SessionReadWriteSoExists => "CKR_SESSION_READ_WRITE_SO_EXISTS",
-            RvError::SignatureInvalid => "CKR_SIGNATURE_INVALID",
-            RvError::SignatureLenRange => "CKR_SIGNATURE_LEN_RANGE",
-            RvError::TemplateIncomplete => "CKR_TEMPLATE_INCOMPLETE",
-            RvError::TemplateInconsistent => "CKR_TEMPLATE_INCONSISTENT",
-            RvError::TokenNotRecognized => "CKR_TOKEN_NOT_RECOGNIZED",
-            RvError::UserAlreadyLoggedIn => "CKR_USER_ALREADY_LOGGED_IN",
-            RvError::UserNotLoggedIn => "CKR_USER_NOT_LOGGED_IN",
-            RvError::UserPinNotInitialized => "CKR_USER_PIN_NOT_INITIALIZED",
-            RvError::UserTypeInvalid => "CKR_USER_TYPE_INVALID",
-            RvError::UserAnotherAlreadyLoggedIn => "CKR_USER_ANOTHER_ALREADY_LOGGED_IN",
-            RvError::BufferTooSmall => "CKR_BUFFER_TOO_SMALL",
-        }
-    }
 }
-
-impl fmt::Display for RvError {
-    fn fmt<W: fmt::Write>(&self, f: &mut fmt::Formatter<W>) -> fmt::Result {
-        f.write_str(self.name())
-    }
-}
-
-impl Error for RvError {}
