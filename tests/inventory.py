@@ -33,6 +33,11 @@ import contracts
 # How many hexadecimal digits are listed of a digest by SHA-256.
 DIGITS = 16
 
+# A type that is shown as it is, by a derived implementation.
+SHOWN = re.compile(r"#\[derive\([^)]*\bDebug\b[^)]*\)\]\s*(?:#\[[^\]]*\]\s*)*"
+                   r"(?:pub(?:\([a-z]+\))? )?(?:struct|enum) (\w+)")
+# What compares secrets, and must do it in constant time.
+COMPARISON = re.compile(r"constant_time_eq\(|\.matches\(&?given\)|\.check\(signature\)")
 LAW_EDIT = re.compile(r"^\|[^|]*\| `(\w+)` \|", re.MULTILINE)
 # Comments of C and Rust; and strings and characters, in which none begin.
 COMMENT = re.compile(r"""//[^\n]*|/\*.*?\*/|"(?:[^"\\]|\\.)*"|'(?:[^'\\\n]|\\.)'""", re.DOTALL)
@@ -130,11 +135,17 @@ def test_modules():
 
 
 def comparisons():
-    """The lines that compare secrets in constant time, which no contract can say, and the file of
-    the comparison."""
+    """The lines that compare secrets in constant time, which no contract can say, and the files of
+    these comparisons."""
     lines = [f"{path} {line.strip()}" for path in sources()
-             for line in code_of(path).split("\n") if "constant_time_eq(" in line]
-    return lines + with_digests(["crates/ck_types/src/comparisons.rt"])
+             for line in code_of(path).split("\n") if COMPARISON.search(line)]
+    return lines + with_digests(["crates/ck_types/src/comparisons.rt",
+                                 "crates/ck_types/src/pins.rt", "crates/ck_mac/src/tags.rt"])
+
+
+def shown_types():
+    """The types that `{:?}` prints. None of them may hold a secret."""
+    return [f"{path} {name}" for path in sources() for name in SHOWN.findall(code_of(path))]
 
 
 def texts_of_tests():
@@ -242,6 +253,7 @@ def inventory():
         "text of tests": with_digests(texts_of_tests()),
         "crate": crates(),
         "comparison in constant time": comparisons(),
+        "type that can be shown": shown_types(),
         "file of a program": with_digests(program_files()),
         "recorded run": with_digests(files("crates/*/data/*.cases")),
         "races": with_digests(files("crates/*/data/*.races")),

@@ -99,6 +99,10 @@ CHANGES = [
     ("another reply of a race", "crates/*/data/*.races", " -> 0$", " -> 1"),
     ("another output", "crates/*/stdout", "1", "2"),
     ("a comparison that may end early", "crates/*/src/*.rt", "constant_time_eq\\(&", "same(&"),
+    ("a PIN that is compared by ==", "crates/ck_token/src/tokens/pin_calls.rt",
+     "[.]matches\\(&given\\)", " == given"),
+    ("a key that can be shown", "crates/ck_objects/src/keys.rt", "derive\\(Drop",
+     "derive(Debug, Drop"),
     ("a part of check that is gone", "check", "^part .*\n", ""),
     ("a condition of module/tests/run that is gone", "module/tests/run", " && \\[ -s .* \\]", ""),
     ("a check in Rust that is gone", "crates/ck_run/src/*.rt", "^ *assert.*\n", ""),
@@ -394,7 +398,7 @@ def changes(checks):
         status, said = say_of_checks(copy)
         checks.expect(status == 0, f"a copy of the repository: {said}")
         for what in CHANGES:
-            check_change(checks, copy, "gone or changed: ", *what)
+            check_change(checks, copy, ("gone or changed: ", "not listed: "), *what)
         for what in WRONG_CHANGES:
             check_change(checks, copy, "wrong: ", *what)
         status, said = run_script(copy, CONTRACTS, "check")

@@ -65,11 +65,31 @@ def single_results(count):
     return ["1 FindObjectsInit 1 -"] + ["1 FindObjects 1 1"] * count
 
 
-def sessions(count):
-    """Calls that open sessions, one after the other, and create a session object in each."""
+def scattered(count):
+    """Calls that create objects in threes, destroy two of each, and then look at those left."""
+    made = [line for number in range(count) for line in (
+        *["1 CreateObject 1 0=0000000000000000"] * 3,
+        f"1 DestroyObject 1 {3 * number + 1}", f"1 DestroyObject 1 {3 * number + 2}")]
+    return made + [f"1 GetAttributeValue 1 {3 * number + 3} 3:8" for number in range(count)]
+
+
+def keys(count):
+    """Calls that create public keys, each with a label and an identifier of its own."""
+    return [f"1 CreateObject 1 0=0400000000000000,100=1000000000000000,11=00,2=00,"
+            f"3={number:08x},102={number:08x}" for number in range(count)]
+
+
+def sessions(count, objects=0, closing="CloseSession {}"):
+    """Calls that open sessions, one after the other, create so many session objects in each, and
+    close it by this call."""
     return [line for number in range(count) for line in (
-        "1 OpenSession 6", f"1 CreateObject {number + 2} 0=0000000000000000",
-        f"1 CloseSession {number + 2}")]
+        "1 OpenSession 6", *[f"1 CreateObject {number + 2} 0=0000000000000000"] * objects,
+        "1 " + closing.format(number + 2))]
+
+
+def logins(count):
+    """Calls that log in and out."""
+    return ["1 Login 1 0 31323334", "1 Logout 1"] * count
 
 
 def long_template(count):
@@ -79,16 +99,16 @@ def long_template(count):
 
 def label_searches(tests):
     """A search by a label passes over most objects without reading them, also where the template
-    begins with another attribute, and where the labels were given anew."""
+    begins with another attribute, where the labels were given anew, and among keys."""
     made = creations(FEW)
-    for first, attributes in ((made, "3"), (made, "0=0000000000000000,3"),
-                              (made + changes(FEW), "3")):
+    for first, attributes, other in ((made, "3", "10"), (made, "0=0000000000000000,3", "10"),
+                                     (made + changes(FEW), "3", "10"), (keys(FEW), "3", "102")):
         before = seconds_of(tests, first)
         by_label = seconds_of(tests, first + searches(SEARCHES, attributes)) - before
-        by_application = seconds_of(tests, first + searches(SEARCHES, "10")) - before
-        tests.expect(by_label * 3 < by_application,
+        by_other = seconds_of(tests, first + searches(SEARCHES, other)) - before
+        tests.expect(by_label * 3 < by_other,
                      f"{SEARCHES} searches by {attributes} after {len(first)} calls took "
-                     f"{by_label:.3f} s, by application {by_application:.3f} s")
+                     f"{by_label:.3f} s, by {other} {by_other:.3f} s")
     tests.end("searches by label")
 
 
@@ -97,7 +117,13 @@ EVEN = [
     ("creations", creations),
     ("creations and destructions", lambda count: creations(count) + destructions(count)),
     ("results of a search, one by one,", lambda count: creations(count) + single_results(count)),
-    ("sessions with an object each, one after the other,", sessions),
+    ("objects among missing ones", scattered),
+    ("sessions with an object each, one after the other,", lambda count: sessions(count, 1)),
+    ("sessions with two objects each, one after the other,", lambda count: sessions(count, 2)),
+    ("sessions that are all closed, with two objects,",
+     lambda count: sessions(count, 2, "CloseAllSessions")),
+    ("sessions beside objects of another", lambda count: creations(count) + sessions(count)),
+    ("logins beside objects", lambda count: creations(count) + logins(count)),
     ("items of two attributes each in a template", long_template),
 ]
 

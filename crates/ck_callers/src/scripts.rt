@@ -7,7 +7,7 @@ use ck_types::NoMemory;
 use std::alloc::Global;
 
 /// What a caller is to do, step by step, with room for the replies. The steps are calls, unless
-/// other types are named.
+/// other types are named. This script is a list; those of ck_script are texts.
 #[derive(Drop)]
 pub struct Script<K: TokenId, S: Drop = Call, A: Drop = Reply> {
     pub caller: Caller<K>,
@@ -47,8 +47,8 @@ impl<K: TokenId, S: Drop, A: Drop> Script<K, S, A> {
         }
     }
 
-    /// Whether it was run in a thread of its own: not before `run_scripts` or `run_steps`, nor
-    /// where these could have no thread for it.
+    /// Whether `run_scripts` or `run_steps` has run it in a thread of its own. False where there
+    /// was no thread for it.
     pub fn started(&self) -> bool
         ensures { result ≡ self.now.started }
     {

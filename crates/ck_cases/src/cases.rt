@@ -2,7 +2,7 @@
 //! `NoMemory`, so an `AllocError` becomes a `NoMemory` before it becomes an `anyhow::Error`.
 use crate::findings::Finding;
 use crate::limits::{LimitsError, LimitsLine};
-use crate::lines::{ARROW, BAD_SCRIPT, CaseLine, LineFault, Step};
+use crate::lines::{ARROW, Action, BAD_SCRIPT, CaseLine, LineFault};
 use crate::outcomes::Outcome;
 use crate::reports::Report;
 use crate::retries::RetryingToken;
@@ -45,7 +45,7 @@ pub(crate) struct Played {
 
 /// A file that is played.
 #[derive(Drop)]
-struct Player<'a> {
+struct CasePlayer<'a> {
     alloc: Global,
     limits: Option<Limits>,
     token: RetryingToken,
@@ -58,14 +58,14 @@ struct Player<'a> {
     rewritten: Option<String>,
 }
 
-impl<'a> Player<'a> {
-    fn new(alloc: Global, name: &'a str, options: &PlayOptions) -> Player<'a> {
+impl<'a> CasePlayer<'a> {
+    fn new(alloc: Global, name: &'a str, options: &PlayOptions) -> CasePlayer<'a> {
         let limits = options.limits.unwrap_or(Limits::largest());
         let rewritten = match options.output {
             Output::Report => None,
             Output::Replies => Some(String::new(alloc)),
         };
-        Player {
+        CasePlayer {
             alloc,
             limits: options.limits,
             token: RetryingToken::new(alloc, limits),
@@ -103,7 +103,7 @@ impl<'a> Player<'a> {
         match CaseLine::of(line) {
             CaseLine::Skipped => Ok(self.rewrite(&line)?),
             CaseLine::Limits(limits) => self.begin_case(line, limits),
-            CaseLine::Step { step, recorded } => self.play_step(line, step, recorded),
+            CaseLine::Action { action, recorded } => self.play_action(line, action, recorded),
         }
     }
 
@@ -143,28 +143,36 @@ impl<'a> Player<'a> {
         }
     }
 
-    /// Plays the step of a line.
-    fn play_step(&mut self, line: &str, step: &str, recorded: Option<&str>) -> anyhow::Result<()> {
+    /// Does what a line says.
+    fn play_action(
+        &mut self,
+        line: &str,
+        action: &str,
+        recorded: Option<&str>,
+    ) -> anyhow::Result<()> {
         if !self.has_begun {
             self.has_begun = true;
             self.rewrite_limits()?;
         }
-        match self.outcome_of(step)? {
+        match self.outcome_of(action)? {
             Outcome::Bad(fault) if !is_bad_script(recorded) => {
-                self.report(&Finding::Bad { text: step, fault })?;
+                self.report(&Finding::Bad {
+                    text: action,
+                    fault,
+                })?;
                 Ok(self.rewrite(&line)?)
             }
             outcome => {
                 let came = outcome.text(self.alloc)?;
-                Ok(self.judge(step, came.as_str(), recorded)?)
+                Ok(self.judge(action, came.as_str(), recorded)?)
             }
         }
     }
 
-    /// Compares what came of a step with what is recorded, or writes it in place of that.
-    fn judge(&mut self, step: &str, came: &str, recorded: Option<&str>) -> Result<(), NoMemory> {
+    /// Compares what came of an action with what is recorded, or writes it in place of that.
+    fn judge(&mut self, action: &str, came: &str, recorded: Option<&str>) -> Result<(), NoMemory> {
         if let Some(text) = &mut self.rewritten {
-            return Ok(write!(text, "{step}{ARROW}{came}\n")?);
+            return Ok(write!(text, "{action}{ARROW}{came}\n")?);
         }
         match recorded {
             None => {
@@ -176,25 +184,25 @@ impl<'a> Player<'a> {
                 Ok(())
             }
             Some(recorded) => self.report(&Finding::Differs {
-                step,
+                action,
                 came,
                 recorded,
             }),
         }
     }
 
-    /// What comes of a step.
-    fn outcome_of(&mut self, step: &str) -> anyhow::Result<Outcome> {
-        match Step::of(step) {
-            Step::Cut => {
+    /// What comes of an action.
+    fn outcome_of(&mut self, action: &str) -> anyhow::Result<Outcome> {
+        match Action::of(action) {
+            Action::Cut => {
                 self.audit()?;
                 self.cut()
             }
-            Step::Audit(Ok(limits)) => {
+            Action::Audit(Ok(limits)) => {
                 Ok(Outcome::Audited(self.token.audit(self.alloc, limits)?))
             }
-            Step::Audit(Err(error)) => Ok(Outcome::Bad(LineFault::Limits(error))),
-            Step::Call(text) => self.call(text),
+            Action::Audit(Err(error)) => Ok(Outcome::Bad(LineFault::Limits(error))),
+            Action::Call(text) => self.call(text),
         }
     }
 
@@ -222,7 +230,7 @@ impl<'a> Player<'a> {
 
     /// What came of the file, whose last case has been audited.
     fn finish(self) -> Result<Played, NoMemory> {
-        let Player {
+        let CasePlayer {
             alloc,
             token,
             report,
@@ -245,7 +253,7 @@ impl<'a> Player<'a> {
     }
 }
 
-/// Whether it is recorded of a step that it is a bad line of a script.
+/// Whether it is recorded of an action that it is a bad line of a script.
 fn is_bad_script(recorded: Option<&str>) -> bool {
     recorded.is_some_and(|text| text.starts_with(BAD_SCRIPT))
 }
@@ -257,7 +265,7 @@ pub(crate) fn play_text(
     text: &str,
     options: &PlayOptions,
 ) -> anyhow::Result<Played> {
-    let mut player = Player::new(alloc, name, options);
+    let mut player = CasePlayer::new(alloc, name, options);
     for line in text.lines() {
         player.play_line(line)?;
     }

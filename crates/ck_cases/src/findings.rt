@@ -6,9 +6,9 @@ use std::fmt;
 /// What is wrong with a line.
 #[derive(Clone, Copy)]
 pub(crate) enum Finding<'a> {
-    /// Something else came of a step than is recorded.
+    /// Something else came of an action than is recorded.
     Differs {
-        step: &'a str,
+        action: &'a str,
         came: &'a str,
         recorded: &'a str,
     },
@@ -25,11 +25,11 @@ impl fmt::Display for Finding<'_> {
     fn fmt<W: fmt::Write>(&self, f: &mut fmt::Formatter<W>) -> fmt::Result {
         match self {
             Finding::Differs {
-                step,
+                action,
                 came,
                 recorded,
             } => {
-                write!(f, "{}: came {}", Shortened(step), NamedReply(came))?;
+                write!(f, "{}: came {}", Shortened(action), NamedReply(came))?;
                 write!(f, ", and not {}", NamedReply(recorded))?;
                 match hidden_difference(came, recorded) {
                     Some(number) => write!(f, " (they differ from character {number} on)"),

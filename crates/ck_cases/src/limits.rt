@@ -10,6 +10,7 @@ const LARGEST: &str = "largest";
 #[derive(Clone, Copy, Debug)]
 pub(crate) struct LimitsError;
 
+// By hand, since the text names the largest limits.
 impl fmt::Display for LimitsError {
     fn fmt<W: fmt::Write>(&self, f: &mut fmt::Formatter<W>) -> fmt::Result {
         let largest = Limits::largest();

@@ -1,7 +1,7 @@
 //! The lines of a file of cases. A line `limits SESSIONS OPENINGS CREATIONS LOGINS`, or `limits
 //! largest`, begins a case on a new token; before the first such line the token has the largest
-//! limits. Each other line is a step, an arrow, and what comes of the step; a step without an arrow
-//! is made too. Empty lines and lines that begin with `#` are skipped.
+//! limits. Each other line is an action, an arrow, and what comes of the action; an action without
+//! an arrow is done too. Empty lines and lines that begin with `#` are skipped.
 //!
 //! - `1 OpenSession 6 -> 0 1`: a line of a script and its reply.
 //! - `1 OpenSession E -> bad script: ..`: a line that is none of a script's, and why.
@@ -14,7 +14,7 @@ use ck_script::BadLine;
 use ck_token::Limits;
 use thiserror::Error;
 
-/// What stands between a step and what comes of it.
+/// What stands between an action and what comes of it.
 pub(crate) const ARROW: &str = " -> ";
 
 /// What stands before the reason of a line that is none of a script's.
@@ -36,8 +36,8 @@ pub(crate) enum CaseLine<'a> {
     /// A case begins, on a token of these limits.
     Limits(Result<Limits, LimitsError>),
     /// What is done, and what came of it where that is recorded.
-    Step {
-        step: &'a str,
+    Action {
+        action: &'a str,
         recorded: Option<&'a str>,
     },
 }
@@ -52,20 +52,20 @@ impl<'a> CaseLine<'a> {
             return CaseLine::Limits(limits_in(limits, ' '));
         }
         match line.split_once(ARROW) {
-            Some((step, recorded)) => CaseLine::Step {
-                step,
+            Some((action, recorded)) => CaseLine::Action {
+                action,
                 recorded: Some(recorded),
             },
-            None => CaseLine::Step {
-                step: line,
+            None => CaseLine::Action {
+                action: line,
                 recorded: None,
             },
         }
     }
 }
 
-/// What a step does.
-pub(crate) enum Step<'a> {
+/// What is done by a line.
+pub(crate) enum Action<'a> {
     Cut,
     /// Audits the journal as one of a token of these limits.
     Audit(Result<Limits, LimitsError>),
@@ -73,14 +73,14 @@ pub(crate) enum Step<'a> {
     Call(&'a str),
 }
 
-impl<'a> Step<'a> {
-    pub(crate) fn of(text: &'a str) -> Step<'a> {
+impl<'a> Action<'a> {
+    pub(crate) fn of(text: &'a str) -> Action<'a> {
         if text == "cut" {
-            return Step::Cut;
+            return Action::Cut;
         }
         match text.strip_prefix("audit ") {
-            Some(limits) => Step::Audit(limits_in(limits, ' ')),
-            None => Step::Call(text),
+            Some(limits) => Action::Audit(limits_in(limits, ' ')),
+            None => Action::Call(text),
         }
     }
 }

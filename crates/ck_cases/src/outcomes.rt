@@ -1,11 +1,11 @@
-//! What comes of a step.
+//! What comes of an action.
 use crate::lines::{BAD_SCRIPT, LineFault};
 use ck_audit::Verdict;
 use ck_script::reply_line;
 use ck_token::{NoMemory, Reply};
 use std::alloc::Global;
 
-/// What comes of a step.
+/// What comes of an action.
 #[derive(Drop)]
 pub(crate) enum Outcome {
     Replied(Reply),
@@ -14,7 +14,7 @@ pub(crate) enum Outcome {
     /// The journal isn't cut, since a session is open.
     Uncut,
     Audited(Verdict),
-    /// The step is bad.
+    /// The action is bad.
     Bad(LineFault),
 }
 

@@ -5,7 +5,7 @@ use std::fmt;
 
 /// How many lines of each kind a file has, and how many times something was done again that had
 /// found no memory.
-#[derive(Clone, Copy)]
+#[derive(Clone, Copy, Default)]
 struct Counts {
     passed: u64,
     differ: u64,
@@ -16,17 +16,6 @@ struct Counts {
 }
 
 impl Counts {
-    fn new() -> Counts {
-        Counts {
-            passed: 0,
-            differ: 0,
-            bad: 0,
-            wrong_entries: 0,
-            without_reply: 0,
-            retries: 0,
-        }
-    }
-
     fn count(&mut self, finding: &Finding<'_>) {
         let count = match finding {
             Finding::Differs { .. } => &mut self.differ,
@@ -77,7 +66,7 @@ impl<'a> Report<'a> {
         Report {
             name,
             most,
-            counts: Counts::new(),
+            counts: Counts::default(),
             text: String::new(alloc),
         }
     }
@@ -87,7 +76,7 @@ impl<'a> Report<'a> {
         self.counts.passed = self.counts.passed.saturating_add(1);
     }
 
-    /// Counts a step of which nothing is recorded.
+    /// Counts an action of which nothing is recorded.
     pub(crate) fn add_without_reply(&mut self) {
         self.counts.without_reply = self.counts.without_reply.saturating_add(1);
     }

@@ -1,4 +1,5 @@
-//! A token whose calls, cuts and audits are made again where they find no memory.
+//! A token whose calls, cuts and audits are made again where they find no memory, which
+//! `bench/growths.py` refuses.
 use anyhow::{Context, bail, ensure};
 use ck_audit::{Verdict, audit, audit_token};
 use ck_token::{Call, Journal, Limits, NoMemory, Reply, Token, Uncut};

@@ -109,7 +109,7 @@ impl TokenBoard {
         self.count += 1;
     }
 
-    /// A copy.
+    /// A copy, which takes no memory.
     pub fn duplicate(&self) -> TokenBoard
         ensures { result ≡ self.now }
     {

@@ -35,6 +35,7 @@ impl Model for Record {
     ghost view = { λ r. object_items r.object };
 }
 
+// Not derived: contracts see a record as its items, and a derived clone as its fields.
 impl Clone for Record {
     ghost use Rattle.std.specs.Prelude.{◌≡◌};
 

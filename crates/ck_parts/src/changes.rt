@@ -77,12 +77,14 @@ pub enum Change {
         /// How many bytes a signature has.
         len: u64,
     },
-    /// The bytes of the call are one more piece.
+    /// The bytes of the call are one more piece. They aren't here: `apply` reads them off the call,
+    /// so that they aren't copied.
     AddPiece {
         kind: OperationKind,
         session: u64,
     },
-    /// A reply that may end the session's operation of the kind.
+    /// A reply that may end the session's operation of the kind. Replies that have only a length
+    /// are changes of this form too, so that one definition says the change of all such calls.
     FinishOperation {
         kind: OperationKind,
         session: u64,

@@ -1,4 +1,5 @@
-//! A source and a sink in memory, which fail where they are asked to.
+//! A source and a sink in memory, which fail where they are asked to. Only tests use them. They are
+//! public, since the tests stand in ck_run.
 ghost use Rattle.std.specs.Prelude.{◌≡◌, ◌≤◌, ◌<◌, [], length, take};
 
 use crate::counts::{ReadCounts, failures_after};

@@ -23,6 +23,7 @@ use std::alloc::Global;
 use std::marker::Brand;
 
 /// Adds a copy of a call where it is one of this caller.
+// Apart from the loop, so that the proof of the loop has one case.
 fn add_if_by(
     own: &mut Vec<Call>,
     alloc: Global,
@@ -161,7 +162,8 @@ fn play_shared<K: TokenId + Send + Sync, G: JournaledToken + Send, R: Runtime>(
     }
 }
 
-/// How many entries the token's journal has, and what its audit finds, each on a line.
+/// How many entries the token's journal has, and what its audit finds, each on a line. That the
+/// journal is legal is proved; the audit shows it of the program as it was built.
 fn summary_of<G: JournaledToken>(alloc: Global, token: &G) -> Result<String, NoMemory>
     ensures text { IfOk result (λ text.
         string_bytes text ≡ summary_text (entry_count (G.state token.now).history)) }

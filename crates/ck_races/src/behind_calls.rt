@@ -36,7 +36,7 @@ fn calls_of(alloc: Global) -> anyhow::Result<Vec<Call>> {
 impl<'a, K: TokenId, R: Runtime> Shared<'a, K, R> {
     /// A caller makes a call. Between the work on a message that it brings and the call, another
     /// caller makes one.
-    fn call_behind_other(
+    fn call_behind(
         &self,
         caller: &mut Caller<K>,
         other: &mut Caller<K>,
@@ -52,11 +52,11 @@ impl<'a, K: TokenId, R: Runtime> Shared<'a, K, R> {
     }
 
     /// The first of two callers makes the calls with the messages, each behind a call of the other.
-    pub(crate) fn call_in_turns(&self, callers: &mut Vec<Caller<K>>) -> anyhow::Result<()> {
+    pub(crate) fn make_calls_behind(&self, callers: &mut Vec<Caller<K>>) -> anyhow::Result<()> {
         let mut other = callers.pop().context("a caller is missing")?;
         let caller = callers.first_mut().context("a caller is missing")?;
         for call in calls_of(self.rt.alloc())? {
-            self.call_behind_other(caller, &mut other, call)?;
+            self.call_behind(caller, &mut other, call)?;
         }
         callers.push(other)?;
         Ok(())
@@ -76,11 +76,11 @@ fn time_alone<R: CpuClock + Runtime>(rt: &R) -> anyhow::Result<Duration> {
 
 /// What they take on a shared token, each behind a call of the other caller. Says how many calls
 /// there are, too.
-fn time_in_turns<R: CpuClock + Runtime>(rt: R) -> anyhow::Result<(Duration, u64)> {
+fn time_behind<R: CpuClock + Runtime>(rt: R) -> anyhow::Result<(Duration, u64)> {
     let alloc = rt.alloc();
     let token = Token::new(alloc, Limits::largest());
     let before = rt.process_cpu_time()?;
-    let (token, _outcome) = share_with(rt, token, 2, &SharedWork::CallsInTurns)?;
+    let (token, _outcome) = share_with(rt, token, 2, &SharedWork::CallsBehindCalls)?;
     let time = rt.process_cpu_time()?.saturating_sub(before);
     Ok((time, check_audit(alloc, &token)?))
 }
@@ -90,7 +90,7 @@ fn time_in_turns<R: CpuClock + Runtime>(rt: R) -> anyhow::Result<(Duration, u64)
 pub(crate) fn run_behind_calls<R: CpuClock + Runtime>(rt: R) -> anyhow::Result<u64> {
     for _ in 0..TRIES {
         let alone = time_alone(&rt)?;
-        let (time, calls) = time_in_turns(rt)?;
+        let (time, calls) = time_behind(rt)?;
         if time.saturating_mul(2) < alone.saturating_mul(3) {
             return Ok(calls);
         }

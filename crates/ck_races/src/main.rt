@@ -81,7 +81,7 @@ fn run_together<R: CpuClock + Runtime>(rt: R, text: &mut String) -> anyhow::Resu
         run_long_messages(rt)?,
         made,
     )?;
-    add_line(text, "calls in turns", run_behind_calls(rt)?, made)?;
+    add_line(text, "calls behind calls", run_behind_calls(rt)?, made)?;
     add_line(text, "calls of a watched token", run_watched(rt)?, made)?;
     add_line(text, "calls of eight scripts", run_eight_scripts(rt)?, made)?;
     add_line(text, "drawn calls", make_drawn_calls(rt)?, made)?;

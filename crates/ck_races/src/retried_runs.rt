@@ -1,5 +1,5 @@
-//! The calls of a race by `run` on a token. Where it stops without memory, it goes on with those
-//! that are left.
+//! The calls of a race by `run` on a token. Where it stops without memory, which `bench/growths.py`
+//! refuses, it goes on with those that are left.
 use crate::journals::{check_entries, check_retried};
 use crate::races::{Race, RaceLine};
 use crate::tokens::prepared_token;

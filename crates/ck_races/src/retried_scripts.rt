@@ -1,5 +1,5 @@
-//! The calls of a race by `run_scripts`, as one script. Where a call finds no memory, those that
-//! are left are a script of their own.
+//! The calls of a race by `run_scripts`, as one script. Where a call finds no memory, which
+//! `bench/growths.py` refuses, those that are left are a script of their own.
 use crate::journals::{check_entries, check_retried};
 use crate::races::{Race, RaceLine};
 use crate::scripts::calls_of;

@@ -1,5 +1,5 @@
 //! The calls of a race, one after the other on a shared token, by two callers in turn. What finds
-//! no memory is made again, by the other one.
+//! no memory, which `bench/growths.py` refuses, is made again by the other one.
 use crate::journals::check_retried;
 use crate::races::{Race, RaceLine, compare};
 use crate::retried_runs::retry_run;

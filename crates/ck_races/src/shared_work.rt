@@ -40,9 +40,9 @@ pub(crate) enum SharedWork<'a> {
     /// Messages are taken in before a caller adds them to a digest, and one adds some while another
     /// takes the lock.
     LongMessages,
-    /// Each of two callers makes a call in its turn: those of one bring long messages, which are
-    /// taken in before the call of the other.
-    CallsInTurns,
+    /// One of two callers makes calls with long messages, each behind a call of the other. The
+    /// message is taken in before both.
+    CallsBehindCalls,
 }
 
 /// What came of it.
@@ -152,7 +152,7 @@ impl<'a, K: TokenId, R: Runtime> Shared<'a, K, R> {
                 self.take_in_messages(callers)?;
                 self.add_messages(callers)?;
             }
-            SharedWork::CallsInTurns => self.call_in_turns(callers)?,
+            SharedWork::CallsBehindCalls => self.make_calls_behind(callers)?,
         }
         Ok(outcome)
     }

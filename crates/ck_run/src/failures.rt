@@ -8,7 +8,7 @@ const SCRIPT: &[u8] = b"1 OpenSession 6\n1 SignFinal 7 ?\n1 OpenSession 4\n";
 const REPLIES: &[u8] = b"e1\nb3\ne1\n";
 
 /// The first `count` bytes.
-fn front(bytes: &'static [u8], count: usize) -> &'static [u8] {
+fn beginning(bytes: &'static [u8], count: usize) -> &'static [u8] {
     bytes.split_at(count.min(bytes.len())).0
 }
 
@@ -16,7 +16,7 @@ fn front(bytes: &'static [u8], count: usize) -> &'static [u8] {
 #[test]
 fn lines_are_answered_before_the_next_read(rt: HostRuntime) {
     for count in 0..=SCRIPT.len() {
-        let replies = front(REPLIES, (count / 16).saturating_mul(3));
+        let replies = beginning(REPLIES, (count / 16).saturating_mul(3));
         let mut failing = Devices::of(1);
         failing.read_fails_at = (count as u64).saturating_add(1);
         check_play(&rt, rt.alloc(), SCRIPT, failing, replies, End::Read);
@@ -46,7 +46,7 @@ fn the_end_is_found_by_a_read(rt: HostRuntime) {
 fn a_writer_that_fails_has_a_beginning_of_the_replies(rt: HostRuntime) {
     for count in 0..REPLIES.len() {
         let next = (count as u64).saturating_add(1);
-        let replies = front(REPLIES, count);
+        let replies = beginning(REPLIES, count);
         let mut failing = Devices::of(1);
         failing.write_fails_at = next;
         check_play(&rt, rt.alloc(), SCRIPT, failing, replies, End::Write);
@@ -54,4 +54,14 @@ fn a_writer_that_fails_has_a_beginning_of_the_replies(rt: HostRuntime) {
         stopping.write_stops_at = next;
         check_play(&rt, rt.alloc(), SCRIPT, stopping, replies, End::Write);
     }
+}
+
+/// A reply that the writer takes whole is one write: the second write is that of the next reply.
+#[test]
+fn a_reply_is_one_write(rt: HostRuntime) {
+    let script = b"1 GetMechanismList\n1 GetTokenInfo\n";
+    let reply = b"0 250,251,252,255,256,257,260,261,262,270,271,272,350\n";
+    let mut failing = Devices::of(1_000);
+    failing.write_fails_at = 2;
+    check_play(&rt, rt.alloc(), script, failing, reply, End::Write);
 }

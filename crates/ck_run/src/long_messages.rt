@@ -18,8 +18,8 @@ const LONGEST: usize = 1 << 20;
 /// The length of the digests and of the signatures.
 const ROOM: Option<u64> = Some(32);
 
-/// The length of messages, the room for what they give, and how many of three whole messages and of
-/// three pieces are taken in.
+/// The length of messages, the room for what they give, and how many of three single-part messages
+/// and of three pieces are taken in.
 type Row = (usize, Option<u64>, (usize, usize));
 
 const WITHOUT_OPERATIONS: [Row; 1] = [(LONG, ROOM, (0, 0))];
@@ -42,8 +42,12 @@ fn message_of(alloc: Global, count: usize) -> Result<Bytes, NoMemory> {
     Ok(Bytes::from_vec(vec![in alloc; b'a'; count]?))
 }
 
-/// The calls of session 1 that bring a whole message of this length.
-fn whole_calls(alloc: Global, count: usize, room: Option<u64>) -> Result<Vec<Call>, NoMemory> {
+/// The calls of session 1 that bring a single-part message of this length.
+fn single_part_calls(
+    alloc: Global,
+    count: usize,
+    room: Option<u64>,
+) -> Result<Vec<Call>, NoMemory> {
     let session = 1;
     let digested = message_of(alloc, count)?;
     let signed = message_of(alloc, count)?;
@@ -89,17 +93,17 @@ fn count_in(token: &Token, calls: &[Call]) -> usize {
         .count()
 }
 
-/// How many of the three calls with a whole message, and of the three with a piece, have messages
-/// that are taken in before.
+/// How many of the three calls with a single-part message, and of the three with a piece, have
+/// messages that are taken in before.
 fn count_taken_in(
     alloc: Global,
     token: &Token,
     count: usize,
     room: Option<u64>,
 ) -> Result<(usize, usize), NoMemory> {
-    let whole = whole_calls(alloc, count, room)?;
+    let single_part = single_part_calls(alloc, count, room)?;
     let pieces = piece_calls(alloc, count)?;
-    Ok((count_in(token, &whole), count_in(token, &pieces)))
+    Ok((count_in(token, &single_part), count_in(token, &pieces)))
 }
 
 /// A token with a key that anybody may use, and with session 1.
@@ -145,7 +149,7 @@ fn check_rows(rt: &impl Abort, alloc: Global, token: &Token, rows: &[Row]) -> Re
 }
 
 /// Long messages are taken in before their calls, but not before an operation is active, where they
-/// are too long, where only a length is answered, and behind a piece where they are whole.
+/// are too long, where only a length is answered, and behind a piece where they are single-part.
 #[test]
 fn messages_are_taken_in_before_their_calls(rt: HostRuntime) -> Result<(), Fail> {
     let alloc = rt.alloc();
@@ -181,10 +185,10 @@ fn times_of<R: CpuClock>(
     ))
 }
 
-/// The calls of session 1 with the longest messages: whole ones, or pieces.
-fn longest_calls(alloc: Global, are_whole: bool) -> Result<Vec<Call>, NoMemory> {
-    if are_whole {
-        whole_calls(alloc, LONGEST, ROOM)
+/// The calls of session 1 with the longest messages: single-part ones, or pieces.
+fn longest_calls(alloc: Global, are_single_part: bool) -> Result<Vec<Call>, NoMemory> {
+    if are_single_part {
+        single_part_calls(alloc, LONGEST, ROOM)
     } else {
         piece_calls(alloc, LONGEST)
     }
@@ -194,12 +198,15 @@ fn longest_calls(alloc: Global, are_whole: bool) -> Result<Vec<Call>, NoMemory> 
 fn lower_times<R: CpuClock>(
     rt: &R,
     alloc: Global,
-    are_whole: bool,
+    are_single_part: bool,
     least: &mut [Times],
 ) -> Result<(), Fail> {
     let (mut token, key) = token_with_key(alloc)?;
     begin_all(alloc, &mut token, key)?;
-    for (call, times) in longest_calls(alloc, are_whole)?.into_iter().zip(least) {
+    for (call, times) in longest_calls(alloc, are_single_part)?
+        .into_iter()
+        .zip(least)
+    {
         let (before, in_call) = times_of(rt, alloc, &mut token, call)?;
         *times = (before.min(times.0), in_call.min(times.1));
     }
@@ -207,10 +214,14 @@ fn lower_times<R: CpuClock>(
 }
 
 /// Each call takes far less time than its message took before.
-fn check_times<R: Abort + CpuClock>(rt: &R, alloc: Global, are_whole: bool) -> Result<(), Fail> {
+fn check_times<R: Abort + CpuClock>(
+    rt: &R,
+    alloc: Global,
+    are_single_part: bool,
+) -> Result<(), Fail> {
     let mut least = [(Duration::MAX, Duration::MAX); 3];
     for _ in 0..TRIES {
-        lower_times(rt, alloc, are_whole, &mut least)?;
+        lower_times(rt, alloc, are_single_part, &mut least)?;
     }
     for (before, in_call) in least {
         assert!(rt; in_call.saturating_mul(5) < before);
@@ -219,11 +230,47 @@ fn check_times<R: Abort + CpuClock>(rt: &R, alloc: Global, are_whole: bool) -> R
 }
 
 #[test]
-fn whole_messages_are_taken_in_once(rt: HostRuntime) -> Result<(), Fail> {
+fn single_part_messages_are_taken_in_once(rt: HostRuntime) -> Result<(), Fail> {
     check_times(&rt, rt.alloc(), true)
 }
 
 #[test]
 fn pieces_are_taken_in_once(rt: HostRuntime) -> Result<(), Fail> {
     check_times(&rt, rt.alloc(), false)
+}
+
+/// What C_Digest of a longest message with this room takes of the processor.
+fn digest_time<R: CpuClock>(
+    rt: &R,
+    alloc: Global,
+    token: &mut Token,
+    room: Option<u64>,
+) -> Result<Duration, Fail> {
+    let (session, bytes) = (1, message_of(alloc, LONGEST)?);
+    let start = rt.process_cpu_time()?;
+    token.try_call(
+        alloc,
+        1,
+        Call::Digest {
+            session,
+            bytes,
+            room,
+        },
+    )?;
+    Ok(rt.process_cpu_time()?.saturating_sub(start))
+}
+
+/// The length of a digest is told without taking in the message.
+#[test]
+fn a_length_is_told_without_the_message(rt: HostRuntime) -> Result<(), Fail> {
+    let alloc = rt.alloc();
+    let (mut told, mut made) = (Duration::MAX, Duration::MAX);
+    for _ in 0..TRIES {
+        let (mut token, key) = token_with_key(alloc)?;
+        begin_all(alloc, &mut token, key)?;
+        told = told.min(digest_time(&rt, alloc, &mut token, None)?);
+        made = made.min(digest_time(&rt, alloc, &mut token, ROOM)?);
+    }
+    assert!(&rt; told.saturating_mul(5) < made);
+    Ok(())
 }

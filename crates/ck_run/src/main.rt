@@ -1,5 +1,6 @@
 //! The program ck_run: does what its arguments ask for, from standard input to standard output. The
-//! test modules are those of the program and of the libraries below it.
+//! test modules are those of the program and of the libraries below it. They stand in one crate,
+//! since a crate that has tests is proved a second time.
 #![tactic(auto)]
 
 #[cfg(test)]

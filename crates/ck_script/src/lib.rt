@@ -10,6 +10,7 @@ mod replies;
 mod similar_names;
 mod splits;
 
+// `Arity`, `CallName` and `NumberError` are public, since a `BadLine` has them.
 pub use call_names::{Arity, CallName};
 pub use line_errors::{BadLine, LineError, NumberError};
 pub use lines::{LONGEST_LINE, Line, cut_line};

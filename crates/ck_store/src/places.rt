@@ -1,4 +1,4 @@
-ghost use Rattle.std.specs.Prelude.{◌≡◌, ◌<◌, ℕ, length, find, filter, position, get_or};
+ghost use Rattle.std.specs.Prelude.{◌≡◌, ◌<◌, ◌-◌, ℕ, length, find, filter, position, get_or};
 ghost use Rattle.std.specs.Prelude.{IfOk, IfSome, IsOk, Contains, Some, []};
 ghost use Rattle.std.specs.Option.{option_copied};
 ghost use Rattle.slab.specs.Slab.{get};
@@ -78,7 +78,8 @@ fn position_of(index: &[Place], number: u64) -> Option<usize>
 /// The place that the object of a number has where no object had ended before it was created. Among
 /// many objects the index is in no cache, so this place is tried first.
 fn guess_place(number: u64) -> Place
-    ensures { result.number ≡ number }
+    ensures number { result.number ≡ number }
+    ensures key { result.key ≡ number - 1 }
 {
     let key = number.saturating_sub(1) as usize;
     Place { number, key }

@@ -66,6 +66,7 @@ fn out_of_memory<T: Drop>(left: T) -> NoMemory {
 fn drop_apart<T: Drop>(_left: T) {}
 
 /// Makes a reply of its code and its body, which a `Decision` has apart.
+// A function, since the proof of `call_after` names what is known after it.
 #[inline(always)]
 fn reply_with(rv: Rv, body: Body) -> Reply
     ensures { result ≡ record { rv = rv; body = body } }

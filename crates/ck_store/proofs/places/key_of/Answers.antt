@@ -4,7 +4,7 @@ use Rattle.ck_store.proofs.places.key_of.Goals as goal
 pub returns-then-is_there : goal.returns-then-is_there
 returns-then-is_there c = λ is_index.
     IsKeyOf-at c.args.objects.now c.args.index.now is_index c.args.number c.guess_place-guess.result
-    c.guess_place-guess.ensures c.if-is_there.ensures
+    c.guess_place-guess.ensures.number c.if-is_there.ensures
 
 pub returns-in_err-place : goal.returns-in_err-place
 returns-in_err-place c = λ is_index.
