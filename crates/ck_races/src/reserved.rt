@@ -1,5 +1,5 @@
-//! Calls for which room in the journal is reserved, and which take no other memory (`bench/growths.py` refuses
-//! it).
+//! Calls for which room in the journal is reserved, and which take no other memory
+//! (`bench/growths.py` refuses it).
 use crate::tokens::make_calls_of;
 use anyhow::ensure;
 use ck_token::{Call, KeyState, Limits, Rv, Token};
