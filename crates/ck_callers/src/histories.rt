@@ -56,7 +56,8 @@ impl NewHistory {
         }
     }
 
-    /// The history under its name: the length that threads share, and the front without entries.
+    /// The history that `K` stands for: the length that threads share, and the front without
+    /// entries.
     pub(crate) fn with_name<K: HistoryId>(self) -> (Head<K>, Front<K>)
         requires { self.seen.book ≡ K.book }
         ensures { result.1 ≡ start K.base }

@@ -19,8 +19,8 @@ impl TokenId for Brand {
     ghost callers = { 1 };
 }
 
-/// A history without entries and ledgers without calls, whose names a type takes over when a token
-/// is opened.
+/// A history without entries and ledgers without calls. `open` and `adopt` take them, and a type
+/// then stands for both.
 pub struct NewIdentity {
     pub history: NewHistory,
     pub ledgers: NewLedgers,

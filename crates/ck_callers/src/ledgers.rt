@@ -170,7 +170,7 @@ impl NewLedgers {
         }
     }
 
-    /// The books, and the accounts of the callers 1 to `callers`, under their names. No call is
+    /// The books that `K` stands for, and the accounts of the callers 1 to `callers`. No call is
     /// counted.
     pub(crate) fn with_name<K: TokenId>(
         self,

@@ -2,9 +2,9 @@
 //! front; how many calls of each were answered; the board that callers read without the lock; and
 //! runs of callers through a gate, each in a thread of its own.
 //!
-//! `Front`, `Head`, `KnownHistory`, `CallBooks`, `BoardSlot`, `BoardCopy`, `CallerCount`, `Opened`
-//! and `Account` are public only for ck_shared, which has what lies under the lock, with the types
-//! that they name (`HistoryId`, `NewHistory`, `CallerLedger`, `NewLedgers`).
+//! Only ck_shared uses these, for what lies under the lock: `Front`, `Head`, `KnownHistory`,
+//! `CallBooks`, `BoardSlot`, `BoardCopy`, `CallerCount`, `Opened` and `Account`. The types that
+//! they name are public with them: `HistoryId`, `NewHistory`, `CallerLedger` and `NewLedgers`.
 #![tactic(auto)]
 
 mod asks;

@@ -7,7 +7,8 @@ use ck_types::NoMemory;
 use std::alloc::Global;
 use std::sync::Wait;
 
-/// What a caller does next at a gate: a call, or a call or a question. `A` is what is answered.
+/// What a caller does next at a gate. A `Call` is made; a `Step` is a call or a question. `A` is
+/// the type of what is answered.
 pub(crate) trait NextStep<K: TokenId, A: Drop>: Drop {
     ghost use Rattle.ck_callers.specs.Callers.{CallerState};
 

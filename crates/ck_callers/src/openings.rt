@@ -101,7 +101,7 @@ impl<K: TokenId, R: Wait + Drop> Opened<K, R> {
     ghost use Rattle.ck_callers.specs.Accounts.{name_of, no_calls};
     ghost use Rattle.ck_callers.specs.Callers.{new_callers};
 
-    /// All that a shared token takes memory for when it is opened with this board.
+    /// Makes all that a shared token takes memory for when it is opened. Its board is this one.
     pub fn new(
         rt: R,
         alloc: Global,

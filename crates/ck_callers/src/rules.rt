@@ -22,7 +22,7 @@ impl Rule<Entry, u64> for LengthOfLog {
     ghost moves = { λ ask before after answer. Unit {0} };
 }
 
-/// What a caller gains by a step beside the entry: nothing.
+/// What a caller gains by an addition beside the entry: nothing.
 pub(crate) struct Nothing;
 
 impl Gain<Entry, u64> for Nothing {
@@ -31,7 +31,7 @@ impl Gain<Entry, u64> for Nothing {
     ghost after = { λ names about answer. ftrue };
 }
 
-/// The step that adds an entry.
+/// The addition of an entry.
 pub(crate) struct Add;
 
 impl Play<Entry, u64> for Add {
@@ -40,7 +40,7 @@ impl Play<Entry, u64> for Add {
     ghost then = { Adds };
 }
 
-/// What the step asks for: the entry.
+/// What the addition asks for: the entry.
 impl Plain<Entry, Entry, u64> for Add {
     ghost use Rattle.std.specs.Prelude.{None};
 

@@ -5,7 +5,7 @@ ghost use Rattle.ck_journal.specs.declared.calls.Call.TheVariants as call;
 use crate::calls::Call;
 use ck_types::{Bytes, Mechanism, Pin, UserType};
 
-/// Constructors of the calls whose fields take more than a line, for programs.
+/// Constructors of calls for programs.
 impl Call {
     ghost use Rattle.std.specs.Prelude.{ℕ};
 

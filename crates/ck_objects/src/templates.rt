@@ -131,7 +131,7 @@ fn is_key_length(length: u64) -> bool
     (1..=LONGEST_KEY).contains(&length)
 }
 
-/// The checks that a template gives what a new object of the class must be given.
+/// Checks that a template gives what a new object of the class must be given.
 fn check_new_object(class: Class, items: &[Item]) -> Result<(), RvError>
     ensures { result ≡ check_of (new_object_error class items.now) }
 {

@@ -143,7 +143,8 @@ fn extend<K: TokenId, G: JournaledToken, W: Wait>(
     unreachable!()
 }
 
-/// Shows that the history is no shorter than another front of it.
+/// Shows to the prover that the history is no shorter than another front of it. In a run two
+/// numbers are compared once.
 fn show_is_front<K: TokenId, W: Wait>(rt: &W, other: &Front<K>, front: &Front<K>)
     ensures { IsFront other.now front.now }
 {
@@ -230,15 +231,16 @@ impl<K: TokenId, G: JournaledToken, R: Wait + Drop> Locked<K, G, R> {
         Some((work, self.known.front().duplicate()))
     }
 
-    /// Shows that the history has all entries of a front of it.
+    /// Shows to the prover that the history has all entries of a front of it.
     pub(crate) fn show_front<W: Wait>(&self, rt: &W, front: &Front<K>)
         ensures { IsFront front.now self.now.history }
     {
         show_is_front(rt, front, self.known.front());
     }
 
-    /// One call of a caller. Where there is no memory for it, nothing has changed. Where the call
-    /// may change the board, it may wait for those who still read an older copy.
+    /// One call of a caller (no `Step`, which may be a question too). Where there is no memory for
+    /// it, nothing has changed. Where the call may change the board, it may wait for those who
+    /// still read an older copy.
     // Inlined, since a function that only hands a call on would copy it.
     #[inline(always)]
     pub fn step<W: Wait>(
@@ -282,6 +284,7 @@ impl<K: TokenId, G: JournaledToken, R: Wait + Drop> Locked<K, G, R> {
         let keeps_board = call.keeps_board();
         let slot = add_slot(alloc, &mut self.writer, keeps_board)?;
         let Ok(reply) = self.token.call_after(alloc, number, call, work) else {
+            // The slot is pending, so it is filled with the board as it is: no operation waits.
             publish_board(rt, &mut self.writer, slot, &self.token, &self.known);
             return Err(NoMemory);
         };

@@ -152,6 +152,7 @@ impl<K: TokenId, G: JournaledToken, R: Wait + Drop> SharedToken<K, G, R> {
             HasCalled K.limits caller.old call reply caller.new) }
         ensures caller { OnErr result (caller.new ≡ caller.old) }
     {
+        // Before the lock is taken, so that a short call takes it once.
         if call.brings_long_message() {
             return self.take_in_and_call(rt, alloc, caller, call);
         }

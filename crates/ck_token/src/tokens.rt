@@ -53,6 +53,7 @@ impl Model for Token {
 }
 
 /// Drops what is left of a call, and answers `NoMemory`.
+// Inlined, so that what is left isn't copied on the way to `drop_apart`.
 #[inline(always)]
 fn out_of_memory<T: Drop>(left: T) -> NoMemory {
     drop_apart(left);
@@ -66,7 +67,8 @@ fn out_of_memory<T: Drop>(left: T) -> NoMemory {
 fn drop_apart<T: Drop>(_left: T) {}
 
 /// Makes a reply of its code and its body, which a `Decision` has apart.
-// A function, since the proof of `call_after` names what is known after it.
+// A function, since the proof of `call_after` names what is known after it; inlined, so that the
+// body isn't copied.
 #[inline(always)]
 fn reply_with(rv: Rv, body: Body) -> Reply
     ensures { result ≡ record { rv = rv; body = body } }
@@ -76,6 +78,8 @@ fn reply_with(rv: Rv, body: Body) -> Reply
 
 /// What may fail when a call is entered: the journal's copy of the reply's body, and room for the
 /// entry and for what the change adds.
+// Inlined, as `decide` and `dispatch` are: a decision is large, and functions of their own would
+// copy it.
 #[inline(always)]
 fn prepare(
     parts: &mut Parts,
@@ -215,6 +219,7 @@ impl Token {
     /// only one of these: those that open a session; that create, generate or copy an object; that
     /// set or read attributes; that find or return objects; that read the list of mechanisms; that
     /// start an operation; and that give a digest or a signature.
+    // Inlined, since a function that only hands a call on would copy it.
     #[inline(always)]
     pub fn call(&mut self, alloc: Global, caller: u32, call: Call) -> Result<Reply, NoMemory>
         ensures answered { IfOk result (λ reply. IsAnswered self.old self.new caller call reply) }
@@ -269,6 +274,7 @@ impl Token {
 
     /// The reply to a call, and what the call changes. `ready`, where it is given, is the running
     /// tag of the call's operation that has taken in the bytes of the call already.
+    // Inlined, as `prepare` is.
     #[inline(always)]
     fn decide(
         &self,
@@ -296,6 +302,7 @@ impl Token {
     }
 
     /// The decision on a call, by the call's own function. `ready` is as that of `decide`.
+    // Inlined, as `prepare` is.
     #[inline(always)]
     fn dispatch(
         &self,

@@ -1,4 +1,5 @@
-//! Return codes, mechanisms, users, PINs and limits of a PKCS #11 token.
+//! Return codes, mechanisms, hash functions, users, PINs, flags and limits of a PKCS #11 token, and
+//! the lists of bytes and of other items that all crates use.
 #![tactic(auto)]
 
 mod checks;

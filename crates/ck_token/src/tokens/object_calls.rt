@@ -155,6 +155,7 @@ impl Token {
     }
 
     /// The decision to add an object.
+    // Inlined, so that a decision isn't copied.
     #[inline(always)]
     fn creation(&self, session: u64, number: u64, attributes: Boxed<Record>) -> Decision
         requires number { number ≡ creations self.now.history + 1 }

@@ -141,7 +141,7 @@ impl Token {
             (user_login_error self.now.limits self.now.history user pin) result }
     {
         check_not_logged_in(user, self.logged_in())?;
-        self.check_read_write(user)?;
+        self.check_no_read_only(user)?;
         let credential = self.credential(user);
         error_if(credential.pin.is_none(), RvError::UserPinNotInitialized)?;
         check_lock(credential)?;
@@ -152,7 +152,7 @@ impl Token {
 
     /// CKR_SESSION_READ_ONLY_EXISTS (b7) for the security officer where a read-only session is
     /// open.
-    fn check_read_write(&self, user: UserType) -> Result<(), RvError>
+    fn check_no_read_only(&self, user: UserType) -> Result<(), RvError>
         ensures { result ≡ check_of (read_only_error user self.now.history) }
     {
         match user {

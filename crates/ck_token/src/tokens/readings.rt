@@ -59,6 +59,7 @@ impl Token {
     }
 
     /// The open session that has the handle, else CKR_SESSION_HANDLE_INVALID (b3).
+    // Inlined, since nearly every call begins with it.
     #[inline(always)]
     pub(super) fn session(&self, session: u64) -> Result<&Session, RvError>
         ensures open { IfOk result (λ row. is_open self.now.history session ≡ true) }

@@ -4,7 +4,8 @@ use ck_mac::RunningTag;
 use ck_operations::Operation;
 
 /// Whether the call takes in a long message: it isn't refused for its length or for an earlier
-/// update, and its reply isn't only a length.
+/// update, and its reply isn't only a length. A wrong answer would only cost time, since the call
+/// makes its checks itself.
 fn takes_long_message(call: &Call, operation: &Operation) -> bool {
     if !call.brings_long_message() || is_too_long(call.taken_bytes()) {
         return false;
@@ -44,6 +45,7 @@ impl Token {
 
     /// The running tag of the work, where the call's operation was last changed before the work was
     /// begun.
+    // Inlined, since a short call has no work, which is one look.
     #[inline(always)]
     pub(super) fn ready_tag<'a>(
         &self,
