@@ -5,9 +5,9 @@ use std::process::Abort;
 use std::test::Fail;
 
 /// A line, and the reply to its call.
-type Answered = (&'static str, &'static str);
+type CallAndReply = (&'static str, &'static str);
 
-const LINES: [Answered; 8] = [
+const LINES: [CallAndReply; 8] = [
     ("1 InitToken 31323334", "0"),
     ("1 OpenSession 6", "0 1"),
     ("1 CreateObject 1 0=0000000000000000,3=6162", "0 1"),
@@ -20,7 +20,7 @@ const LINES: [Answered; 8] = [
 
 /// Beginnings of the lines that are calls too. The first of the queries stands before the object
 /// is destroyed.
-const BEGINNINGS: [Answered; 13] = [
+const BEGINNINGS: [CallAndReply; 13] = [
     ("1 InitToken 31", "a2"),
     ("1 InitToken 3132", "a2"),
     ("1 InitToken 313233", "a2"),

@@ -34,11 +34,11 @@ fn a_comment_may_be_as_long_as_a_line(rt: HostRuntime) -> Result<(), Fail> {
 const MANY: usize = 10_000;
 
 /// A call and its reply. In both, what stands in parentheses is given many times.
-type Answered = (&'static str, &'static str);
+type CallAndReply = (&'static str, &'static str);
 
 /// Templates of many labels, each equal to the others, and of one more item.
 #[rattlefmt::skip]
-const TEMPLATES: [Answered; 20] = [
+const TEMPLATES: [CallAndReply; 20] = [
     ("1 CreateObject 1 0=0000000000000000(,3=61)", "0 1"),
     ("1 CreateObject 1 0=0000000000000000(,3=61),3=62", "d1"),
     ("1 CreateObject 1 0=0000000000000000(,3=61),103=01", "12"),
@@ -63,7 +63,7 @@ const TEMPLATES: [Answered; 20] = [
 
 /// Many queries. The last of some is refused.
 #[rattlefmt::skip]
-const QUERIES: [Answered; 4] = [
+const QUERIES: [CallAndReply; 4] = [
     ("1 CreateObject 1 0=0000000000000000,3=6162", "0 1"),
     ("1 GetAttributeValue 1 1 10:8(,3:8),3:?", "0 =-(,=6162),:2"),
     ("1 GetAttributeValue 1 1 10:?(,3:8),3:1", "150 :0(,=6162),!"),
@@ -72,7 +72,7 @@ const QUERIES: [Answered; 4] = [
 
 /// A value of 100,000 bytes, which are ten bytes many times.
 #[rattlefmt::skip]
-const VALUES: [Answered; 8] = [
+const VALUES: [CallAndReply; 8] = [
     ("1 CreateObject 1 0=0000000000000000,11=(6162636465666768696a)", "0 1"),
     ("1 GetAttributeValue 1 1 11:?", "0 :100000"),
     ("1 GetAttributeValue 1 1 11:99999", "150 !"),
@@ -96,7 +96,7 @@ fn written_out(alloc: Global, text: &str) -> Result<String, Fail> {
 }
 
 /// Plays these calls in session 1 of a new token: these replies are written.
-fn check_calls(rt: &impl Abort, alloc: Global, calls: &[Answered]) -> Result<(), Fail> {
+fn check_calls(rt: &impl Abort, alloc: Global, calls: &[CallAndReply]) -> Result<(), Fail> {
     let mut script = String::from_str(alloc, "1 InitToken 31323334\n1 OpenSession 6\n")?;
     let mut replies = String::from_str(alloc, "0\n0 1\n")?;
     for (call, reply) in calls {

@@ -8,10 +8,10 @@ use std::process::Abort;
 use std::test::Fail;
 
 /// A script, the replies to it, and how playing ends.
-type Play = (&'static str, &'static str, End);
+type ScriptRow = (&'static str, &'static str, End);
 
 #[rattlefmt::skip]
-const PLAYS: [Play; 27] = [
+const PLAYS: [ScriptRow; 27] = [
     ("# x", "", End::Played),
     ("", "", End::Played),
     ("\n\n# x\n", "", End::Played),
@@ -41,7 +41,7 @@ const PLAYS: [Play; 27] = [
     ("1 InitToken 3", "", End::Line(1)),
 ];
 
-fn check_plays(rt: &impl Abort, alloc: Global, plays: &[Play], devices: Devices) {
+fn check_plays(rt: &impl Abort, alloc: Global, plays: &[ScriptRow], devices: Devices) {
     for play in plays {
         check_script(rt, alloc, devices, *play);
     }

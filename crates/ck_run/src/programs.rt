@@ -8,7 +8,7 @@ use std::process::Abort;
 use std::test::Fail;
 
 /// The arguments of the program, a script, what the program writes, and its status.
-type Play = (&'static str, &'static str, &'static str, u8);
+type ProgramRow = (&'static str, &'static str, &'static str, u8);
 
 /// The same, and behind the script the read and the write that fail, 0 for none.
 type FailingPlay = (&'static str, &'static str, u64, u64, &'static str, u8);
@@ -40,7 +40,7 @@ Options:
 ";
 
 #[rattlefmt::skip]
-const PLAYS: [Play; 11] = [
+const PLAYS: [ProgramRow; 11] = [
     ("ck_run", "", "", 0),
     ("ck_run", "1 InitToken 31323334", "0\n", 0),
     ("ck_run", "1 InitToken 31\n1 Login", "a2\n", 1),
