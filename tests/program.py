@@ -388,6 +388,16 @@ def audits(tests):
     tests.end("the journal of callers is audited, and an audit finds no memory for many objects")
 
 
+def many_changes(tests):
+    """What a shared token takes for each call that changes sessions or logins it gives back."""
+    count = 50_000
+    script = b"1 InitToken 31323334\n" + b"".join(
+        b"1 OpenSession 6\n1 CloseSession %d\n" % (number + 1) for number in range(count))
+    tests.check(["--callers", "1"], script, b"entries %d\naudit ok\n" % (2 * count + 1), *PLAYED,
+                preexec_fn=leave_little_room)
+    tests.end("calls that open and close sessions leave no memory behind")
+
+
 def count_threads(tests, words, script):
     """How many threads the program has at once at the most, with the one that it begins with. And
     what it writes, and its status."""
@@ -411,6 +421,17 @@ def side_by_side(tests):
     tests.expect(most >= 5, f"with eight callers there are {most} threads at once")
     tests.expect(end == (b"entries 200000\naudit ok\n", *PLAYED), f"with eight callers: {end}")
     tests.end("callers have their threads at the same time")
+
+
+def seldom_asleep(tests):
+    """A caller of a short call looks for the lock again before it sleeps: what it sleeps then takes
+    far longer than the call."""
+    script = b"".join(b"%d GetTokenInfo\n" % (1 + count % 4) for count in range(MANY_SHORT))
+    before = resource.getrusage(resource.RUSAGE_CHILDREN).ru_nvcsw
+    tests.check(["--callers", "4"], script, b"entries %d\naudit ok\n" % MANY_SHORT, *PLAYED)
+    times = resource.getrusage(resource.RUSAGE_CHILDREN).ru_nvcsw - before
+    tests.expect(times < MOST_SLEEPS, f"{MANY_SHORT} short calls slept {times} times")
+    tests.end("callers of short calls seldom sleep")
 
 
 def threads(tests):
@@ -472,7 +493,9 @@ def main(program):
     longest_lines(tests)
     callers(tests)
     audits(tests)
+    many_changes(tests)
     side_by_side(tests)
+    seldom_asleep(tests)
     threads(tests)
     arguments(tests)
     readers(tests)

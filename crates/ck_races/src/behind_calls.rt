@@ -2,7 +2,7 @@
 //! since: its bytes aren't taken in once more under the lock.
 use crate::asks::expect;
 use crate::journals::check_audit;
-use crate::shared_work::{Shared, SharedWork, share_with};
+use crate::shared_work::{Shared, SharedWork, share_timed};
 use anyhow::{Context, bail};
 use ck_shared::{Caller, Runtime, TokenId};
 use ck_token::{Bytes, Call, Limits, Mechanism, Pin, READ_WRITE, Rv, SHA256, Token};
@@ -77,12 +77,8 @@ fn time_alone<R: CpuClock + Runtime>(rt: &R) -> anyhow::Result<Duration> {
 /// What they take on a shared token, each behind a call of the other caller. Says how many calls
 /// there are, too.
 fn time_behind<R: CpuClock + Runtime>(rt: R) -> anyhow::Result<(Duration, u64)> {
-    let alloc = rt.alloc();
-    let token = Token::new(alloc, Limits::largest());
-    let before = rt.process_cpu_time()?;
-    let (token, _outcome) = share_with(rt, token, 2, &SharedWork::CallsBehindCalls)?;
-    let time = rt.process_cpu_time()?.saturating_sub(before);
-    Ok((time, check_audit(alloc, &token)?))
+    let (time, token, _outcome) = share_timed(rt, &SharedWork::CallsBehindCalls)?;
+    Ok((time, check_audit(rt.alloc(), &token)?))
 }
 
 /// Makes the calls, until they take less than one and a half times what they take on a token that

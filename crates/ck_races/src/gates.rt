@@ -1,5 +1,5 @@
-//! Gates before a shared token. They hold calls until others have come, or do some work before a
-//! call.
+//! Gates before a shared token. They hold calls until others have come, do some work before a call,
+//! or hold the lock.
 use crate::orders::CallOrder;
 use ck_shared::{Caller, Gate, SharedToken, TokenId};
 use ck_token::{Call, JournaledToken, NoMemory, Reply};
@@ -16,6 +16,9 @@ const MOST_LOCKS: u64 = 100_000_000;
 const MOST_LOOKS: u32 = 1_000_000;
 
 const LONGEST_SLEEP: u64 = 20;
+
+/// How long a `HoldingGate` holds the lock, in milliseconds.
+const HELD: u64 = 500;
 
 /// Waits until the lock was taken, of which this is the count.
 pub(crate) fn await_lock<W: Wait>(rt: &W, locks: &AtomicU64) {
@@ -146,5 +149,44 @@ impl<'a, K: TokenId, G: JournaledToken, R: Wait + Drop> Gate<K> for LockingGate<
         let reply = self.token.call(rt, alloc, caller, call);
         self.messages.fetch_sub(1, Ordering::SeqCst);
         reply
+    }
+}
+
+/// A gate before a shared token. The call of caller 1 is made under a lock that is held for long.
+/// Other calls begin when the lock was taken.
+#[derive(Drop)]
+pub(crate) struct HoldingGate<'a, K: TokenId, G: JournaledToken, R: Wait + Drop> {
+    token: &'a SharedToken<K, G, R>,
+    /// How many times the lock was held for long.
+    locks: AtomicU64,
+}
+
+impl<'a, K: TokenId, G: JournaledToken, R: Wait + Drop> HoldingGate<'a, K, G, R> {
+    /// A gate before a token, which answers the calls.
+    pub(crate) fn new(token: &'a SharedToken<K, G, R>) -> HoldingGate<'a, K, G, R> {
+        HoldingGate {
+            token,
+            locks: AtomicU64::new(0),
+        }
+    }
+}
+
+impl<'a, K: TokenId, G: JournaledToken, R: Wait + Drop> Gate<K> for HoldingGate<'a, K, G, R> {
+    fn call<W: Wait>(
+        &self,
+        rt: &W,
+        alloc: Global,
+        caller: &mut Caller<K>,
+        call: Call,
+    ) -> Result<Reply, NoMemory> {
+        if caller.number() != 1 {
+            await_lock(rt, &self.locks);
+            return self.token.call(rt, alloc, caller, call);
+        }
+        let mut locked = self.token.lock(rt);
+        self.locks.store(1, Ordering::SeqCst);
+        // Nobody wakes it.
+        self.locks.park_timeout(rt, 1, Duration::from_millis(HELD));
+        locked.step(rt, alloc, caller, call)
     }
 }

@@ -8,9 +8,10 @@ use crate::orders::CallOrder;
 use crate::races::Race;
 use anyhow::{bail, ensure};
 use ck_shared::{Caller, Ends, NewIdentity, Runtime, SharedToken, TokenId};
-use ck_token::{Call, NoMemory, Reply, Token};
+use ck_token::{Call, Limits, NoMemory, Reply, Token};
 use std::alloc::Global;
 use std::marker::Brand;
+use std::time::{CpuClock, Duration};
 
 /// What is done with a shared token and its callers.
 #[derive(Drop)]
@@ -229,4 +230,17 @@ pub(crate) fn share_with<R: Runtime>(
             Err(_) => bail!("memory lacks a second time"),
         },
     }
+}
+
+/// Shares a new token between two callers, does the work and takes the token back. Says what that
+/// takes of the processor, too.
+pub(crate) fn share_timed<R: CpuClock + Runtime>(
+    rt: R,
+    work: &SharedWork,
+) -> anyhow::Result<(Duration, Token, Outcome)> {
+    let token = Token::new(rt.alloc(), Limits::largest());
+    let before = rt.process_cpu_time()?;
+    let (token, outcome) = share_with(rt, token, 2, work)?;
+    let time = rt.process_cpu_time()?.saturating_sub(before);
+    Ok((time, token, outcome))
 }

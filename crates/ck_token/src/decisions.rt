@@ -30,7 +30,7 @@ impl From<RvError> for Refused {
 
     ghost from_gives = { λ code made. made ≡ refused.Error code change.Nothing };
 
-    // Inlined, so that a refusal isn't copied.
+    // Inlined, as the functions below are, so that a refusal or a decision isn't copied.
     #[inline(always)]
     fn from(error: RvError) -> Refused {
         Refused::Error {
@@ -45,7 +45,6 @@ impl From<NoMemory> for Refused {
 
     ghost from_gives = { λ _ made. made ≡ refused.Memory };
 
-    // Inlined, so that a refusal isn't copied.
     #[inline(always)]
     fn from(_error: NoMemory) -> Refused {
         Refused::Memory
@@ -57,7 +56,6 @@ impl From<AllocError> for Refused {
 
     ghost from_gives = { λ _ made. made ≡ refused.Memory };
 
-    // Inlined, so that a refusal isn't copied.
     #[inline(always)]
     fn from(_error: AllocError) -> Refused {
         Refused::Memory
@@ -70,7 +68,6 @@ impl Decision {
     ghost use Rattle.ck_parts.specs.declared.changes.Change.TheVariants as change;
 
     /// A call that is answered CKR_OK with no body, and changes this.
-    // Inlined, so that a decision isn't copied.
     #[inline(always)]
     pub(crate) fn of_change(change: Change) -> Decision
         ensures { result ≡ record { rv = rv.Ok; body = body.Empty; change = change } }
@@ -83,7 +80,6 @@ impl Decision {
     }
 
     /// A call that is answered CKR_OK with this body, and changes nothing.
-    // Inlined, so that a decision isn't copied.
     #[inline(always)]
     pub(crate) fn of_body(body: Body) -> Decision
         ensures { result ≡ record { rv = rv.Ok; body = body; change = change.Nothing } }

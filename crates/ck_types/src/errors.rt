@@ -92,13 +92,6 @@ impl RvError {
     ghost use Rattle.ck_types.specs.ReturnCodes.{error_number, error_of};
     ghost use Rattle.ck_types.specs.declared.errors.RvError.{RvError};
 
-    /// The number that the standard gives the code.
-    pub fn number(&self) -> u64
-        ensures { result ≡ error_number self.now }
-    {
-        *self as u64
-    }
-
     /// The error with this number, or `None` where the token has no such error.
     pub(crate) fn of(number: u64) -> Option<RvError>
         ensures error { result ≡ error_of number }
@@ -147,5 +140,12 @@ impl RvError {
             0x150 => Some(RvError::BufferTooSmall),
             _ => None,
         }
+    }
+
+    /// The number that the standard gives the code.
+    pub fn number(&self) -> u64
+        ensures { result ≡ error_number self.now }
+    {
+        *self as u64
     }
 }
