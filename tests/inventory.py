@@ -171,6 +171,10 @@ def c_files():
     return files("module/tests/*.c") + files("bench/*.c")
 
 
+def sources_in_c():
+    return files("module/*.c")
+
+
 def c_tests():
     return [f"{path} {name}" for path in c_files() for name in C_TEST.findall(code_of(path))]
 
@@ -423,11 +427,12 @@ def module_faults():
 
 
 def hindrance_faults():
-    """No test is kept from being run, and no comment ends elsewhere than it is taken to."""
-    for path in sources() + c_files():
+    """No test is kept from being run, all builds of the module have the same code, and no comment
+    ends elsewhere than it is taken to."""
+    for path in sources() + c_files() + sources_in_c():
         form = C_CONDITION if path.endswith(".c") else HINDRANCE
         for line in form.findall(code_of(path)):
-            yield f"{path}: by this line tests may be left out: {line.strip()}"
+            yield f"{path}: by this line tests, or what they test, may be left out: {line.strip()}"
         if "*/" in COMMENT.sub("", text_of(path)):
             yield f"{path} has a comment in a comment"
 

@@ -118,6 +118,8 @@ WRONG_CHANGES = [
     ("an edit that changes nothing", EDITS, "^old: (.*)\nnew: .*", r"old: \1\nnew: \1"),
     ("tests that aren't started", "check", "^part .* python3 tests/.*\n", ""),
     ("a test that isn't run", "crates/ck_run/src/*.rt", "#.test.", "#[ignore] #[test]"),
+    ("a check that only some builds have", "module/*.c", "^( *if [(].* == NULL[)]\\n)",
+     r"#ifdef __SANITIZE_ADDRESS__\n\1#endif\n"),
     ("a status that is always 0", "check", "^.*failed. -eq 0 .*\n", "true\n"),
 ]
 

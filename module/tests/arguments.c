@@ -1,5 +1,6 @@
 /*
- * NULL pointers, and lengths that no memory has, in the arguments of calls.
+ * What the arguments of calls may be: NULL pointers, lengths that no memory has, numbers of more
+ * than 32 bits, and an application's function for notifications.
  */
 #include "conventions.h"
 
@@ -319,6 +320,67 @@ static void test_longest_value(void) {
     end_token();
 }
 
+/* Numbers are compared with all their bits. */
+static void test_high_numbers(void) {
+    const CK_ULONG high = (CK_ULONG)1 << 32;
+    CK_SESSION_HANDLE session = begin_token();
+    CK_OBJECT_HANDLE object = create_data(session, "label"), key = create_key(session, "Jefe");
+    CK_MECHANISM sha256 = mechanism_of(CKM_SHA256), hmac = mechanism_of(CKM_SHA256_HMAC);
+    CK_MECHANISM high_sha256 = mechanism_of(CKM_SHA256 + high);
+    CK_MECHANISM high_hmac = mechanism_of(CKM_SHA256_HMAC + high);
+    CK_MECHANISM_INFO mechanism_info;
+    CK_SESSION_INFO session_info;
+    CK_ATTRIBUTE label = {CKA_LABEL + high, NULL, 0};
+    CK_BYTE out[32];
+    CK_ULONG size = 0;
+    length = sizeof out;
+    EXPECT(CKR_MECHANISM_INVALID, p11->C_DigestInit(session, &high_sha256));
+    EXPECT(CKR_MECHANISM_INVALID, p11->C_SignInit(session, &high_hmac, key));
+    EXPECT(CKR_MECHANISM_INVALID, p11->C_GetMechanismInfo(0, CKM_SHA256 + high, &mechanism_info));
+    EXPECT(CKR_ATTRIBUTE_TYPE_INVALID, p11->C_GetAttributeValue(session, object, &label, 1));
+    EXPECT(CKR_OBJECT_HANDLE_INVALID, p11->C_GetObjectSize(session, object + high, &size));
+    EXPECT(CKR_OBJECT_HANDLE_INVALID, p11->C_DestroyObject(session, object + high));
+    EXPECT(CKR_OK, p11->C_DigestInit(session, &sha256));
+    EXPECT(CKR_OK, p11->C_FindObjectsInit(session, NULL, 0));
+    EXPECT(CKR_SESSION_HANDLE_INVALID, p11->C_DigestInit(session + high, &sha256));
+    EXPECT(CKR_SESSION_HANDLE_INVALID, p11->C_DigestUpdate(session + high, bytes, 5));
+    EXPECT(CKR_SESSION_HANDLE_INVALID, p11->C_DigestFinal(session + high, out, &length));
+    EXPECT(CKR_SESSION_HANDLE_INVALID, p11->C_SignInit(session + high, &hmac, key));
+    EXPECT(CKR_SESSION_HANDLE_INVALID, p11->C_FindObjectsFinal(session + high));
+    EXPECT(CKR_SESSION_HANDLE_INVALID, p11->C_SessionCancel(session + high, CKF_DIGEST));
+    EXPECT(CKR_SESSION_HANDLE_INVALID, p11->C_GenerateRandom(session + high, out, sizeof out));
+    EXPECT(CKR_SESSION_HANDLE_INVALID, p11->C_GetSessionInfo(session + high, &session_info));
+    EXPECT(CKR_SESSION_HANDLE_INVALID, p11->C_DestroyObject(session + high, object));
+    EXPECT(CKR_SESSION_HANDLE_INVALID, p11->C_Logout(session + high));
+    EXPECT(CKR_SESSION_HANDLE_INVALID, p11->C_CloseSession(session + high));
+    EXPECT(CKR_SLOT_ID_INVALID, p11->C_CloseAllSessions(high));
+    EXPECT(CKR_OK, p11->C_Logout(session));
+    EXPECT(CKR_USER_TYPE_INVALID, p11->C_Login(session, CKU_SO + high, so_pin, 4));
+    EXPECT(CKR_OK, p11->C_Login(session, CKU_SO, so_pin, 4));
+    end_token();
+}
+
+static size_t notifications;
+
+static CK_RV count_notification(CK_SESSION_HANDLE session, CK_NOTIFICATION event,
+                                CK_VOID_PTR application) {
+    (void)session, (void)event, (void)application;
+    notifications++;
+    return CKR_OK;
+}
+
+/* There is nothing that the library would notify an application of. */
+static void test_notifications(void) {
+    CK_SESSION_HANDLE session = begin_token(), notified = 0;
+    notifications = 0;
+    EXPECT(CKR_OK, p11->C_OpenSession(0, read_write, bytes, count_notification, &notified));
+    CHECK(notified != 0 && notified != session);
+    EXPECT(CKR_OK, p11->C_OpenSession(0, read_write, NULL, count_notification, &notified));
+    EXPECT(CKR_OK, p11->C_CloseSession(notified));
+    CHECK(notifications == 0);
+    end_token();
+}
+
 static const struct test tests[] = {
     {"NULL pointers: the library, slots and tokens", test_null_general},
     {"NULL pointers: PINs", test_null_pins},
@@ -332,6 +394,8 @@ static const struct test tests[] = {
     {"lengths of messages, PINs and random bytes that no memory has", test_lengths_of_no_memory},
     {"templates of 2^20 attributes and of one more", test_most_attributes},
     {"values of 2^24 bytes and of more than 2^30", test_longest_value},
+    {"numbers of which only the lower 32 bits are right", test_high_numbers},
+    {"sessions that are opened with a function for notifications", test_notifications},
 };
 
 int run_argument_tests(const char *name) {

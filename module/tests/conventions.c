@@ -2,7 +2,8 @@
  * The conventions of the C interface, which the token itself knows nothing of: pointers, lengths
  * and rooms, the order of initialization, the lists of functions, the application's lock, forks and
  * the environment variables. Called with the module's file and a temporary folder, and with the
- * word `journals` where each token is to keep a journal there. It is linked with -rdynamic, so that
+ * word `journals` where each token is to keep a journal there, or the word `built` where the module
+ * is the one that module/build makes, and not a sanitized one. It is linked with -rdynamic, so that
  * its own C_GetFunctionList is there for all libraries, as that of p11-kit may be. The tests stand
  * in several files, which conventions.h names; here are those of the lists of functions and of the
  * arguments of C_Initialize.
@@ -125,6 +126,7 @@ static void test_interfaces(void) {
     EXPECT(CKR_ARGUMENTS_BAD, p11->C_GetInterface(NULL, &v1_0, &interface, 0));
     EXPECT(CKR_ARGUMENTS_BAD,
            p11->C_GetInterface(NULL, NULL, &interface, CKF_INTERFACE_FORK_SAFE));
+    EXPECT(CKR_ARGUMENTS_BAD, p11->C_GetInterface(NULL, NULL, &interface, 2));
     check(is_interface(interface, "Vendor Ospreyrack", 1, 0), "what is refused gives no interface");
     EXPECT(CKR_ARGUMENTS_BAD, p11->C_GetInterface(NULL, NULL, NULL, 0));
     EXPECT(CKR_ARGUMENTS_BAD, p11->C_GetFunctionList(NULL));
@@ -533,15 +535,17 @@ static const struct test tests[] = {
 
 int main(int count, char **arguments) {
     has_journals = count == 4 && strcmp(arguments[3], "journals") == 0;
-    if (count != 3 && !has_journals) {
-        fprintf(stderr, "conventions MODULE FOLDER [journals]\n");
+    bool is_built = count == 4 && strcmp(arguments[3], "built") == 0;
+    if (count != 3 && !has_journals && !is_built) {
+        fprintf(stderr, "conventions MODULE FOLDER [journals | built]\n");
         return 2;
     }
     folder = arguments[2];
     if (has_journals)
         keep_journals(folder);
     load_module(arguments[1]);
-    const char *name = has_journals ? "conventions by lines" : "conventions";
+    const char *name = has_journals ? "conventions by lines"
+        : is_built ? "conventions of the built module" : "conventions";
     int status = run_tests(name, tests, sizeof tests / sizeof *tests);
     status |= run_argument_tests(name);
     status |= run_room_tests(name);

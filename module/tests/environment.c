@@ -197,6 +197,19 @@ static void check_random_bytes(CK_SESSION_HANDLE session, CK_ULONG count) {
     check(memchr(seen, 0, count) == NULL, "C_GenerateRandom writes each byte");
 }
 
+/* Of many bytes each part is written. */
+static void check_many_random_bytes(CK_SESSION_HANDLE session) {
+    enum { MANY_BYTES = 200000, PART = 1000 };
+    uint8_t *out = guarded_new(MANY_BYTES);
+    size_t written = 0;
+    EXPECT(CKR_OK, p11->C_GenerateRandom(session, out, MANY_BYTES));
+    for (size_t place = 0; place < MANY_BYTES; place += PART)
+        written += guarded_is_written(out + place, PART);
+    CHECK(written == MANY_BYTES / PART);
+    CHECK(guarded_is_intact(out, MANY_BYTES, MANY_BYTES));
+    guarded_free(out);
+}
+
 static void test_random(void) {
     CK_SESSION_HANDLE session = begin_token();
     uint8_t *first = guarded_new(1000), *second = guarded_new(1000);
@@ -207,6 +220,7 @@ static void test_random(void) {
     CHECK(memcmp(first, first + 500, 499) != 0);
     for (CK_ULONG count = 1; count <= 1000; count = 10 * count)
         check_random_bytes(session, count);
+    check_many_random_bytes(session);
     EXPECT(CKR_SESSION_HANDLE_INVALID, p11->C_GenerateRandom(session + 1, first, 1));
     EXPECT(CKR_RANDOM_SEED_NOT_SUPPORTED, p11->C_SeedRandom(session, first, 4));
     EXPECT(CKR_RANDOM_SEED_NOT_SUPPORTED, p11->C_SeedRandom(session, NULL, 0));
@@ -324,6 +338,8 @@ static void test_bad_variables(void) {
         check_variable(unknown[i], "1", ": there is no such variable\n");
     check_variable("OSPREYRACK_CUT", "maybe", ": the value is yes or no, and not maybe\n");
     check_variable("OSPREYRACK_CUT", "YES", ": the value is yes or no, and not YES\n");
+    check_variable("OSPREYRACK_CUT", "yess", ": the value is yes or no, and not yess\n");
+    check_variable("OSPREYRACK_CUT", "now", ": the value is yes or no, and not now\n");
 }
 
 /* Whatever bytes a value or a file has, the message is one line, in which a terminal finds nothing

@@ -1463,7 +1463,8 @@ int __register_atfork(void (*prepare)(void), void (*parent)(void), void (*child)
     return real(prepare, parent, child, library);
 }
 
-/* To be called before the library is first initialized: it asks for its function only once. */
+/* To be called before the library is first initialized: once it has its function, it doesn't ask
+ * again. */
 static void initialize_without_registration(void) {
     refuses_registration = true;
     code_without_registration = p11->C_Initialize(NULL);
@@ -1472,8 +1473,17 @@ static void initialize_without_registration(void) {
         p11->C_Finalize(NULL);
 }
 
+static void look_as_child(void) {
+    CK_INFO info;
+    _exit(p11->C_GetInfo(&info) == CKR_CRYPTOKI_NOT_INITIALIZED ? 0 : 1);
+}
+
+/* Behind the refusal C_Initialize asks again, so that the child of a fork begins anew. */
 static void test_registration(void) {
     check_code(code_without_registration, CKR_HOST_MEMORY, "C_Initialize");
+    begin_library();
+    CHECK(status_of_child(look_as_child) == 0);
+    end_library();
 }
 
 /* ---- Growths of C_Initialize with the application's mutex functions */
@@ -1682,9 +1692,32 @@ static void test_short_writes(void) {
     unsetenv("OSPREYRACK_JOURNAL");
 }
 
-/* A line of which only a part can be written. Where that can't be cut off, standard error says
- * so, and whoever goes on from the file drops it. */
-static void check_part(bool stays, const char *expected) {
+/* A write that takes nothing, and says no error, isn't made again and again: the alarm would end
+ * this program. */
+static void test_empty_writes(void) {
+    enum { MOST_SECONDS = 60 };
+    struct result ignored;
+    unlink(journal);
+    setenv("OSPREYRACK_JOURNAL", journal, 1);
+    begin_library();
+    off_t length = length_of(journal);
+    most_written = 0;
+    alarm(MOST_SECONDS);
+    EXPECT(CKR_DEVICE_ERROR, get_token_info(&ignored));
+    alarm(0);
+    most_written = SIZE_MAX;
+    EXPECT(CKR_DEVICE_ERROR, get_token_info(&ignored));
+    CHECK(length_of(journal) == length);
+    end_library();
+    check_journal();
+    unsetenv("OSPREYRACK_JOURNAL");
+}
+
+/* A line of which only a part can be written. Where that can't be cut off, since the file's status
+ * can't be read or it can't be shortened, standard error says so, and whoever goes on from the file
+ * drops it. */
+static void check_part(int fault_of_status, bool refuses_cut, const char *expected) {
+    bool stays = fault_of_status != 0 || refuses_cut;
     struct result ignored;
     char said[1000];
     unlink(journal);
@@ -1692,10 +1725,12 @@ static void check_part(bool stays, const char *expected) {
     begin_library();
     off_t length = length_of(journal);
     left_room = 5;
-    refuses_truncation = stays;
+    status_error = fault_of_status;
+    refuses_truncation = refuses_cut;
     keep_errors();
     EXPECT(CKR_DEVICE_ERROR, get_token_info(&ignored));
     left_room = SIZE_MAX;
+    status_error = 0;
     read_errors(said, sizeof said);
     check(strcmp(said, expected) == 0, said);
     EXPECT(CKR_DEVICE_ERROR, get_token_info(&ignored));
@@ -1707,10 +1742,12 @@ static void check_part(bool stays, const char *expected) {
 }
 
 static void test_parts(void) {
-    check_part(false, "ospreyrack: OSPREYRACK_JOURNAL: a call can't be written: No space left on "
-               "device\n");
-    check_part(true, "ospreyrack: OSPREYRACK_JOURNAL: a call can't be written: No space left on "
-               "device, and a part of it stays in the file\n");
+    static const char stays[] = "ospreyrack: OSPREYRACK_JOURNAL: a call can't be written: No space "
+        "left on device, and a part of it stays in the file\n";
+    check_part(0, false, "ospreyrack: OSPREYRACK_JOURNAL: a call can't be written: No space left "
+               "on device\n");
+    check_part(0, true, stays);
+    check_part(EIO, false, stays);
 }
 
 /* C_Initialize where each of these system calls fails: standard error says by what. */
@@ -1811,6 +1848,7 @@ static const struct test tests[] = {
     {"a call whose line is written after interruptions", test_interrupted_write},
     {"a file that is opened and cut off after interruptions", test_interrupted_start},
     {"a call whose line is written in parts", test_short_writes},
+    {"a call whose line can't be written, where no error says so", test_empty_writes},
     {"a call whose line can't be written, where no signal says so", test_errors_without_signals},
     {"a signal of a write that is taken after an interruption", test_interrupted_wait},
     {"a line that is written in part, and a part that can't be cut off", test_parts},

@@ -160,14 +160,17 @@ class Arguments(ctypes.Structure):
                 ("reserved", ctypes.c_void_p * 2)]
 
 
+# There is one thread only, so the functions for the lock need not do anything.
+NO_LOCKING = MUTEX_FUNCTION(lambda mutex: 0)
+WITH_FUNCTIONS = Arguments((MUTEX_FUNCTION * 4)(*[NO_LOCKING] * 4))
+
+
 def unload_with_functions(path):
     """Unloads the library in the middle of its work under the application's lock, and begins with
-    it anew. There is one thread only, so the functions for the lock need not do anything."""
+    it anew."""
     module = support.Module(path)
-    function = MUTEX_FUNCTION(lambda mutex: 0)
-    arguments = Arguments((MUTEX_FUNCTION * 4)(*[function] * 4))
-    print(module.call("Initialize", ctypes.byref(arguments)), module.say("1 InitToken 31323334"),
-          flush=True)
+    print(module.call("Initialize", ctypes.byref(WITH_FUNCTIONS)),
+          module.say("1 InitToken 31323334"), flush=True)
     _ctypes.dlclose(module.library._handle)
     print(open_files().count(os.environ["OSPREYRACK_TOKEN"]),
           support.Module(path).call("Initialize", None), flush=True)
@@ -435,6 +438,8 @@ class Tests:
             self.module.label = label
             self.begin(TOKEN=path)
             self.checks.equal(self.module.say("1 InitToken 31323334"), "0", "InitToken")
+            self.checks.check(read(path).endswith(f"# label {label.hex()}\n".encode()),
+                              "the label stands in the file at once")
             self.module.label = b"of a call that is refused".ljust(32)
             self.checks.equal(self.module.say("1 InitToken 3132333435"), "a0", "a wrong PIN")
             self.end()
@@ -651,6 +656,8 @@ class Tests:
         self.say_all(LOG_IN[:2] + [f"1 CreateObject 1 0=0000000000000000,2=00,11={'61' * 100000}"])
         reply = self.module.say("1 GetAttributeValue 1 1 " + ",".join(["11:100000"] * 25))
         self.checks.check(len(reply) > LONGEST_LINE, f"a reply of {len(reply)} bytes")
+        whole = "0 " + ",".join(["=" + "61" * 100000] * 25)
+        self.checks.check(reply == whole, "each value of the reply is whole")
         self.end()
         self.begin(TOKEN=path)
         self.end()
@@ -863,6 +870,17 @@ class Tests:
                 self.checks.equal(worker.code, "0", "C_Initialize of another process")
                 self.checks.equal(worker.say("1 InitToken 31323334"), "0", "its call")
                 self.checks.equal(worker.end(), "", "its errors")
+        # The same where the application has a lock of its own.
+        os.environ["OSPREYRACK_TOKEN"] = path
+        self.checks.equal(self.module.call("Initialize", ctypes.byref(WITH_FUNCTIONS)), 0,
+                          "C_Initialize with functions for a lock")
+        self.checks.equal(open_files().count(path), 1, "the parent's descriptors of the file")
+        with self.child_of_fork(lambda: [str(open_files().count(path))]) as seen:
+            self.checks.equal(seen, ["0"], "the child's descriptors of the file")
+            self.end()
+            worker = Worker(self.path, TOKEN=path)
+            self.checks.equal(worker.code, "0", "C_Initialize of another process")
+            self.checks.equal(worker.end(), "", "its errors")
 
     def test_exec(self):
         """A program that is executed has no descriptor of the file."""

@@ -195,6 +195,17 @@ static void test_locks_of_messages(void) {
         EXPECT(CKR_OK, p11->C_VerifyUpdate(current_session, large, given));
         CHECK(locks == before + 3 * expected);
     }
+    CK_FLAGS all = CKF_DIGEST | CKF_SIGN | CKF_VERIFY;
+    EXPECT(CKR_OK, p11->C_SessionCancel(current_session, all));
+    EXPECT(CKR_OK, p11->C_DigestInit(current_session, &sha256));
+    EXPECT(CKR_OK, p11->C_SignInit(current_session, &hmac, current_key));
+    /* The room is exact. */
+    length = 32;
+    before = locks;
+    EXPECT(CKR_OK, p11->C_Digest(current_session, large, LONG_MESSAGE, result, &length));
+    CHECK(locks == before + 3);
+    EXPECT(CKR_OK, p11->C_Sign(current_session, large, LONG_MESSAGE, result, &length));
+    CHECK(locks == before + 6);
     end_token();
 }
 

@@ -9,7 +9,8 @@
 
 static void test_pins(void) {
     CK_SESSION_HANDLE session = begin_token();
-    CK_UTF8CHAR pin[200];
+    CK_UTF8CHAR pin[200], zero_pin[] = {'a', 'b', 'c', 'd', 0, 'e'};
+    CK_UTF8CHAR other_zero_pin[] = {'a', 'b', 'c', 'd', 0, 'f'};
     memset(pin, 'p', sizeof pin);
     EXPECT(CKR_PIN_LEN_RANGE, p11->C_SetPIN(session, user_pin, 4, pin, 3));
     EXPECT(CKR_PIN_LEN_RANGE, p11->C_SetPIN(session, user_pin, 4, pin, 65));
@@ -19,6 +20,13 @@ static void test_pins(void) {
     EXPECT(CKR_PIN_INCORRECT, p11->C_Login(session, CKU_USER, pin, 200));
     EXPECT(CKR_PIN_INCORRECT, p11->C_Login(session, CKU_USER, pin, 65));
     EXPECT(CKR_OK, p11->C_Login(session, CKU_USER, pin, 64));
+    /* A zero byte counts like any other. */
+    EXPECT(CKR_OK, p11->C_SetPIN(session, pin, 64, zero_pin, sizeof zero_pin));
+    EXPECT(CKR_OK, p11->C_Logout(session));
+    EXPECT(CKR_PIN_INCORRECT,
+           p11->C_Login(session, CKU_USER, other_zero_pin, sizeof other_zero_pin));
+    EXPECT(CKR_PIN_INCORRECT, p11->C_Login(session, CKU_USER, zero_pin, 4));
+    EXPECT(CKR_OK, p11->C_Login(session, CKU_USER, zero_pin, sizeof zero_pin));
     end_token();
 }
 
@@ -153,6 +161,26 @@ static void test_label(void) {
     end_token();
 }
 
+static bool is_among(CK_MECHANISM_TYPE type, const CK_MECHANISM_TYPE *types, CK_ULONG count) {
+    for (CK_ULONG i = 0; i < count; i++) {
+        if (types[i] == type)
+            return true;
+    }
+    return false;
+}
+
+/* Nothing is said of mechanisms that aren't listed. */
+static void check_other_mechanisms(const CK_MECHANISM_TYPE *types, CK_ULONG count) {
+    enum { TYPES = 0x1100 };
+    CK_MECHANISM_INFO info;
+    CK_ULONG refused = 0;
+    for (CK_MECHANISM_TYPE type = 0; type < TYPES; type++) {
+        if (!is_among(type, types, count))
+            refused += p11->C_GetMechanismInfo(0, type, &info) == CKR_MECHANISM_INVALID;
+    }
+    CHECK(refused == TYPES - count);
+}
+
 static void test_mechanisms(void) {
     CK_MECHANISM_TYPE types[13];
     CK_MECHANISM_INFO info;
@@ -172,6 +200,7 @@ static void test_mechanisms(void) {
         CHECK(info.ulMinKeySize == unit && info.ulMaxKeySize == 4096 * unit);
     }
     EXPECT(CKR_MECHANISM_INVALID, p11->C_GetMechanismInfo(0, CKM_RSA_PKCS, &info));
+    check_other_mechanisms(types, count);
     end_token();
 }
 
