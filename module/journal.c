@@ -35,6 +35,8 @@ static bool lock_file(struct journal *journal, const char *path) {
     struct stat status;
     if (fstat(journal->file, &status) != 0)
         return report_error(journal, path);
+    journal->device = status.st_dev;
+    journal->inode = status.st_ino;
     if (!S_ISREG(status.st_mode))
         return report(journal->variable, "%s: this is no regular file", path);
     if (flock(journal->file, LOCK_EX | LOCK_NB) != 0)
@@ -152,9 +154,23 @@ static int write_all(int file, const uint8_t *bytes, size_t length) {
     return error;
 }
 
+/* Whether the descriptor is still the file's. An application may close descriptors that it doesn't
+ * know, as a daemon does. Then the number may be that of another file by now. */
+static bool has_file(const struct journal *journal) {
+    struct stat status;
+    if (fstat(journal->file, &status) != 0)
+        return errno != EBADF;
+    return journal->inode == 0
+        || (status.st_dev == journal->device && status.st_ino == journal->inode);
+}
+
 /* What was written in part is taken back, since the application gets no answer to it. */
 static bool write_text(struct journal *journal, size_t length) {
     sigset_t before;
+    if (!has_file(journal)) {
+        journal->has_failed = true;
+        return report(journal->variable, "a call can't be written: the file was closed");
+    }
     block_write_signals(&before);
     int error = write_all(journal->file, journal->text.bytes, length);
     unblock_write_signals(&before, error);
@@ -188,15 +204,16 @@ bool write_first_journal(void) {
 
 /* Marked as closed first: the child of a fork in between keeps the descriptor, and never closes one
  * that isn't the journal's. */
-static void close_file(struct journal *journal) {
+void close_file(void) {
+    struct journal *journal = &library.journal;
     bool was_open = journal->is_open;
     journal->is_open = false;
-    if (was_open)
+    if (was_open && has_file(journal))
         close(journal->file);
 }
 
 void close_journal(void) {
-    close_file(&library.journal);
+    close_file();
     buffer_free(&library.journal.text);
 }
 
@@ -204,5 +221,5 @@ void abandon_journal(void) {
     if (!library.journal.is_open)
         return;
     library.journal.has_failed = true;
-    close_file(&library.journal);
+    close_file();
 }

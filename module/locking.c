@@ -11,7 +11,6 @@
 #include <sched.h>
 #include <stdlib.h>
 #include <sys/single_threaded.h>
-#include <unistd.h>
 
 /* C_Finalize may end the library while other threads are in the application's functions for this
  * mutex. So it is destroyed by whoever is the last to use it. */
@@ -204,8 +203,7 @@ void close_library(void) {
 /* The parent may have been in the middle of a call in another thread, so its memory is neither used
  * nor freed. */
 static void begin_in_child(void) {
-    if (library.journal.is_open)
-        close(library.journal.file);
+    close_file();
     left_by_parent = library;
     library = (struct library){0};
     pthread_mutex_init(&own_mutex, NULL);

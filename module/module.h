@@ -60,6 +60,8 @@ struct journal {
     bool is_kept;         /* calls that are answered are added to it */
     bool has_failed;      /* it couldn't be written, so no call is answered any more */
     int file;
+    dev_t device;         /* with `inode`: which file it is; 0 until that is known */
+    ino_t inode;
     off_t length;         /* how long the file is, without what is left to be written */
     const char *variable; /* the environment variable that names the file */
     struct buffer text;   /* what is left to be written */
@@ -336,6 +338,9 @@ bool write_journal(void);
 /* The same once the file's lines are answered: first it is shortened to those that are kept. */
 bool write_first_journal(void);
 void close_journal(void);
+
+/* Closes the file, and nothing else: also in the child of a fork. */
+void close_file(void);
 
 /* Closes the file, and lets no later call be answered that would have to be written. */
 void abandon_journal(void);

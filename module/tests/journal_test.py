@@ -199,6 +199,16 @@ def files_of_program():
     return paths
 
 
+def give_away(path, other):
+    """Gives the number of this process's descriptor of a file to another file."""
+    for number in map(int, os.listdir("/proc/self/fd")):
+        with contextlib.suppress(FileNotFoundError):
+            if os.readlink(f"/proc/self/fd/{number}") == path:
+                os.dup2(other.fileno(), number)
+                return number
+    return None
+
+
 def live_as_child(act, written, end):
     """What a child of a fork does: it writes what comes of `act`, and lives until `end` is closed.
     It ends by exit(3), so that the library's own end is run."""
@@ -882,6 +892,29 @@ class Tests:
             self.checks.equal(worker.code, "0", "C_Initialize of another process")
             self.checks.equal(worker.end(), "", "its errors")
 
+    def test_closed_file(self):
+        """A file that has got the number of the journal's descriptor isn't written or closed."""
+        path, before = self.file("closed.cases"), b"another file\n"
+        write(self.file("another"), before)
+        self.begin(TOKEN=path)
+        self.checks.equal(self.module.say("1 InitToken 31323334"), "0", "a call")
+        content = read(path)
+        with open(self.file("another"), "r+b") as other:
+            number = give_away(path, other)
+            with errors_in(self.file("errors")):
+                self.checks.equal(self.module.say("1 GetTokenInfo"), DEVICE_ERROR, "the next call")
+                self.checks.equal(self.module.say("1 OpenSession 6"), DEVICE_ERROR, "a later call")
+            self.checks.equal(read(self.file("errors")).decode(), "ospreyrack: OSPREYRACK_TOKEN: a "
+                              "call can't be written: the file was closed\n", "the errors")
+            with self.child_of_fork(lambda: [str(os.fstat(number).st_size)]) as seen:
+                self.checks.equal(seen, [str(len(before))], "the other file, in a child of a fork")
+            self.end()
+            self.checks.check(os.path.sameopenfile(number, other.fileno()), "it isn't closed")
+            os.close(number)
+        self.checks.equal((read(self.file("another")), read(path)), (before, content), "the files")
+        self.begin(TOKEN=path)
+        self.end()
+
     def test_exec(self):
         """A program that is executed has no descriptor of the file."""
         path = self.file("executed.cases")
@@ -1259,7 +1292,8 @@ TESTS = [Tests.test_file, Tests.test_mode, Tests.test_going_on, Tests.test_new_l
          Tests.test_line_without_end, Tests.test_absent_script, Tests.test_failed_start,
          Tests.test_bad_variable_and_file, Tests.test_cut_off,
          Tests.test_changed, Tests.test_lacking_reply, Tests.test_two_processes,
-         Tests.test_second_run, Tests.test_fork, Tests.test_fork_that_stays, Tests.test_exec,
+         Tests.test_second_run, Tests.test_fork, Tests.test_fork_that_stays,
+         Tests.test_closed_file, Tests.test_exec,
          Tests.test_exec_in_script, Tests.test_exit, Tests.test_unload,
          Tests.test_unload_with_functions, Tests.test_rights, Tests.test_kills, Tests.test_full,
          Tests.test_filling, Tests.test_filling_in_update, Tests.test_filling_in_search,
