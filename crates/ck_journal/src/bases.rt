@@ -38,7 +38,7 @@ impl Base {
     ghost use Rattle.ck_journal.specs.Bases.{empty_base};
 
     /// The base of a new token, which takes no memory.
-    pub fn empty(alloc: Global) -> Base
+    pub(crate) fn empty(alloc: Global) -> Base
         ensures { result ≡ empty_base }
     {
         Base {

@@ -10,7 +10,8 @@ use ck_token::{Call, NoMemory};
 use std::alloc::Global;
 use std::marker::Model;
 
-/// What C holds of a token: where it lies. Contracts see the token that lies there.
+/// What C holds of a token: where it lies (a place in C's memory, and no `Place` of ck_store).
+/// Contracts see the token that lies there.
 #[repr(C)]
 pub struct TokenPlace {
     at: *mut u8,

@@ -76,7 +76,7 @@ fn the_longest_piece(rt: HostRuntime) -> Result<(), Fail> {
         Rv::Error(RvError::DataLenRange),
         Rv::Error(RvError::OperationNotInitialized),
     ];
-    assert!(rt; codes.as_slice().ends_with(&refused));
+    assert!(rt; codes.ends_with(&refused));
     Ok(())
 }
 
