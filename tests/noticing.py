@@ -53,7 +53,8 @@ FEW_OBJECTS = (40, 160, 40)
 SILENT = {
     "nothing on standard output": [program.readers, races.each_wrong_reply, races.wrong_in_parts,
                                    races.bad_lines, races.bad_files],
-    "nothing on standard error": [program.dialogue, program.side_by_side, recorded_runs.reports,
+    "nothing on standard error": [program.dialogue, program.side_by_side, program.many_changes,
+                                  program.seldom_asleep, recorded_runs.reports,
                                   recorded_runs.limits_of_first_case, recorded_runs.long_texts,
                                   races.whole_file, races.set_orders, rules.attributes,
                                   rules.unknown_attributes, rules.values, rules.key_states,
