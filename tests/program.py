@@ -51,7 +51,7 @@ REPLY_TO_EACH = b"0 4 64 0 0\n"
 
 # Short calls of callers in threads, and how many times at the most they may sleep together.
 MANY_SHORT = 400_000
-MOST_SLEEPS = 40_000
+MOST_SLEEPS = 20_000
 
 # Two callers: the first makes six calls, the second two.
 TWO_CALLERS = FIRST_CALLS + b"2 CloseSession 1\n2 CloseSession 1\n"
