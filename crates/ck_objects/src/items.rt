@@ -228,7 +228,7 @@ fn differs_from_first(items: &[Item], item: &Item) -> bool
 }
 
 /// Whether items of one of the attributes' types have different values.
-// A function of its own, since its proof is one by induction on the attributes.
+// A function of its own, since the proof of `has_conflict_of_many` goes by its clause.
 fn has_conflict_in(attributes: &[Attribute], items: &[Item]) -> bool
     ensures { result ≡ list_any (has_two_values items.now) attributes.now }
 {
