@@ -24,6 +24,9 @@ these are played.
 
 Calls for which room in the journal is reserved are made while every growth is refused.
 
+What is made again in a case is counted also where another case follows. And what a cut takes out is
+audited, as it was before the cut, which takes memory for each call with bytes.
+
 Each run without a refused growth must have growths, and in all some must be refused and something
 made again: else the library that refuses them isn't loaded.
 
@@ -38,6 +41,7 @@ library, and a C compiler, `cc`, for growths.c beside this file.
 """
 import collections
 import concurrent.futures
+import contextlib
 import glob
 import os
 import subprocess
@@ -67,10 +71,14 @@ MEMORY_ERRORS = (
     b"ck_cases: out of memory\n",
 )
 
-# With `short` some 21,000 growths are refused, and after some 3,300 of them something is made again.
+# With `short` some 26,000 growths are refused. After some 4,600 of them something is made again.
 # These are far fewer where cases, races or growths are passed over.
 LEAST_OF_SHORT = 20_000
 LEAST_MADE_AGAIN = 2_000
+
+# A call that takes memory each time it is made, also in an audit, and how many of them are cut.
+CALL = "1 Digest 1 616263 32 -> b3"
+CUT_CALLS = 100
 
 Ended = collections.namedtuple("Ended", "status output errors growths")
 
@@ -172,16 +180,23 @@ def refused_numbers(name, growths, step):
     return range(1 + zlib.crc32(name.encode()) % step, growths + 1, step)
 
 
+@contextlib.contextmanager
+def file_of(lines):
+    """The name of a file with these lines."""
+    with tempfile.NamedTemporaryFile("w", suffix=".cases", encoding="utf-8", newline="\n") as file:
+        file.write("\n".join(lines) + "\n")
+        file.flush()
+        yield file.name
+
+
 def check_case(library, command, name, lines, passed, step):
     """How many growths the case is refused, after how many something was made again, and what was
     wrong. Without a refused growth this many pass: the lines of a case, or one race. Of the growths
     one in `step` is refused."""
-    with tempfile.NamedTemporaryFile("w", suffix=".cases", encoding="utf-8", newline="\n") as file:
-        file.write("\n".join(lines) + "\n")
-        file.flush()
-        words = [*command, file.name]
+    with file_of(lines) as path:
+        words = [*command, path]
         plain = play(library, words, b"", 0)
-        if plain.output != f"{file.name}: {passed} passed\n".encode() or plain.growths == 0:
+        if plain.output != f"{path}: {passed} passed\n".encode() or plain.growths == 0:
             return 0, 0, [f"{name}: {plain}"]
         retries = 0
         faults = []
@@ -189,7 +204,7 @@ def check_case(library, command, name, lines, passed, step):
         for growth in numbers:
             ended = play(library, words, b"", growth)
             retries += ended.output.endswith(b" made again\n")
-            if not is_case_right(ended, file.name, plain):
+            if not is_case_right(ended, path, plain):
                 faults.append(f"{name}, growth {growth}: {ended}")
     return len(numbers), retries, faults
 
@@ -220,6 +235,33 @@ def check_reserved(library):
     return 0, 0, [f"reserved calls: {reserving}, {calling}, {refused}"]
 
 
+def check_next_case(library):
+    """What is made again in a case is counted also where another case follows, without a call."""
+    case = [LARGEST, CALL]
+    alone = check_case(library, [CASES], "a case with a call", case, 1, 1)
+    followed = check_case(library, [CASES], "a case and another", [*case, LARGEST], 1, 1)
+    faults = alone[2] + followed[2]
+    if not 0 < alone[1] <= followed[1]:
+        faults.append(f"{alone[1]} times something is made again in a case, and {followed[1]} times"
+                      " where another follows")
+    return alone[0] + followed[0], alone[1] + followed[1], faults
+
+
+def check_cut(library):
+    """What a cut takes out is audited, as it was before: each call takes memory once more."""
+    calls = [CALL] * CUT_CALLS
+    growths = []
+    for lines in (calls, [*calls, f"cut -> entries {CUT_CALLS}"]):
+        with file_of(lines) as path:
+            ended = play(library, [CASES, path], b"", 0)
+            if ended.output != f"{path}: {len(lines)} passed\n".encode():
+                return 0, 0, [f"{CUT_CALLS} calls and a cut: {ended}"]
+            growths.append(ended.growths)
+    if growths[1] < growths[0] + CUT_CALLS:
+        return 0, 0, [f"{CUT_CALLS} calls have {growths[0]} growths, and {growths[1]} with a cut"]
+    return 0, 0, []
+
+
 def checks_of_case(library, name, lines, step):
     """What is checked of a case: functions, each with its arguments."""
     yield check_case, library, [CASES], name, lines, len(lines) - 1, step
@@ -247,6 +289,12 @@ def checks_of_races(library, races, step):
         yield check_reserved, library
 
 
+def checks_of_counts(library):
+    """What is checked of counts of a whole file: functions, each with its arguments."""
+    yield check_next_case, library
+    yield check_cut, library
+
+
 def main(paths, races, is_short=False):
     case_step, race_step = (4, 2) if is_short else (1, 1)
     pool = concurrent.futures.ThreadPoolExecutor(os.cpu_count())
@@ -255,6 +303,8 @@ def main(paths, races, is_short=False):
         checks = list(checks_of_races(library, races, race_step))
         for path in paths:
             checks += checks_of_file(library, path, 1 if path == GROWING else case_step)
+        if paths:
+            checks += checks_of_counts(library)
         results = [made.result() for made in [pool.submit(*check) for check in checks]]
     faults = [fault for _, _, of_case in results for fault in of_case]
     growths = sum(refused for refused, _, _ in results)

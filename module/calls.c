@@ -329,7 +329,7 @@ static void drop_long_lists(void) {
 }
 
 /* Room in the token's journal for a call's entry, beside those of the cancels that may have to be
- * made. A call takes room for one entry at the most, and one that found no memory takes none. */
+ * made. A call takes room for at most one entry, and one that found no memory takes none. */
 static bool reserve_room(void) {
     return library.updates == 0 || ospreyrack_reserve(&library.token, library.updates + 1);
 }

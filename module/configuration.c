@@ -22,30 +22,37 @@ static const char *const all_variables[] = {
     script_variable, journal_variable, token_variable, seed_variable, cut_variable,
 };
 
+/* Whether a control character of two bytes in UTF-8 (U+0080 to U+009F) begins here. */
+static bool is_long_control(const char *text) {
+    return text[0] == '\xc2' && ((unsigned char)text[1] & 0xe0) == 0x80;
+}
+
 /* Values and files may have any bytes, and a message is one line that a terminal shows as it is. */
 static void replace_control_bytes(char *text) {
     for (; *text != '\0'; text++) {
+        if (is_long_control(text))
+            text[0] = text[1] = '?';
         if ((unsigned char)*text < ' ' || *text == '\x7f')
             *text = '?';
     }
 }
 
-/* The message isn't on the stack, since a thread may have a small one: this is called under the
+/* The line isn't on the stack, since a thread may have a small one: this is called under the
  * lock only, or by C_Initialize, before there are calls. */
 bool report(const char *variable, const char *format, ...) {
-    static char message[8192];
-    char name[100];
+    static char line[8192];
     va_list arguments;
-    snprintf(name, sizeof name, "%s", variable);
+    size_t start = (size_t)snprintf(line, sizeof line, "ospreyrack: %.99s: ", variable);
     va_start(arguments, format);
-    vsnprintf(message, sizeof message, format, arguments);
+    vsnprintf(line + start, sizeof line - start - 1, format, arguments);
     va_end(arguments);
-    replace_control_bytes(name);
-    replace_control_bytes(message);
+    replace_control_bytes(line);
+    size_t length = strlen(line);
+    line[length] = '\n';
     sigset_t before;
     block_write_signals(&before);
-    int written = dprintf(STDERR_FILENO, "ospreyrack: %s: %s\n", name, message);
-    unblock_write_signals(&before, written < 0 ? errno : 0);
+    int error = write_all(STDERR_FILENO, (const uint8_t *)line, length + 1);
+    unblock_write_signals(&before, error);
     return false;
 }
 
@@ -147,7 +154,7 @@ static bool answer_files(struct source *script, const char *journal, const char 
         return false;
     if (token != NULL && !open_token(token, &is_new))
         return false;
-    if (script->file != NULL && is_new
+    if (script->file >= 0 && is_new
         && !(answer_lines(script) && close_sessions(script_variable)))
         return false;
     return write_first_journal();
@@ -156,14 +163,14 @@ static bool answer_files(struct source *script, const char *journal, const char 
 /* The script is opened before a file is made for the journal: where one name is given for both by
  * mistake, the script isn't there. */
 static bool open_files(const char *path, const char *journal, const char *token) {
-    struct source script = {.variable = script_variable, .path = path};
+    struct source script = {.file = -1, .variable = script_variable, .path = path};
     if (journal != NULL && token != NULL)
         return report(journal_variable, "OSPREYRACK_TOKEN is a journal: set only one of the two");
-    if (path != NULL && !open_source(&script, fopen(path, "re")))
+    if (path != NULL && !open_source(&script))
         return false;
     bool is_good = answer_files(&script, journal, token);
-    if (script.file != NULL)
-        fclose(script.file);
+    if (script.file >= 0)
+        close(script.file);
     return is_good;
 }
 

@@ -70,6 +70,7 @@ bool open_journal(const char *variable, const char *path) {
     if (file < 0)
         return report(variable, "%s: the file can't be opened: %s", path, strerror(errno));
     journal->file = file;
+    journal->process = getpid();
     journal->variable = variable;
     /* The child of a fork in between keeps the descriptor. */
     atomic_signal_fence(memory_order_seq_cst);
@@ -136,9 +137,9 @@ static bool truncate_file(const struct journal *journal) {
     return result == 0;
 }
 
-/* Writes all bytes. One write takes them all, except where the file has no room for them: only the
- * next write then says why. Answers its error, or 0 where all are written. */
-static int write_all(int file, const uint8_t *bytes, size_t length) {
+/* One write takes all bytes, except where a file has no room for them, which only the next write
+ * says, or where a signal comes while a reader is slow. */
+int write_all(int file, const uint8_t *bytes, size_t length) {
     int error = 0;
     while (length > 0 && error == 0) {
         ssize_t written = write(file, bytes, length);
@@ -156,20 +157,32 @@ static int write_all(int file, const uint8_t *bytes, size_t length) {
 
 /* Whether the descriptor is still the file's. An application may close descriptors that it doesn't
  * know, as a daemon does. Then the number may be that of another file by now. */
-static bool has_file(const struct journal *journal) {
-    struct stat status;
-    if (fstat(journal->file, &status) != 0)
+static bool has_file(const struct journal *journal, struct stat *status) {
+    if (fstat(journal->file, status) != 0)
         return errno != EBADF;
     return journal->inode == 0
-        || (status.st_dev == journal->device && status.st_ino == journal->inode);
+        || (status->st_dev == journal->device && status->st_ino == journal->inode);
+}
+
+/* Why nothing may be written, or NULL. A child that wasn't made by fork(2) is as its parent was. */
+static const char *find_obstacle(struct journal *journal) {
+    struct stat status = {.st_size = journal->length};
+    if (journal->process != getpid())
+        return "the file is another process's";
+    if (!has_file(journal, &status))
+        return "the file was closed";
+    /* Somebody else may have added a comment: what is written stands behind it. */
+    journal->length = status.st_size;
+    return NULL;
 }
 
 /* What was written in part is taken back, since the application gets no answer to it. */
 static bool write_text(struct journal *journal, size_t length) {
     sigset_t before;
-    if (!has_file(journal)) {
+    const char *obstacle = find_obstacle(journal);
+    if (obstacle != NULL) {
         journal->has_failed = true;
-        return report(journal->variable, "a call can't be written: the file was closed");
+        return report(journal->variable, "a call can't be written: %s", obstacle);
     }
     block_write_signals(&before);
     int error = write_all(journal->file, journal->text.bytes, length);
@@ -203,17 +216,25 @@ bool write_first_journal(void) {
 }
 
 /* Marked as closed first: the child of a fork in between keeps the descriptor, and never closes one
- * that isn't the journal's. */
-void close_file(void) {
+ * that isn't the journal's. The process that has opened the file gives its lock back: a child may
+ * still have the descriptor, such as one that is about to execute a program. */
+int close_file(void) {
     struct journal *journal = &library.journal;
+    struct stat status;
     bool was_open = journal->is_open;
     journal->is_open = false;
-    if (was_open && has_file(journal))
-        close(journal->file);
+    if (!was_open || !has_file(journal, &status))
+        return 0;
+    if (journal->process == getpid())
+        flock(journal->file, LOCK_UN);
+    return close(journal->file) != 0 ? errno : 0;
 }
 
+/* Some file systems say only now that there was no room for what was written. */
 void close_journal(void) {
-    close_file();
+    int error = close_file();
+    if (error != 0)
+        report(library.journal.variable, "calls at the end may be missing: %s", strerror(error));
     buffer_free(&library.journal.text);
 }
 
@@ -221,5 +242,5 @@ void abandon_journal(void) {
     if (!library.journal.is_open)
         return;
     library.journal.has_failed = true;
-    close_file();
+    (void)close_file();
 }

@@ -203,7 +203,7 @@ void close_library(void) {
 /* The parent may have been in the middle of a call in another thread, so its memory is neither used
  * nor freed. */
 static void begin_in_child(void) {
-    close_file();
+    (void)close_file();
     left_by_parent = library;
     library = (struct library){0};
     pthread_mutex_init(&own_mutex, NULL);
@@ -211,12 +211,11 @@ static void begin_in_child(void) {
 
 /* Where the library is unloaded without C_Finalize, nobody else would close the file, and its lock
  * would stay. This also runs at the end of the process, where other threads may still call: one
- * that is in a call keeps the file. Under the application's lock that isn't known, so the file
- * stays open. */
+ * that is in a call keeps the file. */
 __attribute__((destructor)) static void close_at_unload(void) {
     if (pthread_mutex_trylock(&own_mutex) != 0)
         return;
-    if (library.lock == NULL)
+    if (library.lock == NULL || library.lock->users == 0)
         abandon_journal();
     pthread_mutex_unlock(&own_mutex);
 }

@@ -17,7 +17,6 @@
 #include <stdbool.h>
 #include <stddef.h>
 #include <stdint.h>
-#include <stdio.h>
 #include <sys/types.h>
 
 /* The functions that the header declares are what the library exports. */
@@ -60,6 +59,7 @@ struct journal {
     bool is_kept;         /* calls that are answered are added to it */
     bool has_failed;      /* it couldn't be written, so no call is answered any more */
     int file;
+    pid_t process;        /* which has opened it: a child of a fork may have the descriptor, too */
     dev_t device;         /* with `inode`: which file it is; 0 until that is known */
     ino_t inode;
     off_t length;         /* how long the file is, without what is left to be written */
@@ -332,6 +332,9 @@ bool set_label(const CK_UTF8CHAR *label);
 extern const char arrow[];
 extern const char label_start[];
 
+/* Writes all bytes to a file: 0, or else the error. */
+int write_all(int file, const uint8_t *bytes, size_t length);
+
 /* Writes what is left to be written. */
 bool write_journal(void);
 
@@ -339,8 +342,9 @@ bool write_journal(void);
 bool write_first_journal(void);
 void close_journal(void);
 
-/* Closes the file, and nothing else: also in the child of a fork. */
-void close_file(void);
+/* Closes the file, and gives its lock back where this process has opened it: also in the child of a
+ * fork. Answers the error, or 0. */
+int close_file(void);
 
 /* Closes the file, and lets no later call be answered that would have to be written. */
 void abandon_journal(void);
@@ -349,7 +353,7 @@ void abandon_journal(void);
 
 /* A script or a journal file that is read. */
 struct source {
-    FILE *file;           /* NULL where there is none */
+    int file;             /* a descriptor, or negative where there is none */
     const char *variable; /* the environment variable that names it */
     const char *path;
     bool is_journal;      /* a reply may be missing in it, and the end of the last line */
@@ -361,8 +365,8 @@ struct source {
     size_t count, used;
 };
 
-/* Gives the source its file, or reports that it couldn't be opened. */
-bool open_source(struct source *source, FILE *file);
+/* Opens a source for reading, or reports that it can't be opened. */
+bool open_source(struct source *source);
 
 /* Answers the lines of a source, or those of the journal file that is open. */
 bool answer_lines(struct source *source);

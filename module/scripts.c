@@ -151,13 +151,18 @@ static bool answer_source_line(struct source *source, const uint8_t *line, size_
     return answer_text(source, line, is_whole ? length - 1 : length);
 }
 
-/* Whether there are more bytes of the file. */
-static bool has_bytes(struct source *source) {
-    if (source->used == source->count) {
-        source->used = 0;
-        source->count = fread(source->bytes, 1, MOST_READ, source->file);
-    }
-    return source->count > 0;
+/* Reads the next bytes of the file: none at its end. A script may be a pipe, which keeps the reader
+ * waiting until a signal wakes it. */
+static bool read_bytes(struct source *source) {
+    ssize_t count;
+    do
+        count = read(source->file, source->bytes, MOST_READ);
+    while (count < 0 && errno == EINTR);
+    source->used = 0;
+    source->count = count > 0 ? (size_t)count : 0;
+    return count >= 0
+        || report(source->variable, "%s: the file can't be read: %s", source->path,
+                  strerror(errno));
 }
 
 /* Adds bytes of the file to the line, up to its end or as many as there are. */
@@ -187,15 +192,17 @@ static bool is_too_long(const struct buffer *line) {
 static bool read_line(struct source *source, struct buffer *line) {
     line->length = 0;
     source->number++;
-    while (!has_end(line) && has_bytes(source)) {
+    while (!has_end(line)) {
+        if (source->used == source->count && !read_bytes(source))
+            return false;
+        if (source->count == 0)
+            return true;
         if (!read_piece(source, line))
             return false;
         if (is_too_long(line))
             return report_line(source, too_long);
     }
-    return !ferror(source->file)
-        || report(source->variable, "%s: the file can't be read: %s", source->path,
-                  strerror(errno));
+    return true;
 }
 
 static bool answer_each_line(struct source *source) {
@@ -219,29 +226,24 @@ bool answer_lines(struct source *source) {
     return is_good;
 }
 
-bool open_source(struct source *source, FILE *file) {
-    source->file = file;
-    return file != NULL
+bool open_source(struct source *source) {
+    do
+        source->file = open(source->path, O_RDONLY | O_CLOEXEC);
+    while (source->file < 0 && errno == EINTR);
+    return source->file >= 0
         || report(source->variable, "%s: the file can't be opened: %s", source->path,
                   strerror(errno));
 }
 
-/* The journal file by a descriptor of its own, which can be closed. */
-static FILE *copy_of_journal(void) {
-    int file = fcntl(library.journal.file, F_DUPFD_CLOEXEC, STDERR_FILENO + 1);
-    FILE *copy = file < 0 ? NULL : fdopen(file, "r");
-    if (copy == NULL && file >= 0)
-        close(file);
-    return copy;
-}
-
 /* The journal goes on behind the last line that has its end. */
 bool answer_journal(const char *path) {
-    struct source source = {.variable = library.journal.variable, .path = path, .is_journal = true};
-    if (!open_source(&source, copy_of_journal()))
-        return false;
+    struct source source = {
+        .file = library.journal.file,
+        .variable = library.journal.variable,
+        .path = path,
+        .is_journal = true,
+    };
     bool is_good = answer_lines(&source) && check_case(&source);
-    fclose(source.file);
     library.journal.length = source.length;
     library.journal.is_kept = is_good;
     return is_good;

@@ -1,12 +1,12 @@
 #!/usr/bin/env python3
 """Looks at the scripts of bench/ that measure: whether they read the figures of programs, and judge
-them as is wanted. Nothing is measured: small programs and tables give fixed figures. First all are
-at their bounds, which is good, and then one after the other is beyond its bound, which must be
-told. And the scripts of calls that are measured are played.
+them as is wanted. Nothing is measured for that: small programs and tables give fixed figures. First
+all are at their bounds, which is good, and then one after the other is beyond its bound, which must
+be told. And the scripts of calls that are measured are played.
 
 The program that plays them is crates/ck_run/out/ck_run, which `rt ci` leaves, or the one that is
-named. For each test a line is printed that begins with passed or FAILED, and the status is 1 where
-one failed.
+named. What crates/ck_bench/out/ck_bench says of few calls and of many is compared. For each test a
+line is printed that begins with passed or FAILED, and the status is 1 where one failed.
 """
 import contextlib
 import copy
@@ -24,11 +24,18 @@ import measure
 import module
 
 PROGRAM = program.PROGRAM
+BENCH = measure.FIGURES_PROGRAM
 
 # How many lines or objects the scripts have that are played, and in a crowd how many labels are
 # read, so that this doesn't take long.
 SIZE = 30
 make_script.LABEL_ROUNDS = 1_000
+
+# How many calls are few and many, how many times as long the many must take, and how many times as
+# long as these an audit of as many entries may take.
+FEW, MANY = 1_000, 100_000
+LEAST_GROWTH = 20
+MOST_OF_AUDIT = 8
 
 # How many rounds a section of single calls has, and how many times it stands there.
 ROUNDS = 1_000
@@ -182,6 +189,34 @@ def readings_of_module(tests):
     tests.end("figures of the module and of the token's calls")
 
 
+# ---- What the built ck_bench says
+
+
+def times_of_sections(text, way):
+    """The times that it writes of sections and of an audit, none where something is wrong."""
+    with mock.patch.multiple(measure, FIGURES_PROGRAM=BENCH, FIGURE_RUNS=1):
+        try:
+            return measure.times_of(text, way)
+        except SystemExit:
+            return {}
+
+
+def times_of_calls(tests):
+    """The times are those of the calls and of the audit: many calls take far longer than few, and
+    an audit takes a few times as long as the calls, in each try."""
+    call = "1 GetTokenInfo\n"
+    text = f"#measure few\n{call * FEW}#measure many\n{call * MANY}"
+    for way in ("alone", "locked"):
+        times = times_of_sections(text, way)
+        few, many, audits = (times.get(name, [0]) for name in ("few", "many", "audit"))
+        tests.expect(0 < LEAST_GROWTH * min(few) < min(many),
+                     f"{way}: {FEW} calls took {few} ns, {MANY} took {many} ns")
+        if way == "alone":
+            is_right = min(audits) > 0 and MANY * max(audits) < MOST_OF_AUDIT * min(many)
+            tests.expect(is_right, f"{MANY} calls took {many} ns, an audit {audits} ns an entry")
+    tests.end("times of few calls and of many, by the built ck_bench")
+
+
 # ---- What is judged
 
 
@@ -308,6 +343,7 @@ def main(path):
     tests = program.Tests(path, "figures")
     readings(tests)
     readings_of_module(tests)
+    times_of_calls(tests)
     bounds(tests)
     bounds_of_module(tests)
     sections(tests)

@@ -3,11 +3,11 @@
 
 No check can go or change without a line of inventory.txt, beside this file, that shows it. For the
 text of each file that checks the list has a digest: definitions that the contracts cite, edits that
-the prover must refuse, files of recorded calls and of races, files of programs, and the tests
-themselves. And it names the checks by their kinds, so that a reader sees which are gone: tests of
-the crates, of the scripts and of the module, crates, comparisons in constant time, and the lines by
-which `check` and module/tests/run start them, with their loops and the packages that `check`
-installs.
+the prover must refuse, files of recorded calls and of races, files of programs, crates.txt and
+HANDLES, and the tests themselves. And it names the checks by their kinds, so that a reader sees
+which are gone: tests of the crates, of the scripts and of the module, crates, comparisons in
+constant time, types that can be shown, and the lines by which `check` and module/tests/run start
+them, with their loops and the packages that `check` installs.
 
 With the word `check`, or none, this compares the list with what is there, and looks whether the
 edits fit the sources and the files are as they are named elsewhere; the status is 1 where something
@@ -33,11 +33,18 @@ import contracts
 # How many hexadecimal digits are listed of a digest by SHA-256.
 DIGITS = 16
 
-# A type that is shown as it is, by a derived implementation.
+# A type that is shown as it is, by a derived implementation; and one that is shown by an
+# implementation of its own.
 SHOWN = re.compile(r"#\[derive\([^)]*\bDebug\b[^)]*\)\]\s*(?:#\[[^\]]*\]\s*)*"
                    r"(?:pub(?:\([a-z]+\))? )?(?:struct|enum) (\w+)")
+SHOWN_BY_HAND = re.compile(r"\bimpl\b[^{;]*?\b(Debug|Display|LowerHex|UpperHex)\s+for\s+"
+                           r"([^{]*?)\s*(?:\bwhere\b[^{]*)?\{")
 # What compares secrets, and must do it in constant time.
 COMPARISON = re.compile(r"constant_time_eq\(|\.matches\(&?given\)|\.check\(signature\)")
+COMPARING = ("crates/ck_types/src/comparisons.rt", "crates/ck_types/src/pins.rt",
+             "crates/ck_mac/src/tags.rt", "crates/ck_mac/src/macs.rt",
+             "crates/ck_token/src/tokens/pin_calls.rt",
+             "crates/ck_token/src/tokens/operation_calls.rt")
 LAW_EDIT = re.compile(r"^\|[^|]*\| `(\w+)` \|", re.MULTILINE)
 # Comments of C and Rust; and strings and characters, in which none begin.
 COMMENT = re.compile(r"""//[^\n]*|/\*.*?\*/|"(?:[^"\\]|\\.)*"|'(?:[^'\\\n]|\\.)'""", re.DOTALL)
@@ -64,9 +71,10 @@ GHOST = re.compile(r"    ghost (\w+)(?: =|:)")
 # has the tests of the libraries.
 CRATES_OF_TESTS = ("ck_bench", "ck_cases", "ck_races", "ck_run", "ck_threads")
 
-# The other files that check.
+# The other files that check, and those that say to `rt` what it checks.
 OTHER_TESTS = (
-    "module/tests/*", "bench/*", "tests/*.py", "check", ".ci/run", "docs/contracts.py")
+    "module/tests/*", "bench/*", "tests/*.py", "check", ".ci/run", "docs/contracts.py",
+    "crates.txt", "HANDLES")
 
 # The lines by which a script finds and counts what has failed; with the last one it ends.
 VERDICTS = {
@@ -136,16 +144,18 @@ def test_modules():
 
 def comparisons():
     """The lines that compare secrets in constant time, which no contract can say, and the files of
-    these comparisons."""
+    these comparisons and of the calls that make them."""
     lines = [f"{path} {line.strip()}" for path in sources()
              for line in code_of(path).split("\n") if COMPARISON.search(line)]
-    return lines + with_digests(["crates/ck_types/src/comparisons.rt",
-                                 "crates/ck_types/src/pins.rt", "crates/ck_mac/src/tags.rt"])
+    return lines + with_digests(COMPARING)
 
 
 def shown_types():
-    """The types that `{:?}` prints. None of them may hold a secret."""
-    return [f"{path} {name}" for path in sources() for name in SHOWN.findall(code_of(path))]
+    """The types of which a text can be made, as by `{:?}`. None of them may hold a secret."""
+    derived = [f"{path} {name}" for path in sources() for name in SHOWN.findall(code_of(path))]
+    by_hand = [f"{path} {trait} for {' '.join(name.split())}" for path in sources()
+               for trait, name in SHOWN_BY_HAND.findall(code_of(path))]
+    return derived + by_hand
 
 
 def texts_of_tests():

@@ -64,8 +64,26 @@ SILENT = {
 
 # Tests of a file, to which it is all the same which program is there.
 OTHERS = (races.shapes, rules.codes, rules.reasons, rules.statuses, rules.names_of_mechanisms,
-          figures.readings, figures.readings_of_module, figures.bounds, figures.bounds_of_module,
-          figures.sections)
+          figures.readings, figures.readings_of_module, figures.times_of_calls, figures.bounds,
+          figures.bounds_of_module, figures.sections)
+
+# What a program of figures says of few calls, of many and of an audit, and whether the times can be
+# those of the calls and of the audit.
+AUDIT = "audit of 100000 entries: true\naudit: "
+BENCH_TIMES = [
+    (f"few: 1 ns\nmany: 21 ns\n{AUDIT}167 ns\n", True),
+    (f"few: 1 ns\nmany: 22 ns\n{AUDIT}167 ns\nfew: 2 ns\nmany: 21 ns\n{AUDIT}1 ns\n", True),
+    (f"few: 1 ns\nmany: 20 ns\n{AUDIT}21 ns\n", False),
+    (f"few: 1 ns\nmany: 21 ns\n{AUDIT}21 ns\nfew: 2 ns\nmany: 20 ns\n{AUDIT}21 ns\n", False),
+    (f"few: 1 ns\nmany: 21 ns\n{AUDIT}169 ns\n", False),
+    (f"few: 1 ns\nmany: 21 ns\n{AUDIT}21 ns\nfew: 1 ns\nmany: 21 ns\n{AUDIT}169 ns\n", False),
+    (f"few: 0 ns\nmany: 21 ns\n{AUDIT}21 ns\n", False),
+    (f"few: 1 ns\nmany: 21 ns\n{AUDIT}0 ns\n", False),
+    (f"few: 1000 calls, 1 refused\nfew: 1 ns\nmany: 21 ns\n{AUDIT}21 ns\n", False),
+    (f"few: 1 ns\n{AUDIT}21 ns\n", False),
+    ("few: 1 ns\nmany: 21 ns\n", False),
+    ("", False),
+]
 
 # Changes of pages, and the test of a right program that must notice each: what stands there, and
 # what stands there then.
@@ -102,8 +120,14 @@ CHANGES = [
     ("a comparison that may end early", "crates/*/src/*.rt", "constant_time_eq\\(&", "same(&"),
     ("a PIN that is compared by ==", "crates/ck_token/src/tokens/pin_calls.rt",
      "[.]matches\\(&given\\)", " == given"),
+    ("a PIN that is compared by == beside it", "crates/ck_token/src/tokens/pin_calls.rt",
+     "if is_pin\\(credential[.]pin, pin\\)", "if credential.pin == Some(pin)"),
     ("a key that can be shown", "crates/ck_objects/src/keys.rt", "derive\\(Drop",
      "derive(Debug, Drop"),
+    ("a key that is shown by hand", "crates/ck_objects/src/keys.rt", "^impl Clone for Key",
+     "impl<'a> std::fmt::Debug for Key {}\n\nimpl Clone for Key"),
+    ("another handle that is allowed", "HANDLES", "Wait", "Wait, Net"),
+    ("another library of a crate", "crates.txt", "^ck_run: ", "ck_run: ck_shared "),
     ("a part of check that is gone", "check", "^part .*\n", ""),
     ("a condition of module/tests/run that is gone", "module/tests/run", " && \\[ -s .* \\]", ""),
     ("a check in Rust that is gone", "crates/ck_run/src/*.rt", "^ *assert.*\n", ""),
@@ -210,18 +234,21 @@ WRONG_ENDS = [
 ]
 
 
-# A program that plays a case, a script, a script in threads, a race and calls with reserved room as
-# it must, and says that it has so many growths. Where one of them is refused it first does
-# something else.
+# A program that plays cases, a script, a script in threads, a race and calls with reserved room as
+# it must, and says that it has so many growths for each line that passes. Where one of them is
+# refused it first does something else.
 GROWING = """\
 shift
-printf %s >&3
+for file; do :; done
+lines=1
+[ -f "$file" ] && lines=$(/bin/grep -vc "^limits" "$file")
+printf $((%s * lines)) >&3
 [ "$REFUSED_GROWTH $REFUSED_FROM" = "0 0" ] || { %s; }
 case "$*" in
 "") echo "0 4 64 0 0" ;;
 --callers*) echo "entries 1"; echo "audit ok" ;;
 reserve*) ;;
-*) for file; do :; done; echo "$file: 1 passed$again" ;;
+*) echo "$file: $lines passed$again" ;;
 esac
 """
 MADE_AGAIN = 'again=", 1 made again"'
@@ -230,6 +257,15 @@ GROWING_CASE = [growths.LARGEST, "1 GetTokenInfo -> 0 4 64 0 0"]
 # Of each of these: how many growths are refused, after how many something is made again, and how
 # many faults are found where the program is wrong then.
 GROWING_ENDS = [(9, 9, 9), (9, 0, 9), (9, 0, 9), (9, 9, 9), (0, 0, 1)]
+
+# How many growths the program has for each line, what it does where one is refused, and how many
+# faults are found of what it counts. First it is right, and then it forgets what was made again in
+# the case before, or has no more growths with a cut than without.
+COUNTING = [
+    ("9", MADE_AGAIN, [0, 0]),
+    ("9", f'[ $(/bin/grep -c "^limits" "$file") = 2 ] || {MADE_AGAIN}', [1, 0]),
+    ("9 / lines", MADE_AGAIN, [0, 1]),
+]
 
 # What is wrong then.
 WRONG_GROWING = ["echo nonsense; exit 1", "echo nonsense; exit 3", "kill -9 $$"]
@@ -315,6 +351,17 @@ def slow_programs(checks):
             words = words_of(speed, test, path)
             checks.expect(fails(words), f"{test.__name__} of speed.py: {words}")
     checks.end("a program that takes ever more time for a call")
+
+
+def wrong_times(checks):
+    bench = figures.BENCH
+    with tempfile.TemporaryDirectory() as folder:
+        for output, is_right in BENCH_TIMES:
+            figures.BENCH = figures.program_of(folder, output)
+            words = words_of(figures, figures.times_of_calls, figures.PROGRAM)
+            checks.expect((passes if is_right else fails)(words), f"{output}: {words}")
+    figures.BENCH = bench
+    checks.end("a program of figures whose times aren't those of the calls")
 
 
 def no_checks(checks):
@@ -443,6 +490,14 @@ def growths_of(folder, count, refused):
     return [(numbers, retries, len(faults)) for numbers, retries, faults in results]
 
 
+def faults_of_counts(folder, count, refused):
+    """How many faults are found of what a program counts that has so many growths for each line,
+    and does this where one is refused."""
+    growths.CASES = write_program(folder, GROWING % (count, refused), "/bin/true")
+    growths.CUT_CALLS = 9
+    return [len(check(*arguments)[2]) for check, *arguments in growths.checks_of_counts("")]
+
+
 def status_of_short(path, least, least_again):
     """How growths.py ends with the argument `short`, where so many growths must be refused, and
     something made again after so many."""
@@ -459,6 +514,9 @@ def judged_growths(checks):
             checks.expect(came == [faults for _, _, faults in GROWING_ENDS], f"{refused}: {came}")
         came = growths_of(folder, 0, MADE_AGAIN)
         checks.expect(came == [(0, 0, 1)] * len(GROWING_ENDS), f"without growths: {came}")
+        for count, refused, faults in COUNTING:
+            came = faults_of_counts(folder, count, refused)
+            checks.expect(came == faults, f"{count}, {refused}: {came} faults of counts")
         came = growths_of(folder, 9, MADE_AGAIN)
         checks.expect(came == [(*ends, 0) for *ends, _ in GROWING_ENDS], f"made again: {came}")
         path = os.path.join(folder, "a.cases")
@@ -495,6 +553,7 @@ def main():
     wrong_programs(checks)
     idle_programs(checks)
     slow_programs(checks)
+    wrong_times(checks)
     no_checks(checks)
     ends(checks)
     refused_edits(checks)

@@ -49,7 +49,7 @@ MANY = 1_000_000
 MANY_CALLS = b"1 GetTokenInfo\n" * MANY
 REPLY_TO_EACH = b"0 4 64 0 0\n"
 
-# Short calls of callers in threads, and how many times at the most they may sleep together.
+# Short calls of callers in threads, and how many times they may sleep together.
 MANY_SHORT = 400_000
 MOST_SLEEPS = 20_000
 

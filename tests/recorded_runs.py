@@ -113,17 +113,27 @@ limits 2 9 9 9
 1 InitToken 31323334
 1 OpenSession 6 -> 0 1
 1 OpenSession 6 -> 0 2
-foo
+foo -> 0
 """
 
-# The same with the replies of a token that allows one.
+# The same with the replies that come.
+SAME_SESSIONS = b"""\
+# Two sessions.
+limits 2 9 9 9
+1 InitToken 31323334 -> 0
+1 OpenSession 6 -> 0 1
+1 OpenSession 6 -> 0 2
+foo -> 0
+"""
+
+# With the replies of a token that allows one.
 ONE_SESSION = b"""\
 # Two sessions.
-limits 1 9 9 9
+limits 1 9 8 7
 1 InitToken 31323334 -> 0
 1 OpenSession 6 -> 0 1
 1 OpenSession 6 -> b1
-foo
+foo -> 0
 """
 
 # And with those of a token that allows the most.
@@ -133,7 +143,7 @@ limits largest
 1 InitToken 31323334 -> 0
 1 OpenSession 6 -> 0 1
 1 OpenSession 6 -> 0 2
-foo
+foo -> 0
 """
 
 # The limits of an audit are its own, whatever others a run is played with.
@@ -155,7 +165,7 @@ WITHOUT_LIMITS = b"""\
 """
 WITH_LIMITS = b"""\
 # Two sessions.
-limits 1 9 9 9
+limits 1 9 8 7
 1 InitToken 31323334 -> 0
 1 OpenSession 6 -> 0 1
 1 OpenSession 6 -> b1
@@ -168,8 +178,9 @@ TOO_MANY_LINES = b"a\n" * (MOST_NAMED + 1)
 NAMED_LINES = b"".join(b"t: line %d: a: a line is a caller, a call and its arguments\n" % number
                        for number in range(1, MOST_NAMED + 1)) + b"t: only counted: 1 more\n"
 
-# The most characters that are shown of a text.
+# The most characters that are shown of a text, and lengths of texts that are tried.
 MOST_SHOWN = 80
+LENGTHS = (1, MOST_SHOWN, MOST_SHOWN + 1, 3 * MOST_SHOWN)
 
 # A run with a reply of 130 characters: CKR_OK, a space and a digest with SHA-512.
 DIGEST = hashlib.sha512(b"abc").hexdigest().encode()
@@ -211,6 +222,7 @@ BAD_ARGUMENTS = [
 # A file that isn't read, and why.
 BAD_FILES = [
     (b"a\n\xff", b"line 2 isn't text in UTF-8"),
+    (b"a\n\xff\nb\n", b"line 2 isn't text in UTF-8"),
     (b"a\n1 Logout 1\r\n",
      b"line 2 ends with a carriage return (CR LF), and lines end with a line feed only"),
     (b"1 Logout 1\r\n",
@@ -236,8 +248,9 @@ def plain(block):
 def reports(tests):
     for text, report, status in REPORTS:
         tests.check_file(text, ["--most", "2", "t"], report, b"", status)
-    text, report, _ = REPORTS[0]
-    tests.check_file(text, ["t", "t"], report + report, b"", 0)
+    # a file that is right and one that isn't, each with another after it
+    for text, report, status in REPORTS[:2]:
+        tests.check_file(text, ["t", "t"], report + report, b"", status)
     tests.check_file(b"a\nb", ["t"], b"t: line 1: a: a line is a caller, a call and its arguments\n"
                      b"t: line 2: b: a line is a caller, a call and its arguments\n"
                      b"t: 0 passed, 2 bad\n", b"", 1)
@@ -249,9 +262,10 @@ def reports(tests):
 def limits(tests):
     report = (b"t: line 5: 1 OpenSession 6: came b1 CKR_SESSION_COUNT, and not 0 CKR_OK 2\n"
               b"t: only counted: 1 more\nt: 1 passed, 1 differ, 1 bad, 1 without a reply\n")
-    tests.check_file(TWO_SESSIONS, ["--limits", "1,9,9,9", "--most", "1", "t"], report, b"", 1)
-    for words, output in [("1,9,9,9", ONE_SESSION), ("largest", MOST_SESSIONS)]:
-        tests.check_file(TWO_SESSIONS, ["--limits", words, "--replies", "t"], output, NO_CALL, 1)
+    tests.check_file(TWO_SESSIONS, ["--limits", "1,9,8,7", "--most", "1", "t"], report, b"", 1)
+    for words, output in [(["--limits", "1,9,8,7"], ONE_SESSION),
+                          (["--limits", "largest"], MOST_SESSIONS), ([], SAME_SESSIONS)]:
+        tests.check_file(TWO_SESSIONS, [*words, "--replies", "t"], output, NO_CALL, 1)
     tests.check_file(AUDITED, ["--limits", "2,9,9,9", "t"], b"t: 4 passed\n", b"", 0)
     tests.end("other limits, and replies that are written")
 
@@ -260,9 +274,9 @@ def limits_of_first_case(tests):
     report = (b"t: line 4: 1 OpenSession 6: came b1 CKR_SESSION_COUNT, and not 0 CKR_OK 2\n"
               b"t: 2 passed, 1 differ\n")
     tests.check_file(WITHOUT_LIMITS, ["t"], b"t: 3 passed\n", b"", 0)
-    tests.check_file(WITHOUT_LIMITS, ["--limits", "1,9,9,9", "t"], report, b"", 1)
+    tests.check_file(WITHOUT_LIMITS, ["--limits", "1,9,8,7", "t"], report, b"", 1)
     tests.check_file(WITHOUT_LIMITS, ["--replies", "t"], WITHOUT_LIMITS, b"", 0)
-    tests.check_file(WITHOUT_LIMITS, ["--limits", "1,9,9,9", "--replies", "t"], WITH_LIMITS, b"", 0)
+    tests.check_file(WITHOUT_LIMITS, ["--limits", "1,9,8,7", "--replies", "t"], WITH_LIMITS, b"", 0)
     tests.end("other limits of a file without limits of its own")
 
 
@@ -275,22 +289,29 @@ def many_lines(tests):
     tests.end("of 101 bad lines 100 are named")
 
 
+def shown(text):
+    """The front of a text, and two dots where more follows."""
+    return (text[:MOST_SHOWN] + ".." * (len(text) > MOST_SHOWN)).encode()
+
+
 def check_long_reply(tests, recorded, place):
     """A digest of which another reply is recorded, and what is said of where they differ."""
-    shown = [b"0 CKR_OK " + it[:MOST_SHOWN] + b".." * (len(it) > MOST_SHOWN)
-             for it in (DIGEST, recorded)]
-    report = (b"t: line 4: 1 Digest 1 616263 64: came " + shown[0] + b", and not " + shown[1]
-              + place + b"\nt: 3 passed, 1 differ\n")
+    came, wanted = (b"0 CKR_OK " + shown(it.decode()) for it in (DIGEST, recorded))
+    report = (b"t: line 4: 1 Digest 1 616263 64: came " + came + b", and not " + wanted + place
+              + b"\nt: 3 passed, 1 differ\n")
     step = b"1 Digest 1 616263 64 -> 0 " + recorded + b"\n"
     tests.check_file(BEFORE_DIGEST + step, ["t"], report, b"", 1)
 
 
 def long_texts(tests):
-    for length in (1, MOST_SHOWN, MOST_SHOWN + 1, 3 * MOST_SHOWN):
-        text = b"x" * length
-        shown = text[:MOST_SHOWN] + b".." * (length > MOST_SHOWN)
-        tests.check_file(text, ["t"], b"t: line 1: " + shown + b": a line is a caller, a call"
-                         b" and its arguments\nt: 0 passed, 1 bad\n", b"", 1)
+    # the second of these letters has two bytes
+    for text in (letter * length for letter in ("x", "\u00e9") for length in LENGTHS):
+        tests.check_file(text.encode(), ["t"], b"t: line 1: " + shown(text) + b": a line is a"
+                         b" caller, a call and its arguments\nt: 0 passed, 1 bad\n", b"", 1)
+    call, recorded = "1 InitToken " + "31" * MOST_SHOWN, "x" * (MOST_SHOWN + 1)
+    tests.check_file(f"{call} -> {recorded}".encode(), ["t"], b"t: line 1: " + shown(call)
+                     + b": came a2 CKR_PIN_LEN_RANGE, and not " + shown(recorded)
+                     + b"\nt: 0 passed, 1 differ\n", b"", 1)
     for place in (3, 61, 80, 81, 82, 83, 130):
         # the code and the space before the digest are two characters
         at = place - 3

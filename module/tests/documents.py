@@ -18,6 +18,17 @@ CK_RUN = os.path.join(support.ROOT, "crates", "ck_run", "out", "ck_run")
 SCRIPT_PAGE = "docs/script.md"
 REPLY_ROW = re.compile(r"\| `([^`|]*)` \| `([^`|]*)` \|")
 
+# What pages quote of the sources: a page, a text of the block, and the file. Each line stands there
+# in order, where spaces, comments and the ends of lines count for nothing.
+QUOTES = [
+    ("docs/architecture.md", "check_flag(source", "crates/ck_token/src/tokens/object_calls.rt"),
+    ("docs/architecture.md", "(limits : Ranges) (h : History)", "crates/ck_parts/src/parts.rt"),
+    ("docs/architecture.md", "is_open (start b) s", "crates/ck_journal/specs/Sessions.antt"),
+    ("docs/architecture.md", "answer limits h c =", "crates/ck_journal/specs/Answers.antt"),
+    ("docs/module.md", "OSPREYRACK_INTERFACE", "module/tests/installed.c"),
+    ("docs/module.md", "name = Ospreyrack", "module/tests/clients.py"),
+]
+
 
 def text_of(path):
     with open(os.path.join(support.ROOT, path), encoding="utf-8") as file:
@@ -45,15 +56,29 @@ def stand_in_order(lines, text):
     return all(line in rest for line in lines)
 
 
+def without_spaces(text):
+    return re.sub(r"\s+", "", re.sub(r"(//|--) [^\n]*", "", text)).replace(",)", ")")
+
+
+def is_quoted(lines, text):
+    """Whether the lines stand in the text, in order."""
+    rest = without_spaces(text)
+    for line in lines:
+        _, found, rest = rest.partition(without_spaces(line))
+        if not found:
+            return False
+    return True
+
+
 def run(command, folder, **environment):
     return subprocess.run(command, shell=True, cwd=folder, capture_output=True, text=True,
                           timeout=60, env={**os.environ, **environment})
 
 
-def check_commands(checks, path, text, module, folder):
+def check_commands(checks, path, text, module, folder, first=""):
     """Commands of pkcs11-tool, in the first block with this text."""
     commands = [it for it in block_with(path, text) if not it.startswith("module/build")]
-    script = "set -e\n" + "\n".join(commands)
+    script = "\n".join(["set -e", first, *commands])
     script = script.replace("$PWD/module/out/libospreyrack.so", module)
     ran = run(script, folder)
     checks.check(len(commands) > 1, f"{path}: commands are there")
@@ -68,11 +93,14 @@ def check_journal(checks, path, text, journal):
         checks.check(stand_in_order(shown, file.read()), f"{path}: the journal is as shown")
 
 
-def check_first_runs(checks, path, module, folder):
-    """Commands of pkcs11-tool, and the journal that they leave."""
-    check_commands(checks, path, "--init-token", module, folder)
-    check_journal(checks, path, "InitToken 3132333435363738 -> 0",
+def check_first_runs(checks, module, folder):
+    """The first commands of pkcs11-tool, the journal that they leave, and the commands after
+    them."""
+    check_commands(checks, "README.md", "--init-token", module, folder)
+    check_journal(checks, "README.md", "InitToken 3132333435363738 -> 0",
                   os.path.join(folder, "token.cases"))
+    first = "export OSPREYRACK_TOKEN=$PWD/token.cases module=$PWD/module/out/libospreyrack.so"
+    check_commands(checks, "docs/module.md", "--list-objects", module, folder, first)
 
 
 def write_prepare_script(folder):
@@ -103,10 +131,10 @@ def check_recording(checks, module, ck_cases, folder):
 def check_recorded_run(checks, ck_cases, folder):
     """The file of the page on recorded runs, and what ck_cases writes of it."""
     page = "docs/recorded_runs.md"
-    with open(os.path.join(folder, "token.cases"), "w") as file:
+    with open(os.path.join(folder, "some.cases"), "w") as file:
         file.write("\n".join(block_with(page, "limits largest")) + "\n")
     for block in blocks_of(page):
-        if not any(line.startswith("$ ck_cases") for line in block) or "--limits" in block[0]:
+        if not any(line.startswith("$ ck_cases") for line in block):
             continue
         said = "".join(run(line[2:].replace("ck_cases", ck_cases, 1), folder).stdout
                        for line in block if line.startswith("$ "))
@@ -143,6 +171,13 @@ def check_contract(checks):
     clauses = [line.split()[1] for line in shown[1:] if line.split()[0] == "ensures"]
     said = re.findall(r"^\| `(\w+)` \|", text_of("README.md").partition(shown[-1])[2], re.MULTILINE)
     checks.equal(said, clauses, "README.md: the clauses that the table explains")
+
+
+def check_quotes(checks):
+    for page, text, path in QUOTES:
+        # The path of the library is the reader's.
+        shown = [line for line in block_with(page, text) if " library = " not in line]
+        checks.check(shown and is_quoted(shown, text_of(path)), f"{page}: {text} .. is in {path}")
 
 
 def check_shared_token(checks):
@@ -183,6 +218,23 @@ def check_first_script(checks, folder):
                  "README.md: the replies to the script")
 
 
+def check_text_as_bytes(checks, folder):
+    """The command that writes a text as bytes."""
+    ran = run("\n".join(block_with(SCRIPT_PAGE, "od -An")), folder)
+    shown = re.search(r"which prints `([^`]*)`", text_of(SCRIPT_PAGE))
+    checks.equal(ran.stdout, shown and shown[1], f"{SCRIPT_PAGE}: a text as bytes")
+
+
+def check_longer_example(checks):
+    """The command that plays a file of cases as a script, at the top of the repository."""
+    ran = run("\n".join(block_with(SCRIPT_PAGE, "sed ")), support.ROOT)
+    wanted = re.findall("^(?!audit).* -> (.*)", text_of("crates/ck_cases/data/search.cases"),
+                        re.MULTILINE)
+    checks.check(len(wanted) > 4, "search.cases: replies are there")
+    checks.equal((ran.stdout.splitlines(), ran.returncode), (wanted, 0),
+                 f"{SCRIPT_PAGE}: the replies to the longer example")
+
+
 def check_sources(checks):
     """What pages quote of the sources and of their outputs."""
     check_program_page(checks)
@@ -191,19 +243,25 @@ def check_sources(checks):
     checks.end("the contract in README.md")
     check_shared_token(checks)
     checks.end("the output in docs/threads.md")
+    check_quotes(checks)
+    checks.end("what pages quote of the sources")
 
 
 def check_scripts(checks, ck_cases):
     """What pages show of scripts and their replies."""
     with tempfile.TemporaryDirectory() as folder:
         check_tables(checks, ck_cases, folder)
-    checks.end("the tables of docs/script.md")
+        check_text_as_bytes(checks, folder)
+    checks.end("the tables of docs/script.md, and the command before them")
     if not os.path.exists(CK_RUN):
-        checks.leave_out("the script of README.md", "there is no crates/ck_run/out/ck_run")
+        checks.leave_out("scripts of README.md and docs/script.md",
+                         "there is no crates/ck_run/out/ck_run")
         return
     with tempfile.TemporaryDirectory() as folder:
         check_first_script(checks, folder)
     checks.end("the script of README.md")
+    check_longer_example(checks)
+    checks.end("the longer example of docs/script.md")
 
 
 def main():
@@ -217,10 +275,9 @@ def main():
     if shutil.which("pkcs11-tool") is None:
         checks.leave_out("examples of pkcs11-tool", "it isn't installed (apt-get install opensc)")
         return checks.status()
-    for path in ["README.md", "docs/module.md"]:
-        with tempfile.TemporaryDirectory() as folder:
-            check_first_runs(checks, path, module, folder)
-        checks.end(f"the commands of {path}")
+    with tempfile.TemporaryDirectory() as folder:
+        check_first_runs(checks, module, folder)
+    checks.end("the commands of README.md and docs/module.md")
     with tempfile.TemporaryDirectory() as folder:
         check_prepared_token(checks, module, folder)
     checks.end("the script of docs/module.md")

@@ -3,6 +3,7 @@
  */
 #include "conventions.h"
 
+#include <errno.h>
 #include <fcntl.h>
 #include <pthread.h>
 #include <sanitizer/lsan_interface.h>
@@ -11,6 +12,7 @@
 #include <stdlib.h>
 #include <string.h>
 #include <sys/stat.h>
+#include <sys/syscall.h>
 #include <sys/wait.h>
 #include <time.h>
 #include <unistd.h>
@@ -163,6 +165,34 @@ static size_t read_errors(char *text, size_t room) {
         fclose(file);
     text[count] = '\0';
     return count;
+}
+
+/* In place of the C library's function: it closes the file, and answers this error where it isn't
+ * 0. */
+static int close_error;
+
+int close(int file) {
+    int result = (int)syscall(SYS_close, file);
+    if (result != 0 || close_error == 0)
+        return result;
+    errno = close_error;
+    return -1;
+}
+
+/* A file system may say only at the end that there was no room. */
+static void test_failed_close(void) {
+    char text[2000];
+    setenv("OSPREYRACK_JOURNAL", path_of("lost.cases"), 1);
+    EXPECT(CKR_OK, p11->C_Initialize(NULL));
+    unsetenv("OSPREYRACK_JOURNAL");
+    keep_errors();
+    close_error = ENOSPC;
+    CK_RV code = p11->C_Finalize(NULL);
+    close_error = 0;
+    read_errors(text, sizeof text);
+    EXPECT(CKR_OK, code);
+    check(strcmp(text, "ospreyrack: OSPREYRACK_JOURNAL: calls at the end may be missing: "
+                 "No space left on device\n") == 0, text);
 }
 
 /* The lock on the file stays the parent's. */
@@ -349,6 +379,8 @@ static void test_control_bytes(void) {
     check_variable("OSPREYRACK_SEED", "1\n2", ", and not 1?2\n");
     check_variable("OSPREYRACK_CUT", "\x1b[31m\t\x7f\r\x1f ", ", and not ?[31m???? \n");
     check_variable("OSPREYRACK_CUT", "\xc3\xa9~", ", and not \xc3\xa9~\n");
+    check_variable("OSPREYRACK_CUT", "\xc2\x80\xc2\x9b" "2J\xc2\xa0", ", and not ????2J\xc2\xa0\n");
+    check_variable("OSPREYRACK_CUT", "\xc2", ", and not \xc2\n");
     check_variable("OSPREYRACK_SCRIPT", "/not\nthere", ": /not?there: the file can't be opened: ");
     write_file("control_bytes", "1 InitToken 31323334 -> \x1b[2J\n");
     check_file_variable("OSPREYRACK_SCRIPT", "control_bytes",
@@ -581,6 +613,7 @@ static const struct test tests[] = {
     {"a thread that can't be cancelled can't be so after calls either", test_forbidden_cancel},
     {"a child of a fork begins anew, and its parent goes on", test_fork},
     {"a child of a fork leaves the parent's file and its lock alone", test_fork_with_file},
+    {"what the system says when the file is closed is told", test_failed_close},
     {"bad environment variables, and then none", test_bad_variables},
     {"control bytes in environment variables and in files", test_control_bytes},
     {"an environment that is NULL", test_no_environment},

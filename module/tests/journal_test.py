@@ -8,6 +8,7 @@ of the module's file it is a worker, which this program starts itself.
 import _ctypes
 import contextlib
 import ctypes
+import fcntl
 import gc
 import os
 import random
@@ -352,11 +353,11 @@ class Tests:
         return code
 
     @contextlib.contextmanager
-    def child_of_fork(self, act):
+    def child_of_fork(self, act, fork=os.fork):
         """A child that lives until the block has ended. Gives the lines of what comes of `act`."""
         out, written = os.pipe()
         end, kept = os.pipe()
-        child = os.fork()
+        child = fork()
         if child == 0:
             os.close(kept)
             live_as_child(act, written, end)
@@ -892,6 +893,29 @@ class Tests:
             self.checks.equal(worker.code, "0", "C_Initialize of another process")
             self.checks.equal(worker.end(), "", "its errors")
 
+    def test_unseen_child(self):
+        """A child that the module doesn't see, as fork(2) didn't make it, leaves its parent's file
+        as it is, and doesn't keep it locked."""
+        fork = getattr(ctypes.CDLL(None), "_Fork", None)
+        if fork is None:
+            raise LeftOut("the C library has no _Fork")
+        path = self.file("unseen.cases")
+        self.begin(TOKEN=path)
+        self.checks.equal(self.module.say("1 InitToken 31323334"), "0", "a call")
+        with errors_in(self.file("errors")):
+            with self.child_of_fork(lambda: [self.module.say("1 OpenSession 6")], fork) as seen:
+                self.checks.equal(seen, [DEVICE_ERROR], "the child's call")
+                self.checks.equal(self.module.say("1 OpenSession 4"), "0 1", "a call of the parent")
+                self.end()
+                worker = Worker(self.path, TOKEN=path)
+                self.checks.equal(worker.code, "0", "C_Initialize of another process")
+                self.checks.equal(worker.end(), "", "its errors")
+        self.checks.equal(read(self.file("errors")).decode(),
+                          "ospreyrack: OSPREYRACK_TOKEN: a call can't be written: the file is "
+                          "another process's\n", "the errors")
+        self.check_calls(path, ["1 InitToken 31323334", "1 OpenSession 4", "1 CloseAllSessions"],
+                         ["0", "0 1", "0"])
+
     def test_closed_file(self):
         """A file that has got the number of the journal's descriptor isn't written or closed."""
         path, before = self.file("closed.cases"), b"another file\n"
@@ -943,6 +967,36 @@ class Tests:
         self.checks.equal(codes, [0], "C_Initialize")
         self.end()
 
+    def test_signals_in_script(self):
+        """Signals that come while a script is opened and read, here by a pipe, don't end it."""
+        path, caught, reader = self.file("slow_fifo"), [], threading.get_ident()
+        os.mkfifo(path)
+
+        def send_signals():
+            for _ in range(20):
+                time.sleep(0.01)
+                signal.pthread_kill(reader, signal.SIGUSR1)
+
+        def write_script():
+            send_signals()
+            # Where nobody opens it for reading, this doesn't wait either.
+            with open(os.open(path, os.O_RDWR), "wb", buffering=0) as script:
+                self.wait_for(lambda: open_files().count(path) == 2, "descriptors of the script")
+                send_signals()
+                script.write(b"1 InitToken 31323334\n1 Open")
+                send_signals()
+                script.write(b"Session 6\n")
+
+        before = signal.signal(signal.SIGUSR1, lambda *_: caught.append(True))
+        writer = threading.Thread(target=write_script)
+        writer.start()
+        self.begin(SCRIPT=path)
+        writer.join()
+        signal.signal(signal.SIGUSR1, before)
+        self.checks.check(len(caught) > 0, "there were signals")
+        self.checks.equal(self.module.say("1 OpenSession 6"), "0 2", "a call after the script's")
+        self.end()
+
     def wait_for(self, condition, what):
         for _ in range(1000):
             if condition():
@@ -959,6 +1013,25 @@ class Tests:
                              text=True, timeout=20)
         self.checks.equal((run.returncode, run.stderr), (0, ""), "the status and the errors")
 
+    def test_waiting(self):
+        """A thread that waits for another one's C_Initialize sleeps."""
+        path, said = self.file("waited_fifo"), []
+        os.mkfifo(path)
+        first = threading.Thread(target=self.module.initialize, kwargs={"SCRIPT": path})
+        other = threading.Thread(target=lambda: said.append(self.module.say("1 GetTokenInfo")))
+        first.start()
+        with open(path, "wb"):
+            self.wait_for(lambda: open_files().count(path) == 2, "descriptors of the script")
+            other.start()
+            before = time.process_time()
+            time.sleep(0.5)
+            taken = time.process_time() - before
+        first.join()
+        other.join()
+        self.checks.equal(said, ["0 4 64 0 0"], "its call")
+        self.checks.check(taken < 0.1, f"what it takes meanwhile: {taken}")
+        self.end()
+
     def test_unload(self):
         """A library that is unloaded without C_Finalize leaves no lock on its file."""
         path = self.file("unloaded.cases")
@@ -970,14 +1043,13 @@ class Tests:
         support.audit(self.checks, self.ck_cases, path)
 
     def test_unload_with_functions(self):
-        """Under the application's lock the file of an unloaded library stays open."""
+        """Under the application's lock an unloaded library leaves no lock on its file, either."""
         path = self.file("unloaded_with_functions.cases")
         run = subprocess.run(
             [sys.executable, os.path.abspath(__file__), "unload_with_functions", self.path],
             env=support.environment_of({"TOKEN": path}), capture_output=True, text=True, timeout=60)
-        self.checks.equal(run.stdout, f"0 0\n1 {GENERAL_ERROR}\n", "the replies")
-        self.checks.equal(run.stderr, f"ospreyrack: OSPREYRACK_TOKEN: {path}: another process has "
-                          "locked the file\n", "the errors")
+        self.checks.equal(run.stdout, "0 0\n0 0\n", "the replies")
+        self.checks.equal(run.stderr, "", "the errors")
         support.audit(self.checks, self.ck_cases, path)
 
     def program_for_all(self):
@@ -1077,13 +1149,17 @@ class Tests:
         self.checks.check("OSPREYRACK_JOURNAL" in worker.end(), "no room for the file's header")
         self.checks.equal(read(self.file("small.cases")), b"", "the file is left empty")
 
-    def fill(self, limit):
-        """Fills a file that can't be longer with calls. Gives what it then has."""
+    def fill(self, limit, comment=""):
+        """Fills a file that can't be longer with calls, to which somebody else adds a comment.
+        Gives what it then has."""
         path = self.file(f"filled-{limit}.cases")
         worker = Worker(self.path, limit=limit, TOKEN=path)
         replies = []
         while DEVICE_ERROR not in replies and len(replies) < 300:
             replies.append(worker.say("1 GetTokenInfo"))
+            if len(replies) == 5:
+                with open(path, "a", encoding="ascii") as file:
+                    file.write(comment)
         self.checks.check(10 < len(replies) < 300, "the file becomes full")
         for line in ["1 InitToken 31323334", "1 OpenSession 6", "1 GetSessionInfo 1",
                      "1 CloseAllSessions", "1 DigestInit 1 250", "1 SessionCancel 1 400",
@@ -1107,6 +1183,9 @@ class Tests:
         for limit in range(2000, 2040, 3):
             content = self.fill(limit)
         self.checks.equal(len(self.fill(len(content))), len(content), "a file that is quite full")
+        for limit in range(2100, 2140, 3):
+            content = self.fill(limit, "# a comment of somebody else\n")
+            self.checks.check("\n# a comment of somebody else\n1 " in content, "the comment stays")
 
     def test_filling_in_update(self):
         """A device that becomes full in an update: the file ends with the piece before. The end of
@@ -1196,6 +1275,34 @@ class Tests:
         self.checks.equal(worker.say("1 InitToken 31323334"), "0", "a call")
         worker.end()
         self.checks.equal((worker.last, worker.process.returncode), ("0", 0), "C_Finalize")
+
+    def test_signals_in_errors(self):
+        """A signal that comes while a line of standard error waits for its reader loses nothing."""
+        out, written = os.pipe()
+        size, caught, writer = fcntl.fcntl(written, fcntl.F_GETPIPE_SZ), [], threading.get_ident()
+        os.write(written, bytes(size))
+
+        def read_later():
+            for _ in range(20):
+                time.sleep(0.01)
+                signal.pthread_kill(writer, signal.SIGUSR1)
+            with open(out, "rb") as file:
+                caught.append(file.read())
+
+        before = signal.signal(signal.SIGUSR1, lambda *_: None)
+        reader = threading.Thread(target=read_later)
+        kept = os.dup(2)
+        os.dup2(written, 2)
+        os.close(written)
+        reader.start()
+        code = self.module.initialize(SEED="x")
+        os.dup2(kept, 2)
+        os.close(kept)
+        reader.join()
+        signal.signal(signal.SIGUSR1, before)
+        self.checks.equal(code, GENERAL_ERROR, "C_Initialize with a bad seed")
+        self.checks.equal(caught[0][size:], b"ospreyrack: OSPREYRACK_SEED: the value is a decimal "
+                          b"number below 2^64, and not x\n", "the errors")
 
     def test_seeded_bytes(self):
         """The bytes of a seed never change, and its number is decimal."""
@@ -1293,12 +1400,13 @@ TESTS = [Tests.test_file, Tests.test_mode, Tests.test_going_on, Tests.test_new_l
          Tests.test_bad_variable_and_file, Tests.test_cut_off,
          Tests.test_changed, Tests.test_lacking_reply, Tests.test_two_processes,
          Tests.test_second_run, Tests.test_fork, Tests.test_fork_that_stays,
-         Tests.test_closed_file, Tests.test_exec,
-         Tests.test_exec_in_script, Tests.test_exit, Tests.test_unload,
+         Tests.test_unseen_child, Tests.test_closed_file, Tests.test_exec,
+         Tests.test_exec_in_script, Tests.test_signals_in_script, Tests.test_exit,
+         Tests.test_waiting, Tests.test_unload,
          Tests.test_unload_with_functions, Tests.test_rights, Tests.test_kills, Tests.test_full,
          Tests.test_filling, Tests.test_filling_in_update, Tests.test_filling_in_search,
          Tests.test_seed,
-         Tests.test_nobody_reads_errors, Tests.test_seeded_bytes,
+         Tests.test_nobody_reads_errors, Tests.test_signals_in_errors, Tests.test_seeded_bytes,
          Tests.test_long_template, Tests.test_cut, Tests.test_memory]
 
 

@@ -10,6 +10,7 @@
 #include <stdatomic.h>
 #include <stdlib.h>
 #include <string.h>
+#include <sys/resource.h>
 #include <time.h>
 
 /* ---- Work on a long message, while something changes before its call. The lock is taken three
@@ -809,6 +810,51 @@ static void test_update_and_closed_sessions(void) {
     }
 }
 
+/* ---- Threads that wait for the module's own mutex */
+
+enum { ASKING = 4, ASKS = 200000, MOST_SLEEPS = 4000, TRIES = 5 };
+
+static void *ask_often(void *has_failed) {
+    for (int i = 0; i < ASKS; i++) {
+        if (ask_for_session() != CKR_OK)
+            *(atomic_bool *)has_failed = true;
+    }
+    return NULL;
+}
+
+/* How often threads sleep that ask at once. */
+static long count_sleeps(atomic_bool *has_failed) {
+    struct rusage before, after;
+    pthread_t threads[ASKING];
+    getrusage(RUSAGE_SELF, &before);
+    for (int i = 0; i < ASKING; i++) {
+        if (pthread_create(&threads[i], NULL, ask_often, has_failed) != 0)
+            exit(2);
+    }
+    for (int i = 0; i < ASKING; i++)
+        pthread_join(threads[i], NULL);
+    getrusage(RUSAGE_SELF, &after);
+    return after.ru_nvcsw - before.ru_nvcsw;
+}
+
+/* A thread that finds the mutex taken looks again before it sleeps, since most calls are short. One
+ * that is written to a file isn't. Where the system takes the processor from the thread that has
+ * the mutex, the others may sleep, so this is tried a few times. */
+static void test_seldom_asleep(void) {
+    atomic_bool has_failed = false;
+    long least = LONG_MAX;
+    keep_journals(NULL);
+    current_session = begin_token();
+    keep_journals(has_journals ? folder : NULL);
+    for (int i = 0; i < TRIES && least >= MOST_SLEEPS; i++) {
+        long sleeps = count_sleeps(&has_failed);
+        least = sleeps < least ? sleeps : least;
+    }
+    end_token();
+    CHECK(!has_failed);
+    CHECK(least < MOST_SLEEPS);
+}
+
 static const struct test tests[] = {
     {"a long message is taken in as it was when the call was made", test_changed_messages},
     {"only for a long message that is taken in the lock is taken three times",
@@ -837,6 +883,7 @@ static const struct test tests[] = {
     {"an update has waited for a mutex that isn't the library's any more",
      test_update_and_another_mutex},
     {"an application's mutex that is NULL", test_mutex_that_is_null},
+    {"threads that wait for the module's own mutex seldom sleep", test_seldom_asleep},
 };
 
 int run_lock_tests(const char *name) {

@@ -1,17 +1,18 @@
 /*
- * What C owes to the token's library (token.h), looked at where C calls it, since the library
- * isn't sanitized. The script run links this into the module that finds bad addresses: there a call
- * of the library's function comes to the one of its name with `__wrap_` in front. What isn't as it
- * must be ends the program.
+ * What C owes to the token's library (token.h), looked at where C calls it, since the library isn't
+ * sanitized; and that C makes by a line only the calls that have no other way. The script run links
+ * this into the module that finds bad addresses: there a call of the library's function comes to
+ * the one of its name with `__wrap_` in front. What isn't as it must be ends the program.
  */
 #include <pthread.h>
 #include <sanitizer/asan_interface.h>
 #include <stdio.h>
 #include <stdlib.h>
+#include <string.h>
 
-#include "../token.h"
+#include "../module.h"
 
-enum { LONGEST_SIGNATURE = 64, ALIGNMENT = 16 };
+enum { LONGEST_OUTPUT = 64, ALIGNMENT = 16 };
 
 static void owe(bool is_good, const char *name, const char *what) {
     if (is_good)
@@ -152,8 +153,30 @@ WRAP(uint32_t, ospreyrack_call, struct token *token, uint32_t caller, struct mes
     return __real_ospreyrack_call(token, caller, call);
 }
 
+/* Whether the call of a line has no function with arguments of its own. */
+static bool goes_by_line(const uint8_t *line, size_t length) {
+    static const char *const names[] = {
+        "InitToken", "InitPIN", "SetPIN", "Login", "GetMechanismList",
+        "GenerateKey", "CopyObject", "SetAttributeValue",
+    };
+    const uint8_t *start = memchr(line, ' ', length);
+    if (start == NULL)
+        return false;
+    size_t rest = length - (size_t)(++start - line);
+    const uint8_t *end = memchr(start, ' ', rest);
+    size_t count = end == NULL ? rest : (size_t)(end - start);
+    for (size_t i = 0; i < sizeof names / sizeof *names; i++) {
+        if (strlen(names[i]) == count && memcmp(names[i], start, count) == 0)
+            return true;
+    }
+    return false;
+}
+
+/* Without a journal file only these calls are made by lines, since a line takes longer. */
 WRAP(uint32_t, ospreyrack_line, struct token *token, const uint8_t *line, size_t length) {
     owe_memory(__func__, line, length);
+    owe(!library.is_initialized || library.journal.is_kept || goes_by_line(line, length), __func__,
+        "the call has a function with arguments");
     return __real_ospreyrack_line(token, line, length);
 }
 
@@ -250,7 +273,8 @@ WRAP(size_t, ospreyrack_value, struct token *token, size_t index, uint8_t *out, 
 
 /* The application's room may be one that no memory has. */
 WRAP(size_t, ospreyrack_bytes, struct token *token, uint8_t *out, size_t room) {
-    owe(room <= LONGEST_SIGNATURE, __func__, "there is more room than the longest signature has");
+    owe(room <= LONGEST_OUTPUT, __func__,
+        "there is more room than the longest digest or signature has");
     owe_memory(__func__, out, room);
     return __real_ospreyrack_bytes(token, out, room);
 }

@@ -7,10 +7,11 @@ use ck_token::{Call, Limits, NoMemory, Reply, Rv, Token};
 use std::alloc::Global;
 use std::io;
 use std::sync::Wait;
-use std::time::CpuClock;
+use std::time::{CpuClock, Duration};
 
 /// What answers calls.
 trait Target {
+    /// Answers a call.
     fn call(&mut self, alloc: Global, call: Call) -> Result<Reply, NoMemory>;
 }
 
@@ -46,15 +47,10 @@ fn make_calls<T: Target>(target: &mut T, alloc: Global, calls: &[Call]) -> Resul
     Ok(refused)
 }
 
-/// The program's processor time so far, in nanoseconds.
-fn time_so_far<R: CpuClock>(rt: &R) -> io::Result<u128> {
-    Ok(rt.process_cpu_time()?.as_nanos())
-}
-
 /// Writes the processor time that was taken, where that is asked for.
-fn write_time<R: Print>(rt: &R, name: &str, time: u128, is_timed: bool) -> io::Result<()> {
+fn write_time<R: Print>(rt: &R, name: &str, time: Duration, is_timed: bool) -> io::Result<()> {
     if is_timed {
-        println!(rt; "{name}: {time} ns")?;
+        println!(rt; "{name}: {} ns", time.as_nanos())?;
     }
     Ok(())
 }
@@ -69,9 +65,9 @@ fn measure_section<R: CpuClock + Print, T: Target>(
     is_timed: bool,
 ) -> anyhow::Result<()> {
     let Section { name, calls } = section;
-    let before = time_so_far(rt)?;
+    let before = rt.process_cpu_time()?;
     let refused = make_calls(target, alloc, calls)?;
-    let time = time_so_far(rt)?.saturating_sub(before);
+    let time = rt.process_cpu_time()?.saturating_sub(before);
     println!(rt; "{name}: {} calls, {refused} refused", calls.len())?;
     Ok(write_time(rt, name, time, is_timed)?)
 }
@@ -98,9 +94,9 @@ fn audit<R: CpuClock + Print>(
     token: &Token,
     is_timed: bool,
 ) -> anyhow::Result<()> {
-    let before = time_so_far(rt)?;
+    let before = rt.process_cpu_time()?;
     let is_legal = audit_token(alloc, token)? == Verdict::Legal;
-    let time = time_so_far(rt)?.saturating_sub(before);
+    let time = rt.process_cpu_time()?.saturating_sub(before);
     println!(rt; "audit of {} entries: {is_legal}", token.journal().len())?;
     Ok(write_time(rt, "audit", time, is_timed)?)
 }

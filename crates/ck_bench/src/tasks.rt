@@ -8,7 +8,7 @@ use ck_token::{
 use std::alloc::Global;
 use std::sync::Wait;
 use std::sync::atomic::{AtomicBool, Ordering};
-use std::time::{Clock, Instant};
+use std::time::{Clock, Duration, Instant};
 
 /// The bytes of the message that is digested, 1 MiB.
 const MESSAGE_LENGTH: usize = 1 << 20;
@@ -139,18 +139,18 @@ impl<'a, K: TokenId, G: Gate<K>, R: Wait + Clock> Client<'a, K, G, R> {
         Ok(())
     }
 
-    /// Asks for the state of a session by the lock, and gives the nanoseconds that it took.
-    fn wait(&mut self, session: u64) -> anyhow::Result<u128> {
+    /// Asks for the state of a session by the lock, and gives the time that it took.
+    fn wait(&mut self, session: u64) -> anyhow::Result<Duration> {
         let before = Instant::now(self.rt)?;
         self.call(Call::GetSessionInfo { session })?;
-        Ok(before.elapsed(self.rt)?.as_nanos())
+        Ok(before.elapsed(self.rt)?)
     }
 }
 
-/// The nanoseconds between two readings of the clock.
-fn pause<R: Clock>(rt: &R) -> anyhow::Result<u128> {
+/// The time between two readings of the clock.
+fn pause<R: Clock>(rt: &R) -> anyhow::Result<Duration> {
     let before = Instant::now(rt)?;
-    Ok(before.elapsed(rt)?.as_nanos())
+    Ok(before.elapsed(rt)?)
 }
 
 impl<'a> Tasks<'a> {
@@ -164,16 +164,16 @@ impl<'a> Tasks<'a> {
         })
     }
 
-    /// Does a caller's task in a session. Gives the nanoseconds that it takes; of rounds that wait
-    /// or pause those of the longest, and 0 of a task that goes on beside another.
+    /// Does a caller's task in a session. Gives the time that it takes; of rounds that wait or
+    /// pause that of the longest, and zero of a task that goes on beside another.
     fn do_task<K: TokenId, G: Gate<K>, R: Wait + Clock>(
         &self,
         client: &mut Client<K, G, R>,
         session: u64,
         task: Task,
-    ) -> anyhow::Result<u128> {
+    ) -> anyhow::Result<Duration> {
         let before = Instant::now(client.rt)?;
-        let mut longest = 0;
+        let mut longest = Duration::ZERO;
         // Each loop must be seen to end.
         for _ in 0..task.rounds.unwrap_or(u64::MAX) {
             if task.rounds.is_none() && self.is_done.load(Ordering::SeqCst) {
@@ -188,12 +188,12 @@ impl<'a> Tasks<'a> {
             }
         }
         match task {
-            Task { rounds: None, .. } => Ok(0),
+            Task { rounds: None, .. } => Ok(Duration::ZERO),
             Task {
                 round: Round::Wait | Round::Pause,
                 ..
             } => Ok(longest),
-            _ => Ok(before.elapsed(client.rt)?.as_nanos()),
+            _ => Ok(before.elapsed(client.rt)?),
         }
     }
 }
@@ -201,8 +201,8 @@ impl<'a> Tasks<'a> {
 impl<'a, R: Wait + Clock + AllocGlobal> CallerWork<R> for Tasks<'a> {
     ghost use Rattle.std.specs.Prelude.{⊤};
 
-    /// The nanoseconds of the caller's task.
-    type Output = anyhow::Result<u128>;
+    /// The time of the caller's task.
+    type Output = anyhow::Result<Duration>;
 
     ghost holds = { λ work before after time. ⊤ };
 

@@ -6,7 +6,7 @@ use crate::tasks::{Round, Task, Tasks};
 use ck_shared::{Runtime, share};
 use ck_token::{Call, Limits, Pin, Token};
 use std::alloc::Global;
-use std::time::Clock;
+use std::time::{Clock, Duration};
 
 /// Initializes a token, and cuts its journal.
 fn initialize(alloc: Global, token: &mut Token) -> anyhow::Result<()>
@@ -18,15 +18,15 @@ fn initialize(alloc: Global, token: &mut Token) -> anyhow::Result<()>
     Ok(())
 }
 
-/// Callers do these tasks, each in a thread, on a new token. Gives the nanoseconds of the slowest.
-fn time_of<R: Clock + Runtime>(rt: R, alloc: Global, tasks: &[Task]) -> anyhow::Result<u128>
+/// Callers do these tasks, each in a thread, on a new token. Gives the time of the slowest.
+fn time_of<R: Clock + Runtime>(rt: R, alloc: Global, tasks: &[Task]) -> anyhow::Result<Duration>
     requires { (1 ≤ length tasks.now) × (length tasks.now ≤ 8) }
 {
     let mut token = Token::new(alloc, Limits::largest());
     initialize(alloc, &mut token)?;
     let work = Tasks::new(alloc, tasks)?;
     let times = share(rt, alloc, &mut token, tasks.len() as u32, &work)?;
-    let mut slowest = 0;
+    let mut slowest = Duration::ZERO;
     for time in times {
         slowest = time?.max(slowest);
     }
@@ -46,7 +46,7 @@ fn measure_tasks<R: Clock + Print + Runtime>(
 {
     let time = time_of(rt, alloc, tasks)?;
     if is_timed {
-        println!(rt; "{name}: {time} ns")?;
+        println!(rt; "{name}: {} ns", time.as_nanos())?;
     } else {
         println!(rt; "{name}: done")?;
     }
@@ -60,8 +60,8 @@ fn measure_tasks<R: Clock + Print + Runtime>(
 /// - Changes: each of four makes a hundredth of `asks`, and one makes as many as these together, so
 ///   that both journals grow alike.
 /// - Digests of a long message: `asks / 100_000 + 1` by one caller, and by each of four.
-/// - Beside another that digests, one waits for the lock `asks / 40` times, and one only reads the
-///   clock `asks / 20` times: for what that takes the system has interrupted it.
+/// - Beside another that digests, one waits for the lock `asks / 40` times. In its place one only
+///   reads the clock `asks / 20` times: its longest pause is the system's and not the lock's.
 pub(crate) fn measure_together<R: Clock + Print + Runtime>(
     rt: R,
     alloc: Global,

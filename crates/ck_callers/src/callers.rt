@@ -164,9 +164,10 @@ impl<K: TokenId> Caller<K> {
     }
 }
 
-/// What the published copy of the board answers, and the history of which that is the answer. It is
-/// no shorter than what the caller knows and has all entries of the caller. `None` also where the
-/// copy can't be read.
+/// What the published copy of the board answers, and the history that the answer is of. It is no
+/// shorter than what the caller knows and has all entries of the caller. `None` where the copy
+/// can't be read, where it lacks an entry that may have changed the board and that the caller
+/// knows, or where the history has another count of the caller's calls.
 fn look<K: TokenId>(
     reader: &mut ReadHandle<BoardCopy<K>>,
     account: &Account<K>,

@@ -156,7 +156,8 @@ impl<K: HistoryId> Front<K> {
         // Tells the prover that the other front is one of the same book.
         let mut both = self.seen.again();
         both.learn(&other.seen);
-        // What the step adds, and that it makes no word. Both take no bytes.
+        // For logbook: what is added to the log, and that no new word is made. Neither takes a
+        // byte.
         let mut offer: Offer<Entry, u64, LengthOfLog, Nothing> = both.plain::<Nothing, Entry, Add>(
             entry,
         );

@@ -13,7 +13,7 @@ use std::marker::Model;
 /// `MOST_CALLERS`, as the length of an array.
 const CALLERS: usize = MOST_CALLERS as usize;
 
-/// A history with how many calls of each caller it has, and a front of it since which no entry has
+/// A history, how many calls of each caller it has, and a front of it since which no entry has
 /// changed the board. Contracts see the two histories.
 #[derive(Drop)]
 pub struct KnownHistory<K: TokenId> {
@@ -40,8 +40,8 @@ impl<K: TokenId> Model for KnownHistory<K> {
         × KeepsBoard K.limits k.changed k.front };
 }
 
-/// The front that ends with the last change of the board: the one before, where the newest call
-/// leaves the board as it is.
+/// The front that ends with the last call that may have changed the board: the one before, where
+/// the newest call leaves the board as it is.
 fn last_change<K: TokenId>(before: &Front<K>, front: &Front<K>, keeps_board: bool) -> Front<K>
     ensures { result ≡ (if keeps_board then before.now else front.now) }
 {

@@ -19,7 +19,7 @@ pub(crate) enum Outcome {
 }
 
 impl Outcome {
-    /// The text that stands behind the arrow.
+    /// The text that stands after the arrow.
     pub(crate) fn text(&self, alloc: Global) -> Result<String, NoMemory> {
         match self {
             Outcome::Replied(reply) => Ok(reply_line(alloc, reply)?),

@@ -61,7 +61,7 @@ pub(crate) struct Report<'a> {
 }
 
 impl<'a> Report<'a> {
-    /// The report on the file of this name, with this many findings at the most.
+    /// The report on the file of this name, with at most this many findings.
     pub(crate) fn new(alloc: Global, name: &'a str, most: u64) -> Report<'a> {
         Report {
             name,

@@ -3,6 +3,7 @@ use Rattle.std.specs.Prelude.{◌≡◌, ◌≤◌, ◌+◌, ℕ, ◌⊎◌, Lis
 use Rattle.ck_journal.specs.Answers.{IsLegal}
 use Rattle.ck_journal.specs.declared.calls.Call.{Call}
 use Rattle.ck_journal.specs.TokenStates.{IsAnswered, IsUnchanged}
+use Rattle.ck_script.specs.Arities.{IsCallLine}
 use Rattle.ck_script.specs.Lines.{meaning}
 use Rattle.ck_script.specs.Replies.{reply_line}
 use Rattle.ck_script.specs.declared.lines.Line.TheVariants as line
@@ -32,14 +33,19 @@ IsCalled caller c outcome.Answered old new = IsKept old new caller c
 IsCalled caller c outcome.NoCall old new = ⊥
 IsCalled caller c outcome.NoMemory old new = IsSame old new
 
--- the call that the line means was answered; or the line means none; or there was no memory
+-- the line means no call
+abbrev pub MeansNoCall : List ℕ → Type 0
+MeansNoCall bytes = (meaning bytes ≡ None) ⊎ (meaning bytes ≡ Some line.Skipped)
+
+-- the call that the line means was answered; or the line means none; or there was no memory, which
+-- is so of a line without a call only where it has a call's name and as many arguments as that has
 abbrev pub IsLine : List ℕ → Outcome → Module → Module → Type 0
 IsLine bytes outcome.Answered old new =
     (caller : ℕ) × (c : Call) × (meaning bytes ≡ Some (line.Called caller c))
     × IsKept old new caller c
 IsLine bytes outcome.NoCall old new =
-    ((meaning bytes ≡ None) ⊎ (meaning bytes ≡ Some line.Skipped)) × (new ≡ old)
-IsLine bytes outcome.NoMemory old new = IsSame old new
+    MeansNoCall bytes × (new ≡ old)
+IsLine bytes outcome.NoMemory old new = (MeansNoCall bytes → IsCallLine bytes) × IsSame old new
 
 -- the text of the reply was made; or there was no memory for it, and nothing is said of the text
 abbrev pub IsText : Outcome → Module → Module → Type 0

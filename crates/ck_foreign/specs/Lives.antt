@@ -4,7 +4,7 @@ use Rattle.ck_types.specs.declared.return_codes.Rv.TheVariants as rv
 use Rattle.ck_journal.specs.Bases.{empty_base}
 use Rattle.ck_journal.specs.Histories.{JournalState, start}
 use Rattle.ck_journal.specs.declared.replies.Body.TheVariants as body
-use Rattle.ck_token.specs.Cuts.{IsCut as IsTokenCut}
+use Rattle.ck_token.specs.Cuts.{IsCut}
 use Rattle.ck_token.specs.declared.cuts.Uncut.{Uncut}
 use Rattle.ck_token.specs.declared.cuts.Uncut.TheVariants as uncut
 use Rattle.ck_foreign.specs.declared.modules.Module.{Module}
@@ -18,11 +18,11 @@ pub record IsNew (m : Module) : Type 0 where
   pub text : m.text.items ≡ []
 
 -- the reply and the text stay, and the token's journal is cut or not, as `Token::cut` says
-abbrev pub IsCut : Result (Unit {0}) Uncut → Module → Module → Type 0
-IsCut (Ok done) old new =
-    ((journal : JournalState) × IsTokenCut old.token new.token (Ok journal))
+abbrev pub IsModuleCut : Result (Unit {0}) Uncut → Module → Module → Type 0
+IsModuleCut (Ok done) old new =
+    ((journal : JournalState) × IsCut old.token new.token (Ok journal))
     × (new.reply ≡ old.reply) × (new.text ≡ old.text)
-IsCut (Err refused) old new = IsTokenCut old.token new.token (Err refused) × (new ≡ old)
+IsModuleCut (Err refused) old new = IsCut old.token new.token (Err refused) × (new ≡ old)
 
 -- the number that C is told of a cut
 abbrev pub cut_number : Result (Unit {0}) Uncut → ℕ

@@ -42,11 +42,11 @@ abbrev pub IsWorkOf : History → MessageCall → Type 0
 IsWorkOf h (variant.Done c w) = IsAhead h c w
 IsWorkOf h other = ⊤
 
-abbrev pub call_of : MessageCall → Option Call
-call_of variant.Empty = None
-call_of (variant.Given c) = Some c
-call_of (variant.Begun c w) = Some c
-call_of (variant.Done c w) = Some c
+abbrev pub given_call : MessageCall → Option Call
+given_call variant.Empty = None
+given_call (variant.Given c) = Some c
+given_call (variant.Begun c w) = Some c
+given_call (variant.Done c w) = Some c
 
 -- the call was made; where there is none, nothing has changed
 abbrev pub IsMadeBy : ℕ → Option Call → Outcome → Module → Module → Type 0

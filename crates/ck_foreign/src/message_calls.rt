@@ -1,6 +1,6 @@
 ghost use Rattle.std.specs.Prelude.{◌≡◌, ◌<◌};
 ghost use Rattle.ck_foreign.specs.MessageCalls.{IsBegin, IsMadeBy, IsTakenIn, IsWorkOf};
-ghost use Rattle.ck_foreign.specs.MessageCalls.{NeedsOnlyRoom, call_of, has_begun};
+ghost use Rattle.ck_foreign.specs.MessageCalls.{NeedsOnlyRoom, given_call, has_begun};
 ghost use Rattle.ck_foreign.specs.declared.message_calls.MessageCall.TheVariants as variant;
 ghost use Rattle.ck_foreign.specs.declared.outcomes.Outcome.TheVariants as outcome;
 
@@ -82,9 +82,9 @@ impl Module {
     /// Makes a call with a message, by the work where that is done, and keeps its reply.
     pub fn message_call(&mut self, alloc: Global, caller: u32, message: MessageCall) -> Outcome
         requires { IsWorkOf self.old.token.history message }
-        ensures made { IsMadeBy caller (call_of message) result self.old self.new }
+        ensures made { IsMadeBy caller (given_call message) result self.old self.new }
         ensures succeeds { 0 < self.old.token.spare
-            → NeedsOnlyRoom self.old.token.limits self.old.token.history (call_of message)
+            → NeedsOnlyRoom self.old.token.limits self.old.token.history (given_call message)
             → result ≡ outcome.Answered }
     {
         match message {

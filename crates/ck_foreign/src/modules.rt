@@ -3,7 +3,7 @@ ghost use Rattle.std.specs.Prelude.{◌≡◌, ◌<◌, OnOk, IfSome, false};
 ghost use Rattle.ck_journal.specs.Works.{IsAhead};
 ghost use Rattle.ck_script.specs.Replies.{reply_line};
 ghost use Rattle.ck_foreign.specs.Calls.{IsCalled, IsLine, IsText};
-ghost use Rattle.ck_foreign.specs.Lives.{IsNew, IsCut};
+ghost use Rattle.ck_foreign.specs.Lives.{IsNew, IsModuleCut};
 ghost use Rattle.ck_foreign.specs.declared.outcomes.Outcome.TheVariants as outcome;
 ghost use Rattle.ck_token.specs.Decisions.{may_run_out};
 
@@ -99,7 +99,7 @@ impl Module {
 
     /// Cuts the journal.
     pub fn cut(&mut self, alloc: Global) -> Result<(), Uncut>
-        ensures { IsCut result self.old self.new }
+        ensures { IsModuleCut result self.old self.new }
     {
         self.token.cut(alloc)?;
         Ok(())

@@ -30,13 +30,14 @@ use Rattle.ck_journal.specs.Operations.{starts, ends, is_active, key_in, init_ke
 use Rattle.ck_journal.specs.Operations.{cancels, finishes}
 use Rattle.ck_journal.specs.Sessions.{is_open, login, login_after}
 use Rattle.ck_journal.specs.Sessions.{logs_out, closes}
-use Rattle.ck_journal.proofs.EventLemmas.{events-before, events-keep, sound-after}
+use Rattle.ck_journal.proofs.EventLemmas.{events-before, sound-after}
 use Rattle.ck_journal.proofs.LaterLemmas.{just_before, was_there, creations-next}
 use Rattle.ck_journal.proofs.KeyUseLemmas.{is_active-open}
 use Rattle.ck_journal.proofs.LegalLemmas.{by-done, last-passes, later-passes, private_stays}
 use Rattle.ck_journal.proofs.LoginMoves.{login-open}
 use Rattle.ck_journal.proofs.NameLemmas.{named-passes}
 use Rattle.ck_journal.proofs.ObjectMoves.{object_at-within}
+use Rattle.ck_journal.proofs.ProtectionLaws.{private-stays}
 use Rattle.ck_journal.proofs.SessionMoves.{some-open}
 use Rattle.ck_journal.proofs.VisibilityLemmas.{visible-login, named-login}
 
@@ -224,10 +225,7 @@ private-later limits h later sound n private a is = record {
   attributes = a;
   present = is;
   private =
-      events-keep limits (λ a b. is_set b attribute.Private ≡ is_set a attribute.Private)
-      (λ a. refl) (λ a b c first then. then ∙ first)
-      (λ e h good. private_stays limits e h good.sound good.legal)
-      h later sound n private.attributes a private.present is
+      private-stays limits h later sound n private.attributes a private.present is
       ∙ private.private;
 }
 

@@ -20,6 +20,7 @@ pub mod NumberTests
 pub mod ObjectMoves
 pub mod OpenLemmas
 pub mod OperationMoves
+pub mod PinLaws
 pub mod ProtectionLaws
 pub mod ProtectionLemmas
 pub mod ReturnedHandleLemmas

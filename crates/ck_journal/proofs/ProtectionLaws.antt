@@ -1,9 +1,10 @@
 -- What protects a key, over calls and cuts and in copies
-use Rattle.std.proofs.Common.{◌≡◌, ℕ, List, [], Some, sym, ap, ◌∙◌, subst}
+use Rattle.std.proofs.Common.{◌≡◌, ℕ, true, List, [], Some, refl, sym, ap, ◌∙◌, subst}
 use Rattle.std.specs.Prelude.{unwrap_or}
 use Rattle.std.proofs.lemmas.Option.{same_Some}
-use Rattle.ck_objects.specs.Records.{with_given}
+use Rattle.ck_objects.specs.Records.{with_given, is_set}
 use Rattle.ck_types.specs.TokenLimits.{Ranges}
+use Rattle.ck_objects.specs.declared.attributes.Attribute.TheVariants as attribute
 use Rattle.ck_objects.specs.declared.items.Item.{Item}
 use Rattle.ck_objects.proofs.ChangeLemmas.{KeepsProtection}
 use Rattle.ck_journal.specs.declared.calls.Call.TheVariants as call
@@ -11,13 +12,14 @@ use Rattle.ck_journal.specs.declared.calls.Entry.{Entry}
 use Rattle.ck_journal.specs.Events.{Event, after_events, AreSoundEvents}
 use Rattle.ck_journal.specs.Histories.{History, ◌◁◌}
 use Rattle.ck_journal.specs.KeyLaws.{Copies, CopiesStaySensitive, CopiesStayUnextractable}
+use Rattle.ck_journal.specs.KeyLaws.{CopiesStayPrivate}
 use Rattle.ck_journal.specs.Laws.{IsSoundHistory}
-use Rattle.ck_journal.specs.LawsOverEvents.{SensitiveStays, UnextractableStays}
+use Rattle.ck_journal.specs.LawsOverEvents.{SensitiveStays, UnextractableStays, PrivateStays}
 use Rattle.ck_journal.specs.LawsOverEvents.{AlwaysSensitiveIsTrue, NeverExtractableIsTrue}
 use Rattle.ck_journal.specs.Objects.{creates, creation_attributes, object_at}
 use Rattle.ck_journal.specs.Objects.{attributes_named}
 use Rattle.ck_journal.proofs.EventLemmas.{events-keep}
-use Rattle.ck_journal.proofs.LegalLemmas.{passed-done}
+use Rattle.ck_journal.proofs.LegalLemmas.{passed-done, private_stays}
 use Rattle.ck_journal.proofs.ObjectMoves.{object_at-created}
 use Rattle.ck_journal.proofs.ProtectionLemmas.{keeps-itself, protection_stays, copy-found}
 use Rattle.ck_journal.proofs.ProtectionLemmas.{object-protected}
@@ -47,6 +49,12 @@ pub unextractable-stays : UnextractableStays
 unextractable-stays limits h later sound n a b was now =
     (fronts-keep limits h later sound n a b was now).extractable
 
+pub private-stays : PrivateStays
+private-stays limits =
+    events-keep limits (λ a b. is_set b attribute.Private ≡ is_set a attribute.Private)
+    (λ a. refl) (λ a b c first then. then ∙ first)
+    (λ e h good. private_stays limits e h good.sound good.legal)
+
 -- ---- since the creation
 
 pub always-sensitive : AlwaysSensitiveIsTrue
@@ -66,7 +74,9 @@ never-extractable limits h later sound n a b was now t =
 -- ---- in a copy
 
 copy-keeps : (limits : Ranges) (e : Entry) (h : History) → IsSoundHistory limits (e ◁ h)
-    → (source copy : List Item) → Copies e h source copy → KeepsProtection source copy
+    → (source copy : List Item) → Copies e h source copy
+    → KeepsProtection source copy
+    × (is_set source attribute.Private ≡ true → is_set copy attribute.Private ≡ true)
 copy-keeps limits e h good source copy made =
     let did = call.CopyObject made.session made.handle made.template in
     let found = copy-found limits h made.session made.handle made.template
@@ -75,13 +85,19 @@ copy-keeps limits e h good source copy made =
     let given = object_at-created e h (ap creates made.copies)
     ∙ ap (λ d. Some (creation_attributes d (attributes_named h))) made.copies
     ∙ ap (λ o. Some (with_given made.template.items (unwrap_or o []))) made.named in
-    subst (KeepsProtection source) (same_Some _ copy (sym given ∙ made.created))
-    (subst (λ items. KeepsProtection items (with_given made.template.items items)) same found.2)
+    let Keeps = λ (a b : List Item). KeepsProtection a b
+    × (is_set a attribute.Private ≡ true → is_set b attribute.Private ≡ true) in
+    subst (Keeps source) (same_Some _ copy (sym given ∙ made.created))
+    (subst (λ items. Keeps items (with_given made.template.items items)) same (found.2, found.3))
 
 pub copies-sensitive : CopiesStaySensitive
 copies-sensitive limits e h good source copy made =
-    (copy-keeps limits e h good source copy made).sensitive
+    (copy-keeps limits e h good source copy made).0.sensitive
 
 pub copies-unextractable : CopiesStayUnextractable
 copies-unextractable limits e h good source copy made =
-    (copy-keeps limits e h good source copy made).extractable
+    (copy-keeps limits e h good source copy made).0.extractable
+
+pub copies-private : CopiesStayPrivate
+copies-private limits e h good source copy made =
+    (copy-keeps limits e h good source copy made).1

@@ -5,7 +5,7 @@ use Rattle.std.specs.Prelude.{◌==◌, find, option_and_then, option_map, unwra
 use Rattle.std.proofs.lemmas.Bool.{false≢true, not-true}
 use Rattle.std.proofs.lemmas.List.Elements.{All-head, All-tail}
 use Rattle.std.proofs.lemmas.Option.{same_Some}
-use Rattle.ck_objects.specs.Records.{created_items, generated_items, with_given}
+use Rattle.ck_objects.specs.Records.{created_items, generated_items, with_given, is_set}
 use Rattle.ck_objects.specs.Records.{protections_of, copied_error, changed_error}
 use Rattle.ck_objects.specs.Templates.{class_of, created_error}
 use Rattle.ck_types.specs.TokenLimits.{Ranges, AreInRange}
@@ -14,7 +14,7 @@ use Rattle.ck_types.specs.declared.errors.RvError.TheVariants as rv_error
 use Rattle.ck_objects.specs.declared.items.Item.{Item}
 use Rattle.ck_objects.specs.declared.templates.Template.{Template}
 use Rattle.ck_objects.proofs.ChangeLemmas.{KeepsProtection, copied-protection, changed-protection}
-use Rattle.ck_objects.proofs.ChangeLemmas.{protection-in_state}
+use Rattle.ck_objects.proofs.ChangeLemmas.{protection-in_state, copied-private}
 use Rattle.ck_types.proofs.CheckLemmas.{or_else-none}
 use Rattle.ck_objects.proofs.KeyLemmas.{created-unprotected, generated-sensitive}
 use Rattle.ck_objects.proofs.KeyLemmas.{generated-extractable}
@@ -71,12 +71,19 @@ pub copy-found : (limits : Ranges) (h : History) (session object : ℕ) (templat
     → call_error limits h (call.CopyObject session object template) ≡ None
     → (source : List Item) × (attributes_named h object ≡ Some source)
     × KeepsProtection source (with_given template.items source)
+    × (is_set source attribute.Private ≡ true
+    → is_set (with_given template.items source) attribute.Private ≡ true)
 copy-found limits h session object template p =
     let found = object-found (attributes_named h object) _ rv_error.ObjectHandleInvalid
     (last-passes (object_error h object _) (later-passes (session_error h session) _ p)) in
     let rest = later-passes (prohibited_error attribute.Copyable found.0) _ found.2 in
     let copied = copied_error (class_of found.0) (protections_of found.0) template.items in
-    (found.0, found.1, copied-protection template.items found.0 (or_else-none copied _ rest).0)
+    let fine = (or_else-none copied _ rest).0 in (
+      found.0,
+      found.1,
+      copied-protection template.items found.0 fine,
+      copied-private template.items found.0 fine,
+    )
 
 created-protected : (template : List Item) → created_error template ≡ None
     → IsProtected (created_items template)

@@ -299,10 +299,12 @@ key_state_error k attributes =
     error_if (not (option_map_or (may_serve k) (state_in attributes) false))
     rv_error.KeyFunctionNotPermitted
 
--- the flag of a key that lets operations of the kind use it; a digest has no key
+-- the flag of a key that lets operations of the kind use it; a digest has no key, so nothing asks
+-- for its flag
 abbrev pub usage_flag : OperationKind → Attribute
+usage_flag kind.Digest = attribute.Sign
+usage_flag kind.Sign = attribute.Sign
 usage_flag kind.Verify = attribute.Verify
-usage_flag other = attribute.Sign
 
 -- the flag of a key, and then its state, forbid operations of the kind
 abbrev pub usage_error : OperationKind → List Item → Option RvError

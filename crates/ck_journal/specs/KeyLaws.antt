@@ -1,5 +1,5 @@
 -- What is so in every history that is legal from a sound base: laws of what keys reveal, of their
--- states (NIST SP 800-57 Part 1 Rev. 5, Key states and transitions) and of their copies
+-- states (NIST SP 800-57 Part 1 Rev. 5, Key states and transitions) and of copies
 use Rattle.std.specs.Prelude.{◌≡◌, ℕ, suc, Bool, true, false, List, Option, Some, ◌==◌}
 use Rattle.std.specs.List.{slice_get}
 use Rattle.ck_objects.specs.Attributes.{type_of}
@@ -85,7 +85,7 @@ VerifyingKeysMayVerify =
     (limits : Ranges) (e : Entry) (h : History) → IsSoundHistory limits (e ◁ h) → (session : ℕ)
     → verifies (done e) session ≡ true → HasKey kind.Verify may_verify h session
 
--- ---- copies of keys
+-- ---- copies
 
 abbrev pub is_sensitive_key : List Item → Bool
 is_sensitive_key attributes = is_set attributes attribute.Sensitive
@@ -115,3 +115,10 @@ CopiesStayUnextractable =
     (limits : Ranges) (e : Entry) (h : History) → IsSoundHistory limits (e ◁ h)
     → (source copy : List Item) → Copies e h source copy
     → is_extractable source ≡ false → is_extractable copy ≡ false
+
+-- a copy of a private object is private
+abbrev pub CopiesStayPrivate : Type 0
+CopiesStayPrivate =
+    (limits : Ranges) (e : Entry) (h : History) → IsSoundHistory limits (e ◁ h)
+    → (source copy : List Item) → Copies e h source copy
+    → is_set source attribute.Private ≡ true → is_set copy attribute.Private ≡ true

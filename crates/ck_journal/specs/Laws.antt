@@ -1,12 +1,14 @@
--- What is so in every history that is legal from a sound base: laws of wrong tries, of session
--- objects and of who sees private objects
+-- What is so in every history that is legal from a sound base: laws of logins and wrong tries, of
+-- session objects and of who sees private objects
 use Rattle.std.specs.Prelude.{◌≡◌, ℕ, ◌≤◌, Bool, true, false, List, [], ◌∷◌, Option, Some, None}
 use Rattle.std.specs.Prelude.{if◌then◌else◌}
 use Rattle.std.specs.List.{slice_get}
 use Rattle.ck_objects.specs.Records.{is_set}
 use Rattle.ck_types.specs.TokenLimits.{Ranges, AreInRange}
+use Rattle.ck_types.specs.Users.{user_of}
 use Rattle.ck_objects.specs.declared.attributes.Attribute.TheVariants as attribute
 use Rattle.ck_objects.specs.declared.items.Item.{Item}
+use Rattle.ck_types.specs.declared.pins.Pin.{Pin}
 use Rattle.ck_types.specs.declared.users.UserType.{UserType}
 use Rattle.ck_types.specs.declared.users.UserType.TheVariants as user
 use Rattle.ck_journal.specs.declared.calls.AttributeQuery.{AttributeQuery}
@@ -21,7 +23,7 @@ use Rattle.ck_journal.specs.Bases.{IsSound}
 use Rattle.ck_journal.specs.Histories.{History, ◌◁◌, start_of, done}
 use Rattle.ck_journal.specs.Objects.{object_at, object_named, session_of, is_session_object}
 use Rattle.ck_journal.specs.Objects.{is_visible, creates, handle_of}
-use Rattle.ck_journal.specs.Pins.{tries}
+use Rattle.ck_journal.specs.Pins.{is_locked, is_pin, present_pin, tries}
 use Rattle.ck_journal.specs.Searches.{handles_in}
 use Rattle.ck_journal.specs.Sessions.{is_open, login}
 
@@ -31,7 +33,15 @@ pub record IsSoundHistory (limits : Ranges) (h : History) : Type 0 where
   pub sound : IsSound (start_of h)
   pub legal : IsLegal limits h
 
--- ---- wrong tries
+-- ---- logins and wrong tries
+
+-- a login is answered OK only with the user's PIN, and only where the user isn't locked
+abbrev pub LoginsNeedThePin : Type 0
+LoginsNeedThePin =
+    (limits : Ranges) (e : Entry) (h : History) → IsSoundHistory limits (e ◁ h)
+    → (session number : ℕ) (given : Pin) (u : UserType)
+    → done e ≡ Some (call.Login session number given) → user_of number ≡ Some u
+    → (is_pin (present_pin u h) given ≡ true) × (is_locked u h ≡ false)
 
 -- no user has more than three wrong tries
 abbrev pub TriesAreAtMostThree : Type 0
@@ -70,7 +80,34 @@ named_handle (Some (call.SetKeyState session key state)) = Some key
 named_handle (Some (call.DestroyObject session object)) = Some object
 named_handle (Some (call.SignInit session mechanism key)) = Some key
 named_handle (Some (call.VerifyInit session mechanism key)) = Some key
-named_handle other = None
+named_handle None = None
+named_handle (Some (call.InitToken pin)) = None
+named_handle (Some (call.InitPin session pin)) = None
+named_handle (Some (call.SetPin session old new)) = None
+named_handle (Some (call.OpenSession flags)) = None
+named_handle (Some (call.CloseSession session)) = None
+named_handle (Some call.CloseAllSessions) = None
+named_handle (Some (call.Login session user pin)) = None
+named_handle (Some (call.Logout session)) = None
+named_handle (Some (call.GetSessionInfo session)) = None
+named_handle (Some (call.SessionCancel session flags)) = None
+named_handle (Some call.GetTokenInfo) = None
+named_handle (Some call.GetMechanismList) = None
+named_handle (Some (call.CreateObject session template)) = None
+named_handle (Some (call.GenerateKey session mechanism template random)) = None
+named_handle (Some (call.FindObjectsInit session template)) = None
+named_handle (Some (call.FindObjects session max)) = None
+named_handle (Some (call.FindObjectsFinal session)) = None
+named_handle (Some (call.DigestInit session mechanism)) = None
+named_handle (Some (call.Digest session bytes room)) = None
+named_handle (Some (call.DigestUpdate session bytes)) = None
+named_handle (Some (call.DigestFinal session room)) = None
+named_handle (Some (call.Sign session bytes room)) = None
+named_handle (Some (call.SignUpdate session bytes)) = None
+named_handle (Some (call.SignFinal session room)) = None
+named_handle (Some (call.Verify session bytes signature)) = None
+named_handle (Some (call.VerifyUpdate session bytes)) = None
+named_handle (Some (call.VerifyFinal session signature)) = None
 
 -- the handle names an object, and where that is private the normal user is logged in
 pub record NamesObject (h : History) (handle : ℕ) : Type 0 where

@@ -1,5 +1,6 @@
 -- What is so between a front and every later one, whatever calls are answered in between, and
--- however often the journal is cut: laws of handles, of what protects keys and of private keys
+-- however often the journal is cut: laws of handles, of what protects keys and of private objects
+-- and keys
 use Rattle.std.specs.Prelude.{◌≡◌, ℕ, suc, Bool, true, false, List, [], ◌∷◌, Some, ◌==◌, ◌&&◌}
 use Rattle.ck_objects.specs.Records.{is_set}
 use Rattle.ck_types.specs.TokenLimits.{Ranges}
@@ -113,7 +114,12 @@ NeverExtractableIsTrue =
     BetweenFronts (λ before now.
     is_set now attribute.NeverExtractable ≡ true → is_extractable before ≡ false)
 
--- ---- private keys
+-- ---- private objects and keys
+
+-- CKA_PRIVATE of an object is at a front what it was at every earlier one
+abbrev pub PrivateStays : Type 0
+PrivateStays =
+    BetweenFronts (λ before now. is_set now attribute.Private ≡ is_set before attribute.Private)
 
 -- an operation whose key was private at this front or an earlier one is active only while the
 -- normal user is logged in, also where the key has ended

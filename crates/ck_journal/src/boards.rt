@@ -67,12 +67,14 @@ pub fn session_state(login: Option<UserType>, is_read_write: bool) -> SessionSta
     }
 }
 
+/// The row of the session that has the handle.
 fn find_row(rows: &[(u64, u64)], handle: u64) -> Option<&(u64, u64)>
     ensures { option_copied result ≡ find (λ row. row.0 == handle) rows.now }
 {
     rows.iter().find(|row| row.0 == handle)
 }
 
+/// How many rows are of read/write sessions.
 fn count_read_write(rows: &[(u64, u64)]) -> u64
     ensures { result ≡ length (filter (λ row. has_rw_flag row.1) rows.now) }
 {

@@ -188,7 +188,7 @@ macro_rules! copy_of {
 }
 
 /// A copy of a call that has no mechanism, template, queries, message or signature takes no memory.
-// Not derived: a derived copy clones the numbers too, and its proof has some 250 goals.
+// Not derived: a derived copy clones the numbers too, and its proof has about 250 goals.
 impl Clone for Call {
     ghost use Rattle.std.specs.Prelude.{◌≡◌, false};
     ghost use Rattle.ck_journal.specs.Calls.{brings_list};

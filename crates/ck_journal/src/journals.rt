@@ -67,7 +67,8 @@ impl Journal {
         &self.base
     }
 
-    /// Makes room for `count` more entries.
+    /// Makes room for `count` more entries. Where there is no memory for all of them, the room that
+    /// was made so far stays.
     pub fn reserve(&mut self, count: u64) -> Result<(), NoMemory>
         ensures history { self.new.history ≡ self.old.history }
         ensures room { OnOk result (count ≤ self.new.spare) }

@@ -3,6 +3,7 @@
 //! does nothing. A front is the history as it stands between two calls; "just before" means at the
 //! front that a call found.
 ghost use Rattle.ck_journal.specs.KeyLaws.{
+  CopiesStayPrivate,
   CopiesStaySensitive,
   CopiesStayUnextractable,
   HiddenValuesAreNotGiven,
@@ -10,6 +11,7 @@ ghost use Rattle.ck_journal.specs.KeyLaws.{
   VerifyingKeysMayVerify,
 };
 ghost use Rattle.ck_journal.specs.Laws.{
+  LoginsNeedThePin,
   PrivateAttributesAreGivenToTheUser,
   PrivateHandlesAreReturnedToTheUser,
   PrivateObjectsAreNamedByTheUser,
@@ -24,6 +26,7 @@ ghost use Rattle.ck_journal.specs.LawsOverEvents.{
   NewObjectsHaveNewHandles,
   ObjectHandlesAreGivenOnce,
   PrivateKeysServeTheUser,
+  PrivateStays,
   SensitiveStays,
   SessionHandlesAreGivenOnce,
   UnextractableStays,
@@ -47,6 +50,11 @@ pub fn object_handles_are_given_once()
 /// No two sessions are given one handle.
 pub fn session_handles_are_given_once()
     ensures { SessionHandlesAreGivenOnce }
+{}
+
+/// A login is answered CKR_OK only with the user's PIN, and only where the user isn't locked.
+pub fn logins_need_the_pin()
+    ensures { LoginsNeedThePin }
 {}
 
 /// No user has more than three wrong tries.
@@ -124,6 +132,16 @@ pub fn copies_stay_sensitive()
 /// A copy of a key that isn't extractable isn't extractable at its creation.
 pub fn copies_stay_unextractable()
     ensures { CopiesStayUnextractable }
+{}
+
+/// CKA_PRIVATE of an object never changes.
+pub fn private_stays()
+    ensures { PrivateStays }
+{}
+
+/// A copy of a private object is private at its creation.
+pub fn copies_stay_private()
+    ensures { CopiesStayPrivate }
 {}
 
 /// Where CKA_ALWAYS_SENSITIVE of a key is true at a front, the key is sensitive there, and was

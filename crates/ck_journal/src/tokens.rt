@@ -69,7 +69,7 @@ pub trait JournaledToken: Drop {
         ensures legal { IsLegal (state self.now).limits (state self.now).history };
 
     /// How many sessions may be open at once, and how many openings of sessions, creations of
-    /// objects and logins of the user there may be in all.
+    /// objects and logins of the normal user there may be in all.
     fn limits(&self) -> Limits
         ensures { result ≡ (state self.now).limits };
 

@@ -4,7 +4,7 @@ ghost use Rattle.ck_journal.specs.Searches.{number_of_handle};
 
 use ck_objects::{Attribute, Record};
 
-/// What each login of the user adds to the handles of private objects.
+/// What each login of the normal user adds to the handles of private objects.
 const HANDLES_PER_LOGIN: u64 = 0x1_0000_0000;
 
 /// The number of the object that has this handle (`View::handle`): the handle modulo 2^32.
@@ -24,7 +24,7 @@ pub struct View {
 
 impl View {
     /// The handle of an object with these attributes and this number: its number, and for a private
-    /// object 2^32 more for each login of the user.
+    /// object 2^32 more for each login of the normal user.
     pub fn handle(self, attributes: &Record, number: u64) -> u64
         requires number { number < 2 ^ 32 }
         requires logins { self.logins < 2 ^ 31 }

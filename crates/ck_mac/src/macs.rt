@@ -17,7 +17,8 @@ const INNER_PAD: u8 = 0x36;
 /// Each byte of the outer pad (opad).
 const OUTER_PAD: u8 = 0x5c;
 
-/// A running HMAC: that of a message that comes in pieces (FIPS 198-1), whole or its first bytes.
+/// A running HMAC, of a message that comes in pieces (FIPS 198-1). Its tag is the whole HMAC or its
+/// first bytes.
 #[derive(Clone, Drop)]
 pub struct Mac {
     /// Has taken in the key combined with the inner pad, and then the message so far.

@@ -4,7 +4,7 @@ ghost use Rattle.std.specs.Mem.{type_size};
 ghost use Rattle.std.specs.Ptr.{lies_at, room_at};
 ghost use Rattle.ck_journal.specs.Histories.{entry_count};
 ghost use Rattle.ck_foreign.specs.Calls.{IsSame};
-ghost use Rattle.ck_foreign.specs.Lives.{IsNew, IsCut, cut_number};
+ghost use Rattle.ck_foreign.specs.Lives.{IsNew, IsModuleCut, cut_number};
 ghost use Rattle.ck_foreign.specs.contracts.modules.Module.{the_row};
 ghost use Rattle.ck_foreign.specs.declared.modules.Module.{Module};
 ghost use Rattle.ck_token.specs.declared.cuts.Uncut.{Uncut};
@@ -48,7 +48,7 @@ pub extern "C" fn ospreyrack_reset(alloc: Global, place: &mut TokenPlace)
 #[unsafe(no_mangle)]
 pub extern "C" fn ospreyrack_cut(alloc: Global, place: &mut TokenPlace) -> u32
     ensures { (cut : Result (Unit {0}) Uncut) × (result ≡ cut_number cut)
-        × IsCut cut place.old.value place.new.value }
+        × IsModuleCut cut place.old.value place.new.value }
 {
     match place.as_mut().cut(alloc) {
         Ok(()) => 0,

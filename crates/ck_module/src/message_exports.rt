@@ -1,10 +1,12 @@
-ghost use Rattle.std.specs.Prelude.{◌≡◌, ◌<◌, IfOk, true, false};
+ghost use Rattle.std.specs.Prelude.{◌≡◌, ◌<◌, ◌⊎◌, IfOk, true, false};
 ghost use Rattle.std.specs.Borrow.{sem, full_share};
 ghost use Rattle.std.specs.Mem.{type_size};
 ghost use Rattle.std.specs.Ptr.{lies_at, room_at};
 ghost use Rattle.ck_journal.specs.declared.calls.Call.TheVariants as call;
+ghost use Rattle.ck_script.specs.Arities.{IsCallLine};
+ghost use Rattle.ck_foreign.specs.Calls.{MeansNoCall};
 ghost use Rattle.ck_foreign.specs.MessageCalls.{IsBegin, IsGivenBy, IsMade, IsTakenIn, IsWorkOf};
-ghost use Rattle.ck_foreign.specs.MessageCalls.{NeedsOnlyRoom, call_of, has_begun};
+ghost use Rattle.ck_foreign.specs.MessageCalls.{NeedsOnlyRoom, given_call, has_begun};
 ghost use Rattle.ck_foreign.specs.Queries.{room_of};
 ghost use Rattle.ck_foreign.specs.contracts.message_calls.MessageCall.{the_row};
 ghost use Rattle.ck_foreign.specs.declared.message_calls.MessageCall.{MessageCall};
@@ -187,6 +189,7 @@ pub extern "C" fn ospreyrack_message_line(
     line: &[u8],
 ) -> bool
     ensures given { result ≡ true → IsGivenBy line.now message.new.value }
+    ensures none { result ≡ false → MeansNoCall line.now ⊎ IsCallLine line.now }
     ensures unchanged { result ≡ false → message.new.value ≡ message.old.value }
 {
     match Line::parse(alloc, line) {
@@ -225,11 +228,11 @@ pub extern "C" fn ospreyrack_call(
     message: &mut MessagePlace,
 ) -> u32
     requires { IsWorkOf place.old.value.token.history message.old.value }
-    ensures made { IsMade caller (call_of message.old.value) result
+    ensures made { IsMade caller (given_call message.old.value) result
         place.old.value place.new.value }
     ensures succeeds { 0 < place.old.value.token.spare
         → NeedsOnlyRoom place.old.value.token.limits place.old.value.token.history
-        (call_of message.old.value) → result ≡ 0 }
+        (given_call message.old.value) → result ≡ 0 }
     ensures empty { message.new.value ≡ variant.Empty }
 {
     let message = message.as_mut().take();

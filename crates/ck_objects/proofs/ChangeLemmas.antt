@@ -10,7 +10,7 @@ use Rattle.ck_objects.specs.Templates.{value_at, value_or, flag_of, form_error, 
 use Rattle.ck_objects.specs.Templates.{template_error, has_conflict, flag_at, class_of}
 use Rattle.ck_objects.specs.Templates.{error_of_permission}
 use Rattle.ck_objects.specs.Records.{with_given, is_set, changed_error, state_item, with_state}
-use Rattle.ck_objects.specs.Records.{protections_of, exposes_key, copied_error}
+use Rattle.ck_objects.specs.Records.{protections_of, exposes_key, makes_public, copied_error}
 use Rattle.ck_objects.specs.declared.attributes.Attribute.{Attribute}
 use Rattle.ck_objects.specs.declared.attributes.Attribute.TheVariants as attribute
 use Rattle.ck_objects.specs.declared.attributes.Class.{Class}
@@ -143,12 +143,12 @@ pub record KeepsProtection (before after : List Item) : Type 0 where
 abbrev flag_in_value : Option (List ℕ) → Bool → Bool
 flag_in_value value other = unwrap_or (option_and_then (flag_of form.Flag) value) other
 
-sensitive-given : (given was : Option (List ℕ)) → not (flag_in_value given true) ≡ false
+true-given : (given was : Option (List ℕ)) → not (flag_in_value given true) ≡ false
     → flag_in_value was false ≡ true
     → flag_in_value (option_map (unwrap_or given) was) false ≡ true
-sensitive-given given None g e = cc
-sensitive-given None (Some value) g e = e
-sensitive-given (Some other) (Some value) g e = not-false (same_bytes other (flag_bytes true)) g
+true-given given None g e = cc
+true-given None (Some value) g e = e
+true-given (Some other) (Some value) g e = not-false (same_bytes other (flag_bytes true)) g
 
 extractable-given : (given was : Option (List ℕ)) → flag_in_value given false ≡ false
     → flag_in_value was false ≡ false
@@ -204,7 +204,7 @@ template-keeps p template items later always never passes =
     let extractable = type_of attribute.Extractable in
     record {
       sensitive = λ e. ap (λ o. flag_in_value o false) (value_at-given template sensitive items)
-          ∙ sensitive-given (value_at template sensitive) (value_at items sensitive) (parts.0 e) e;
+          ∙ true-given (value_at template sensitive) (value_at items sensitive) (parts.0 e) e;
       extractable = λ e.
           ap (λ o. flag_in_value o false) (value_at-given template extractable items)
           ∙ extractable-given (value_at template extractable) (value_at items extractable)
@@ -228,6 +228,27 @@ pub copied-protection : (template items : List Item)
     → KeepsProtection items (with_given template items)
 copied-protection template items fine =
     template-keeps purpose.Copy template items _ (fixed _ _ refl refl) (fixed _ _ refl refl) fine
+
+second-false : (first second : Bool) → (first && second) ≡ false → first ≡ true → second ≡ false
+second-false true second e t = e
+second-false false second e t = cc
+
+-- and one of a private object is private
+pub copied-private : (template items : List Item)
+    → copied_error (class_of items) (protections_of items) template ≡ None
+    → is_set items attribute.Private ≡ true
+    → is_set (with_given template items) attribute.Private ≡ true
+copied-private template items fine was =
+    let private = type_of attribute.Private in
+    let protections = protections_of items in
+    let exposes = error_if (exposes_key protections template) rv_error.AttributeReadOnly in
+    let public = error_if (makes_public protections template) rv_error.TemplateInconsistent in
+    let rest = (or_else-none (template_error (class_of items) purpose.Copy template) _ fine).1 in
+    let stays = error_if-none (makes_public protections template) rv_error.TemplateInconsistent
+    (or_else-none public None (or_else-none exposes _ rest).1).0 in
+    ap (λ o. flag_in_value o false) (value_at-given template private items)
+    ∙ true-given (value_at template private) (value_at items private)
+    (second-false (is_set items attribute.Private) _ stays was) was
 
 -- so does a change
 pub changed-protection : (template items : List Item)

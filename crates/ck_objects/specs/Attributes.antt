@@ -112,7 +112,7 @@ row number form for_data for_keys =
 -- each line: type, form, for data objects, for secret keys
 abbrev pub table : Attribute → Row
 table attribute.Class =
-    row 0x0 form.Class (column CG required computed) (column CG required (preset (number_bytes 4)))
+    row 0x0 form.Class (column CG required required) (column CG required (preset (number_bytes 4)))
 table attribute.Token = row 0x1 form.Flag (column CGP off off) (column CGP off off)
 table attribute.Private = row 0x2 form.Flag (column CGP off off) (column CGP on on)
 table attribute.Label = row 0x3 form.Bytes (column CGPS empty empty) (column CGPS empty empty)

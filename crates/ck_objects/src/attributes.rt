@@ -199,6 +199,7 @@ impl Attribute {
         }
     }
 
+    /// As `permission`, for data objects.
     fn data_permission(self, purpose: Purpose) -> Option<bool>
         ensures { result ≡ permission class.Data purpose self }
     {
@@ -217,6 +218,7 @@ impl Attribute {
         }
     }
 
+    /// As `permission`, for keys.
     fn key_permission(self, purpose: Purpose) -> Option<bool>
         ensures { result ≡ permission class.SecretKey purpose self }
     {

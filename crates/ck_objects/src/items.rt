@@ -65,6 +65,7 @@ impl Item {
     }
 }
 
+/// Checks the form of each item.
 #[tactic(auto, using(ck_types::proofs::CheckLemmas::item_checks))]
 pub(crate) fn check_forms(items: &[Item]) -> Result<(), RvError>
     ensures { result ≡ check_of (first_error form_error items.now) }
@@ -75,6 +76,7 @@ pub(crate) fn check_forms(items: &[Item]) -> Result<(), RvError>
     Ok(())
 }
 
+/// Checks of each item that a template of this purpose may give it.
 #[tactic(auto, using(ck_types::proofs::CheckLemmas::item_checks))]
 pub(crate) fn check_permissions(
     class: Class,

@@ -48,7 +48,7 @@ pub(crate) struct Key {
     origin: Origin,
 }
 
-// Not derived: with this many fields, proving a derived clone takes some six minutes, more than
+// Not derived: with this many fields, proving a derived clone takes about six minutes, more than
 // the rest of the crate.
 impl Clone for Key {
     ghost use Rattle.std.specs.Prelude.{◌≡◌};
@@ -113,7 +113,7 @@ impl Key {
         requires { generated_error items.now random.now ≡ None }
         ensures { IfOk result (λ made. key_items made ≡ generated_items items.now random.now) }
     {
-        // so that the length of the value is the one that the template gives
+        // Tells the prover that the value is as long as the template says.
         prove!(number_at(items, Attribute::ValueLen) == Some(random.len() as u64));
         let origin = Origin {
             local: true,

@@ -143,6 +143,8 @@ impl Record {
         ensures { result ≡ placement_of (with_given template.now.items self.now) }
     {
         let items = template.items.as_slice();
+        // By class: the clause is so only of attributes that have both flags, as each class has
+        // them.
         match &self.object {
             Object::Data(data) => data.placement().with(items),
             Object::Key(key) => key.placement().with(items),

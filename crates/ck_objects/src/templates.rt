@@ -141,6 +141,7 @@ fn check_new_object(class: Class, items: &[Item]) -> Result<(), RvError>
     }
 }
 
+/// Checks that the items give a key type, and a value of a length that a key may have.
 #[tactic(auto, using(ck_types::proofs::CheckLemmas::checks))]
 fn check_new_key(items: &[Item]) -> Result<(), RvError>
     ensures { result ≡ check_of (new_key_error items.now) }

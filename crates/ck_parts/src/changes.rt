@@ -21,7 +21,7 @@ pub enum Change {
         owner: UserType,
         pin: Pin,
     },
-    /// The session's number isn't here: ck_sessions counts on by one, as the reply did.
+    /// The new session's handle isn't here: ck_sessions counts on by one, as the reply did.
     OpenSession {
         flags: u64,
     },

@@ -16,12 +16,12 @@ use Rattle.ck_journal.specs.TokenStates.{TokenState}
 use Rattle.ck_plays.specs.Devices.{Writing, wrote, failed_write, IsCount}
 use Rattle.ck_plays.specs.Players.{HasAnswered, IsStopped, IsUnwritten, WriteFailed, IsCalled}
 use Rattle.ck_plays.specs.Players.{PlayerState, IsRefused, next_number}
-use Rattle.ck_plays.specs.Plays.{AreGood, called, history_of, output_of, replies_text, is_over}
+use Rattle.ck_plays.specs.Plays.{AreGood, called, history_after, output_of, replies_text, is_over}
 use Rattle.ck_plays.specs.Plays.{is_bad}
 use Rattle.ck_plays.specs.declared.faults.PlayFault.{PlayFault}
 use Rattle.ck_plays.specs.declared.faults.PlayFault.TheVariants as fault
 use Rattle.ck_plays.proofs.LineLemmas.{meaning-too_long, meaning-short}
-use Rattle.ck_plays.proofs.ReplyLemmas.{history_of-line, AreGood-line}
+use Rattle.ck_plays.proofs.ReplyLemmas.{history_after-line, AreGood-line}
 use Rattle.ck_plays.proofs.WriteLemmas.{wrote-wrote}
 
 count-next : (number n : ℕ) → IsCount number n → IsCount (next_number number) (suc n)
@@ -42,7 +42,7 @@ pub answered-skipped : (limits : Ranges) (written : Writing) (lines : List (List
     → Some line.Skipped ≡ meaning l → HasAnswered limits written lines token number P
     → HasAnswered limits written (lines ++ l ∷ []) token (next_number number) P
 answered-skipped limits written lines l token number P is h =
-    let same = history_of-line limits lines l (Some line.Skipped) is in
+    let same = history_after-line limits lines l (Some line.Skipped) is in
     record {
       same_limits = h.same_limits;
       history = h.history ∙ sym same;
@@ -54,9 +54,9 @@ answered-skipped limits written lines l token number P is h =
 
 -- the reply to a call is that of the history of the lines before it
 reply_is : (limits : Ranges) (lines : List (List ℕ)) (old : TokenState) (call : Call)
-    → old.limits ≡ limits → old.history ≡ history_of limits lines
+    → old.limits ≡ limits → old.history ≡ history_after limits lines
     → reply_text (answer old.limits old.history call)
-    ≡ reply_text (answer limits (history_of limits lines) call)
+    ≡ reply_text (answer limits (history_after limits lines) call)
 reply_is limits lines old call e f =
     ap₂ (λ (r : Ranges) (past : History). reply_text (answer r past call)) e f
 
@@ -67,7 +67,7 @@ pub answered-call : (limits : Ranges) (written : Writing) (lines : List (List �
     → HasAnswered limits written lines old number P
     → HasAnswered limits written (lines ++ l ∷ []) new (next_number number) Q
 answered-call limits written lines l old new number P Q caller call is answered h =
-    let next = history_of-line limits lines l (Some (line.Called caller call)) is in
+    let next = history_after-line limits lines l (Some (line.Called caller call)) is in
     record {
       same_limits = answered.same_limits ∙ h.same_limits;
       history =
@@ -80,7 +80,7 @@ answered-call limits written lines l old new number P Q caller call is answered 
           (ap (wrote (wrote written (output_of limits lines)))
           (reply_is limits lines old call h.same_limits h.history)
           ∙ wrote-wrote written (output_of limits lines)
-          (reply_text (answer limits (history_of limits lines) call))
+          (reply_text (answer limits (history_after limits lines) call))
           ∙ ap (λ (past : History). wrote written (replies_text past)) (sym next))
           (answered.writer (wrote written (output_of limits lines)) h.writer);
     }
@@ -165,7 +165,7 @@ module _ (limits : Ranges) (written : Writing) (lines later : List (List ℕ)) (
       on_time = omega arith;
       written = refl;
       reply =
-          ap replies_text (history_of-line limits lines l (Some (line.Called caller call)) is)
+          ap replies_text (history_after-line limits lines l (Some (line.Called caller call)) is)
           ∙ ap (λ text. output_of limits lines ++ text)
           (sym (reply_is limits lines old call h.same_limits h.history) ∙ b.parts)
           ∙ sym (append_assoc (output_of limits lines) b.part b.rest);

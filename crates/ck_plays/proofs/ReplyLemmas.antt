@@ -9,7 +9,7 @@ use Rattle.ck_script.specs.Lines.{meaning}
 use Rattle.ck_script.specs.declared.lines.Line.{Line}
 use Rattle.ck_script.specs.declared.lines.Line.TheVariants as line
 use Rattle.ck_journal.specs.TokenStates.{after}
-use Rattle.ck_plays.specs.Plays.{calls_in, with_call, called, history_of, AreGood, is_bad}
+use Rattle.ck_plays.specs.Plays.{calls_in, with_call, called, history_after, AreGood, is_bad}
 
 with_call-append : (m : Option Line) (cs ds : List (ℕ × Call))
     → with_call m (cs ++ ds) ≡ with_call m cs ++ ds
@@ -30,13 +30,14 @@ after-append limits h [] ds = refl
 after-append limits h (c ∷ cs) ds = after-append limits (called limits h c.0 c.1) cs ds
 
 -- the history after one more line
-pub history_of-line : (limits : Ranges) (lines : List (List ℕ)) (l : List ℕ) (m : Option Line)
+pub history_after-line : (limits : Ranges) (lines : List (List ℕ)) (l : List ℕ) (m : Option Line)
     → m ≡ meaning l
-    → history_of limits (lines ++ l ∷ []) ≡ after limits (history_of limits lines) (with_call m [])
-history_of-line limits lines l m is =
+    → history_after limits (lines ++ l ∷ [])
+    ≡ after limits (history_after limits lines) (with_call m [])
+history_after-line limits lines l m is =
     ap (after limits (start empty_base)) (calls_in-append lines (l ∷ []))
     ∙ after-append limits (start empty_base) (calls_in lines) (with_call (meaning l) [])
-    ∙ ap (λ n. after limits (history_of limits lines) (with_call n [])) (sym is)
+    ∙ ap (λ n. after limits (history_after limits lines) (with_call n [])) (sym is)
 
 -- one more good line
 pub AreGood-line : (lines : List (List ℕ)) (l : List ℕ) → AreGood lines → is_bad (meaning l) ≡ false

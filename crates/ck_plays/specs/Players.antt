@@ -8,7 +8,7 @@ use Rattle.ck_script.specs.Lines.{lines_in, longest_line}
 use Rattle.ck_script.specs.Replies.{reply_text}
 use Rattle.ck_journal.specs.TokenStates.{TokenState}
 use Rattle.ck_plays.specs.Devices.{Reading, Writing, wrote, failed_write, IsCount}
-use Rattle.ck_plays.specs.Plays.{AreGood, called, history_of, output_of, Outcome, failed_writes}
+use Rattle.ck_plays.specs.Plays.{AreGood, called, history_after, output_of, Outcome, failed_writes}
 use Rattle.ck_plays.specs.Plays.{is_over, after_reads, IsPlayed}
 use Rattle.ck_plays.specs.declared.faults.PlayFault.{PlayFault}
 use Rattle.ck_plays.specs.declared.faults.PlayFault.TheVariants as fault
@@ -56,7 +56,7 @@ pub record IsCalled (old new : TokenState) (caller : ℕ) (call : Call)
 pub record HasAnswered (limits : Ranges) (written : Writing) (lines : List (List ℕ))
     (token : TokenState) (number : ℕ) (is_written : Writing → Type 0) : Type 0 where
   pub same_limits : token.limits ≡ limits
-  pub history : token.history ≡ history_of limits lines
+  pub history : token.history ≡ history_after limits lines
   pub next_number : IsCount number (suc (length lines))
   pub good : AreGood lines
   pub writer : is_written (wrote written (output_of limits lines))

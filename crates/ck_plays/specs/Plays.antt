@@ -47,8 +47,8 @@ abbrev pub called : Ranges → History → ℕ → Call → History
 called limits h caller call = entry_of limits h caller call ◁ h
 
 -- the history of a new token after the calls of these lines
-abbrev pub history_of : Ranges → List (List ℕ) → History
-history_of limits lines = after limits (start empty_base) (calls_in lines)
+abbrev pub history_after : Ranges → List (List ℕ) → History
+history_after limits lines = after limits (start empty_base) (calls_in lines)
 
 -- the texts of the replies of a history, the oldest first
 abbrev pub replies_text : History → List ℕ
@@ -57,7 +57,7 @@ replies_text (e ◁ h) = replies_text h ++ reply_text e.reply
 
 -- the replies of a new token to the calls of these lines
 abbrev pub output_of : Ranges → List (List ℕ) → List ℕ
-output_of limits lines = replies_text (history_of limits lines)
+output_of limits lines = replies_text (history_after limits lines)
 
 -- ---- how playing ends: of the lines of what was read, whether the end was found, how many lines
 -- had ended before the last read, and what was written

@@ -4,7 +4,7 @@ use Rattle.std.proofs.Common.{arith}
 use Rattle.ck_plays.specs.Devices.{Reading, Writing, IsCount, IsReadOf, IsWrittenTo, AreCounts}
 use Rattle.ck_plays.specs.Plays.{one_if}
 use Rattle.ck_plays.specs.declared.counts.ReadCounts.{ReadCounts}
-use Rattle.ck_program.specs.Programs.{IsDone, IsPlay}
+use Rattle.ck_program.specs.Programs.{IsCarriedOut, IsPlay}
 use Rattle.ck_program.specs.declared.options.Options.{Options}
 use Rattle.ck_program.specs.declared.options.Options.TheVariants as option
 
@@ -44,7 +44,7 @@ counted-none n h = omega (arith, h)
 
 pub end-found : (chosen : Options) (left : Option (List ℕ)) (counts : ReadCounts)
     (Q : Writing → Type 0)
-    → IsPlay chosen → IsDone chosen unread unwritten (IsReadOf left counts) Q (Ok tt)
+    → IsPlay chosen → IsCarriedOut chosen unread unwritten (IsReadOf left counts) Q (Ok tt)
     → (counts.ends ≡ 1) × (counts.failures ≡ 0)
 end-found option.LineByLine left counts Q play h = (
   counted-once h.ended counts.ends h.outcome.end_found h.reader.1.ends,
@@ -59,7 +59,7 @@ end-found (option.Help text) left counts Q play h = absurd play
 
 pub all-written : (chosen : Options) (held : Option (List ℕ)) (failures : ℕ)
     (P : Reading → Type 0)
-    → IsDone chosen unread unwritten P (IsWrittenTo held failures) (Ok tt) → failures ≡ 0
+    → IsCarriedOut chosen unread unwritten P (IsWrittenTo held failures) (Ok tt) → failures ≡ 0
 all-written option.LineByLine held failures P h = counted-none failures h.writer.1
 all-written (option.InThreads callers) held failures P h = counted-none failures h.2.1
 all-written (option.Help text) held failures P h = counted-none failures h.1.1

@@ -1,6 +1,6 @@
 -- The calls of each caller of a script, and what comes of them
-use Rattle.std.specs.Prelude.{◌≡◌, ◌==◌, ℕ, true, List, [], ◌∷◌, Ok, length, map, if◌then◌else◌}
-use Rattle.std.specs.Prelude.{vec_items}
+use Rattle.std.specs.Prelude.{◌≡◌, ◌==◌, ℕ, Bool, true, List, [], ◌∷◌, Ok, length, map}
+use Rattle.std.specs.Prelude.{if◌then◌else◌, is_err, vec_items}
 use Rattle.ck_journal.specs.Bases.{empty_base}
 use Rattle.ck_journal.specs.Callers.{entries_by}
 use Rattle.ck_journal.specs.Fronts.{IsFront}
@@ -49,6 +49,10 @@ IsUnplayed calls s =
 -- the script had a thread
 abbrev pub HadThread : {K : Type 0} → Script K Call Reply → Type 0
 HadThread s = s.started ≡ true
+
+-- the script found no memory for one of its calls
+abbrev pub lacked_memory : {K : Type 0} → Script K Call Reply → Bool
+lacked_memory s = is_err s.outcome
 
 -- the script was played: where it had a thread and that ended well, its caller has made all of its
 -- calls

@@ -45,11 +45,11 @@ IsPlay (option.InThreads callers) = Unit {0}
 IsPlay (option.Help text) = ⊥
 
 -- what was read and written by these options, and how that ended
-abbrev pub IsDone : Options → Reading → Writing → (Reading → Type 0) → (Writing → Type 0)
+abbrev pub IsCarriedOut : Options → Reading → Writing → (Reading → Type 0) → (Writing → Type 0)
     → Result (Unit {0}) ProgramFault → Type 0
-IsDone option.LineByLine read written is_read is_written result =
+IsCarriedOut option.LineByLine read written is_read is_written result =
     EndsWithoutThreads (IsPlayed largest_limits most_reads read written is_read is_written) result
-IsDone (option.InThreads callers) read written is_read is_written result =
+IsCarriedOut (option.InThreads callers) read written is_read is_written result =
     IsPlayedInThreads largest_limits callers.count most_reads read written is_read is_written result
-IsDone (option.Help text) read written is_read is_written result =
+IsCarriedOut (option.Help text) read written is_read is_written result =
     is_read read × EndsWithoutThreads (IsWritten (string_bytes text) written is_written) result

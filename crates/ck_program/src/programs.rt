@@ -2,7 +2,7 @@
 ghost use Rattle.std.specs.Prelude.{◌≡◌, ◌⊎◌, ◌↔◌, Ok, Err, OnErr};
 ghost use Rattle.ck_plays.specs.Devices.{Reading, Writing};
 ghost use Rattle.ck_program.specs.Faults.{status_of};
-ghost use Rattle.ck_program.specs.Programs.{AreBad, IsDone, IsPlay, IsStatus};
+ghost use Rattle.ck_program.specs.Programs.{AreBad, IsCarriedOut, IsPlay, IsStatus};
 ghost use Rattle.ck_program.specs.ThreadPlays.{IsPlayedInThreads};
 ghost use Rattle.ck_program.specs.declared.faults.ProgramFault.{ProgramFault};
 
@@ -54,7 +54,8 @@ fn play_options<G: JournaledToken + Send, R: Source, W: Sink, RT: Runtime>(
 ) -> Result<(), ProgramFault>
     ensures { (read : Reading) (written : Writing)
         → R.is_read reader.old read → W.is_written writer.old written
-        → IsDone options read written (R.is_read reader.new) (W.is_written writer.new) result }
+        → IsCarriedOut options read written
+        (R.is_read reader.new) (W.is_written writer.new) result }
 {
     let limits = Limits::largest();
     match options {
@@ -89,13 +90,13 @@ pub fn run<G: JournaledToken + Send, R: Source, W: Sink, RT: Eprint + Runtime>(
     ensures played { (chosen : Options) → options ≡ Ok chosen → result ≡ 0
         → (read : Reading) (written : Writing)
         → R.is_read reader.old read → W.is_written writer.old written
-        → IsDone chosen read written
+        → IsCarriedOut chosen read written
         (R.is_read reader.new) (W.is_written writer.new) (Ok tt) }
     ensures stopped { (chosen : Options) → options ≡ Ok chosen → (result ≡ 1) ⊎ (result ≡ 3)
         → (fault : ProgramFault) × (status_of fault ≡ result)
         × ((read : Reading) (written : Writing)
         → R.is_read reader.old read → W.is_written writer.old written
-        → IsDone chosen read written
+        → IsCarriedOut chosen read written
         (R.is_read reader.new) (W.is_written writer.new) (Err fault)) }
 {
     // Where standard error takes nothing, the status still says what came of it.
@@ -147,7 +148,7 @@ pub fn run_on_std<G: JournaledToken + Send, R: io::Read, W: io::Write, RT: Eprin
         × ((read : Reading) (written : Writing)
         → ⟦<ReadSource<R> as Source>⟧.is_read reader.old read
         → ⟦<WriteSink<W> as Sink>⟧.is_written writer.old written
-        → IsDone chosen read written (⟦<ReadSource<R> as Source>⟧.is_read reader.new)
+        → IsCarriedOut chosen read written (⟦<ReadSource<R> as Source>⟧.is_read reader.new)
         (⟦<WriteSink<W> as Sink>⟧.is_written writer.new) (Err fault)) }
 {
     run::<G, ReadSource<R>, WriteSink<W>, RT>(rt, alloc, options, reader, writer)

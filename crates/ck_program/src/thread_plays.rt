@@ -1,6 +1,7 @@
 //! Callers that play their calls in threads.
 ghost use Rattle.std.specs.Prelude.{◌≡◌, ◌≢◌, ◌++◌, ◌≤◌, ◌↔◌, ℕ, List, [], ◌∷◌, All, IfOk};
-ghost use Rattle.std.specs.Prelude.{OnOk, Err, false, string_bytes};
+ghost use Rattle.std.specs.Prelude.{OnOk, Err, true, false, string_bytes};
+ghost use Rattle.std.specs.List.{list_any};
 ghost use Rattle.ck_journal.specs.Answers.{IsLegal};
 ghost use Rattle.ck_journal.specs.Bases.{empty_base};
 ghost use Rattle.ck_journal.specs.Callers.{AreCallers};
@@ -10,7 +11,7 @@ ghost use Rattle.ck_journal.specs.declared.calls.Call.{Call};
 ghost use Rattle.ck_callers.specs.Accounts.{name_of};
 ghost use Rattle.ck_program.specs.CallerCalls.{calls_by, HadThread, IsNewCaller, HasMadeAll};
 ghost use Rattle.ck_program.specs.CallerCalls.{HasEntriesOf, IsUnplayed, IsPlayedAll, numbers};
-ghost use Rattle.ck_program.specs.CallerCalls.{script_numbers};
+ghost use Rattle.ck_program.specs.CallerCalls.{lacked_memory, script_numbers};
 ghost use Rattle.ck_program.specs.ThreadPlays.{IsSummary, summary_text};
 
 use crate::faults::ThreadFault;
@@ -96,7 +97,15 @@ fn caller_of<K: TokenId>(script: Script<K>) -> Result<Caller<K>, ThreadFault>
     Ok(script.into_parts().0)
 }
 
-/// The callers of scripts that were played to their ends.
+/// Whether the caller of any script found no memory for a call.
+fn lack_memory<K: TokenId>(scripts: &[Script<K>]) -> bool
+    ensures { result ≡ list_any lacked_memory scripts.now }
+{
+    scripts.iter().any(|script| script.outcome().is_err())
+}
+
+/// The callers of scripts that were played to their ends. Where one found no memory and another had
+/// no thread, memory is told.
 fn callers_of<K: TokenId>(
     alloc: Global,
     scripts: Vec<Script<K>>,
@@ -106,7 +115,11 @@ fn callers_of<K: TokenId>(
     ensures numbers { IfOk result (λ callers.
         numbers callers.items ≡ script_numbers scripts.items) }
     ensures started { All HadThread scripts.items → result ≢ Err ThreadFault.NotStarted }
+    ensures memory { list_any lacked_memory scripts.items ≡ true → result ≡ Err ThreadFault.Memory }
 {
+    if lack_memory(&scripts) {
+        return Err(ThreadFault::Memory);
+    }
     let mut callers = Vec::with_capacity(alloc, scripts.len())?;
     for script in scripts {
         let caller = caller_of(script)?;

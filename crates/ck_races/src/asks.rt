@@ -48,6 +48,7 @@ fn is_status(alloc: Global, status: &Option<Status>, wanted: &str) -> Result<boo
     })
 }
 
+/// Checks that a question was answered by the reply of this text.
 pub(crate) fn check_status(
     alloc: Global,
     status: &Option<Status>,
@@ -56,6 +57,7 @@ pub(crate) fn check_status(
     expect(is_status(alloc, status, wanted)?)
 }
 
+/// Asks, and checks that the answer has this text.
 pub(crate) fn check_ask<K: TokenId>(
     alloc: Global,
     caller: &mut Caller<K>,
@@ -66,8 +68,8 @@ pub(crate) fn check_ask<K: TokenId>(
     check_status(alloc, &status, wanted)
 }
 
-/// A caller asks until it is answered by the later text. Before it is answered by the earlier one,
-/// and knows no more entries than it did. In the end it knows one more.
+/// A caller asks until the answer is the later text. Until then each answer is the earlier one, and
+/// the caller knows no more entries than at first. In the end it knows one more.
 pub(crate) fn await_status<K: TokenId>(
     alloc: Global,
     caller: &mut Caller<K>,
@@ -104,7 +106,7 @@ fn user_login() -> Call {
     Call::login(1, UserType::User, Pin::of(b"user"))
 }
 
-/// What is answered of session 1 after this many entries: behind the first calls the user logs in.
+/// What is answered of session 1 after this many entries: after the first calls the user logs in.
 fn state_after(entries: u64) -> &'static str {
     if entries == FIRST { "0 2 6" } else { "0 3 6" }
 }

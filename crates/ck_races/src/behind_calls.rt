@@ -12,25 +12,28 @@ use std::time::{CpuClock, Duration};
 /// How many bytes a message has: the most that a call brings.
 const LENGTH: usize = 1 << 20;
 
-/// How many messages are added to a digest.
-const MESSAGES: u64 = 10;
+/// How many calls there are: three, and then ten messages that are added to a digest.
+const CALLS: u32 = 13;
 
-/// How many times the calls are timed at the most.
+/// How many times the calls are timed at most.
 const TRIES: u32 = 5;
 
-/// Calls that begin a digest in session 1 and add long messages to it.
-fn calls_of(alloc: Global) -> anyhow::Result<Vec<Call>> {
+/// The call of this number, from 0: the first three begin a digest in session 1, and each other one
+/// adds a long message to it.
+fn call_of(alloc: Global, number: u32) -> anyhow::Result<Call> {
     let (pin, flags, session) = (Pin::of(b"1234"), READ_WRITE, 1);
-    let mechanism = Mechanism::new(alloc, SHA256);
-    let mut calls = Vec::new(alloc);
-    calls.push(Call::InitToken { pin })?;
-    calls.push(Call::OpenSession { flags })?;
-    calls.push(Call::DigestInit { session, mechanism })?;
-    for _ in 0..MESSAGES {
-        let bytes = Bytes::from_vec(vec![in alloc; b'a'; LENGTH]?);
-        calls.push(Call::DigestUpdate { session, bytes })?;
-    }
-    Ok(calls)
+    Ok(match number {
+        0 => Call::InitToken { pin },
+        1 => Call::OpenSession { flags },
+        2 => {
+            let mechanism = Mechanism::new(alloc, SHA256);
+            Call::DigestInit { session, mechanism }
+        }
+        _ => {
+            let bytes = Bytes::from_vec(vec![in alloc; b'a'; LENGTH]?);
+            Call::DigestUpdate { session, bytes }
+        }
+    })
 }
 
 impl<'a, K: TokenId, R: Runtime> Shared<'a, K, R> {
@@ -51,11 +54,12 @@ impl<'a, K: TokenId, R: Runtime> Shared<'a, K, R> {
         expect(reply.rv == Rv::Ok)
     }
 
-    /// The first of two callers makes the calls with the messages, each behind a call of the other.
+    /// The first of two callers makes the calls with the messages, each after a call of the other.
     pub(crate) fn make_calls_behind(&self, callers: &mut Vec<Caller<K>>) -> anyhow::Result<()> {
         let mut other = callers.pop().context("a caller is missing")?;
         let caller = callers.first_mut().context("a caller is missing")?;
-        for call in calls_of(self.rt.alloc())? {
+        for number in 0..CALLS {
+            let call = call_of(self.rt.alloc(), number)?;
             self.call_behind(caller, &mut other, call)?;
         }
         callers.push(other)?;
@@ -68,13 +72,13 @@ fn time_alone<R: CpuClock + Runtime>(rt: &R) -> anyhow::Result<Duration> {
     let alloc = rt.alloc();
     let mut token = Token::new(alloc, Limits::largest());
     let before = rt.process_cpu_time()?;
-    for call in calls_of(alloc)? {
-        token.try_call(alloc, 1, call)?;
+    for number in 0..CALLS {
+        token.try_call(alloc, 1, call_of(alloc, number)?)?;
     }
     Ok(rt.process_cpu_time()?.saturating_sub(before))
 }
 
-/// What they take on a shared token, each behind a call of the other caller. Says how many calls
+/// What they take on a shared token, each after a call of the other caller. Says how many calls
 /// there are, too.
 fn time_behind<R: CpuClock + Runtime>(rt: R) -> anyhow::Result<(Duration, u64)> {
     let (time, token, _outcome) = share_timed(rt, &SharedWork::CallsBehindCalls)?;

@@ -42,7 +42,7 @@ fn row_of(number: u64) -> &'static str {
     }
 }
 
-/// Keeps the handle of a reply, where there is one, for the word behind its call.
+/// Keeps the handle of a reply, where there is one, for the word after its call.
 fn keep_handle(handles: &Handles, word: &str, reply: &Reply) {
     if let (Rv::Ok, Body::Handle(number)) = (&reply.rv, &reply.body)
         && let Some(handle) = handles.get(word)
@@ -128,6 +128,9 @@ impl<R: Wait + AllocGlobal> CallerWork<R> for DrawnCalls {
             draws: Xoshiro256PlusPlus::seed_from_u64(u64::from(number)),
         };
         drawing_caller.make_calls()?;
-        Ok((number, drawing_caller.replies))
+        Ok(CallerReplies {
+            number,
+            replies: drawing_caller.replies,
+        })
     }
 }

@@ -19,7 +19,7 @@ const FIRST_CALLS: [&str; 5] = [
     "1 CloseSession 1 -> 0",
 ];
 
-/// At least a tenth of the calls were answered CKR_OK.
+/// Checks that at least a tenth of the calls were answered CKR_OK.
 fn check_codes(journal: &Journal) -> anyhow::Result<()> {
     let done = journal.iter().filter(|entry| entry.reply.rv == Rv::Ok);
     ensure!(

@@ -51,7 +51,7 @@ fn calls_of(alloc: Global, caller: u32) -> anyhow::Result<Vec<Call>> {
 }
 
 impl<'a, K: TokenId + Send + Sync, R: Runtime> Shared<'a, K, R> {
-    /// All callers make the calls of their scripts at once, behind the first call of the first one.
+    /// All callers make the calls of their scripts at once, after the first call of the first one.
     /// Gives the replies to each.
     pub(crate) fn run_eight(
         &self,
@@ -62,8 +62,8 @@ impl<'a, K: TokenId + Send + Sync, R: Runtime> Shared<'a, K, R> {
         let pin = Pin::of(b"1234");
         let reply = self.call(first, Call::InitToken { pin })?;
         let mut all = self.run_at(self.token, callers, |caller| calls_of(alloc, caller))?;
-        let (_, replies) = all.first_mut().context("a caller is missing")?;
-        replies.insert(0, reply)?;
+        let of_first = all.first_mut().context("a caller is missing")?;
+        of_first.replies.insert(0, reply)?;
         Ok(all)
     }
 }

@@ -13,7 +13,7 @@ const LENGTH: usize = 1 << 20;
 /// How many messages one caller adds.
 const MESSAGES: u64 = 30;
 
-/// How many times the lock is taken at the least while these messages are added.
+/// How many times the lock is taken at least while these messages are added.
 const LEAST_LOCKS: u64 = 100_000;
 
 /// Calls of caller 1 with long messages for the digest of session 1, and a short one of the other

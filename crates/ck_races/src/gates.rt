@@ -8,13 +8,13 @@ use std::sync::Wait;
 use std::sync::atomic::{AtomicU64, Ordering};
 use std::time::Duration;
 
-/// How many times a `LockingGate` takes the lock at the most.
+/// How many times a `LockingGate` takes the lock at most.
 const MOST_LOCKS: u64 = 100_000_000;
 
-/// How many times a caller looks whether the other has taken the lock, and how long it sleeps
-/// between, in microseconds.
+/// How many times a caller looks whether the other has taken the lock.
 const MOST_LOOKS: u32 = 1_000_000;
 
+/// How long it sleeps between two looks, in microseconds.
 const LONGEST_SLEEP: u64 = 20;
 
 /// How long a `HoldingGate` holds the lock, in milliseconds.
@@ -185,7 +185,7 @@ impl<'a, K: TokenId, G: JournaledToken, R: Wait + Drop> Gate<K> for HoldingGate<
         }
         let mut locked = self.token.lock(rt);
         self.locks.store(1, Ordering::SeqCst);
-        // Nobody wakes it.
+        // It sleeps for the whole time, since nobody wakes it.
         self.locks.park_timeout(rt, 1, Duration::from_millis(HELD));
         locked.step(rt, alloc, caller, call)
     }

@@ -29,7 +29,7 @@ fn info_after(entries: u64) -> &'static str {
     }
 }
 
-/// A call, and questions behind it.
+/// A call, and questions after it.
 fn steps(alloc: Global) -> anyhow::Result<Vec<Step>> {
     let mut steps = Vec::new(alloc);
     steps.push(Step::Call(Call::OpenSession { flags: READ_WRITE }))?;

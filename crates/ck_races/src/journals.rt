@@ -8,9 +8,13 @@ use ck_token::{Journal, NoMemory, Reply, Token};
 use std::alloc::Global;
 
 /// A caller's number, and the replies that it got, in the order of its calls.
-pub(crate) type CallerReplies = (u32, Vec<Reply>);
+#[derive(Drop)]
+pub(crate) struct CallerReplies {
+    pub(crate) number: u32,
+    pub(crate) replies: Vec<Reply>,
+}
 
-/// Of callers in the order of their numbers, the one at this index has this number.
+/// Checks that the caller at this index, from 0, has this number, from 1.
 pub(crate) fn check_number(index: usize, number: u32) -> anyhow::Result<()> {
     ensure!(
         number as usize == index.saturating_add(1),
@@ -19,23 +23,24 @@ pub(crate) fn check_number(index: usize, number: u32) -> anyhow::Result<()> {
     Ok(())
 }
 
-/// What `share` gave of each caller: all made their calls, and stand in the order of their numbers.
+/// What `share` gave of each caller, where all made their calls and stand in the order of their
+/// numbers.
 pub(crate) fn in_order_of_callers(
     alloc: Global,
     outputs: Vec<anyhow::Result<CallerReplies>>,
 ) -> anyhow::Result<Vec<CallerReplies>> {
     let mut all = Vec::new(alloc);
     for (index, output) in outputs.into_iter().enumerate() {
-        let (number, replies) = output?;
-        check_number(index, number)?;
-        all.push((number, replies))?;
+        let output = output?;
+        check_number(index, output.number)?;
+        all.push(output)?;
     }
     Ok(all)
 }
 
-/// Each caller got the replies of its entries, in their order.
+/// Checks that each caller got the replies of its entries, in their order.
 pub(crate) fn check_replies(journal: &Journal, all: Vec<CallerReplies>) -> anyhow::Result<()> {
-    for (number, replies) in all {
+    for CallerReplies { number, replies } in all {
         ensure!(
             are_replies_of(number, journal.iter(), &replies),
             "the replies to caller {number} are not those of its entries"
@@ -44,7 +49,7 @@ pub(crate) fn check_replies(journal: &Journal, all: Vec<CallerReplies>) -> anyho
     Ok(())
 }
 
-/// An audit finds the journal legal. Says how many entries it has.
+/// Checks by an audit that the journal is legal. Says how many entries it has.
 pub(crate) fn check_audit(alloc: Global, token: &Token) -> anyhow::Result<u64> {
     match audit_token(alloc, token)? {
         Verdict::Legal => Ok(token.journal().len()),
@@ -52,7 +57,7 @@ pub(crate) fn check_audit(alloc: Global, token: &Token) -> anyhow::Result<u64> {
     }
 }
 
-/// An audit finds the journal legal where calls were made again. Says how many were.
+/// Checks it also where calls were made again. Says how many were.
 pub(crate) fn check_retried(alloc: Global, token: &Token, retries: u64) -> anyhow::Result<u64> {
     if retries > 0 {
         check_audit(alloc, token)?;
@@ -60,7 +65,7 @@ pub(crate) fn check_retried(alloc: Global, token: &Token, retries: u64) -> anyho
     Ok(retries)
 }
 
-/// Each call has an entry, and the first were made in this order of their callers.
+/// Checks that each call has an entry, and that the first were made in this order of their callers.
 pub(crate) fn check_order(
     journal: &Journal,
     lines: &[RaceLine],
@@ -88,7 +93,7 @@ fn check_in_order(alloc: Global, lines: &[RaceLine], journal: &Journal) -> anyho
     Ok(is_in_order)
 }
 
-/// Each line has its entry, with its reply.
+/// Checks that each line has its entry, with its reply.
 pub(crate) fn check_entries(
     alloc: Global,
     lines: &[RaceLine],
@@ -111,7 +116,7 @@ fn texts_of(alloc: Global, journal: &Journal) -> Result<Vec<String>, NoMemory> {
     Ok(texts)
 }
 
-/// The texts of replies are those of the lines, each as many times.
+/// Checks that the texts of replies are those of the lines, each as many times.
 fn check_texts(lines: &[RaceLine], texts: &[String]) -> anyhow::Result<()> {
     for line in lines {
         let came = texts.iter().filter(|text| text.as_str() == line.reply);
@@ -124,7 +129,7 @@ fn check_texts(lines: &[RaceLine], texts: &[String]) -> anyhow::Result<()> {
     Ok(())
 }
 
-/// The replies are those of the lines, to whichever callers.
+/// Checks that the replies are those of the lines, whichever callers got them.
 pub(crate) fn check_in_any_order(
     alloc: Global,
     lines: &[RaceLine],

@@ -3,7 +3,9 @@ use crate::asks::{check_status, expect};
 use crate::journals::{
     CallerReplies, check_entries, check_in_any_order, check_number, check_order, check_replies,
 };
+use crate::orders::CallOrder;
 use crate::races::{RaceLine, races_in};
+use crate::runs::check_run;
 use anyhow::{bail, ensure};
 use ck_token::{Limits, Token};
 use std::alloc::Global;
@@ -27,8 +29,9 @@ fn make_exchanged(
     let mut all = Vec::new(alloc);
     for line in lines {
         let reply = token.call(alloc, line.caller, line.call.clone()?)?;
-        let other = if line.caller == 1 { 2 } else { 1 };
-        all.push((other, vec![in alloc; reply]?))?;
+        let replies = vec![in alloc; reply]?;
+        let number = if line.caller == 1 { 2 } else { 1 };
+        all.push(CallerReplies { number, replies })?;
     }
     Ok(all)
 }
@@ -41,14 +44,22 @@ fn judge_wrong(alloc: Global) -> anyhow::Result<Vec<anyhow::Result<()>>> {
     };
     let mut token = Token::new(alloc, Limits::largest());
     let exchanged = make_exchanged(alloc, &mut token, &race.lines)?;
-    let none = vec![in alloc; (1, Vec::new(alloc))]?;
+    let mut other = Token::new(alloc, Limits::largest());
+    let also_exchanged = make_exchanged(alloc, &mut other, &race.lines)?;
+    let order = CallOrder::new(&[1, 2]);
+    let run = check_run(alloc, &mut other, race, &order, also_exchanged);
+    let none = CallerReplies {
+        number: 1,
+        replies: Vec::new(alloc),
+    };
     let journal = token.journal();
     Ok(vec![in alloc;
         expect(false),
         check_status(alloc, &None, "0"),
         check_number(0, 2),
         check_replies(journal, exchanged),
-        check_replies(journal, none),
+        run.map(|_calls| ()),
+        check_replies(journal, vec![in alloc; none]?),
         check_order(journal, &race.lines, &[2, 1]),
         check_order(journal, &[], &[1, 2]),
         check_entries(alloc, &wrong.lines, journal),

@@ -1,11 +1,17 @@
-//! What callers of a shared token do to one another. The races of files are run: lists of calls
-//! that callers make, with the replies that they get. Each race is run by threads of its callers,
-//! with all calls in a set order and with only the first ones. Then callers ask for the state of a
-//! session while another logs in, two callers are held at their calls, one caller makes calls under
-//! one lock and the token is taken back without its callers, one holds the lock for long while
-//! another sleeps, long messages are taken in before their calls, also where another caller's calls
-//! come between, a token counts how it is used, and eight callers make the calls of their scripts
-//! and drawn calls at once. What is written is the same in every order of the calls.
+//! What callers of a shared token do to one another. First the races of files are run: lists of
+//! calls that callers make in threads, with the replies that they get, again and again, with all
+//! calls in a set order and with only the first ones. Then what judges the rest is given wrong
+//! inputs, and these come, whose files say more:
+//!
+//! - Callers ask for the state of a session while another logs in.
+//! - Two callers are held at their calls.
+//! - One caller makes calls under one lock, and the token is taken back without its callers.
+//! - One caller holds the lock for long, while another sleeps.
+//! - Long messages are taken in before their calls, also where another's calls come between.
+//! - A token counts how it is used.
+//! - Eight callers make the calls of their scripts, and drawn calls, at once.
+//!
+//! What is written is the same in every order of the calls.
 //!
 //! With the word `alone` before the files only the calls of each race are made, one after the
 //! other: on a shared token, by `run` and by `run_scripts`. Where there was no memory they are made
@@ -46,7 +52,7 @@ use behind_calls::run_behind_calls;
 use ck_shared::Runtime;
 use drawn_calls::make_drawn_calls;
 use eight_scripts::run_eight_scripts;
-use files::run_file;
+use files::{Mode, run_file};
 use held_steps::run_held_steps;
 use judges::check_judges;
 use locked_calls::run_locked_calls;
@@ -91,19 +97,19 @@ fn run_together<R: CpuClock + Runtime>(rt: R, text: &mut String) -> anyhow::Resu
 /// Runs the files that the arguments name and, where no word says otherwise, what callers do
 /// besides. Adds a line for each that passes.
 fn run_all<R: CpuClock + Env + Files + Runtime>(rt: R, text: &mut String) -> anyhow::Result<()> {
-    let mut is_alone = false;
+    let mut mode = Mode::InThreads;
     for word in env::args(&rt)?.skip(1) {
         match word.as_str() {
-            "alone" => is_alone = true,
+            "alone" => mode = Mode::Alone,
             "reserve" => {
                 reserved_token(rt.alloc())?;
                 return Ok(());
             }
             "reserved" => return make_reserved_calls(rt.alloc(), &mut reserved_token(rt.alloc())?),
-            name => run_file(rt, text, name, is_alone)?,
+            name => run_file(rt, text, name, mode)?,
         }
     }
-    if is_alone {
+    if mode == Mode::Alone {
         return Ok(());
     }
     run_together(rt, text)

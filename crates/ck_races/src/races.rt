@@ -4,11 +4,11 @@
 //! - `sessions 2`: at most two sessions are open at once; where this isn't said, 64.
 //! - The calls before a line `cut` are made before the token is shared, and then its journal is
 //!   cut.
-//! - The first calls behind it are made one after the other.
-//! - The calls behind `together` are made by callers in threads of their own. In the order in which
+//! - The first calls after it are made one after the other.
+//! - The calls after `together` are made by callers in threads of their own. In the order in which
 //!   they stand they get these replies. Where `together in any order` stands, the replies come in
 //!   every order of the calls, to whichever callers.
-//! - The calls behind `afterwards` are made where these replies have come.
+//! - The calls after `afterwards` are made where these replies have come.
 //!
 //! A word of bytes may have an asterisk and a count: `61*5000` is 5,000 bytes `61`.
 //!
@@ -46,7 +46,7 @@ pub(crate) struct Race<'a> {
     pub(crate) limits: Limits,
     /// The calls before the cut.
     pub(crate) earlier: Vec<RaceLine<'a>>,
-    /// The first calls, and behind them those that are made together.
+    /// The first calls, and after them those that are made together.
     pub(crate) lines: Vec<RaceLine<'a>>,
     /// How many first calls there are.
     pub(crate) first: usize,
@@ -82,12 +82,12 @@ impl<'a> Race<'a> {
         }
     }
 
-    /// The calls so far are those before the cut.
+    /// Makes the calls so far those before the cut.
     fn cut(&mut self, alloc: Global) {
         self.earlier = mem::replace(&mut self.lines, Vec::new(alloc));
     }
 
-    /// The calls that follow are made together.
+    /// Begins the calls that are made together.
     fn gather(&mut self, is_in_any_order: bool) {
         self.first = self.lines.len();
         self.is_in_any_order = is_in_any_order;
@@ -144,7 +144,7 @@ fn limits_of(number: u64, sessions: &str) -> anyhow::Result<Limits> {
     .context(format_args!("line {number}: sessions are 1 to 64"))
 }
 
-/// The reply is that of the line.
+/// Checks that the reply is that of the line.
 pub(crate) fn compare(alloc: Global, line: &RaceLine, reply: &Reply) -> anyhow::Result<()> {
     let came = reply_line(alloc, reply)?;
     ensure!(
@@ -193,7 +193,7 @@ fn add_line<'a>(
     race.add(alloc, number, text)
 }
 
-/// There is a race, and each has calls that are made together.
+/// Checks that there is a race, and that each has calls that are made together.
 fn check_races(races: &[Race]) -> anyhow::Result<()> {
     ensure!(!races.is_empty(), "there is no race");
     for race in races {

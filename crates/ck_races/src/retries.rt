@@ -69,7 +69,8 @@ impl<'a, K: TokenId, R: Runtime> Shared<'a, K, R> {
     /// what it knew, and the other one makes the call. This is then the next entry.
     fn make(
         &self,
-        (caller, other): (&mut Caller<K>, &mut Caller<K>),
+        caller: &mut Caller<K>,
+        other: &mut Caller<K>,
         entries: u64,
         line: &RaceLine,
     ) -> anyhow::Result<bool> {
@@ -87,21 +88,22 @@ impl<'a, K: TokenId, R: Runtime> Shared<'a, K, R> {
         Ok(true)
     }
 
-    /// Makes calls one after the other, behind this many entries, by each of two callers in turn.
+    /// Makes calls one after the other, after this many entries, by each of two callers in turn.
     /// Says how many were made again.
     fn make_all(
         &self,
-        (one, other): (&mut Caller<K>, &mut Caller<K>),
-        first: usize,
         lines: &[RaceLine],
+        first: usize,
+        one: &mut Caller<K>,
+        other: &mut Caller<K>,
     ) -> anyhow::Result<u64> {
         let mut retries = 0u64;
         let mut entries = first as u64;
         for line in lines {
             let is_again = if entries % 2 == 0 {
-                self.make((&mut *one, &mut *other), entries, line)?
+                self.make(one, other, entries, line)?
             } else {
-                self.make((&mut *other, &mut *one), entries, line)?
+                self.make(other, one, entries, line)?
             };
             if is_again {
                 retries = retries.saturating_add(1);
@@ -125,8 +127,8 @@ impl<'a, K: TokenId, R: Runtime> Shared<'a, K, R> {
             afterwards,
             ..
         } = race;
-        let first = self.make_all((&mut *one, &mut *other), 0, lines)?;
-        let after = self.make_all((one, other), lines.len(), afterwards)?;
+        let first = self.make_all(lines, 0, one, other)?;
+        let after = self.make_all(afterwards, lines.len(), one, other)?;
         Ok(first.saturating_add(after))
     }
 }

@@ -63,14 +63,15 @@ impl<'a, R: Wait + AllocGlobal> CallerWork<R> for OrderedCalls<'a> {
         let mut replies = Vec::new(alloc);
         let held = HeldGate::new(gate, self.order);
         self.make_own(rt, &held, caller, &mut replies)?;
-        Ok((caller.number(), replies))
+        let number = caller.number();
+        Ok(CallerReplies { number, replies })
     }
 }
 
 /// Checks what came of a race, and what is made afterwards: no call was made too early, each caller
 /// got the replies of its entries, these are as the race says, and the journal is legal. Says how
 /// many calls were made in threads.
-fn check_run(
+pub(crate) fn check_run(
     alloc: Global,
     token: &mut Token,
     race: &Race,

@@ -51,7 +51,7 @@ fn calls_by(alloc: Global, caller: u32, lines: &[RaceLine]) -> anyhow::Result<Ve
     Ok(calls)
 }
 
-/// All steps of a script were taken, in a thread of its own.
+/// Checks that all steps of a script were taken, in a thread of its own.
 pub(crate) fn check_taken<K: TokenId, S: Drop, A: Drop>(
     script: &Script<K, S, A>,
 ) -> anyhow::Result<()> {
@@ -70,7 +70,8 @@ fn finish<K: TokenId>(
     for script in scripts {
         check_taken(&script)?;
         let (caller, replies) = script.into_parts();
-        all.push((caller.number(), replies))?;
+        let number = caller.number();
+        all.push(CallerReplies { number, replies })?;
         callers.push(caller)?;
     }
     Ok(all)

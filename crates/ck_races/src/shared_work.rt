@@ -41,7 +41,7 @@ pub(crate) enum SharedWork<'a> {
     /// Messages are taken in before a caller adds them to a digest, and one adds some while another
     /// takes the lock.
     LongMessages,
-    /// One of two callers makes calls with long messages, each behind a call of the other. The
+    /// One of two callers makes calls with long messages, each after a call of the other. The
     /// message is taken in before both.
     CallsBehindCalls,
 }
@@ -71,7 +71,7 @@ impl Outcome {
 /// A token that was taken back, and what came of the work.
 pub(crate) type Returned = (Token, Outcome);
 
-/// Callers stand in the order of their numbers.
+/// Checks that callers stand in the order of their numbers.
 fn check_numbers<K: TokenId>(callers: &[Caller<K>]) -> anyhow::Result<()> {
     for (index, caller) in callers.iter().enumerate() {
         check_number(index, caller.number())?;

@@ -14,7 +14,7 @@ use std::time::{CpuClock, Duration};
 /// all that the machine gives it while the lock is held.
 const MOST_TIME: u64 = 40;
 
-/// How many times it is tried at the most.
+/// How many times it is tried at most.
 const TRIES: u32 = 5;
 
 /// The one call of each caller.

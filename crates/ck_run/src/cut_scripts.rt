@@ -1,4 +1,4 @@
-//! A script that is cut behind each of its bytes. What is left of a line may be another call.
+//! A script that is cut after each of its bytes. What is left of a line may be another call.
 use crate::devices::{Devices, End, check_play};
 use std::alloc::Global;
 use std::process::Abort;

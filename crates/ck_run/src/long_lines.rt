@@ -8,7 +8,7 @@ use std::test::Fail;
 /// How many bytes a line may have, written out again so that another `LONGEST_LINE` is noticed.
 const LONGEST: usize = 4_194_304;
 
-/// Plays a comment of `length` bytes, and behind it a call.
+/// Plays a comment of `length` bytes, and a call after it.
 fn check_comment(
     rt: &impl Abort,
     alloc: Global,

@@ -10,7 +10,7 @@ use std::test::Fail;
 /// The arguments of the program, a script, what the program writes, and its status.
 type ProgramRow = (&'static str, &'static str, &'static str, u8);
 
-/// The same, and behind the script the read and the write that fail, 0 for none.
+/// The same, and after the script the read and the write that fail, 0 for none.
 type FailingPlay = (&'static str, &'static str, u64, u64, &'static str, u8);
 
 /// A script of two callers.

@@ -75,8 +75,9 @@ impl Session {
         self.search.is_some()
     }
 
-    /// The numbers, rising, of the objects that its search found and that come after the one that
-    /// it returned last, or `None` where no search is active. Some may have ended since.
+    /// The numbers, in ascending order, of the objects that its search found and that come after
+    /// the one that it returned last, or `None` where no search is active. Some may have ended
+    /// since.
     pub fn remaining_objects(&self) -> Option<&[u64]>
         ensures { (h : History) (s : ℕ) → self.now ≡ session_row h s
             → option_copied result ≡ search_left h s }

@@ -7,7 +7,7 @@ use ck_types::Sequence;
 /// An active search for objects (PKCS #11 Base 3.0, Object management functions).
 #[derive(Drop)]
 pub(crate) struct Search {
-    /// The numbers of the objects that it found when it started, rising.
+    /// The numbers of the objects that it found when it started, in ascending order.
     found: Sequence<u64>,
     /// The number of the object that it returned last; 0 where it has returned none.
     pub(crate) last: u64,
@@ -21,8 +21,8 @@ impl Search {
         Search { found, last: 0 }
     }
 
-    /// What it found and comes after the object that it returned last. The beginning is found by a
-    /// binary search.
+    /// The numbers that it found and that come after the one that it returned last. Where they
+    /// begin is found by a binary search.
     pub(crate) fn remaining(&self) -> &[u64]
         ensures { IsNonDecreasingBy (λ n. n) self.now.found
             → result.now ≡ filter (λ n. nat_lt self.now.last n) self.now.found }

@@ -112,7 +112,7 @@ impl Sessions {
         Ok(())
     }
 
-    // ---- what they say of every history that they agree with
+    // ---- readings
 
     /// Whether the token has been initialized.
     pub fn is_initialized(&self) -> bool
@@ -229,7 +229,7 @@ impl Sessions {
         board
     }
 
-    // ---- changes, each that of a call that was answered OK or of a wrong try
+    // ---- changes, each made by a call that is answered CKR_OK or by a wrong try
 
     /// Initializes the token: the security officer keeps a PIN that was set before, the normal
     /// user's is taken away, and the wrong tries of both go back to 0.

@@ -38,8 +38,8 @@ const LOOKS: u32 = 11;
 /// How many of these looks follow one another at once, all within about a microsecond.
 const QUICK_LOOKS: u32 = 5;
 
-/// How many times a thread lets others run before the first of the later looks, which takes some 20
-/// microseconds. Before each of the next looks it lets them run twice as long.
+/// How many times a thread lets others run before the first of the later looks: together these take
+/// about 20 microseconds. Before each of the next looks it lets them run twice as many times.
 const YIELDS: u32 = 64;
 
 /// Lets other threads run this many times.
@@ -125,8 +125,8 @@ impl<K: TokenId, G: JournaledToken, R: Wait + Drop> SharedToken<K, G, R> {
                 return locked;
             }
             // What lies under the lock moves to another processor each time that another thread
-            // takes it, which takes longer than a call. So after a while a thread waits longer
-            // than a call takes, and whoever has the lock makes several calls in a row.
+            // takes it, and that move takes longer than a call. So after a while a thread waits
+            // longer than a call takes, and whoever has the lock makes several calls in a row.
             if look < QUICK_LOOKS {
                 backoff.spin();
             } else {

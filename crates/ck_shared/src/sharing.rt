@@ -16,8 +16,6 @@ use ck_journal::JournaledToken;
 use ck_types::NoMemory;
 use std::alloc::Global;
 use std::marker::Brand;
-use std::sync::Wait;
-use std::thread::Threads;
 use std::{mem, thread};
 
 /// The work of each caller of a shared token. `R` is the runtime. `act` is over any `K`, so an
@@ -38,12 +36,7 @@ pub trait CallerWork<R> {
 
 /// All callers do their work, each in a thread of its own. They come back with their outputs, in
 /// their order.
-fn act_together<
-    K: TokenId + Send + Sync,
-    G: Gate<K> + Sync,
-    S: CallerWork<R> + Sync,
-    R: Threads + Wait + Sync,
->(
+fn act_together<K: TokenId + Send + Sync, G: Gate<K> + Sync, S: CallerWork<R> + Sync, R: Runtime>(
     rt: &R,
     alloc: Global,
     gate: &G,
@@ -68,7 +61,7 @@ fn act_together<
 }
 
 /// Takes all callers back, and keeps their outputs.
-fn settle_all<K: TokenId, G: JournaledToken, X: Drop, R: Wait + Drop>(
+fn settle_all<K: TokenId, G: JournaledToken, X: Drop, R: Runtime>(
     rt: &R,
     locked: &mut Locked<K, G, R>,
     done: Vec<(X, Caller<K>)>,
@@ -87,12 +80,7 @@ fn settle_all<K: TokenId, G: JournaledToken, X: Drop, R: Wait + Drop>(
 }
 
 /// All callers do their work on a shared token, and it is taken back with their outputs.
-fn work_on<
-    K: TokenId + Send + Sync,
-    G: JournaledToken + Send,
-    S: CallerWork<R> + Sync,
-    R: Threads + Wait + Drop + Send + Sync,
->(
+fn work_on<K: TokenId + Send + Sync, G: JournaledToken + Send, S: CallerWork<R> + Sync, R: Runtime>(
     rt: &R,
     alloc: Global,
     shared: SharedToken<K, G, R>,
@@ -155,6 +143,8 @@ fn share_as<
         (new_callers K.base callers) outputs.items) }
 {
     let limits = token.limits();
+    // The token moves behind the lock. Meanwhile a new one, which takes no memory, stands in its
+    // place.
     let own = mem::replace(token, G::new(alloc, limits));
     match SharedToken::<K, G, R>::adopt(rt, alloc, own, callers, identity) {
         Ok(

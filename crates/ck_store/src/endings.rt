@@ -20,8 +20,8 @@ pub(crate) enum Ending {
 }
 
 impl Ending {
-    /// Whether it ends the objects in the session's list of private objects, or in that of public
-    /// ones where `private` is false.
+    /// Whether it ends the objects of a list of the session: of that of private objects where
+    /// `private` is true, else of that of public ones.
     pub(crate) fn concerns(self, session: u64, private: bool) -> bool
         ensures { result ≡ concerns self session private }
     {
@@ -41,6 +41,8 @@ fn end_object(objects: &mut Slab<StoredObject>, place: Place, ending: Ending)
     let Some(object) = object_at(objects, place) else {
         return;
     };
+    // Each object of a list that the ending concerns ends. It is asked again for the clauses, and
+    // for the newest object, which is in no list.
     if object.is_ended_by(ending) {
         objects.try_remove(place.key);
     }

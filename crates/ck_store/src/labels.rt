@@ -24,7 +24,7 @@ fn label_mark(label: &[u8]) -> u32
     mark
 }
 
-/// The mark of an object's label, or 0, which is no mark.
+/// The mark of an object's label. 0 counts as no mark, also where a label has it.
 pub(crate) fn mark_of(attributes: &Record) -> u32
     ensures { IsMarkOf attributes.now result }
 {

@@ -1,4 +1,4 @@
-ghost use Rattle.std.specs.Prelude.{◌≡◌, ◌<◌, ◌-◌, ℕ, length, find, filter, position, get_or};
+ghost use Rattle.std.specs.Prelude.{◌≡◌, ◌<◌, ◌+◌, ◌-◌, ℕ, length, find, filter, position, get_or};
 ghost use Rattle.std.specs.Prelude.{IfOk, IfSome, IsOk, Contains, Some, []};
 ghost use Rattle.std.specs.Option.{option_copied};
 ghost use Rattle.slab.specs.Slab.{get};
@@ -49,8 +49,11 @@ fn is_there(objects: &Slab<StoredObject>, place: Place) -> bool
 /// is from the index's first number. `None` where the number doesn't stand there. It stands there
 /// where no number from the first to it is missing.
 fn guess_position(index: &[Place], number: u64) -> Option<usize>
-    ensures { IfSome result (λ i. (i < length index.now)
+    ensures found { IfSome result (λ i. (i < length index.now)
         × ((get_or index.now i (place 0 0)).number ≡ number)) }
+    ensures tried { (i : ℕ) → i < length index.now
+        → number ≡ (get_or index.now 0 (place 0 0)).number + i
+        → (get_or index.now i (place 0 0)).number ≡ number → result ≡ Some i }
 {
     let first = index.first()?;
     let guess = number.checked_sub(first.number)? as usize;
@@ -61,8 +64,8 @@ fn guess_position(index: &[Place], number: u64) -> Option<usize>
     }
 }
 
-/// The position of a number in an index whose numbers rise. A guess comes first, since a binary
-/// search of a large index takes long: most places that it looks at are in no cache.
+/// The position of a number in an index whose numbers are ascending. A guess comes first, since a
+/// binary search of a large index takes long: most places that it looks at are in no cache.
 fn position_of(index: &[Place], number: u64) -> Option<usize>
     ensures within { IfSome result (λ i. i < length index.now) }
     ensures position { PlacesRise index.now → result ≡ position (is_at number) index.now }

@@ -117,7 +117,7 @@ impl StoredObject {
         self.attributes.is_set(Attribute::Private)
     }
 
-    /// Whether it is a session object that ends.
+    /// Whether it is a session object that the ending ends.
     pub(crate) fn is_ended_by(&self, ending: Ending) -> bool
         ensures { result ≡ is_ended_by ending self.now }
     {

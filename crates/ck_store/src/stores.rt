@@ -17,13 +17,15 @@ use std::marker::Model;
 #[derive(Drop)]
 pub struct Store {
     objects: Slab<StoredObject>,
-    /// The places of all objects, in rising numbers. A place stays in it for a while after its
+    /// The places of all objects, by ascending number. A place stays in it for a while after its
     /// object has ended: until there are more than 2n + 1 places for n objects.
     index: Vec<Place>,
+    /// The places of session objects, by session. That of the newest one may be missing.
     lists: Vec<SessionList>,
-    /// The newest object, until its session's list takes it, which is before the next object is
-    /// added: a list may find no memory, and adding an object where there is room never does.
+    /// The newest object, until the next `reserve`, which adds a session object to a list of its
+    /// session. A list may need memory, and a creation takes none once room was made.
     unlisted: Option<Place>,
+    /// How many objects have been created.
     creations: u64,
     /// The marks of the objects' labels, by the objects' keys in the slab; 0 where one is missing.
     marks: Vec<u32>,
@@ -104,7 +106,7 @@ impl Store {
         Ok(store)
     }
 
-    // ---- what they say of every history that they agree with
+    // ---- readings
 
     /// How many objects have been created.
     pub fn creations(&self) -> u64
@@ -151,8 +153,8 @@ impl Store {
         find_numbered(&self.objects, &self.index, number)?.handle(view)
     }
 
-    /// The numbers, which rise, of the objects that are visible and match the template. Where none
-    /// does, this takes no memory.
+    /// The numbers, in ascending order, of the objects that are visible and match the template.
+    /// Where none does, this takes no memory.
     pub fn find(&self, alloc: Global, view: View, template: &Template) -> Result<Vec<u64>, NoMemory>
         ensures found { IfOk result (λ numbers. (h : History) → StoreAgrees h self.now
             → view ≡ view_of h → numbers.items ≡ matching_objects h template.now.items) }
@@ -178,7 +180,7 @@ impl Store {
         Ok(Sequence::from_vec(kept))
     }
 
-    // ---- changes, each that of a call that is answered OK
+    // ---- changes, each made by a call that is answered CKR_OK
 
     /// Makes room for one more object, which any session may create. The newest object gets its
     /// place in its session's list here, since this may take memory and a creation may not.

@@ -1,5 +1,5 @@
-//! Two callers of a shared token open sessions, each in a thread of its own. docs/threads.md goes
-//! through it. What is written is the same in every order of their calls.
+//! Two callers of a shared token open sessions, each in a thread of its own. docs/threads.md says
+//! what it shows. What is written is the same in every order of their calls.
 #![tactic(auto)]
 
 use ck_shared::{Caller, CallerWork, Gate, TokenId, share};

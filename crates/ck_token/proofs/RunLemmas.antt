@@ -78,3 +78,13 @@ module _ (old : TokenState) (calls : List (ℕ × Call)) where
             ∙ get_or-append_seam a.answered c rest c)
             (free (length a.answered) c (omega arith))),
       )
+
+  -- each answered call took room for one entry at the most
+  pub Answers-room : (count : ℕ) (left : List (ℕ × Call)) (token : TokenState)
+      → Answers old calls count left token → old.spare ≤ token.spare + length calls
+  Answers-room count left token a =
+      let sum : length calls ≡ length a.answered + length left =
+      ap length a.parts ∙ length-append a.answered left in
+      let counted = a.counted in
+      let room = a.room in
+      omega arith

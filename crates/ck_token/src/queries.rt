@@ -12,18 +12,17 @@ use ck_parts::Change;
 use ck_types::{NoMemory, Rv, RvError, Sequence};
 use std::alloc::Global;
 
-/// The rank of a query's code: of the codes of its queries, a call of C_GetAttributeValue answers
-/// the one of the highest rank.
+/// The rank of a query's code: CKR_ATTRIBUTE_SENSITIVE is the highest, then come
+/// CKR_ATTRIBUTE_TYPE_INVALID, CKR_BUFFER_TOO_SMALL and CKR_OK. A call of C_GetAttributeValue
+/// answers the code of the highest rank that its queries have.
 fn rank(code: Rv) -> u64
     ensures { result ≡ rank code }
 {
     match code {
         Rv::Ok => 0,
-        Rv::Error(error) => match error {
-            RvError::BufferTooSmall => 1,
-            RvError::AttributeTypeInvalid => 2,
-            _ => 3,
-        },
+        Rv::Error(RvError::BufferTooSmall) => 1,
+        Rv::Error(RvError::AttributeTypeInvalid) => 2,
+        Rv::Error(_) => 3,
     }
 }
 

@@ -25,6 +25,7 @@ pub fn run(token: &mut Token, alloc: Global, calls: Vec<(u32, Call)>) -> Result<
     ensures run { IsRun token.old token.new calls.items result }
     ensures succeeds { length calls.items ≤ token.old.spare
         → All (λ (c : ℕ × Call). takes_memory c.1 ≡ false) calls.items → IsOk result }
+    ensures room { token.old.spare ≤ token.new.spare + length calls.items }
 {
     // Tells the prover that the journal is legal before the first call.
     let _journal = token.journal();
@@ -44,10 +45,11 @@ fn make_call(token: &mut Token, alloc: Global, caller: u32, call: Call) -> Resul
     ensures answered { OnOk result (IsAnswered token.old token.new caller call
         (answer token.old.limits token.old.history call)) }
     ensures unchanged { OnErr result (IsUnchanged token.old token.new) }
-    ensures legal { IsLegal token.new.limits token.new.history }
+    ensures spare { OnErr result (token.old.spare ≤ token.new.spare) }
+    ensures room { OnOk result (token.old.spare ≤ token.new.spare + 1) }
     ensures succeeds { 0 < token.old.spare
         → may_run_out token.old.limits token.old.history call ≡ false → IsOk result }
-    ensures room { OnOk result (token.old.spare ≤ token.new.spare + 1) }
+    ensures legal { IsLegal token.new.limits token.new.history }
 {
     token.call(alloc, caller, call)?;
     Ok(())

@@ -164,7 +164,8 @@ impl Token {
         self.parts.sessions.board(self.limits.sessions())
     }
 
-    /// Makes room in the journal for `count` more entries.
+    /// Makes room in the journal for `count` more entries. Where there is no memory for all, the
+    /// room that was made so far stays.
     pub fn reserve(&mut self, count: u64) -> Result<(), NoMemory>
         ensures unchanged { IsUnchanged self.old self.new }
         ensures room { OnOk result (count ≤ self.new.spare) }
@@ -182,7 +183,7 @@ impl Token {
     }
 
     /// How many sessions may be open at once, and how many openings of sessions, creations of
-    /// objects and logins of the user there may be in all.
+    /// objects and logins of the normal user there may be in all.
     pub fn limits(&self) -> Limits
         ensures { result ≡ self.now.limits }
     {
@@ -236,8 +237,8 @@ impl Token {
     /// As `call`, with the work that `Token::work` began for this call and that is done. It counts
     /// only where the call's operation hasn't changed since; the reply and the entry are those of
     /// `call` in any case.
-    // Never inlined: where it was compiled twice, with work and without, its parts stayed functions
-    // of their own, and short calls took longer.
+    // Never inlined: else it is compiled twice, with work and without. Its parts then stay
+    // functions of their own, and short calls take longer.
     #[inline(never)]
     pub fn call_after(
         &mut self,

@@ -1,4 +1,4 @@
-ghost use Rattle.std.specs.Prelude.{◌≡◌, ◌≢◌, ◌<◌, false};
+ghost use Rattle.std.specs.Prelude.{◌≡◌, ◌≢◌, ◌<◌, ◌≤◌, ◌+◌, false};
 ghost use Rattle.ck_journal.specs.Answers.{IsLegal};
 ghost use Rattle.ck_token.specs.Decisions.{may_run_out};
 ghost use Rattle.ck_token.specs.TryCalls.{IsTried};
@@ -47,6 +47,8 @@ impl Token {
         ensures succeeds { 0 < self.old.spare
             → may_run_out self.old.limits self.old.history call ≡ false
             → result ≢ Err call_error.Memory }
+        ensures room { result ≢ Err call_error.Memory → self.old.spare ≤ self.new.spare + 1 }
+        ensures spare { result ≡ Err call_error.Memory → self.old.spare ≤ self.new.spare }
     {
         Ok(self.call(alloc, caller, call)?.ok()?)
     }

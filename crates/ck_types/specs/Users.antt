@@ -9,6 +9,10 @@ use Rattle.ck_types.specs.declared.users.UserType.TheVariants as user
 abbrev pub user_of : ℕ → Option UserType
 user_of number = if number == 0 then Some user.So else if number == 1 then Some user.User else None
 
+abbrev pub user_number : UserType → ℕ
+user_number user.So = 0
+user_number user.User = 1
+
 abbrev pub same_user : UserType → UserType → Bool
 same_user user.So user.So = true
 same_user user.User user.User = true

@@ -121,6 +121,7 @@ pub fn mechanism_types() -> [u64; MECHANISM_COUNT]
     MECHANISMS.map(|(kind, _)| kind)
 }
 
+/// What the mechanism of this type computes, where the token has it.
 fn algorithm_of(kind: u64) -> Option<Algorithm>
     ensures { result ≡ algorithm_of kind }
 {

@@ -1,8 +1,8 @@
 use std::alloc::{AllocError, AllocFailed};
 use thiserror::Error;
 
-/// Out of memory. A call of the token that ends with it has no reply. It isn't in the journal, and
-/// no later reply differs for it.
+/// Out of memory. A call of the token that ends with it has no reply and isn't in the journal, and
+/// no later reply differs because of it.
 #[derive(Clone, Copy, Debug, PartialEq, Eq, Error)]
 #[error("out of memory")]
 pub struct NoMemory;

@@ -6,13 +6,13 @@ pub const MOST_SESSIONS: u64 = 64;
 /// The largest limit on openings of sessions, and on creations of objects.
 const MOST_HANDLES: u64 = 0xffff_ffff;
 
-/// The largest limit on logins of the user.
+/// The largest limit on logins of the normal user.
 const MOST_LOGINS: u64 = 0x7fff_ffff;
 
 /// The limits of one token: sessions that are open at once (1 to 64), openings of sessions in all
 /// (1 to 2^32 - 1), creations of objects in all (1 to 2^32 - 1; C_CreateObject, C_GenerateKey and
-/// C_CopyObject) and logins of the user in all (1 to 2^31 - 1; each a C_Login answered CKR_OK). The
-/// code for a call that would exceed the first is CKR_SESSION_COUNT, for any other
+/// C_CopyObject) and logins of the normal user in all (1 to 2^31 - 1; each a C_Login answered
+/// CKR_OK). The code for a call that would exceed the first is CKR_SESSION_COUNT, for any other
 /// CKR_DEVICE_MEMORY.
 #[derive(Clone, Copy, Debug, PartialEq, Eq)]
 pub struct Limits {
@@ -114,7 +114,7 @@ impl Limits {
         self.creations
     }
 
-    /// The most logins of the user in all.
+    /// The most logins of the normal user in all.
     pub fn logins(&self) -> u64
         ensures { result ≡ self.now.logins }
     {

@@ -1,5 +1,5 @@
 ghost use Rattle.std.specs.Prelude.{◌≡◌, Some};
-ghost use Rattle.ck_types.specs.Users.{user_of, state_number};
+ghost use Rattle.ck_types.specs.Users.{user_of, user_number, state_number};
 
 /// Who logs in (CK_USER_TYPE; PKCS #11 Base 3.0, Session types).
 #[derive(Clone, Copy, Debug, PartialEq, Eq)]
@@ -25,7 +25,8 @@ impl UserType {
 
     /// The number that the standard gives the user: CKU_SO is 0, CKU_USER is 1.
     pub fn number(self) -> u64
-        ensures { user_of result ≡ Some self }
+        ensures number { result ≡ user_number self }
+        ensures user { user_of result ≡ Some self }
     {
         match self {
             UserType::So => 0,

@@ -107,13 +107,14 @@ fn check_key_state(kind: OperationKind, key: &Record) -> Result<(), RvError>
     error_if(!serves, RvError::KeyFunctionNotPermitted)
 }
 
-/// The flag that a key needs for operations of the kind.
+/// The flag that a key needs for operations of the kind. A digest has no key, so nothing asks for
+/// its flag.
 fn usage_flag(kind: OperationKind) -> Attribute
     ensures { result ≡ usage_flag kind }
 {
     match kind {
+        OperationKind::Digest | OperationKind::Sign => Attribute::Sign,
         OperationKind::Verify => Attribute::Verify,
-        _ => Attribute::Sign,
     }
 }
 

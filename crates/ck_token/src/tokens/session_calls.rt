@@ -26,6 +26,7 @@ impl Token {
             flags & SERIAL_SESSION == 0,
             RvError::SessionParallelNotSupported,
         )?;
+        // CKF_SERIAL_SESSION and CKF_RW_SESSION are the only flags.
         error_if(flags & READ_WRITE != flags, RvError::ArgumentsBad)?;
         error_if(
             !is_read_write(flags) && self.logged_in() == Some(UserType::So),

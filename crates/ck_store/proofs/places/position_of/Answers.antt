@@ -8,7 +8,7 @@ use Rattle.ck_store.proofs.places.position_of.Goals as goal
 pub returns-in-Some-clause-position : goal.returns-in-Some-clause-position
 returns-in-Some-clause-position c = λ rise.
     place-guessed (λ (p : Place). p.number) c.args.index.now rise c.args.number c.in-Some.position
-    (place 0 0) c.in-Some.ensures.0 c.in-Some.ensures.1
+    (place 0 0) c.in-Some.ensures.found.0 c.in-Some.ensures.found.1
 
 pub returns-clause-position : goal.returns-clause-position
 returns-clause-position c = λ rise.

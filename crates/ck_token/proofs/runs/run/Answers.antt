@@ -1,7 +1,7 @@
 use Rattle.std.proofs.Common.{sym, arith}
 use Rattle.std.specs.Vec.Iter.{into_iter_items}
 use Rattle.std.proofs.lemmas.Grind.{common_steps}
-use Rattle.ck_token.proofs.RunLemmas.{Answers-none, Answers-more, Answers-free}
+use Rattle.ck_token.proofs.RunLemmas.{Answers-none, Answers-more, Answers-free, Answers-room}
 use Rattle.ck_token.proofs.runs.run.Goals as goal
 
 pub loop-caller-init : goal.loop-caller-init
@@ -30,3 +30,12 @@ returns-in-Err-clause-succeeds c = λ enough free.
 
 pub returns-in-Err-clause-run : goal.returns-in-Err-clause-run
 returns-in-Err-clause-run c = grind (arith, common_steps)
+
+pub returns-in-Err-clause-room : goal.returns-in-Err-clause-room
+returns-in-Err-clause-room c =
+    let before = Answers-room _ _ _ _ _ c.loop-caller.invariant.2 in
+    let kept = c.in-Err.ensures.spare in
+    omega arith
+
+pub returns-clause-room : goal.returns-clause-room
+returns-clause-room c = Answers-room _ _ _ _ _ c.loop-caller.invariant.2

@@ -1,0 +1,5 @@
+use Rattle.ck_journal.proofs.ProtectionLaws.{private-stays}
+use Rattle.ck_journal.proofs.laws.private_stays.Goals as goal
+
+pub returns : goal.returns
+returns c = private-stays
