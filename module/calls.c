@@ -328,7 +328,7 @@ static void drop_long_lists(void) {
         buffer_free(&library.values);
 }
 
-/* Room in the token's journal for a call's entry, beside those of the cancels that may have to be
+/* Room in the token's journal for a call's entry, besides those of the cancels that may have to be
  * made. A call takes room for at most one entry, and one that found no memory takes none. */
 static bool reserve_room(void) {
     return library.updates == 0 || ospreyrack_reserve(&library.token, library.updates + 1);

@@ -1,7 +1,7 @@
 /*
- * The signals that a write raises beside its error: SIGXFSZ where the file would be longer than the
- * process may make one, and SIGPIPE where nobody reads. By default they end the process, where the
- * module answers by a return code.
+ * The signals that a write raises besides its error: SIGXFSZ where the file would be longer than
+ * the process may make one, and SIGPIPE where nobody reads. By default they end the process, where
+ * the module answers by a return code.
  */
 #include "module.h"
 

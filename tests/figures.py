@@ -37,6 +37,10 @@ FEW, MANY = 1_000, 100_000
 LEAST_GROWTH = 20
 MOST_OF_AUDIT = 8
 
+# How often ck_bench is run at most until its times are so: one may be longer while the machine does
+# other work, with which caches are shared. A run without times isn't tried again.
+RUNS = 6
+
 # How many rounds a section of single calls has, and how many times it stands there.
 ROUNDS = 1_000
 TIMES = 10
@@ -201,19 +205,25 @@ def times_of_sections(text, way):
             return {}
 
 
+def are_times_of_calls(times, has_audit):
+    """Whether the least time of many calls is far longer than that of few, and an audit, where
+    there is one, takes in each try a few times as long as the calls."""
+    few, many, audits = (times.get(name, [0]) for name in ("few", "many", "audit"))
+    is_audit_right = min(audits) > 0 and MANY * max(audits) < MOST_OF_AUDIT * min(many)
+    return 0 < LEAST_GROWTH * min(few) < min(many) and (is_audit_right or not has_audit)
+
+
 def times_of_calls(tests):
-    """The times are those of the calls and of the audit: many calls take far longer than few, and
-    an audit takes a few times as long as the calls, in each try."""
+    """The times are those of the calls and of the audit."""
     call = "1 GetTokenInfo\n"
     text = f"#measure few\n{call * FEW}#measure many\n{call * MANY}"
     for way in ("alone", "locked"):
-        times = times_of_sections(text, way)
-        few, many, audits = (times.get(name, [0]) for name in ("few", "many", "audit"))
-        tests.expect(0 < LEAST_GROWTH * min(few) < min(many),
-                     f"{way}: {FEW} calls took {few} ns, {MANY} took {many} ns")
-        if way == "alone":
-            is_right = min(audits) > 0 and MANY * max(audits) < MOST_OF_AUDIT * min(many)
-            tests.expect(is_right, f"{MANY} calls took {many} ns, an audit {audits} ns an entry")
+        for _ in range(RUNS):
+            times = times_of_sections(text, way)
+            is_right = are_times_of_calls(times, way == "alone")
+            if is_right or not times:
+                break
+        tests.expect(is_right, f"{way}, ns of {FEW} calls, {MANY} calls and an entry: {times}")
     tests.end("times of few calls and of many, by the built ck_bench")
 
 

@@ -47,7 +47,7 @@ TESTS = {program: program.Tests, rules: program.Tests, recorded_runs: recorded_r
 # A program whose call of number n takes n * n steps; and how many objects speed.py then makes, and
 # searches among the few, so that it doesn't take long.
 SLOW = "exec awk '{ for (i = 0; i < NR * NR; i++) x += i; print 0 }'"
-FEW_OBJECTS = (40, 160, 40)
+FEW_OBJECTS = (10, 40, 40)
 
 # Tests in which a right program writes nothing there, so that they pass on one that never does.
 SILENT = {
@@ -345,6 +345,7 @@ def idle_programs(checks):
 
 def slow_programs(checks):
     speed.FEW, speed.MANY, speed.SEARCHES = FEW_OBJECTS
+    speed.MOST_TRIES = speed.TRIES
     with tempfile.TemporaryDirectory() as folder:
         path = write_program(folder, SLOW, "/bin/true")
         for test in tests_of(speed):

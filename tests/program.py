@@ -18,7 +18,10 @@ HERE = os.path.dirname(os.path.abspath(__file__))
 PROGRAM = os.path.join(HERE, "..", "crates", "ck_run", "out", "ck_run")
 
 LONGEST_LINE = 4_194_304
-SECONDS = 120
+
+# The most seconds that a program may take: far more than it does on a slow machine that does much
+# else. They tell only of one that hangs.
+SECONDS = 600
 
 # Calls that leave 64 objects of a million bytes, and an address space that has room for these once.
 # An audit makes them again.
@@ -52,6 +55,12 @@ REPLY_TO_EACH = b"0 4 64 0 0\n"
 # Short calls of callers in threads, and how many times they may sleep together.
 MANY_SHORT = 400_000
 MOST_SLEEPS = 20_000
+
+# How many threads there are at once at least, at some time, where each of eight callers has one. In
+# turn there would be two, and for a moment one that has just ended. And how often this is tried at
+# most, since other work of the machine can hold up some of them until others have ended.
+LEAST_THREADS = 5
+TRIES = 6
 
 # Two callers: the first makes six calls, the second two.
 TWO_CALLERS = FIRST_CALLS + b"2 CloseSession 1\n2 CloseSession 1\n"
@@ -206,7 +215,7 @@ ENDS = [PLAYED, bad_script(2, b""), bad_arguments(b""), READ_FAULT, WRITE_FAULT,
 REASONS = [TOO_LONG, CALLER_ABOVE_2, *(reason for _, reason in BAD_LINES)]
 
 # The seconds in which a reply comes.
-SECONDS_OF_REPLY = 10
+SECONDS_OF_REPLY = 60
 
 # The seconds of work in which a line is judged, however long it is.
 SOON = 2
@@ -419,11 +428,13 @@ def count_threads(tests, words, script):
 
 
 def side_by_side(tests):
-    # In turn there would be two threads, and for a moment one that has just ended.
     script = b"".join(b"%d GetTokenInfo\n" % (1 + count % 8) for count in range(200_000))
-    most, end = count_threads(tests, ["--callers", "8"], script)
-    tests.expect(most >= 5, f"with eight callers there are {most} threads at once")
-    tests.expect(end == (b"entries 200000\naudit ok\n", *PLAYED), f"with eight callers: {end}")
+    for _ in range(TRIES):
+        most, end = count_threads(tests, ["--callers", "8"], script)
+        tests.expect(end == (b"entries 200000\naudit ok\n", *PLAYED), f"with eight callers: {end}")
+        if most >= LEAST_THREADS:
+            break
+    tests.expect(most >= LEAST_THREADS, f"with eight callers there are {most} threads at once")
     tests.end("callers have their threads at the same time")
 
 

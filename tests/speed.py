@@ -1,7 +1,7 @@
 #!/usr/bin/env python3
 """Looks at what no contract says of the built program ck_run: how its time grows. Only processor
 time counts, and only by how much one script takes more of it than another, so that other work of
-the machine makes no difference.
+the machine makes little difference. Where it does, the scripts are played again.
 
 The program is crates/ck_run/out/ck_run, which `rt ci` leaves, or the one that is named. For each
 test a line is printed that begins with passed or FAILED, and the status is 1 where one failed.
@@ -13,27 +13,38 @@ import program
 
 PROGRAM = program.PROGRAM
 FIRST_CALLS = ["1 InitToken 31323334", "1 OpenSession 6"]
-TRIES = 3
+
+# How often scripts are played at least, and at most, before what takes too long is told.
+TRIES, MOST_TRIES = 3, 12
 
 # How many objects there are, in scripts that are compared, and how many searches among the few.
 FEW, MANY = 20_000, 80_000
-SEARCHES = 500
+SEARCHES = 2_000
 
 
 def seconds_of(tests, calls):
-    """The least processor time of a few times that the program plays these calls. The system's part
-    is taken with it: of short runs the system only guesses which part is its own."""
+    """The processor time in which the program plays these calls. The system's part is taken with
+    it: of short runs the system only guesses which part is its own."""
     script = "".join(line + "\n" for line in FIRST_CALLS + calls).encode()
-    least = float("inf")
-    for _ in range(TRIES):
-        before = program.seconds_of_programs()
-        ended = subprocess.run([tests.program], input=script, stdout=subprocess.PIPE, check=False,
-                               timeout=program.SECONDS)
-        seconds = program.seconds_of_programs() - before
-        replies = ended.stdout.count(b"\n")
-        tests.expect((ended.returncode, replies) == (0, len(FIRST_CALLS) + len(calls)),
-                     f"status {ended.returncode}, {replies} replies")
-        least = min(least, seconds)
+    before = program.seconds_of_programs()
+    ended = subprocess.run([tests.program], input=script, stdout=subprocess.PIPE, check=False,
+                           timeout=program.SECONDS)
+    seconds = program.seconds_of_programs() - before
+    replies = ended.stdout.count(b"\n")
+    tests.expect((ended.returncode, replies) == (0, len(FIRST_CALLS) + len(calls)),
+                 f"status {ended.returncode}, {replies} replies")
+    return seconds
+
+
+def least_seconds(tests, scripts, holds):
+    """The least processor time of each of these scripts, over a few times. They are played again
+    while these times aren't as they must be, since other work of the machine, with which caches
+    are shared, can make one take longer."""
+    least = [float("inf")] * len(scripts)
+    for tries in range(MOST_TRIES):
+        if tries >= TRIES and holds(*least):
+            break
+        least = [min(seconds, seconds_of(tests, calls)) for seconds, calls in zip(least, scripts)]
     return least
 
 
@@ -106,18 +117,22 @@ def long_template(count):
     return [f"1 CreateObject 1 0=0000000000000000{',3=61' * count}{',10=61' * count}"]
 
 
+def is_faster_by_label(before, with_labels, with_others):
+    """Whether searches by a label take less than a third of the time of as many others."""
+    return (with_labels - before) * 3 < with_others - before
+
+
 def label_searches(tests):
     """A search by a label passes over most objects without reading them, also where the template
     begins with another attribute, where the labels were given anew, and among keys."""
     made = creations(FEW)
     for first, attributes, other in ((made, "3", "10"), (made, "0=0000000000000000,3", "10"),
                                      (made + changes(FEW), "3", "10"), (keys(FEW), "3", "102")):
-        before = seconds_of(tests, first)
-        by_label = seconds_of(tests, first + searches(SEARCHES, attributes)) - before
-        by_other = seconds_of(tests, first + searches(SEARCHES, other)) - before
-        tests.expect(by_label * 3 < by_other,
-                     f"{SEARCHES} searches by {attributes} after {len(first)} calls took "
-                     f"{by_label:.3f} s, by {other} {by_other:.3f} s")
+        scripts = (first, first + searches(SEARCHES, attributes), first + searches(SEARCHES, other))
+        times = least_seconds(tests, scripts, is_faster_by_label)
+        tests.expect(is_faster_by_label(*times),
+                     f"{len(first)} calls took {times[0]:.3f} s, with {SEARCHES} searches by "
+                     f"{attributes} {times[1]:.3f} s, by {other} {times[2]:.3f} s")
     tests.end("searches by label")
 
 
@@ -138,11 +153,17 @@ EVEN = [
 ]
 
 
+def grows_evenly(few, many):
+    """Whether four times as many take less than eight times as long."""
+    return many < 8 * few
+
+
 def even_times(tests):
     """Four times as many take less than eight times as long."""
     for what, calls_of in EVEN:
-        few, many = seconds_of(tests, calls_of(FEW)), seconds_of(tests, calls_of(MANY))
-        tests.expect(many < 8 * few, f"{FEW} {what} took {few:.3f} s, {MANY} took {many:.3f} s")
+        few, many = least_seconds(tests, (calls_of(FEW), calls_of(MANY)), grows_evenly)
+        tests.expect(grows_evenly(few, many),
+                     f"{FEW} {what} took {few:.3f} s, {MANY} took {many:.3f} s")
     tests.end("times among many")
 
 

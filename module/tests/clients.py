@@ -58,9 +58,10 @@ class Client:
     def run(self, *command, contains="", status=0, **options):
         """Runs a command, which must end with this status and write this text. Answers all that it
         wrote."""
-        run = subprocess.run(command, env=self.environment, cwd=self.folder, timeout=60, text=True,
-                             errors="replace", stdin=subprocess.DEVNULL, stdout=subprocess.PIPE,
-                             stderr=subprocess.STDOUT, check=False, **options)
+        run = subprocess.run(command, env=self.environment, cwd=self.folder, text=True,
+                             timeout=support.SECONDS, errors="replace", stdin=subprocess.DEVNULL,
+                             stdout=subprocess.PIPE, stderr=subprocess.STDOUT, check=False,
+                             **options)
         text = " ".join(command[:1] + command[3:])
         if run.returncode != status:
             raise Failed(f"{text}: status {run.returncode}: {run.stdout[-600:]}")
@@ -227,7 +228,7 @@ def use_p11_kit_server(client):
 
 
 def wait_for(path):
-    for _ in range(100):
+    for _ in range(600):
         if os.path.exists(path):
             return
         time.sleep(0.1)

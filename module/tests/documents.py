@@ -72,7 +72,7 @@ def is_quoted(lines, text):
 
 def run(command, folder, **environment):
     return subprocess.run(command, shell=True, cwd=folder, capture_output=True, text=True,
-                          timeout=60, env={**os.environ, **environment})
+                          timeout=support.SECONDS, env={**os.environ, **environment})
 
 
 def check_commands(checks, path, text, module, folder, first=""):

@@ -2,8 +2,9 @@
  * Calls of all functions with arguments that are drawn: handles live and dead, templates with NULLs
  * and with lengths of zero and beyond all memory, known and unknown types, rooms of all sizes.
  * Every output stands between guards, and every input in memory of its own length. Called with the
- * module's file, a folder, a seed, how many calls are made, and the most seconds. Half of the calls
- * are kept in journals in the folder.
+ * module's file, a folder, a seed, how many calls are made, and after how many seconds it ends
+ * earlier, though not before LEAST_CALLS calls. Half of the calls are kept in journals in the
+ * folder.
  */
 #include "support.h"
 
@@ -637,12 +638,19 @@ static const char *folder;
 static uint64_t calls, most_calls;
 static time_t end;
 
+/* At least this many are made, however slow the machine is: fewer may not reach each function. */
+enum { LEAST_CALLS = 50000 };
+
+static bool goes_on(void) {
+    return calls < most_calls && (calls < LEAST_CALLS || time(NULL) < end);
+}
+
 static void use_token(uint64_t number) {
     keep_journals(number % 2 == 1 ? folder : NULL);
     CK_SESSION_HANDLE session = begin_token();
     for (size_t i = 0; i < SESSIONS; i++)
         sessions[i] = session;
-    for (int i = 0; i < CALLS_OF_A_TOKEN && calls < most_calls && time(NULL) < end; i++) {
+    for (int i = 0; i < CALLS_OF_A_TOKEN && goes_on(); i++) {
         make_step();
         calls++;
     }
@@ -663,7 +671,7 @@ static void check_reach(void) {
 }
 
 static void test_drawn_calls(void) {
-    for (uint64_t number = 0; calls < most_calls && time(NULL) < end; number++)
+    for (uint64_t number = 0; goes_on(); number++)
         use_token(number);
     check_reach();
 }

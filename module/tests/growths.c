@@ -880,7 +880,7 @@ static const struct operation verifying = {
 
 static const struct operation *operation;
 
-/* What is tried, beside that an allocation is refused. */
+/* What is tried, besides that an allocation is refused. */
 struct trial {
     const char *what;
     bool refuses_all;      /* all later allocations are refused, too */

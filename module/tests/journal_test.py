@@ -55,6 +55,12 @@ limits largest
 RANDOM_OF_SEVEN = ("d70d3259e4e1cb631c663cf4d73c4c04022ab1ba804098e6"
                    "cb293e6770eb3a95da211e6a663bd373")
 
+# How many times the memory of a worker is measured at most, until it is as it must be.
+TRIES_OF_MEMORY = 3
+
+# The most seconds in which a process ends by itself while its C_Initialize waits in another thread.
+SECONDS_OF_EXIT = 60
+
 # Users that need not have a name.
 OWNER, OTHER_USER = 1, 2
 
@@ -246,7 +252,7 @@ class Worker:
 
     def end(self):
         """Lets it end by itself. Answers what it wrote to standard error."""
-        out, errors = self.process.communicate(timeout=60)
+        out, errors = self.process.communicate(timeout=support.SECONDS)
         self.last = out.rstrip("\n")
         return errors
 
@@ -255,7 +261,7 @@ class Worker:
         self.process.send_signal(signal.SIGKILL)
         # `communicate` would pass over what was read from the pipe before and isn't used yet.
         out = self.process.stdout.read()
-        self.process.communicate(timeout=60)
+        self.process.communicate(timeout=support.SECONDS)
         return out.split("\n")[:-1]
 
 
@@ -998,7 +1004,7 @@ class Tests:
         self.end()
 
     def wait_for(self, condition, what):
-        for _ in range(1000):
+        for _ in range(6000):
             if condition():
                 break
             time.sleep(0.01)
@@ -1010,7 +1016,7 @@ class Tests:
         os.mkfifo(path)
         run = subprocess.run([sys.executable, os.path.abspath(__file__), "exit", self.path],
                              env=support.environment_of({"SCRIPT": path}), capture_output=True,
-                             text=True, timeout=20)
+                             text=True, timeout=SECONDS_OF_EXIT)
         self.checks.equal((run.returncode, run.stderr), (0, ""), "the status and the errors")
 
     def test_waiting(self):
@@ -1037,7 +1043,7 @@ class Tests:
         path = self.file("unloaded.cases")
         run = subprocess.run([sys.executable, os.path.abspath(__file__), "unload", self.path],
                              env=support.environment_of({"TOKEN": path}), capture_output=True,
-                             text=True, timeout=60)
+                             text=True, timeout=support.SECONDS)
         self.checks.equal(run.stdout, f"0 0 0 1\n{NOT_INITIALIZED} 0 0 2 0\n", "the replies")
         self.checks.equal(run.stderr, "", "the errors")
         support.audit(self.checks, self.ck_cases, path)
@@ -1047,7 +1053,8 @@ class Tests:
         path = self.file("unloaded_with_functions.cases")
         run = subprocess.run(
             [sys.executable, os.path.abspath(__file__), "unload_with_functions", self.path],
-            env=support.environment_of({"TOKEN": path}), capture_output=True, text=True, timeout=60)
+            env=support.environment_of({"TOKEN": path}), capture_output=True, text=True,
+            timeout=support.SECONDS)
         self.checks.equal(run.stdout, "0 0\n0 0\n", "the replies")
         self.checks.equal(run.stderr, "", "the errors")
         support.audit(self.checks, self.ck_cases, path)
@@ -1058,7 +1065,8 @@ class Tests:
         program, module = self.file("rights"), self.file("module.so")
         subprocess.run([os.environ.get("CC", "gcc"), "-std=c11", "-D_GNU_SOURCE", "-Wall",
                         "-Wextra", "-Werror", "-o", program,
-                        os.path.join(support.TESTS, "rights.c")], check=True, timeout=100)
+                        os.path.join(support.TESTS, "rights.c")], check=True,
+                       timeout=support.SECONDS)
         shutil.copy(self.path, module)
         for file in [program, module]:
             os.chmod(file, 0o755)
@@ -1081,7 +1089,7 @@ class Tests:
         run = subprocess.run([program, self.file("module.so")],
                              env=support.environment_of(variables), user=OTHER_USER,
                              group=OTHER_USER, extra_groups=[], capture_output=True, text=True,
-                             timeout=60)
+                             timeout=support.SECONDS)
         return run.stdout.rstrip("\n") or run.stderr
 
     def test_rights(self):
@@ -1107,6 +1115,8 @@ class Tests:
     def kill_once(self, path, draw):
         """A process that is killed in the middle of calls. Answers how many were answered."""
         before = read(path) if os.path.exists(path) else b""
+        # The module drops a last line without an end, as a process that is killed may leave it.
+        before = before[:before.rfind(b"\n") + 1]
         worker = Worker(self.path, TOKEN=path)
         if not before:
             worker.say("1 InitToken 31323334")
@@ -1332,22 +1342,32 @@ class Tests:
         later = self.random_of_start(40 + 4096 + 8, SEED=7)[-8:]
         self.checks.equal(drawn, [seven[16:19], seven[32:40], later], "what is drawn later")
 
-    def run_memory(self, kind, cut, last):
+    def run_memory(self, kind, cut):
+        """By how many bytes the memory of a worker grows, and its last reply."""
         run = subprocess.run([sys.executable, os.path.abspath(__file__), kind, self.path],
                              env=support.environment_of({"CUT": cut}), capture_output=True,
-                             text=True, timeout=200)
+                             text=True, timeout=support.SECONDS)
         grown, reply = run.stdout.split()
-        self.checks.equal(reply, last, "the last reply")
-        return int(grown)
+        return int(grown), reply
+
+    def check_memory(self, kind, cut, last, is_right):
+        """Memory grows as it must. The system takes pages from a process, and gives them back, when
+        it likes, so this is tried a few times."""
+        replies = set()
+        for _ in range(TRIES_OF_MEMORY):
+            grown, reply = self.run_memory(kind, cut)
+            replies.add(reply)
+            if is_right(grown):
+                break
+        self.checks.equal(replies, {last}, "the last replies")
+        self.checks.check(is_right(grown), f"with {cut}, {kind} grows by {grown} bytes")
 
     def test_memory(self):
         """OSPREYRACK_CUT=yes keeps memory flat over 200,000 calls, and =no doesn't."""
         for kind, last in [("memory", "0"), ("polling", "0"), ("asking", "b3"),
                            ("starting", "b3")]:
-            grown = self.run_memory(kind, "yes", last)
-            self.checks.check(grown < 1 << 20, f"with yes, {kind} grows by {grown} bytes")
-            grown = self.run_memory(kind, "no", last)
-            self.checks.check(grown > 4 << 20, f"with no, {kind} grows by {grown} bytes")
+            self.check_memory(kind, "yes", last, lambda grown: grown < 1 << 20)
+            self.check_memory(kind, "no", last, lambda grown: grown > 4 << 20)
 
     def test_long_template(self):
         """What a long template took is given back with the journal that has it."""

@@ -15,6 +15,10 @@ TESTS = os.path.dirname(os.path.abspath(__file__))
 ROOT = os.path.dirname(os.path.dirname(TESTS))
 DATA = os.path.join(ROOT, "crates", "ck_cases", "data")
 
+# The most seconds that a program may take: far more than it does on a slow machine that does much
+# else. They tell only of one that hangs.
+SECONDS = 300
+
 # ---- Checks
 
 
@@ -53,7 +57,7 @@ class Checks:
 
 def audit(checks, program, path):
     """Plays a journal by ck_cases, which also audits it."""
-    played = subprocess.run([program, path], capture_output=True, text=True, timeout=120)
+    played = subprocess.run([program, path], capture_output=True, text=True, timeout=SECONDS)
     checks.check(played.returncode == 0,
                  f"{path} by ck_cases: {played.stdout[-300:]}{played.stderr[-300:]}")
 

@@ -522,7 +522,7 @@ static void make_own_digests(void) {
     }
 }
 
-/* What calls may be answered beside CKR_OK: the token of a later life isn't initialized at first,
+/* What calls may be answered besides CKR_OK: the token of a later life isn't initialized at first,
  * and doesn't have the session, or has one of this handle without an operation. */
 static const CK_RV without_token[] = {
     CKR_CRYPTOKI_NOT_INITIALIZED, CKR_TOKEN_NOT_RECOGNIZED,

@@ -9,7 +9,7 @@ use mathlib.Core.List.{IsPrefix}
 use prog.Atomic.{either}
 use Rattle.logbook.specs.Pages.{Cell, cell, keeps, no_nib, step, Moves, Goes}
 use Rattle.ck_journal.specs.declared.calls.Entry.{Entry}
-use Rattle.ck_callers.specs.Rules.{IsKept, Adds}
+use Rattle.ck_callers.specs.Rules.{HoldsLength, Adds}
 use Rattle.ck_callers.proofs.Prefixes.{prefix_whole, prefix_length}
 
 abbrev pub shown : List Entry → List Entry
@@ -20,7 +20,7 @@ moved xs ys n = Unit {0}
 
 adds_goes : (log v : List Entry) (e : Entry) (old : ℕ) → old ≤ length v → IsPrefix v log
     → (b : Bool) → (length log == old) ≡ b
-    → Goes IsKept shown moved 0 (v, (no_nib, None)) (λ n. either (n == old) (old + 1) n)
+    → Goes HoldsLength shown moved 0 (v, (no_nib, None)) (λ n. either (n == old) (old + 1) n)
     (Adds (step 0 old (old + 1) e) (v, (no_nib, None))) ((length log, true) ∷ (0, true) ∷ []) log
 adds_goes log v e old len pre true is =
     let here : length log ≡ old = grind (arith, nat_tests) in
@@ -51,11 +51,11 @@ adds_goes log v e old len pre false is =
 
 -- whatever the book is, the exchange adds the entry to all that was seen, or finds another length
 pub adds_moves : (v : List Entry) (e : Entry) (old : ℕ) → old ≤ length v
-    → Moves IsKept shown moved 0 (v, (no_nib, None)) (λ n. either (n == old) (old + 1) n)
+    → Moves HoldsLength shown moved 0 (v, (no_nib, None)) (λ n. either (n == old) (old + 1) n)
     (Adds (step 0 old (old + 1) e) (v, (no_nib, None)))
 adds_moves v e old len cs log kept pre away =
     let P : List Cell → Type 0 = λ c. (0 < length c) × ((cell c 0).1 ≡ true)
-    × Goes IsKept shown moved 0
+    × Goes HoldsLength shown moved 0
     (v, (no_nib, None)) (λ n. either (n == old) (old + 1) n)
     (Adds (step 0 old (old + 1) e) (v, (no_nib, None))) c log in
     subst P (sym kept) (omega arith, refl, adds_goes log v e old len pre (length log == old) refl)

@@ -6,7 +6,7 @@ use Rattle.ck_journal.specs.Histories.{History}
 use Rattle.ck_journal.proofs.CallerLemmas.{entries_by-front}
 use Rattle.ck_journal.proofs.FrontLemmas.{front_trans}
 
--- it has no entries beside those of its last reply's history
+-- it has no entries besides those of its last reply's history
 pub own_same : (number count : ℕ) (last seen shown : History) → IsFront last seen
     → IsFront seen shown
     → call_count number last ≡ count → call_count number shown ≡ count

@@ -6,7 +6,7 @@ use Rattle.ck_types.specs.TokenLimits.{Ranges}
 use Rattle.ck_journal.specs.declared.calls.Call.{Call}
 use Rattle.ck_journal.specs.declared.replies.Reply.{Reply}
 use Rattle.ck_callers.specs.Callers.{HasCalled}
-use Rattle.ck_callers.specs.Runs.{HasRun, AreMade, AreTaken}
+use Rattle.ck_callers.specs.Runs.{HasRun, AreMade, AreStepsTaken}
 use Rattle.ck_callers.specs.Steps.{HasStepped, IsCall}
 use Rattle.ck_callers.specs.declared.scripts.Script.{Script}
 use Rattle.ck_callers.specs.declared.steps.Answered.{Answered}
@@ -37,7 +37,7 @@ module _ {K : Type 0} (limits : Ranges) where
   ))
 
   script_taken : (old new : Script K Step Answered) → HasRun (HasStepped limits) IsCall old new
-      → AreTaken limits old new
+      → AreStepsTaken limits old new
   script_taken old new = match_weaker _ _ _ new.started (λ made. (
     taken limits old.caller (vec_items old.steps) (vec_items new.replies) new.outcome new.caller
         made.0,
@@ -49,5 +49,5 @@ module _ {K : Type 0} (limits : Ranges) where
   all_made = all_zip_weaker (HasRun (HasCalled limits) (λ call. Unit {0})) AreMade script_made
 
   pub all_taken : (old new : List (Script K Step Answered))
-      → AllZip (HasRun (HasStepped limits) IsCall) old new → AllZip (AreTaken limits) old new
-  all_taken = all_zip_weaker (HasRun (HasStepped limits) IsCall) (AreTaken limits) script_taken
+      → AllZip (HasRun (HasStepped limits) IsCall) old new → AllZip (AreStepsTaken limits) old new
+  all_taken = all_zip_weaker (HasRun (HasStepped limits) IsCall) (AreStepsTaken limits) script_taken

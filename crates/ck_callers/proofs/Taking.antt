@@ -11,7 +11,7 @@ use Rattle.ck_journal.specs.Histories.{entry_count, entry_at}
 use Rattle.ck_journal.specs.declared.calls.Call.{Call}
 use Rattle.ck_journal.specs.declared.replies.Reply.{Reply}
 use Rattle.ck_journal.proofs.FrontLemmas.{front_trans}
-use Rattle.ck_callers.specs.Asks.{call_of, reply_of}
+use Rattle.ck_callers.specs.Asks.{call_of_ask, reply_of_status}
 use Rattle.ck_callers.specs.Callers.{CallerState, HasCalled, entry_by}
 use Rattle.ck_callers.specs.declared.asks.Ask.{Ask}
 use Rattle.ck_callers.specs.declared.asks.Status.{Status}
@@ -105,10 +105,10 @@ module _ (limits : Ranges) (old : CallerState) (now : CallerState) (n : ℕ)
           made = rest.calls.made;
         }
 
-    status_is : IfSome status (λ s. reply_of s ≡ answer limits (front_at new.seen n)
-        (call_of ask))
+    status_is : IfSome status (λ s. reply_of_status s ≡ answer limits (front_at new.seen n)
+        (call_of_ask ask))
     status_is =
-        subst (λ h. IfSome status (λ s. reply_of s ≡ answer limits h (call_of ask)))
+        subst (λ h. IfSome status (λ s. reply_of_status s ≡ answer limits h (call_of_ask ask)))
         (sym (ap (front_at new.seen) length_is ∙ front_at-front now.seen new.seen rest.calls.front))
         does.answer
 

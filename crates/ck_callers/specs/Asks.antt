@@ -9,12 +9,12 @@ use Rattle.ck_callers.specs.declared.asks.Ask.TheVariants as ask
 use Rattle.ck_callers.specs.declared.asks.Status.{Status}
 use Rattle.ck_callers.specs.declared.asks.Status.TheVariants as status
 
-abbrev pub call_of : Ask → Call
-call_of (ask.Session session) = call.GetSessionInfo session
-call_of ask.Token = call.GetTokenInfo
-call_of ask.Mechanisms = call.GetMechanismList
+abbrev pub call_of_ask : Ask → Call
+call_of_ask (ask.Session session) = call.GetSessionInfo session
+call_of_ask ask.Token = call.GetTokenInfo
+call_of_ask ask.Mechanisms = call.GetMechanismList
 
 -- the reply that a status stands for
-abbrev pub reply_of : Status → Reply
-reply_of (status.Reply reply) = reply
-reply_of (status.Mechanisms types) = record { rv = rv.Ok; body = body.Mechanisms types }
+abbrev pub reply_of_status : Status → Reply
+reply_of_status (status.Reply reply) = reply
+reply_of_status (status.Mechanisms types) = record { rv = rv.Ok; body = body.Mechanisms types }

@@ -1,4 +1,4 @@
--- What is known of a history beside its entries: since when its board is the same
+-- What is known of a history besides its entries: since when its board is the same
 use Rattle.std.specs.Prelude.{◌≡◌, ℕ, ◌≤◌, ◌<◌, ◌^◌, Bool, IsTrue}
 use Rattle.ck_types.specs.TokenLimits.{Ranges}
 use Rattle.ck_journal.specs.Boards.{BoardStays, board_of}

@@ -4,8 +4,8 @@ use Rattle.logbook.specs.Pages.{Cell, Step, View, Book, Named}
 use Rattle.ck_journal.specs.declared.calls.Entry.{Entry}
 
 -- the first word is the length of the log; the second, which a book has as well, stays 0
-abbrev pub IsKept : List Cell → List Entry → Type 0
-IsKept cells log = cells ≡ (length log, true) ∷ (0, true) ∷ []
+abbrev pub HoldsLength : List Cell → List Entry → Type 0
+HoldsLength cells log = cells ≡ (length log, true) ∷ (0, true) ∷ []
 
 -- the first word of the book
 abbrev pub head_of : Book → Named

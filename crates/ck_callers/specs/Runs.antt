@@ -12,8 +12,8 @@ use Rattle.ck_callers.specs.declared.steps.Answered.{Answered}
 use Rattle.ck_callers.specs.declared.steps.Step.{Step}
 
 -- no thread could be made for the script: its caller has taken none of its steps, which are left
-abbrev pub IsLeft : {K S A : Type 0} → Script K S A → Script K S A → Type 0
-IsLeft old new =
+abbrev pub IsUntouched : {K S A : Type 0} → Script K S A → Script K S A → Type 0
+IsUntouched old new =
     (new.caller ≡ old.caller) × (vec_items new.steps ≡ vec_items old.steps)
     × (vec_items new.replies ≡ []) × (new.outcome ≡ old.outcome)
 
@@ -23,16 +23,16 @@ AreMade old new =
     MatchBool new.started
     (HasMadeCalls old.caller (vec_items old.steps) (vec_items new.replies) new.outcome new.caller
     × (vec_items new.steps ≡ []))
-    (IsLeft old new)
+    (IsUntouched old new)
 
 -- the caller of the script has taken its steps in a thread, and none are left
-abbrev pub AreTaken : {K : Type 0} → Ranges → Script K Step Answered
+abbrev pub AreStepsTaken : {K : Type 0} → Ranges → Script K Step Answered
     → Script K Step Answered → Type 0
-AreTaken limits old new =
+AreStepsTaken limits old new =
     MatchBool new.started
     (HasTaken limits old.caller (vec_items old.steps) (vec_items new.replies) new.outcome
     new.caller × (vec_items new.steps ≡ []))
-    (IsLeft old new)
+    (IsUntouched old new)
 
 -- the same of any script
 abbrev pub HasRun : {K S A : Type 0} → (CallerState → S → A → CallerState → Type 0)
@@ -41,4 +41,4 @@ HasRun Does MayFail old new =
     MatchBool new.started
     (HasMade Does MayFail old.caller (vec_items old.steps) (vec_items new.replies) new.outcome
     new.caller × (vec_items new.steps ≡ []))
-    (IsLeft old new)
+    (IsUntouched old new)

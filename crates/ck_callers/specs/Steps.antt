@@ -8,7 +8,7 @@ use Rattle.ck_journal.specs.Fronts.{IsFront}
 use Rattle.ck_journal.specs.Histories.{History, start, ◌◁◌, entry_count, entry_at}
 use Rattle.ck_journal.specs.declared.calls.Call.{Call}
 use Rattle.ck_journal.specs.declared.replies.Reply.{Reply}
-use Rattle.ck_callers.specs.Asks.{call_of, reply_of}
+use Rattle.ck_callers.specs.Asks.{call_of_ask, reply_of_status}
 use Rattle.ck_callers.specs.Callers.{CallerState, HasCalled, entry_by}
 use Rattle.ck_callers.specs.declared.asks.Ask.{Ask}
 use Rattle.ck_callers.specs.declared.asks.Status.{Status}
@@ -26,7 +26,7 @@ pub record HasAsked (limits : Ranges) (old : CallerState) (ask : Ask) (status : 
     (new : CallerState) : Type 0 where
   pub same : new ≡ record old { seen = new.seen }
   pub front : IsFront old.seen new.seen
-  pub answer : IfSome status (λ s. reply_of s ≡ answer limits new.seen (call_of ask))
+  pub answer : IfSome status (λ s. reply_of_status s ≡ answer limits new.seen (call_of_ask ask))
   pub unchanged : IfNone status (new ≡ old)
 
 -- the caller has taken the step, and the number is the length of the history that it then knows
@@ -63,7 +63,7 @@ abbrev pub IsAnswerIn : Ranges → ℕ → History → Step → Answered → Typ
 IsAnswerIn limits caller h (step.Call call) (answered.Reply reply n) =
     entry_at h n ≡ Some (entry_by caller call reply)
 IsAnswerIn limits caller h (step.Ask ask) (answered.Status status n) =
-    IfSome status (λ s. reply_of s ≡ answer limits (front_at h n) (call_of ask))
+    IfSome status (λ s. reply_of_status s ≡ answer limits (front_at h n) (call_of_ask ask))
 IsAnswerIn limits caller h other reply = ⊥
 
 -- these are the answers to the first of the steps

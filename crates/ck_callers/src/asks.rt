@@ -3,7 +3,7 @@ ghost use Rattle.ck_types.specs.TokenLimits.{Ranges};
 ghost use Rattle.ck_journal.specs.Answers.{answer};
 ghost use Rattle.ck_journal.specs.Boards.{board_of};
 ghost use Rattle.ck_journal.specs.Histories.{History};
-ghost use Rattle.ck_callers.specs.Asks.{call_of, reply_of};
+ghost use Rattle.ck_callers.specs.Asks.{call_of_ask, reply_of_status};
 
 use ck_journal::{Reply, TokenBoard};
 use ck_types::{MECHANISM_COUNT, mechanism_types};
@@ -30,7 +30,7 @@ pub enum Status {
 /// What a board answers.
 pub(crate) fn status_on(board: &TokenBoard, ask: Ask) -> Status
     ensures { (limits : Ranges) (h : History) → board.now ≡ board_of limits h
-        → reply_of result ≡ answer limits h (call_of ask) }
+        → reply_of_status result ≡ answer limits h (call_of_ask ask) }
 {
     match ask {
         Ask::Session(session) => Status::Reply(board.session_info(session)),

@@ -2,7 +2,7 @@ ghost use Rattle.std.specs.Prelude.{◌≡◌, IfSome};
 ghost use Rattle.ck_journal.specs.Answers.{IsLegal, answer};
 ghost use Rattle.ck_journal.specs.Callers.{call_count};
 ghost use Rattle.ck_journal.specs.Fronts.{IsFront};
-ghost use Rattle.ck_callers.specs.Asks.{call_of, reply_of};
+ghost use Rattle.ck_callers.specs.Asks.{call_of_ask, reply_of_status};
 
 use crate::asks::{Ask, Status, status_on};
 use crate::boards::BoardCopy;
@@ -179,7 +179,7 @@ fn look<K: TokenId>(
         call_count account.now.number found.1.history ≡ account.now.count) }
     ensures legal { IfSome result (λ found. IsLegal K.limits found.1.history) }
     ensures answer { IfSome result (λ found.
-        reply_of found.0 ≡ answer K.limits found.1.history (call_of ask)) }
+        reply_of_status found.0 ≡ answer K.limits found.1.history (call_of_ask ask)) }
 {
     let board = reader.enter()?;
     let longer = seen.longer(board.known())?;
@@ -197,14 +197,14 @@ impl<K: TokenId> Caller<K> {
     ghost use Rattle.ck_journal.specs.Answers.{IsLegal, answer};
     ghost use Rattle.ck_journal.specs.Callers.{entries_by};
     ghost use Rattle.ck_journal.specs.Fronts.{IsFront};
-    ghost use Rattle.ck_callers.specs.Asks.{call_of, reply_of};
+    ghost use Rattle.ck_callers.specs.Asks.{call_of_ask, reply_of_status};
 
     /// Answers a question as the token would have answered it after all calls that the caller knows
     /// of afterwards. It takes neither the lock nor memory and waits for nobody. `None` where the
     /// board can't be read, or lacks an entry that the caller knows and that may have changed it.
     pub fn status(&mut self, ask: Ask) -> Option<Status>
         ensures answer { IfSome result (λ status.
-            reply_of status ≡ answer K.limits self.new.seen (call_of ask)) }
+            reply_of_status status ≡ answer K.limits self.new.seen (call_of_ask ask)) }
         ensures legal { OnSome result (IsLegal K.limits self.new.seen) }
         ensures own { OnSome result (entries_by self.new.number self.new.seen
             ≡ entries_by self.new.number self.new.last) }

@@ -54,7 +54,7 @@ fn has_caller<K: TokenId>(number: u32, callers: &[Caller<K>]) -> bool
 }
 
 /// Whether each of the numbers 1 to `most` is that of one of the callers.
-// By recursion, as the definition goes.
+// By recursion, as the definition goes, so that no proof by hand is needed.
 fn covers_all<K: TokenId>(most: u32, callers: &[Caller<K>]) -> bool
     ensures { result ≡ are_all most callers.now }
 {

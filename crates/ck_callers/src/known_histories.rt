@@ -19,6 +19,7 @@ const CALLERS: usize = MOST_CALLERS as usize;
 pub struct KnownHistory<K: TokenId> {
     front: Front<K>,
     changed: Front<K>,
+    /// Only a comparison in `look` reads these counts. It tells the prover that they stay.
     calls: [u64; CALLERS],
 }
 

@@ -19,7 +19,7 @@ use left_right::{Absorb, WriteHandle};
 use std::alloc::Global;
 use std::sync::Wait;
 
-/// What a shared token has beside the token, and its callers, before the first call.
+/// What a shared token has besides the token, and its callers, before the first call.
 #[derive(Drop)]
 pub struct Opened<K: TokenId, R: Wait + Drop>
 // `impl Absorb for BoardCopy` gives this bound. The prover wants it repeated, since a field's type

@@ -7,9 +7,9 @@ pub(crate) struct LengthOfLog;
 impl Rule<Entry, u64> for LengthOfLog {
     ghost use Rattle.std.specs.Prelude.{[]};
     ghost use base.Fml.{ftrue};
-    ghost use Rattle.ck_callers.specs.Rules.{IsKept};
+    ghost use Rattle.ck_callers.specs.Rules.{HoldsLength};
 
-    ghost holds = { λ cells log. IsKept cells log };
+    ghost holds = { λ cells log. HoldsLength cells log };
 
     ghost first = { [] };
 
@@ -22,7 +22,7 @@ impl Rule<Entry, u64> for LengthOfLog {
     ghost moves = { λ ask before after answer. Unit {0} };
 }
 
-/// What a caller gains by an addition beside the entry: nothing.
+/// What a caller gains by an addition besides the entry: nothing.
 pub(crate) struct Nothing;
 
 impl Gain<Entry, u64> for Nothing {

@@ -2,7 +2,7 @@ ghost use Rattle.std.specs.List.{AllZip};
 ghost use Rattle.std.specs.Prelude.{◌≡◌, ◌<◌, ◌≤◌, [], ◌∷◌, ◌++◌, vec_items, vec_len, vec_capacity};
 ghost use Rattle.std.specs.Thread.{IsSync};
 ghost use Rattle.ck_callers.specs.NextSteps.{HasMade};
-ghost use Rattle.ck_callers.specs.Runs.{HasRun, AreTaken, AreMade};
+ghost use Rattle.ck_callers.specs.Runs.{HasRun, AreStepsTaken, AreMade};
 
 use crate::callers::Caller;
 use crate::gates::Gate;
@@ -160,7 +160,7 @@ pub fn run_steps<K: TokenId + Send + Sync, G: Gate<K> + Sync, R: Threads + Wait 
     gate: &G,
     scripts: Vec<Script<K, Step, Answered>>,
 ) -> Vec<Script<K, Step, Answered>>
-    ensures { AllZip (AreTaken K.limits) scripts.items result.items }
+    ensures { AllZip (AreStepsTaken K.limits) scripts.items result.items }
 {
     run_all(rt, alloc, gate, scripts)
 }

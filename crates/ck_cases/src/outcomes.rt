@@ -2,7 +2,7 @@
 use crate::lines::{BAD_SCRIPT, LineFault};
 use ck_audit::Verdict;
 use ck_script::reply_line;
-use ck_token::{NoMemory, Reply};
+use ck_token::{NoMemory, Reply, Uncut};
 use std::alloc::Global;
 
 /// What comes of an action.
@@ -24,7 +24,10 @@ impl Outcome {
         match self {
             Outcome::Replied(reply) => Ok(reply_line(alloc, reply)?),
             Outcome::Cut(entries) => Ok(format!(in alloc; "entries {entries}")?),
-            Outcome::Uncut => Ok(String::from_str(alloc, "a session is open")?),
+            Outcome::Uncut => {
+                let reason = Uncut::Session;
+                Ok(format!(in alloc; "{reason}")?)
+            }
             Outcome::Audited(Verdict::Legal) => Ok(String::from_str(alloc, "legal")?),
             Outcome::Audited(Verdict::Wrong(number)) => {
                 Ok(format!(in alloc; "entry {number} is wrong")?)

@@ -1,6 +1,6 @@
 -- What C reads of the body of a reply
 use Rattle.std.specs.Prelude.{ℕ, List, [], Option, Some, None, length, slice_get}
-use Rattle.ck_types.specs.Users.{state_number}
+use Rattle.ck_types.specs.Users.{session_state_number}
 use Rattle.ck_journal.specs.declared.replies.Answer.{Answer}
 use Rattle.ck_journal.specs.declared.replies.Answer.TheVariants as answer
 use Rattle.ck_journal.specs.declared.replies.Body.{Body}
@@ -14,7 +14,7 @@ handle_in (body.Handle handle) = handle
 handle_in other = 0
 
 abbrev pub session_in : Body → SessionInfo
-session_in (body.Session state flags) = record { state = state_number state; flags = flags }
+session_in (body.Session state flags) = record { state = session_state_number state; flags = flags }
 session_in other = record { state = 0; flags = 0 }
 
 abbrev pub token_in : Body → TokenInfo
@@ -25,10 +25,6 @@ token_in other = record { flags = 0; limit = 0; sessions = 0; rw_sessions = 0 }
 abbrev pub mechanisms_in : Body → List ℕ
 mechanisms_in (body.Mechanisms types) = types
 mechanisms_in other = []
-
-abbrev pub handles_in : Body → List ℕ
-handles_in (body.Handles handles) = handles
-handles_in other = []
 
 -- ---- answers to the queries of attributes, counted from 0
 

@@ -58,7 +58,7 @@ abbrev pub IsMade : ℕ → Option Call → ℕ → Module → Module → Type 0
 IsMade caller c number old new =
     (s : Outcome) × (number ≡ outcome_number s) × IsMadeBy caller c s old new
 
--- there is a call, and beside the room for its entry it needs no memory
+-- there is a call, and besides the room for its entry it needs no memory
 abbrev pub NeedsOnlyRoom : Ranges → History → Option Call → Type 0
 NeedsOnlyRoom limits h (Some c) = may_run_out limits h c ≡ false
 NeedsOnlyRoom limits h None = ⊥

@@ -1,8 +1,8 @@
 ghost use Rattle.std.specs.Prelude.{◌≡◌};
 ghost use Rattle.std.specs.Option.{option_copied};
 ghost use Rattle.ck_foreign.specs.Bodies.{handle_in, session_in, token_in, mechanisms_in};
-ghost use Rattle.ck_foreign.specs.Bodies.{handles_in, answer_at, answer_in, value_in, length_in};
-ghost use Rattle.ck_foreign.specs.Bodies.{bytes_in};
+ghost use Rattle.ck_journal.specs.Searches.{handles_in};
+ghost use Rattle.ck_foreign.specs.Bodies.{answer_at, answer_in, value_in, length_in, bytes_in};
 
 use ck_token::{Answer, Body};
 

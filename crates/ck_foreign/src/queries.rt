@@ -34,7 +34,7 @@ fn query_of(query: &Query) -> AttributeQuery
 pub fn queries_of(alloc: Global, queries: &[Query]) -> Result<Sequence<AttributeQuery>, NoMemory>
     ensures { IfOk result (λ asked. asked ≡ map query_of queries.now) }
 {
-    let mut asked = Vec::new(alloc);
+    let mut asked = Vec::with_capacity(alloc, queries.len())?;
     for query in queries {
         asked.push(query_of(query))?;
     }

@@ -4,7 +4,7 @@ ghost use Rattle.ck_foreign.specs.Templates.{template_of};
 use ck_token::{AttributeValue, Item, NoMemory, Sequence, Template};
 use std::alloc::Global;
 
-/// What C tells of an attribute of a template beside its value: its type, and the value's length.
+/// What C tells of an attribute of a template besides its value: its type, and the value's length.
 #[repr(C)]
 #[derive(Clone, Copy)]
 pub struct TypeAndLength {
@@ -31,7 +31,7 @@ pub fn template_of(
 ) -> Result<Template, NoMemory>
     ensures { IfOk result (λ template. template ≡ template_of attributes.now values.now) }
 {
-    let mut items = Vec::new(alloc);
+    let mut items = Vec::with_capacity(alloc, attributes.len())?;
     let mut rest = values;
     for attribute in attributes {
         let (value, behind) = split_value(rest, attribute.length);

@@ -30,7 +30,7 @@ use Rattle.ck_journal.specs.Answers.{read_only_session_error, prohibited_error}
 use Rattle.ck_journal.specs.Answers.{parameter_error, IsLegal}
 use Rattle.ck_journal.specs.Histories.{History, ◌◁◌, done}
 use Rattle.ck_journal.specs.Effects.{effects_of}
-use Rattle.ck_journal.specs.Laws.{IsSoundHistory, IsPrivate, searches, handle_in}
+use Rattle.ck_journal.specs.Laws.{IsSoundHistory, IsPrivate, searches, handle_made}
 use Rattle.ck_journal.specs.Laws.{PrivateHandlesAreReturnedToTheUser}
 use Rattle.ck_journal.specs.Objects.{creates, creations, creation_attributes, object_at}
 use Rattle.ck_journal.specs.Objects.{attributes_named, view_of, is_user_in, is_visible}
@@ -135,9 +135,9 @@ module _ (e : Entry) (h : History) where
       handle-number (view_of h) new-attributes handle (suc (creations h)) (omega arith) fresh
 
 only-handle : (given : Body) (own place handle : ℕ) → given ≡ body.Handle own
-    → slice_get (handle_in given) place ≡ Some handle → own ≡ handle
+    → slice_get (handle_made given) place ≡ Some handle → own ≡ handle
 only-handle given own place handle is e =
-    at place (subst (λ b. slice_get (handle_in b) place ≡ Some handle) is e)
+    at place (subst (λ b. slice_get (handle_made b) place ≡ Some handle) is e)
   where
     at : (place : ℕ) → slice_get (own ∷ []) place ≡ Some handle → own ≡ handle
     at zero e = same_Some own handle e
@@ -211,7 +211,7 @@ module _ (limits : Ranges) (h : History) (good : IsSoundHistory limits h) where
 module _ (limits : Ranges) (e : Entry) (h : History) (good : IsSoundHistory limits (e ◁ h))
     (place handle n : ℕ) (private : IsPrivate (e ◁ h) n) (own : handle_of (e ◁ h) n ≡ handle) where
   created-login : creates (done e) ≡ true
-      → slice_get (handle_in e.reply.body) place ≡ Some handle → login h ≡ Some user.User
+      → slice_get (handle_made e.reply.body) place ≡ Some handle → login h ≡ Some user.User
   created-login t returned =
       let did = done-some (done e) creates refl t in
       let created : creates (Some did.0) ≡ true = subst (λ d. creates d ≡ true) did.1 t in
@@ -265,7 +265,7 @@ private-returned limits e h good place handle n returned private own =
     cases (creates (done e)) (searches (done e)) refl refl returned
   where
     cases : (created found : Bool) → creates (done e) ≡ created → searches (done e) ≡ found
-        → slice_get (cond created (handle_in e.reply.body)
+        → slice_get (cond created (handle_made e.reply.body)
         (cond found (handles_in e.reply.body) [])) place ≡ Some handle
         → login h ≡ Some user.User
     cases true found c f returned =

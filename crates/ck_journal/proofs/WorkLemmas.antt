@@ -4,7 +4,8 @@ use Rattle.std.proofs.Common.{Option, Some, None, length, not, refl, sym, ap, �
 use Rattle.std.proofs.Common.{append-nil}
 use Rattle.std.specs.Prelude.{◌==◌, ◌||◌, IfSome}
 use Rattle.std.proofs.Math.Dec.{eqb-suc-zero}
-use Rattle.ck_mac.specs.Computations.{Computation, HoldsTag}
+use Rattle.ck_mac.specs.Computations.{Computation}
+use Rattle.ck_mac.specs.RunningTags.{HoldsTag}
 use Rattle.ck_mac.specs.declared.running_tags.RunningTag.{RunningTag}
 use Rattle.ck_journal.specs.declared.calls.Call.{Call}
 use Rattle.ck_journal.specs.declared.calls.Entry.{Entry}

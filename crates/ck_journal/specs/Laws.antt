@@ -142,15 +142,15 @@ abbrev pub searches : Option Call → Bool
 searches (Some (call.FindObjects session max)) = true
 searches other = false
 
-abbrev pub handle_in : Body → List ℕ
-handle_in (body.Handle handle) = handle ∷ []
-handle_in other = []
+abbrev pub handle_made : Body → List ℕ
+handle_made (body.Handle handle) = handle ∷ []
+handle_made other = []
 
 -- the handles of objects that an entry returns: that of the object that it creates, or those that
 -- it finds
 abbrev pub returned_objects : Entry → List ℕ
 returned_objects e =
-    if creates (done e) then handle_in e.reply.body
+    if creates (done e) then handle_made e.reply.body
     else if searches (done e) then handles_in e.reply.body
     else []
 

@@ -2,7 +2,8 @@
 use Rattle.std.specs.Prelude.{◌≡◌, ℕ, Bool, List, [], ◌++◌, Option, Some, None, ◌==◌, ◌||◌, not}
 use Rattle.std.specs.Prelude.{length, nat_le, option_map, if◌then◌else◌}
 use Rattle.std.specs.Option.{option_map_or}
-use Rattle.ck_mac.specs.Computations.{Computation, HoldsTag}
+use Rattle.ck_mac.specs.Computations.{Computation}
+use Rattle.ck_mac.specs.RunningTags.{HoldsTag}
 use Rattle.ck_mac.specs.declared.running_tags.RunningTag.{RunningTag}
 use Rattle.ck_journal.specs.declared.calls.Call.{Call}
 use Rattle.ck_journal.specs.declared.calls.Entry.{Entry}

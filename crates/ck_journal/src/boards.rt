@@ -25,9 +25,9 @@ pub struct LoginStatus {
 
 /// What C_GetSessionInfo and C_GetTokenInfo (PKCS #11 Base 3.0, Session management functions, Slot
 /// and token management functions) read of a token. A copy of it answers them as the token did when
-/// the board was made. It takes no memory: it has a row for each of the 64 sessions that a
-/// token may have open. A token answers the two calls by itself, without a board: it looks only at
-/// the session that is asked for.
+/// the board was made. It takes no memory: it has a row for each of the 64 sessions that a token
+/// may have open. A token answers the two calls by itself, without a board: for C_GetSessionInfo it
+/// looks only at the session that is asked for.
 #[derive(Debug, Drop)]
 pub struct TokenBoard {
     limit: u64,

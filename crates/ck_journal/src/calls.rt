@@ -90,7 +90,7 @@ pub enum Call {
         object: u64,
         template: Template,
     },
-    /// Takes a key to another state (NIST SP 800-57 Part 1 Rev. 5, Key states and transitions),
+    /// Takes a key to another state (NIST SP 800-57 Part 1 Revision 5, Key states and transitions),
     /// which no function of the standard does.
     SetKeyState {
         session: u64,

@@ -6,9 +6,10 @@ use Rattle.sha2.proofs.Facts512.{length-sha384, length-sha512}
 use Rattle.ck_types.specs.declared.hashes.Hash.{Hash}
 use Rattle.ck_types.specs.declared.hashes.Hash.TheVariants as hash
 use Rattle.ck_types.specs.Hashes.{block_length, digest_length}
-use Rattle.ck_mac.specs.Computations.{Computation, digest_by, hmac_by, tag_of, tag_size, HoldsTag}
+use Rattle.ck_mac.specs.Computations.{Computation, digest_by, hmac_by, tag_of}
 use Rattle.ck_mac.specs.Digests.{digest_of}
-use Rattle.ck_mac.specs.Macs.{hmac, HoldsMac}
+use Rattle.ck_mac.specs.Macs.{hmac}
+use Rattle.ck_mac.specs.RunningTags.{HoldsMac, HoldsTag, tag_size}
 use Rattle.ck_mac.specs.declared.macs.Mac.{Mac}
 use Rattle.ck_mac.specs.declared.running_tags.RunningTag.{RunningTag}
 use Rattle.ck_mac.specs.declared.running_tags.RunningTag.TheVariants as running_tag

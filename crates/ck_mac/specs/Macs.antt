@@ -1,14 +1,13 @@
--- The keyed-hash message authentication code (HMAC, FIPS 198-1) of messages that come in pieces
-use Rattle.std.specs.Prelude.{◌≡◌, ℕ, ◌≤◌, List, ◌++◌, Option, Some, None, ◌==◌}
+-- The keyed-hash message authentication code (HMAC, FIPS 198-1)
+use Rattle.std.specs.Prelude.{ℕ, List, ◌++◌, Option, Some, None, ◌==◌}
 use Rattle.std.specs.Prelude.{nat_le, if◌then◌else◌, length, map, bit_xor}
 use Rattle.ck_types.specs.Numbers.{same_bytes}
-use Rattle.ck_types.specs.Hashes.{block_length, digest_length}
+use Rattle.ck_types.specs.Hashes.{block_length}
 use Rattle.ck_types.specs.declared.hashes.Hash.{Hash}
 use Rattle.ck_types.specs.declared.errors.RvError.{RvError}
 use Rattle.ck_types.specs.declared.errors.RvError.TheVariants as rv_error
-use Rattle.ck_mac.specs.Digests.{digest_of, Holds}
+use Rattle.ck_mac.specs.Digests.{digest_of}
 use Rattle.ck_mac.specs.Padding.{with_zeros}
-use Rattle.ck_mac.specs.declared.macs.Mac.{Mac}
 
 -- the key, or its digest where it is longer than a block, followed by zeros up to the block
 -- (K0; FIPS 198-1, section 4, steps 1 to 3)
@@ -31,19 +30,6 @@ outer_key h key = xor_each 0x5c (block_key h key)
 -- H((K0 xor opad) || H((K0 xor ipad) || message)) (FIPS 198-1, section 4)
 unfoldable pub hmac : Hash → List ℕ → List ℕ → List ℕ
 hmac h key message = digest_of h (outer_key h key ++ digest_of h (inner_key h key ++ message))
-
--- the inner digest has taken in the inner key and the message, the outer digest the outer key, and
--- the tag is no longer than a digest
-pub record TakesIn (h : Hash) (key : List ℕ) (n : ℕ) (mac : Mac) (message : List ℕ) : Type 0 where
-  pub inner : Holds h mac.inner (inner_key h key ++ message)
-  pub outer : Holds h mac.outer (outer_key h key)
-  pub len : mac.len ≡ n
-  pub fits : n ≤ digest_length h
-
--- the running HMAC is of this hash function and key, its tag has n bytes, and it has taken in the
--- message. Proofs of callers see it as one fact.
-unfoldable pub HoldsMac : Hash → List ℕ → ℕ → Mac → List ℕ → Type 0
-HoldsMac h key n mac message = TakesIn h key n mac message
 
 -- the error of a signature that is checked against a tag: by its length first, then by its bytes
 abbrev pub signature_error : List ℕ → List ℕ → Option RvError

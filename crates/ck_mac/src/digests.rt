@@ -21,7 +21,7 @@ pub struct Running {
 
 impl Running {
     ghost use Rattle.ck_types.specs.declared.hashes.Hash.{Hash};
-    ghost use Rattle.ck_mac.specs.Digests.{Holds};
+    ghost use Rattle.ck_mac.specs.RunningTags.{Holds};
 
     /// A running digest whose message is empty so far.
     pub fn new(hash: Hash) -> Running

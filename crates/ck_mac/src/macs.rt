@@ -1,5 +1,5 @@
 ghost use Rattle.std.specs.Prelude.{◌≡◌, ◌≤◌, ℕ, List, [], ◌++◌, take};
-ghost use Rattle.ck_mac.specs.Digests.{Holds};
+ghost use Rattle.ck_mac.specs.RunningTags.{Holds};
 ghost use Rattle.ck_types.specs.Hashes.{block_length, digest_length};
 ghost use Rattle.ck_mac.specs.Macs.{block_key, xor_each};
 ghost use Rattle.ck_types.specs.declared.hashes.Hash.{Hash};
@@ -31,7 +31,8 @@ pub struct Mac {
 
 impl Mac {
     ghost use Rattle.ck_types.specs.Checks.{check_of};
-    ghost use Rattle.ck_mac.specs.Macs.{HoldsMac, hmac, signature_error};
+    ghost use Rattle.ck_mac.specs.Macs.{hmac, signature_error};
+    ghost use Rattle.ck_mac.specs.RunningTags.{HoldsMac};
 
     /// A running HMAC under this key, whose message is empty so far. The key may have any length.
     pub fn new(hash: Hash, key: &[u8]) -> Mac
@@ -41,7 +42,7 @@ impl Mac {
     }
 
     /// A running HMAC as `new` makes it, whose tag is the first `n` bytes of the HMAC.
-    #[tactic(auto, unfolding(crate::specs::Macs::HoldsMac))]
+    #[tactic(auto, unfolding(crate::specs::RunningTags::HoldsMac))]
     pub fn general(hash: Hash, key: &[u8], n: u64) -> Mac
         requires at_least_one { 1 ≤ n }
         requires at_most_all { n ≤ digest_length hash }
@@ -56,7 +57,7 @@ impl Mac {
     }
 
     /// Adds the bytes to the end of the message.
-    #[tactic(auto, unfolding(crate::specs::Macs::HoldsMac))]
+    #[tactic(auto, unfolding(crate::specs::RunningTags::HoldsMac))]
     pub fn update(&mut self, bytes: &[u8])
         ensures { (hash : Hash) (key : List ℕ) (n : ℕ) (message : List ℕ)
             → HoldsMac hash key n self.old message
@@ -66,7 +67,7 @@ impl Mac {
     }
 
     /// The length of the tag in bytes.
-    #[tactic(auto, unfolding(crate::specs::Macs::HoldsMac))]
+    #[tactic(auto, unfolding(crate::specs::RunningTags::HoldsMac))]
     pub fn len(&self) -> u64
         ensures { (hash : Hash) (key : List ℕ) (n : ℕ) (message : List ℕ)
             → HoldsMac hash key n self.now message → result ≡ n }

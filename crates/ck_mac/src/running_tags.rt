@@ -11,7 +11,8 @@ pub enum RunningTag {
 
 impl RunningTag {
     ghost use Rattle.std.specs.Prelude.{◌≡◌, ℕ, List, ◌++◌};
-    ghost use Rattle.ck_mac.specs.Computations.{Computation, HoldsTag, tag_of, tag_size};
+    ghost use Rattle.ck_mac.specs.Computations.{Computation, tag_of};
+    ghost use Rattle.ck_mac.specs.RunningTags.{HoldsTag, tag_size};
 
     /// Adds the bytes to the end of the message.
     pub fn update(&mut self, bytes: &[u8])

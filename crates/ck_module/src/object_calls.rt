@@ -51,8 +51,8 @@ pub extern "C" fn ospreyrack_get_attribute_value(
     place.call_with_lists(alloc, caller, call)
 }
 
-/// Takes a key to another state (SP 800-57 Part 1, Key States and Transitions), which no function
-/// of PKCS #11 does.
+/// Takes a key to another state (NIST SP 800-57 Part 1 Revision 5, Key states and transitions),
+/// which no function of PKCS #11 does.
 #[unsafe(no_mangle)]
 pub extern "C" fn ospreyrack_set_key_state(
     alloc: Global,

@@ -2,7 +2,8 @@ ghost use Rattle.std.specs.Prelude.{◌≡◌, length};
 ghost use Rattle.ck_types.specs.ReturnCodes.{number_of};
 ghost use Rattle.ck_foreign.specs.Copies.{filled_with};
 ghost use Rattle.ck_foreign.specs.Bodies.{handle_in, session_in, token_in, mechanisms_in};
-ghost use Rattle.ck_foreign.specs.Bodies.{handles_in, answer_in, value_in, length_in, bytes_in};
+ghost use Rattle.ck_foreign.specs.Bodies.{answer_in, value_in, length_in, bytes_in};
+ghost use Rattle.ck_journal.specs.Searches.{handles_in};
 
 use crate::places::TokenPlace;
 use ck_foreign::{

@@ -9,7 +9,7 @@ use Rattle.ck_types.specs.Numbers.{same_bytes}
 use Rattle.ck_objects.specs.Attributes.{type_of, attribute_of, attributes}
 use Rattle.ck_types.specs.Checks.{first_error}
 use Rattle.ck_objects.specs.Templates.{value_at, value_or, form_error, value_error, has_conflict}
-use Rattle.ck_objects.specs.Templates.{has_two_values}
+use Rattle.ck_objects.specs.Structs.{has_two_values}
 use Rattle.ck_objects.specs.declared.attributes.Attribute.{Attribute}
 use Rattle.ck_objects.specs.declared.items.Item.{Item}
 use Rattle.ck_types.proofs.CheckLemmas.{or_else-none}

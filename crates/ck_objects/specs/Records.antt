@@ -1,7 +1,7 @@
 -- The attributes of an object as items, by ascending type
 use Rattle.std.specs.Prelude.{ℕ, Bool, true, false, List, [], ◌∷◌, Option, Some, None}
 use Rattle.std.specs.Prelude.{not, ◌&&◌, ◌||◌, ◌==◌, if◌then◌else◌, map, find, length}
-use Rattle.std.specs.Prelude.{option_map, option_and_then, unwrap_or, is_none}
+use Rattle.std.specs.Prelude.{option_map, option_and_then, unwrap_or}
 use Rattle.std.specs.Option.{option_map_or}
 use Rattle.ck_types.specs.Numbers.{number_bytes, same_bytes}
 use Rattle.ck_objects.specs.Attributes.{flag_bytes}
@@ -77,6 +77,10 @@ generated_items template random =
 abbrev pub is_set : List Item → Attribute → Bool
 is_set items a = unwrap_or (flag_at items a) false
 
+-- the items have the flag, and it is false
+abbrev pub is_cleared : List Item → Attribute → Bool
+is_cleared items a = not (unwrap_or (flag_at items a) true)
+
 -- the state of a key with these attributes; None for a data object
 abbrev pub state_in : List Item → Option KeyState
 state_in items =
@@ -121,13 +125,6 @@ is_hidden items kind = kind == type_of attribute.Value && not (is_revealable ite
 abbrev pub readable_value : List Item → ℕ → Option (List ℕ)
 readable_value items kind = if is_hidden items kind then None else value_at items kind
 
--- why the value of an attribute type can't be read: it is hidden, or the object doesn't have it
-abbrev pub read_error : List Item → ℕ → Option RvError
-read_error items kind = first_of (
-    error_if (is_hidden items kind) rv_error.AttributeSensitive
-    ∷ error_if (is_none (value_at items kind)) rv_error.AttributeTypeInvalid
-    ∷ [])
-
 -- ---- what the checks of a template look at
 
 -- the attributes that a template may not weaken
@@ -148,13 +145,13 @@ placement_of items =
 -- the template makes a sensitive key not sensitive, or a key extractable that isn't
 abbrev pub exposes_key : Protections → List Item → Bool
 exposes_key protections template =
-    (protections.sensitive && not (unwrap_or (flag_at template attribute.Sensitive) true))
-    || (not protections.extractable && unwrap_or (flag_at template attribute.Extractable) false)
+    (protections.sensitive && is_cleared template attribute.Sensitive)
+    || (not protections.extractable && is_set template attribute.Extractable)
 
 -- the template makes a private object public
 abbrev pub makes_public : Protections → List Item → Bool
 makes_public protections template =
-    protections.private && not (unwrap_or (flag_at template attribute.Private) true)
+    protections.private && is_cleared template attribute.Private
 
 -- the error of a template that an object of this class with these protections is copied with
 abbrev pub copied_error : Class → Protections → List Item → Option RvError

@@ -1,11 +1,17 @@
 -- How the private structs of objects show as items, what a new one begins with, and what templates
--- make of them. These mirror the code; the answers to calls aren't defined by them.
-use Rattle.std.specs.Prelude.{◌≡◌, ℕ, true, false, List, [], ◌∷◌, length, unwrap_or}
-use Rattle.ck_types.specs.Numbers.{number_bytes}
+-- make of them; and parts of checks that have a function of their own. These mirror the code; the
+-- answers to calls aren't defined by them.
+use Rattle.std.specs.Prelude.{◌≡◌, ℕ, Bool, true, false, not, ◌&&◌, ◌==◌, List, [], ◌∷◌, length}
+use Rattle.std.specs.Prelude.{Option, unwrap_or, is_none}
+use Rattle.std.specs.List.{list_any}
+use Rattle.ck_types.specs.Checks.{error_if, first_of}
+use Rattle.ck_types.specs.Numbers.{number_bytes, same_bytes}
 use Rattle.ck_objects.specs.Attributes.{flag_bytes, type_of}
 use Rattle.ck_objects.specs.KeyStates.{state_number}
-use Rattle.ck_objects.specs.Records.{item_of}
-use Rattle.ck_objects.specs.Templates.{value_or, flag_at}
+use Rattle.ck_objects.specs.Records.{item_of, is_hidden}
+use Rattle.ck_objects.specs.Templates.{value_at, value_or, flag_at}
+use Rattle.ck_types.specs.declared.errors.RvError.{RvError}
+use Rattle.ck_types.specs.declared.errors.RvError.TheVariants as rv_error
 use Rattle.ck_objects.specs.declared.attributes.Attribute.{Attribute}
 use Rattle.ck_objects.specs.declared.attributes.Attribute.TheVariants as attribute
 use Rattle.ck_objects.specs.declared.data_objects.Data.{Data}
@@ -146,3 +152,18 @@ changed_key items k = record k {
   derive = unwrap_or (flag_at items attribute.Derive) k.derive;
   extractable = unwrap_or (flag_at items attribute.Extractable) k.extractable;
 }
+
+-- ---- parts of checks
+
+-- items of the attribute's type have different values: one isn't that of the first
+abbrev pub has_two_values : List Item → Attribute → Bool
+has_two_values items a =
+    list_any (λ (item : Item). (type_of a == item.kind)
+    && not (same_bytes item.value (value_or items (type_of a) item.value))) items
+
+-- why the value of an attribute type can't be read: it is hidden, or the object doesn't have it
+abbrev pub read_error : List Item → ℕ → Option RvError
+read_error items kind = first_of (
+    error_if (is_hidden items kind) rv_error.AttributeSensitive
+    ∷ error_if (is_none (value_at items kind)) rv_error.AttributeTypeInvalid
+    ∷ [])

@@ -57,12 +57,6 @@ has_conflict items =
     list_any (λ (item : Item). not (same_bytes item.value (value_or items item.kind item.value)))
     items
 
--- items of the attribute's type have different values: one isn't that of the first
-abbrev pub has_two_values : List Item → Attribute → Bool
-has_two_values items a =
-    list_any (λ (item : Item). (type_of a == item.kind)
-    && not (same_bytes item.value (value_or items (type_of a) item.value))) items
-
 -- the error where objects of the class don't have the attribute, or a template of this purpose may
 -- not give it
 abbrev pub error_of_permission : Option Bool → Option RvError

@@ -1,6 +1,6 @@
 ghost use Rattle.std.specs.Prelude.{◌≡◌, Some, IfSome};
 
-/// The state of a key (NIST SP 800-57 Part 1 Rev. 5, Key states and transitions), with the number
+/// The state of a key (NIST SP 800-57 Part 1 Revision 5, Key states and transitions), with the number
 /// that this token gives it.
 #[derive(Clone, Copy, Debug, PartialEq, Eq)]
 pub enum KeyState {

@@ -54,12 +54,12 @@ impl Record {
     ghost use Rattle.ck_objects.specs.Templates.{value_at, created_error, generated_error};
     ghost use Rattle.ck_objects.specs.Templates.{class_of};
     ghost use Rattle.ck_objects.specs.declared.attributes.Attribute.TheVariants as attribute;
-    ghost use Rattle.ck_objects.specs.Records.{generated_items, readable_value, read_error};
+    ghost use Rattle.ck_objects.specs.Records.{generated_items, readable_value};
     ghost use Rattle.ck_objects.specs.Records.{state_in, key_value, with_state, created_items};
     ghost use Rattle.ck_objects.specs.Records.{with_given, protections_of, placement_of};
     ghost use Rattle.ck_objects.specs.Records.{is_revealable, is_hidden, copied_error};
     ghost use Rattle.ck_objects.specs.Records.{changed_error, is_set, has_item, matches};
-    ghost use Rattle.ck_objects.specs.Structs.{data_items, key_items};
+    ghost use Rattle.ck_objects.specs.Structs.{data_items, key_items, read_error};
     ghost use Rattle.ck_objects.specs.Fields.{field_bytes};
 
     /// The object that C_CreateObject makes by a template that passes `Template::check_creation`

@@ -16,7 +16,8 @@ use Rattle.ck_journal.specs.Operations.{is_active, computation_in, key_in, piece
 use Rattle.ck_journal.specs.Operations.{started_computation, init_key, names_kind}
 use Rattle.ck_journal.specs.Works.{changed_in, HoldsWith, HoldsTagOf}
 use Rattle.ck_journal.proofs.NumberTests.{eqb-swap}
-use Rattle.ck_mac.specs.Computations.{Computation, HoldsTag}
+use Rattle.ck_mac.specs.Computations.{Computation}
+use Rattle.ck_mac.specs.RunningTags.{HoldsTag}
 use Rattle.ck_mac.specs.declared.running_tags.RunningTag.{RunningTag}
 use Rattle.ck_operations.specs.Agreement.{OperationsState, ActiveOperation, operation_at}
 use Rattle.ck_operations.specs.Agreement.{OptionAgrees, OperationAgrees, OperationsAgree}

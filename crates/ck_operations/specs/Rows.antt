@@ -5,7 +5,8 @@ use Rattle.ck_journal.specs.OperationCalls.{same_kind}
 use Rattle.ck_journal.specs.Operations.{names_kind}
 use Rattle.ck_journal.specs.Works.{HoldsTagOf}
 use Rattle.ck_journal.specs.declared.operations.OperationKind.{OperationKind}
-use Rattle.ck_mac.specs.Computations.{Computation, HoldsTag}
+use Rattle.ck_mac.specs.Computations.{Computation}
+use Rattle.ck_mac.specs.RunningTags.{HoldsTag}
 use Rattle.ck_mac.specs.declared.running_tags.RunningTag.{RunningTag}
 use Rattle.ck_operations.specs.declared.active_operations.Operation.{Operation}
 

@@ -1,5 +1,6 @@
 ghost use Rattle.std.specs.Prelude.{◌≡◌, ℕ, List, ◌++◌, IfSome};
-ghost use Rattle.ck_mac.specs.Computations.{Computation, HoldsTag, tag_of, tag_size};
+ghost use Rattle.ck_mac.specs.Computations.{Computation, tag_of};
+ghost use Rattle.ck_mac.specs.RunningTags.{HoldsTag, tag_size};
 ghost use Rattle.ck_operations.specs.Rows.{is_operation, is_of_session, is_named, IsUpdateOf};
 ghost use Rattle.ck_operations.specs.Rows.{HoldsMessage, operation_key, has_update, new_operation};
 ghost use Rattle.ck_operations.specs.Rows.{last_change};

@@ -35,7 +35,8 @@ impl Operations {
     ghost use Rattle.ck_journal.specs.Works.{HoldsWith};
     ghost use Rattle.ck_journal.specs.declared.calls.Entry.{Entry};
     ghost use Rattle.ck_operations.specs.Agreement.{OperationsAgree, OptionAgrees, operation_at};
-    ghost use Rattle.ck_mac.specs.Computations.{Computation, HoldsTag};
+    ghost use Rattle.ck_mac.specs.Computations.{Computation};
+    ghost use Rattle.ck_mac.specs.RunningTags.{HoldsTag};
     ghost use Rattle.ck_operations.specs.Moves.{Start, Add, End, OnlyIn, OnlyInSession, OnlyNamed};
     ghost use Rattle.ck_operations.specs.Moves.{InAll, IsStartOf};
 

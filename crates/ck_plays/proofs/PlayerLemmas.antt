@@ -14,8 +14,8 @@ use Rattle.ck_script.specs.declared.line_errors.BadLine.{BadLine}
 use Rattle.ck_script.specs.declared.lines.Line.TheVariants as line
 use Rattle.ck_journal.specs.TokenStates.{TokenState}
 use Rattle.ck_plays.specs.Devices.{Writing, wrote, failed_write, IsCount}
-use Rattle.ck_plays.specs.Players.{HasAnswered, IsStopped, IsUnwritten, WriteFailed, IsCalled}
-use Rattle.ck_plays.specs.Players.{PlayerState, IsRefused, next_number}
+use Rattle.ck_plays.specs.Players.{HasPlayed, IsStopped, IsUnwritten, WriteFailed, IsReplied}
+use Rattle.ck_plays.specs.Players.{PlayerState, IsLineRefused, next_number}
 use Rattle.ck_plays.specs.Plays.{AreGood, called, history_after, output_of, replies_text, is_over}
 use Rattle.ck_plays.specs.Plays.{is_bad}
 use Rattle.ck_plays.specs.declared.faults.PlayFault.{PlayFault}
@@ -39,8 +39,8 @@ number-next lines l number e =
 -- a skipped line
 pub answered-skipped : (limits : Ranges) (written : Writing) (lines : List (List ℕ)) (l : List ℕ)
     (token : TokenState) (number : ℕ) (P : Writing → Type 0)
-    → Some line.Skipped ≡ meaning l → HasAnswered limits written lines token number P
-    → HasAnswered limits written (lines ++ l ∷ []) token (next_number number) P
+    → Some line.Skipped ≡ meaning l → HasPlayed limits written lines token number P
+    → HasPlayed limits written (lines ++ l ∷ []) token (next_number number) P
 answered-skipped limits written lines l token number P is h =
     let same = history_after-line limits lines l (Some line.Skipped) is in
     record {
@@ -63,9 +63,9 @@ reply_is limits lines old call e f =
 -- a line whose call is answered
 pub answered-call : (limits : Ranges) (written : Writing) (lines : List (List ℕ)) (l : List ℕ)
     (old new : TokenState) (number : ℕ) (P Q : Writing → Type 0) (caller : ℕ) (call : Call)
-    → Some (line.Called caller call) ≡ meaning l → IsCalled old new caller call P Q
-    → HasAnswered limits written lines old number P
-    → HasAnswered limits written (lines ++ l ∷ []) new (next_number number) Q
+    → Some (line.Called caller call) ≡ meaning l → IsReplied old new caller call P Q
+    → HasPlayed limits written lines old number P
+    → HasPlayed limits written (lines ++ l ∷ []) new (next_number number) Q
 answered-call limits written lines l old new number P Q caller call is answered h =
     let next = history_after-line limits lines l (Some (line.Called caller call)) is in
     record {
@@ -92,7 +92,7 @@ module _ (limits : Ranges) (written : Writing) (lines later : List (List ℕ)) (
   stopped-line : (token : TokenState) (number n : ℕ) (reason : BadLine) (P : Writing → Type 0)
       → n ≡ number → is_bad (meaning l) ≡ true
       → (is_over later ended ≡ true) ⊎ (longest_line < length l)
-      → HasAnswered limits written lines token number P
+      → HasPlayed limits written lines token number P
       → IsStopped limits written (lines ++ l ∷ later) ended (length lines) P (fault.Line n reason)
   stopped-line token number n reason P same refused over h = record {
     of_line = tt;
@@ -115,7 +115,7 @@ module _ (limits : Ranges) (written : Writing) (lines later : List (List ℕ)) (
   -- the line means nothing
   pub stopped-bad : (token : TokenState) (number : ℕ) (reason : BadLine) (P : Writing → Type 0)
       → None ≡ meaning l → is_over later ended ≡ true
-      → HasAnswered limits written lines token number P
+      → HasPlayed limits written lines token number P
       → IsStopped limits written (lines ++ l ∷ later) ended (length lines) P
       (fault.Line number reason)
   stopped-bad token number reason P is over h =
@@ -144,7 +144,7 @@ module _ (limits : Ranges) (written : Writing) (lines later : List (List ℕ)) (
   -- the writing of the reply failed with a beginning of it written
   cut_off : (old : TokenState) (number : ℕ) (P Q : Writing → Type 0) (caller : ℕ) (call : Call)
       → Some (line.Called caller call) ≡ meaning l → is_over later ended ≡ true
-      → HasAnswered limits written lines old number P
+      → HasPlayed limits written lines old number P
       → WriteFailed Q (wrote written (output_of limits lines))
       (reply_text (answer old.limits old.history call))
       → IsStopped limits written (lines ++ l ∷ later) ended (length lines) Q fault.Write
@@ -176,7 +176,7 @@ module _ (limits : Ranges) (written : Writing) (lines later : List (List ℕ)) (
   pub stopped-call : (old : TokenState) (number : ℕ) (P Q : Writing → Type 0) (caller : ℕ)
       (call : Call) (f : PlayFault)
       → Some (line.Called caller call) ≡ meaning l → is_over later ended ≡ true
-      → HasAnswered limits written lines old number P
+      → HasPlayed limits written lines old number P
       → IsUnwritten Q (wrote written (output_of limits lines))
       (reply_text (answer old.limits old.history call)) f
       → IsStopped limits written (lines ++ l ∷ later) ended (length lines) Q f
@@ -190,7 +190,7 @@ module _ (limits : Ranges) (written : Writing) (lines later : List (List ℕ)) (
 
   -- the line can't be kept
   pub stopped-extend_open_line : (token : TokenState) (number : ℕ) (P : Writing → Type 0)
-      (f : PlayFault) → IsRefused number l f → HasAnswered limits written lines token number P
+      (f : PlayFault) → IsLineRefused number l f → HasPlayed limits written lines token number P
       → IsStopped limits written (lines ++ l ∷ later) ended (length lines) P f
   stopped-extend_open_line token number P (fault.Line n reason) r h =
       stopped-line token number n reason P r.0 (ap is_bad (meaning-too_long l r.1)) (inr r.1) h
@@ -201,9 +201,10 @@ module _ (limits : Ranges) (written : Writing) (lines later : List (List ℕ)) (
 
 -- what isn't taken of a player's open line, by its parts and by the player
 pub refused-same : (p q : PlayerState) (piece : List ℕ) (f : PlayFault) → p ≡ q
-    → IsRefused p.number (p.open_line ++ piece) f → IsRefused q.number (q.open_line ++ piece) f
+    → IsLineRefused p.number (p.open_line ++ piece) f
+    → IsLineRefused q.number (q.open_line ++ piece) f
 refused-same p q piece f same r =
-    subst (λ (s : PlayerState). IsRefused s.number (s.open_line ++ piece) f) same r
+    subst (λ (s : PlayerState). IsLineRefused s.number (s.open_line ++ piece) f) same r
 
 -- the same fault, of the same lines
 pub stopped-same : (limits : Ranges) (written : Writing) (all lines : List (List ℕ)) (ended : Bool)

@@ -28,12 +28,12 @@ pub record WriteFailed (is_written : Writing → Type 0) (w : Writing) (bytes : 
   pub writer : is_written (failed_write (wrote w part))
 
 -- a line of these bytes and number isn't taken: it is too long, or there is no memory for it
-abbrev pub IsRefused : ℕ → List ℕ → PlayFault → Type 0
-IsRefused number bytes (fault.Line n reason) = (n ≡ number) × (longest_line < length bytes)
-IsRefused number bytes fault.Read = ⊥
-IsRefused number bytes fault.Write = ⊥
-IsRefused number bytes fault.Memory = length bytes ≤ longest_line
-IsRefused number bytes fault.Turns = ⊥
+abbrev pub IsLineRefused : ℕ → List ℕ → PlayFault → Type 0
+IsLineRefused number bytes (fault.Line n reason) = (n ≡ number) × (longest_line < length bytes)
+IsLineRefused number bytes fault.Read = ⊥
+IsLineRefused number bytes fault.Write = ⊥
+IsLineRefused number bytes fault.Memory = length bytes ≤ longest_line
+IsLineRefused number bytes fault.Turns = ⊥
 
 -- these bytes weren't written whole: the writer failed behind a front of them, or there was no
 -- memory and none is written
@@ -45,7 +45,7 @@ IsUnwritten is_written w bytes fault.Memory = is_written w
 IsUnwritten is_written w bytes fault.Turns = ⊥
 
 -- a call is answered and its reply is written
-pub record IsCalled (old new : TokenState) (caller : ℕ) (call : Call)
+pub record IsReplied (old new : TokenState) (caller : ℕ) (call : Call)
     (was_written is_written : Writing → Type 0) : Type 0 where
   pub same_limits : new.limits ≡ old.limits
   pub entered : new.history ≡ called old.limits old.history caller call
@@ -53,7 +53,7 @@ pub record IsCalled (old new : TokenState) (caller : ℕ) (call : Call)
       → is_written (wrote w (reply_text (answer old.limits old.history call)))
 
 -- these lines are answered, and no others
-pub record HasAnswered (limits : Ranges) (written : Writing) (lines : List (List ℕ))
+pub record HasPlayed (limits : Ranges) (written : Writing) (lines : List (List ℕ))
     (token : TokenState) (number : ℕ) (is_written : Writing → Type 0) : Type 0 where
   pub same_limits : token.limits ≡ limits
   pub history : token.history ≡ history_after limits lines
@@ -97,7 +97,7 @@ pub record IsAnsweredSoFar (limits : Ranges) (written : Writing) (lines later : 
   pub before : List (List ℕ)
   pub parts : lines ≡ before ++ onto player.open_line later
   pub on_time : earlier ≤ length before
-  pub answered : HasAnswered limits written before player.token player.number is_written
+  pub answered : HasPlayed limits written before player.token player.number is_written
 
 -- what a reader gave in this many reads is answered as far as its lines are over
 pub record IsReading (limits : Ranges) (read : Reading) (written : Writing) (reads : ℕ)
@@ -115,8 +115,8 @@ abbrev pub AnswersLine : List ℕ → TokenState → ℕ → (Writing → Type 0
     → (Writing → Type 0) → Type 0
 AnswersLine l old number was_written new next is_written =
     (limits : Ranges) (written : Writing) (lines : List (List ℕ))
-    → HasAnswered limits written lines old number was_written
-    → HasAnswered limits written (lines ++ l ∷ []) new next is_written
+    → HasPlayed limits written lines old number was_written
+    → HasPlayed limits written (lines ++ l ∷ []) new next is_written
 
 -- playing ends with this fault at this line, which is over
 abbrev pub StopsAtLine : List ℕ → TokenState → ℕ → (Writing → Type 0) → (Writing → Type 0)
@@ -124,7 +124,7 @@ abbrev pub StopsAtLine : List ℕ → TokenState → ℕ → (Writing → Type 0
 StopsAtLine l old number was_written is_written f =
     (limits : Ranges) (written : Writing) (lines later : List (List ℕ)) (ended : Bool)
     → is_over later ended ≡ true
-    → HasAnswered limits written lines old number was_written
+    → HasPlayed limits written lines old number was_written
     → IsStopped limits written (lines ++ l ∷ later) ended (length lines) is_written f
 
 -- the lines that end in these further bytes are answered
@@ -132,7 +132,7 @@ abbrev pub AnswersChunk : List ℕ → PlayerState → (Writing → Type 0) → 
     → (Writing → Type 0) → Type 0
 AnswersChunk chunk old was_written new is_written =
     (limits : Ranges) (written : Writing) (lines : List (List ℕ))
-    → HasAnswered limits written lines old.token old.number was_written
+    → HasPlayed limits written lines old.token old.number was_written
     → IsAnsweredSoFar limits written (lines ++ onto old.open_line (lines_in chunk)) []
     (length lines) new is_written
 
@@ -141,7 +141,7 @@ abbrev pub StopsInChunk : List ℕ → PlayerState → (Writing → Type 0) → 
     → Type 0
 StopsInChunk chunk old was_written is_written f =
     (limits : Ranges) (written : Writing) (lines : List (List ℕ))
-    → HasAnswered limits written lines old.token old.number was_written
+    → HasPlayed limits written lines old.token old.number was_written
     → IsStopped limits written (lines ++ onto old.open_line (lines_in chunk)) false
     (length lines) is_written f
 

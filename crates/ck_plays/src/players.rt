@@ -6,7 +6,7 @@ ghost use Rattle.ck_journal.specs.Bases.{empty_base};
 ghost use Rattle.ck_journal.specs.Histories.{start};
 ghost use Rattle.ck_script.specs.Replies.{reply_text};
 ghost use Rattle.ck_plays.specs.Devices.{Writing, wrote, failed_write};
-ghost use Rattle.ck_plays.specs.Players.{WriteFailed, IsUnwritten, IsRefused, IsCalled};
+ghost use Rattle.ck_plays.specs.Players.{WriteFailed, IsUnwritten, IsLineRefused, IsReplied};
 ghost use Rattle.ck_plays.specs.Players.{AnswersLine};
 ghost use Rattle.ck_plays.specs.Players.{StopsAtLine, AnswersChunk, StopsInChunk, next_number};
 
@@ -162,7 +162,7 @@ pub fn write_all<W: Sink>(writer: &mut W, bytes: &[u8]) -> Result<(), PlayFault>
 /// Adds to the open line, of this number, what is next of it.
 fn extend_open_line(open_line: &mut Vec<u8>, piece: &[u8], number: u64) -> Result<(), PlayFault>
     ensures ok { OnOk result (open_line.new.items ≡ open_line.old.items ++ piece.now) }
-    ensures err { IfErr result (IsRefused number (open_line.old.items ++ piece.now)) }
+    ensures err { IfErr result (IsLineRefused number (open_line.old.items ++ piece.now)) }
 {
     if open_line.len().saturating_add(piece.len()) > LONGEST_LINE {
         return Err(PlayFault::Line(number, BadLine::TooLong));
@@ -181,7 +181,7 @@ fn answer_call<G: JournaledToken, W: Sink>(
     caller: u32,
     call: Call,
 ) -> Result<(), PlayFault>
-    ensures ok { OnOk result (IsCalled (G.state token.old) (G.state token.new) caller call
+    ensures ok { OnOk result (IsReplied (G.state token.old) (G.state token.new) caller call
         (W.is_written writer.old) (W.is_written writer.new)) }
     ensures err { IfErr result (λ fault. (w : Writing) → W.is_written writer.old w
         → IsUnwritten (W.is_written writer.new) w

@@ -12,10 +12,10 @@ use Rattle.ck_journal.specs.declared.calls.Call.{Call}
 use Rattle.ck_journal.specs.declared.replies.Reply.{Reply}
 use Rattle.ck_callers.specs.Accounts.{AccountState, new_account, new_accounts}
 use Rattle.ck_callers.specs.Callers.{CallerState, are_all, new_caller, new_callers}
-use Rattle.ck_callers.specs.Runs.{IsLeft, AreMade}
+use Rattle.ck_callers.specs.Runs.{IsUntouched, AreMade}
 use Rattle.ck_callers.specs.Scripts.{HasMadeCalls}
 use Rattle.ck_callers.specs.declared.scripts.Script.{Script}
-use Rattle.ck_program.specs.CallerCalls.{numbers, script_numbers}
+use Rattle.ck_program.specs.CallerCalls.{caller_numbers, script_numbers}
 
 -- a value of the one list is moved to the other, and keeps its number
 pub one_moved : {A B : Type 0} (f : A → ℕ) (g : B → ℕ) (moved longer : List A) (a : A)
@@ -34,7 +34,7 @@ same_number : {K : Type 0} (old new : Script K Call Reply) (started : Bool)
     → MatchBool started
     (HasMadeCalls old.caller (vec_items old.steps) (vec_items new.replies) new.outcome new.caller
     × (vec_items new.steps ≡ []))
-    (IsLeft old new)
+    (IsUntouched old new)
     → new.caller.number ≡ old.caller.number
 same_number old new true played = played.0.number
 same_number old new false left = ap (λ c. c.number) left.0
@@ -50,17 +50,17 @@ same_numbers (s ∷ old) (t ∷ new) each =
 
 -- ---- whether all are given back depends only on the numbers
 
-same_any : (number : ℕ) (old new : List CallerState) → numbers new ≡ numbers old
+same_any : (number : ℕ) (old new : List CallerState) → caller_numbers new ≡ caller_numbers old
     → list_any (λ c. c.number == number) new ≡ list_any (λ c. c.number == number) old
 same_any number [] [] same = refl
 same_any number [] (c ∷ new) same = cc same
 same_any number (b ∷ old) [] same = cc same
 same_any number (b ∷ old) (c ∷ new) same =
     let first : c.number ≡ b.number = cc same in
-    let others : numbers new ≡ numbers old = cc same in
+    let others : caller_numbers new ≡ caller_numbers old = cc same in
     ap₂ ◌||◌ (ap (λ n. n == number) first) (same_any number old new others)
 
-same_all : (most : ℕ) (old new : List CallerState) → numbers new ≡ numbers old
+same_all : (most : ℕ) (old new : List CallerState) → caller_numbers new ≡ caller_numbers old
     → are_all most new ≡ are_all most old
 same_all zero old new same = refl
 same_all (suc most) old new same =
@@ -103,6 +103,6 @@ all_new base (suc most) callers within =
 
 -- so all are given back
 pub all_back : (base : Base) (most : ℕ) (callers : List CallerState)
-    → numbers callers ≡ numbers (new_callers base most) → are_all most callers ≡ true
+    → caller_numbers callers ≡ caller_numbers (new_callers base most) → are_all most callers ≡ true
 all_back base most callers same =
     same_all most (new_callers base most) callers same ∙ all_new base most most (omega arith)

@@ -24,8 +24,8 @@ pub record HasEntriesOf (calls : List (ℕ × Call)) (number : ℕ) (h : History
   pub all : length replies ≡ length (calls_by number calls)
 
 -- the callers' numbers, in their order
-abbrev pub numbers : List CallerState → List ℕ
-numbers callers = map (λ c. c.number) callers
+abbrev pub caller_numbers : List CallerState → List ℕ
+caller_numbers callers = map (λ c. c.number) callers
 
 -- those of the scripts' callers
 abbrev pub script_numbers : {K : Type 0} → List (Script K Call Reply) → List ℕ

@@ -8,9 +8,9 @@ use Rattle.ck_program.specs.declared.faults.ProgramFault.TheVariants as fault
 use Rattle.ck_program.specs.declared.faults.ThreadFault.{ThreadFault}
 use Rattle.ck_program.specs.declared.faults.ThreadFault.TheVariants as threads
 
-abbrev pub status_of : ProgramFault → ℕ
-status_of (fault.Play f) = plays.status_of f
-status_of fault.Thread = 3
+abbrev pub program_status_of : ProgramFault → ℕ
+program_status_of (fault.Play f) = plays.status_of f
+program_status_of fault.Thread = 3
 
 -- what threads stopped at, as a fault of the program
 abbrev pub of_threads : ThreadFault → ProgramFault

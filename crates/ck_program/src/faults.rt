@@ -1,6 +1,6 @@
 //! Why the program didn't do what it was asked.
 ghost use Rattle.std.specs.Prelude.{◌≡◌};
-ghost use Rattle.ck_program.specs.Faults.{of_threads, status_of};
+ghost use Rattle.ck_program.specs.Faults.{of_threads, program_status_of};
 ghost use Rattle.ck_program.specs.declared.faults.ProgramFault.TheVariants as fault;
 ghost use Rattle.ck_program.specs.declared.faults.ThreadFault.TheVariants as threads;
 
@@ -74,7 +74,7 @@ impl From<ThreadFault> for ProgramFault {
 impl ProgramFault {
     /// The status with which the program ends after the fault: 1 for a bad line, else 3.
     pub fn status(&self) -> u8
-        ensures { result ≡ status_of self.now }
+        ensures { result ≡ program_status_of self.now }
     {
         match self {
             ProgramFault::Play(play) => play.status(),

@@ -1,7 +1,7 @@
 //! The program over any options, reader and writer.
 ghost use Rattle.std.specs.Prelude.{◌≡◌, ◌⊎◌, ◌↔◌, Ok, Err, OnErr};
 ghost use Rattle.ck_plays.specs.Devices.{Reading, Writing};
-ghost use Rattle.ck_program.specs.Faults.{status_of};
+ghost use Rattle.ck_program.specs.Faults.{program_status_of};
 ghost use Rattle.ck_program.specs.Programs.{AreBad, IsCarriedOut, IsPlay, IsStatus};
 ghost use Rattle.ck_program.specs.ThreadPlays.{IsPlayedInThreads};
 ghost use Rattle.ck_program.specs.declared.faults.ProgramFault.{ProgramFault};
@@ -93,7 +93,7 @@ pub fn run<G: JournaledToken + Send, R: Source, W: Sink, RT: Eprint + Runtime>(
         → IsCarriedOut chosen read written
         (R.is_read reader.new) (W.is_written writer.new) (Ok tt) }
     ensures stopped { (chosen : Options) → options ≡ Ok chosen → (result ≡ 1) ⊎ (result ≡ 3)
-        → (fault : ProgramFault) × (status_of fault ≡ result)
+        → (fault : ProgramFault) × (program_status_of fault ≡ result)
         × ((read : Reading) (written : Writing)
         → R.is_read reader.old read → W.is_written writer.old written
         → IsCarriedOut chosen read written
@@ -144,7 +144,7 @@ pub fn run_on_std<G: JournaledToken + Send, R: io::Read, W: io::Write, RT: Eprin
     ensures all_written { (chosen : Options) → options ≡ Ok chosen → result ≡ 0
         → writer.new.failures ≡ 0 }
     ensures stopped { (chosen : Options) → options ≡ Ok chosen → (result ≡ 1) ⊎ (result ≡ 3)
-        → (fault : ProgramFault) × (status_of fault ≡ result)
+        → (fault : ProgramFault) × (program_status_of fault ≡ result)
         × ((read : Reading) (written : Writing)
         → ⟦<ReadSource<R> as Source>⟧.is_read reader.old read
         → ⟦<WriteSink<W> as Sink>⟧.is_written writer.old written

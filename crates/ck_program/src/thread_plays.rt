@@ -10,8 +10,8 @@ ghost use Rattle.ck_journal.specs.Histories.{start, entry_count};
 ghost use Rattle.ck_journal.specs.declared.calls.Call.{Call};
 ghost use Rattle.ck_callers.specs.Accounts.{name_of};
 ghost use Rattle.ck_program.specs.CallerCalls.{calls_by, HadThread, IsNewCaller, HasMadeAll};
-ghost use Rattle.ck_program.specs.CallerCalls.{HasEntriesOf, IsUnplayed, IsPlayedAll, numbers};
-ghost use Rattle.ck_program.specs.CallerCalls.{lacked_memory, script_numbers};
+ghost use Rattle.ck_program.specs.CallerCalls.{HasEntriesOf, IsUnplayed, IsPlayedAll};
+ghost use Rattle.ck_program.specs.CallerCalls.{caller_numbers, lacked_memory, script_numbers};
 ghost use Rattle.ck_program.specs.ThreadPlays.{IsSummary, summary_text};
 
 use crate::faults::ThreadFault;
@@ -73,7 +73,7 @@ fn scripts_of<K: TokenId>(
     requires { All IsNewCaller callers.items }
     ensures unplayed { IfOk result (λ scripts. All (IsUnplayed calls.now) scripts.items) }
     ensures numbers { IfOk result (λ scripts.
-        script_numbers scripts.items ≡ numbers callers.items) }
+        script_numbers scripts.items ≡ caller_numbers callers.items) }
 {
     let mut scripts = Vec::with_capacity(alloc, callers.len())?;
     for caller in callers {
@@ -98,14 +98,14 @@ fn caller_of<K: TokenId>(script: Script<K>) -> Result<Caller<K>, ThreadFault>
 }
 
 /// Whether the caller of any script found no memory for a call.
-fn lack_memory<K: TokenId>(scripts: &[Script<K>]) -> bool
+fn any_lacks_memory<K: TokenId>(scripts: &[Script<K>]) -> bool
     ensures { result ≡ list_any lacked_memory scripts.now }
 {
     scripts.iter().any(|script| script.outcome().is_err())
 }
 
 /// The callers of scripts that were played to their ends. Where one found no memory and another had
-/// no thread, memory is told.
+/// no thread, the fault is that of memory.
 fn callers_of<K: TokenId>(
     alloc: Global,
     scripts: Vec<Script<K>>,
@@ -113,11 +113,11 @@ fn callers_of<K: TokenId>(
     ensures made { (calls : List (ℕ × Call)) → All (IsPlayedAll calls) scripts.items
         → IfOk result (λ callers. All (HasMadeAll calls) callers.items) }
     ensures numbers { IfOk result (λ callers.
-        numbers callers.items ≡ script_numbers scripts.items) }
+        caller_numbers callers.items ≡ script_numbers scripts.items) }
     ensures started { All HadThread scripts.items → result ≢ Err ThreadFault.NotStarted }
     ensures memory { list_any lacked_memory scripts.items ≡ true → result ≡ Err ThreadFault.Memory }
 {
-    if lack_memory(&scripts) {
+    if any_lacks_memory(&scripts) {
         return Err(ThreadFault::Memory);
     }
     let mut callers = Vec::with_capacity(alloc, scripts.len())?;
@@ -138,7 +138,8 @@ fn play_scripts<K: TokenId + Send + Sync, G: JournaledToken + Send, R: Runtime>(
 ) -> Result<Vec<Caller<K>>, ThreadFault>
     requires { All IsNewCaller callers.items }
     ensures made { IfOk result (λ callers. All (HasMadeAll calls.now) callers.items) }
-    ensures numbers { IfOk result (λ back. numbers back.items ≡ numbers callers.items) }
+    ensures numbers { IfOk result (λ back.
+        caller_numbers back.items ≡ caller_numbers callers.items) }
 {
     let scripts = scripts_of(alloc, callers, calls)?;
     callers_of(alloc, run_scripts(&rt, alloc, token, scripts))

@@ -4,7 +4,7 @@ use Rattle.std.specs.Fmt.{digits}
 use Rattle.std.specs.List.{join_with_byte}
 use Rattle.hex.specs.Hex.{encode_lower}
 use Rattle.ck_types.specs.ReturnCodes.{number_of}
-use Rattle.ck_types.specs.Users.{state_number}
+use Rattle.ck_types.specs.Users.{session_state_number}
 use Rattle.ck_journal.specs.declared.replies.Answer.{Answer}
 use Rattle.ck_journal.specs.declared.replies.Answer.TheVariants as answer
 use Rattle.ck_journal.specs.declared.replies.Body.{Body}
@@ -42,7 +42,7 @@ abbrev pub body_text : Body → List ℕ
 body_text body.Empty = []
 body_text (body.Handle handle) = codes " " ++ decimal handle
 body_text (body.Session state flags) =
-    codes " " ++ decimal (state_number state) ++ codes " " ++ hexadecimal flags
+    codes " " ++ decimal (session_state_number state) ++ codes " " ++ hexadecimal flags
 body_text (body.Token flags limit sessions rw_sessions) =
     codes " " ++ hexadecimal flags.0 ++ codes " " ++ decimal limit
     ++ codes " " ++ decimal sessions ++ codes " " ++ decimal rw_sessions

@@ -25,6 +25,7 @@ fn digit(value: u8) -> u8
 
 /// Appends the digits of a number in a base, without leading zeros. They are made by hand, since
 /// `write!` writes to a `String` and the text of a reply is bytes, which go to a sink as they are.
+/// The function calls itself, since the last digit is the first that is known.
 fn push_number(out: &mut Vec<u8>, number: u64, base: u64) -> Result<(), NoMemory>
     requires { (2 ≤ base) × (base ≤ 16) }
     ensures { OnOk result (out.new.items ≡ out.old.items ++ digits base false number) }

@@ -28,7 +28,8 @@ pub struct Ends<K: TokenId, G: JournaledToken, R: Wait + Drop> {
 pub struct TakenMessage<K: TokenId> {
     /// The work on the message, which is done.
     pub(crate) work: Work,
-    /// The history at which the work was begun.
+    /// The history at which the work was begun. It is read only by a comparison that tells the
+    /// prover something (`Locked::show_front`).
     pub(crate) front: Front<K>,
 }
 

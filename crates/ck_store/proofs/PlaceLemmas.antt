@@ -18,7 +18,7 @@ use Rattle.slab.proofs.SlabLemmas.{Contains-cons, Contains-cons_cases}
 use Rattle.slab.specs.Slab.{Slab, get, Updates}
 use Rattle.ck_journal.proofs.NumberTests.{same_number}
 use Rattle.ck_store.specs.Index.{place, is_at, numbered, object_at, objects_at, is_there}
-use Rattle.ck_store.specs.Index.{IsIndex, IsKeyOf, IsLeft, HasNone, IsListed}
+use Rattle.ck_store.specs.Index.{IsIndex, IsKeyOf, LeavesOthers, HasNone, IsListed}
 use Rattle.ck_store.specs.Rows.{ObjectRow, has_number, is_match, matching_numbers, is_ended_by}
 use Rattle.ck_store.specs.Rows.{concerns, matching_number}
 use Rattle.ck_store.specs.declared.places.Place.{Place}
@@ -365,28 +365,29 @@ module _ (view : View) (template : List Item) (objects : Slab ObjectRow) (index 
 
 module _ (test : ObjectRow → Bool) (old new : Slab ObjectRow) where
   -- an object that is there was there
-  pub IsLeft-was : IsLeft test old new → (key : ℕ) (row : ObjectRow) → get new key ≡ Some row
-      → get old key ≡ Some row
-  IsLeft-was left key row is = elim (left key) [
+  pub LeavesOthers-was : LeavesOthers test old new → (key : ℕ) (row : ObjectRow)
+      → get new key ≡ Some row → get old key ≡ Some row
+  LeavesOthers-was left key row is = elim (left key) [
     | inl same ↦ sym same ∙ is
     | inr ended ↦ absurd (cc (ended.0))
   ]
 
-  pub IsLeft-was_at : IsLeft test old new → (p : Place) (row : ObjectRow)
+  pub LeavesOthers-was_at : LeavesOthers test old new → (p : Place) (row : ObjectRow)
       → object_at new p ≡ Some row → object_at old p ≡ Some row
-  IsLeft-was_at left p row is =
+  LeavesOthers-was_at left p row is =
       let now = object_at-Some new p row is in
       ap (λ n. object_at old (place n p.key)) (sym now.1)
-      ∙ object_at-here old p.key row (IsLeft-was left p.key row now.0)
+      ∙ object_at-here old p.key row (LeavesOthers-was left p.key row now.0)
 
   -- so a place that has no object of the test has none later
-  pub HasNone-later : IsLeft test old new → (p : Place) → HasNone test old p → HasNone test new p
-  HasNone-later left p none row is = none row (IsLeft-was_at left p row is)
+  pub HasNone-later : LeavesOthers test old new → (p : Place) → HasNone test old p
+      → HasNone test new p
+  HasNone-later left p none row is = none row (LeavesOthers-was_at left p row is)
 
   -- one object ends
-  pub IsLeft-removed : (p : Place) (row : ObjectRow) → object_at old p ≡ Some row
-      → test row ≡ true → Updates old new p.key None → IsLeft test old new
-  IsLeft-removed p row is passes updates key = elim (cases_eq key p.key) [
+  pub LeavesOthers-removed : (p : Place) (row : ObjectRow) → object_at old p ≡ Some row
+      → test row ≡ true → Updates old new p.key None → LeavesOthers test old new
+  LeavesOthers-removed p row is passes updates key = elim (cases_eq key p.key) [
     | inl same ↦
         inr (
           ap (get new) same ∙ updates.changed,
@@ -396,26 +397,28 @@ module _ (test : ObjectRow → Bool) (old new : Slab ObjectRow) where
     | inr differs ↦ inl (updates.others key differs)
   ]
 
-  IsLeft-then_step : (now : Slab ObjectRow) → IsLeft test old new → IsLeft test new now → (key : ℕ)
+  LeavesOthers-then_step : (now : Slab ObjectRow) → LeavesOthers test old new
+      → LeavesOthers test new now → (key : ℕ)
       → (get now key ≡ get new key)
       ⊎ ((get now key ≡ None) × ((row : ObjectRow) → get new key ≡ Some row → test row ≡ true))
       → (get new key ≡ get old key)
       ⊎ ((get new key ≡ None) × ((row : ObjectRow) → get old key ≡ Some row → test row ≡ true))
       → (get now key ≡ get old key)
       ⊎ ((get now key ≡ None) × ((row : ObjectRow) → get old key ≡ Some row → test row ≡ true))
-  IsLeft-then_step now first then key (inl same) (inl before) = inl (same ∙ before)
-  IsLeft-then_step now first then key (inl same) (inr before) = inr (same ∙ before.0, before.1)
-  IsLeft-then_step now first then key (inr ended) (inl before) =
+  LeavesOthers-then_step now first then key (inl same) (inl before) = inl (same ∙ before)
+  LeavesOthers-then_step now first then key (inl same) (inr before) =
+      inr (same ∙ before.0, before.1)
+  LeavesOthers-then_step now first then key (inr ended) (inl before) =
       inr (ended.0, λ row is. ended.1 row (before ∙ is))
-  IsLeft-then_step now first then key (inr ended) (inr before) = inr (ended.0, before.1)
+  LeavesOthers-then_step now first then key (inr ended) (inr before) = inr (ended.0, before.1)
 
-  pub IsLeft-then : (now : Slab ObjectRow) → IsLeft test old new → IsLeft test new now
-      → IsLeft test old now
-  IsLeft-then now first then key =
-      IsLeft-then_step now first then key (then key) (first key)
+  pub LeavesOthers-then : (now : Slab ObjectRow) → LeavesOthers test old new
+      → LeavesOthers test new now → LeavesOthers test old now
+  LeavesOthers-then now first then key =
+      LeavesOthers-then_step now first then key (then key) (first key)
 
   -- where all objects of the test have ended, those are left that don't pass
-  pub objects_at-left : IsLeft test old new
+  pub objects_at-left : LeavesOthers test old new
       → ((key : ℕ) (row : ObjectRow) → get new key ≡ Some row → test row ≡ false)
       → (ps : List Place)
       → objects_at new ps ≡ filter (λ row. not (test row)) (objects_at old ps)
@@ -463,7 +466,7 @@ Contains-take_more xs i d x within there =
     (subst (λ ys. Contains ys x) (take_more xs i d within) there)
 
 module _ (ending : Ending) (old new : Slab ObjectRow)
-    (left : IsLeft (is_ended_by ending) old new) where
+    (left : LeavesOthers (is_ended_by ending) old new) where
   pub ended-more : (places : List Place) (i : ℕ) → i < length places
       → ((p : Place) → Contains (take i places) p → HasNone (is_ended_by ending) old p)
       → HasNone (is_ended_by ending) new (get_or places i (place 0 0))

@@ -62,7 +62,7 @@ pub record IsOwn (session : ℕ) (private : Bool) (row : ObjectRow) : Type 0 whe
 -- what the fields of a store keep: the index rises and names each object; each session object is in
 -- a list of its session or is the unlisted one; the objects of a list are of its session, and all
 -- private or all public, as the list says; no number is above the count of creations
-pub record IsSound (objects : Slab ObjectRow) (index : List Place) (lists : List SessionList)
+pub record IsIntact (objects : Slab ObjectRow) (index : List Place) (lists : List SessionList)
     (unlisted : Option Place) (creations : ℕ) : Type 0 where
   pub indexed : IsIndex objects index
   pub listed : (key : ℕ) (row : ObjectRow) (session : ℕ) → get objects key ≡ Some row
@@ -105,8 +105,8 @@ pub record IsGiven (number : ℕ) (values : List Item) (old new : Slab ObjectRow
       → is_set attributes attribute.Private ≡ is_private_row row
 
 -- objects that pass the test may be there no more; all others are, each under its key
-abbrev pub IsLeft : (ObjectRow → Bool) → Slab ObjectRow → Slab ObjectRow → Type 0
-IsLeft test old new = (key : ℕ) → (get new key ≡ get old key)
+abbrev pub LeavesOthers : (ObjectRow → Bool) → Slab ObjectRow → Slab ObjectRow → Type 0
+LeavesOthers test old new = (key : ℕ) → (get new key ≡ get old key)
     ⊎ ((get new key ≡ None) × ((row : ObjectRow) → get old key ≡ Some row → test row ≡ true))
 
 -- the place has no object that passes the test

@@ -1,6 +1,6 @@
 ghost use Rattle.std.specs.Prelude.{◌≡◌, ℕ, Bool, Contains, Some, true};
 ghost use Rattle.ck_store.specs.Rows.{is_ended_by, concerns};
-ghost use Rattle.ck_store.specs.Index.{IsLeft, HasNone, IsListed};
+ghost use Rattle.ck_store.specs.Index.{LeavesOthers, HasNone, IsListed};
 ghost use Rattle.ck_store.specs.declared.places.Place.{Place};
 
 use crate::places::{Place, object_at};
@@ -35,7 +35,7 @@ impl Ending {
 
 /// Ends the object of the place, where the ending ends it.
 fn end_object(objects: &mut Slab<StoredObject>, place: Place, ending: Ending)
-    ensures left { IsLeft (is_ended_by ending) objects.old objects.new }
+    ensures left { LeavesOthers (is_ended_by ending) objects.old objects.new }
     ensures ended { HasNone (is_ended_by ending) objects.new place }
 {
     let Some(object) = object_at(objects, place) else {
@@ -50,7 +50,7 @@ fn end_object(objects: &mut Slab<StoredObject>, place: Place, ending: Ending)
 
 /// Ends those objects of these places that the ending ends.
 fn end_objects(objects: &mut Slab<StoredObject>, places: &[Place], ending: Ending)
-    ensures left { IsLeft (is_ended_by ending) objects.old objects.new }
+    ensures left { LeavesOthers (is_ended_by ending) objects.old objects.new }
     ensures ended { (p : Place) → Contains places.now p
         → HasNone (is_ended_by ending) objects.new p }
 {
@@ -61,7 +61,7 @@ fn end_objects(objects: &mut Slab<StoredObject>, places: &[Place], ending: Endin
 
 /// Ends the objects that the ending ends, in the lists that it concerns.
 pub(crate) fn end_listed(objects: &mut Slab<StoredObject>, lists: &[SessionList], ending: Ending)
-    ensures left { IsLeft (is_ended_by ending) objects.old objects.new }
+    ensures left { LeavesOthers (is_ended_by ending) objects.old objects.new }
     ensures ended { (session : ℕ) (private : Bool) (p : Place)
         → IsListed lists.now session private p → concerns ending session private ≡ true
         → HasNone (is_ended_by ending) objects.new p }
@@ -75,7 +75,7 @@ pub(crate) fn end_listed(objects: &mut Slab<StoredObject>, lists: &[SessionList]
 
 /// Ends the newest object, where it is in no list yet and the ending ends it.
 pub(crate) fn end_newest(objects: &mut Slab<StoredObject>, unlisted: Option<Place>, ending: Ending)
-    ensures left { IsLeft (is_ended_by ending) objects.old objects.new }
+    ensures left { LeavesOthers (is_ended_by ending) objects.old objects.new }
     ensures ended { (p : Place) → unlisted ≡ Some p
         → HasNone (is_ended_by ending) objects.new p }
 {

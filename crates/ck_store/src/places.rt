@@ -7,7 +7,7 @@ ghost use Rattle.ck_store.specs.Rows.{with_key_state, matching_number};
 ghost use Rattle.ck_store.specs.Labels.{IsMarked, IsMarkOf, IsWanted};
 ghost use Rattle.ck_store.specs.Index.{place, is_at, object_at, objects_at, is_there, IsIndex};
 ghost use Rattle.ck_store.specs.Index.{PlacesRise, IsShort};
-ghost use Rattle.ck_store.specs.Index.{IsChanged, IsGiven, IsKeyOf, IsLeft, EndsAll};
+ghost use Rattle.ck_store.specs.Index.{IsChanged, IsGiven, IsKeyOf, LeavesOthers, EndsAll};
 ghost use Rattle.ck_store.specs.declared.places.Place.{Place};
 
 use crate::labels::{has_other_label, mark_of, wanted_mark};
@@ -203,7 +203,7 @@ pub(crate) fn drop_ended(objects: &Slab<StoredObject>, places: &mut Vec<Place>)
 /// Ends the object that has the number.
 pub(crate) fn remove_numbered(objects: &mut Slab<StoredObject>, index: &[Place], number: u64)
     ensures left { IsIndex objects.old index.now
-        → IsLeft (has_number number) objects.old objects.new }
+        → LeavesOthers (has_number number) objects.old objects.new }
     ensures ended { IsIndex objects.old index.now → EndsAll (has_number number) objects.new }
 {
     if let Some(key) = key_of(objects, index, number) {

@@ -1,7 +1,7 @@
 ghost use Rattle.std.specs.Prelude.{◌≡◌, ◌<◌, ◌⊎◌, ℕ, [], Some, Bool, Contains, IsOk, OnOk, IfSome};
 ghost use Rattle.std.specs.Prelude.{List, None, length, position};
 ghost use Rattle.ck_store.specs.Rows.{ObjectRow};
-ghost use Rattle.ck_store.specs.Index.{IsListed, IsSound, is_list_of, object_at};
+ghost use Rattle.ck_store.specs.Index.{IsListed, IsIntact, is_list_of, object_at};
 ghost use Rattle.ck_store.specs.declared.places.Place.{Place};
 
 use crate::places::{Place, drop_ended, object_at};
@@ -115,11 +115,11 @@ fn list_object(
     place: Place,
 ) -> Result<(), NoMemory>
     ensures tried { (index : List Place) (creations : ℕ)
-        → IsSound objects.now index lists.old.items (Some place) creations
-        → IsSound objects.now index lists.new.items (Some place) creations }
+        → IsIntact objects.now index lists.old.items (Some place) creations
+        → IsIntact objects.now index lists.new.items (Some place) creations }
     ensures listed { OnOk result ((index : List Place) (creations : ℕ)
-        → IsSound objects.now index lists.old.items (Some place) creations
-        → IsSound objects.now index lists.new.items None creations) }
+        → IsIntact objects.now index lists.old.items (Some place) creations
+        → IsIntact objects.now index lists.new.items None creations) }
 {
     let Some(object) = object_at(objects, place) else {
         return Ok(());
@@ -137,9 +137,9 @@ pub(crate) fn list_newest(
     unlisted: &mut Option<Place>,
     objects: &Slab<StoredObject>,
 ) -> Result<(), NoMemory>
-    ensures sound { (index : List Place) (creations : ℕ)
-        → IsSound objects.now index lists.old.items unlisted.old creations
-        → IsSound objects.now index lists.new.items unlisted.new creations }
+    ensures intact { (index : List Place) (creations : ℕ)
+        → IsIntact objects.now index lists.old.items unlisted.old creations
+        → IsIntact objects.now index lists.new.items unlisted.new creations }
     ensures listed { OnOk result (unlisted.new ≡ None) }
     ensures succeeds { unlisted.old ≡ None → IsOk result }
 {

@@ -36,7 +36,7 @@ impl Model for Store {
     ghost use Rattle.std.specs.Prelude.{vec_len, vec_capacity};
     ghost use Rattle.slab.specs.Slab.{slab_len};
     ghost use Rattle.ck_store.specs.Agreement.{StoreState};
-    ghost use Rattle.ck_store.specs.Index.{IsShort, IsSound, objects_at};
+    ghost use Rattle.ck_store.specs.Index.{IsShort, IsIntact, objects_at};
     ghost use Rattle.ck_store.specs.Labels.{IsMarked};
 
     ghost Value = { StoreState };
@@ -51,7 +51,7 @@ impl Model for Store {
     } };
 
     ghost invariant = { λ s.
-        IsSound s.objects s.index.items s.lists.items s.unlisted s.creations
+        IsIntact s.objects s.index.items s.lists.items s.unlisted s.creations
         × (s.creations < 2 ^ 32) × IsMarked s.objects s.marks.items
         × IsShort s.objects s.index.items };
 }

@@ -5,7 +5,8 @@ use Rattle.std.specs.Prelude.{IfSome}
 use Rattle.std.specs.Option.{option_map_or}
 use Rattle.ck_types.specs.Checks.{check_of, or_else}
 use Rattle.ck_types.specs.declared.errors.RvError.{RvError}
-use Rattle.ck_mac.specs.Computations.{Computation, HoldsTag, tag_of, tag_size}
+use Rattle.ck_mac.specs.Computations.{Computation, tag_of}
+use Rattle.ck_mac.specs.RunningTags.{HoldsTag, tag_size}
 use Rattle.ck_mac.specs.Macs.{signature_error}
 use Rattle.ck_mac.specs.declared.running_tags.RunningTag.{RunningTag}
 use Rattle.ck_mac.proofs.LengthLemmas.{length-tag_of}

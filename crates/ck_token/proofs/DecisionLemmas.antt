@@ -170,7 +170,7 @@ free-call limits h c free =
     and_false true = refl
     and_false false = refl
 
--- a call that takes no memory beside its entry's gives no list with items
+-- a call that takes no memory besides its entry's gives no list with items
 pub no_list : (limits : Ranges) (h : History) (c : Call) (r : Reply) → r ≡ answer limits h c
     → may_run_out limits h c ≡ false → has_items r.body ≡ false
 no_list limits h c r answered free =

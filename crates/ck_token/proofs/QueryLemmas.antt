@@ -7,7 +7,8 @@ use Rattle.std.specs.List.{list_any}
 use Rattle.std.proofs.Math.Seq.{take-suc}
 use Rattle.std.proofs.lemmas.List.Folds.{list_any-append}
 use Rattle.ck_types.specs.Checks.{error_if, first_of}
-use Rattle.ck_objects.specs.Records.{is_hidden, readable_value, read_error}
+use Rattle.ck_objects.specs.Records.{is_hidden, readable_value}
+use Rattle.ck_objects.specs.Structs.{read_error}
 use Rattle.ck_objects.specs.Templates.{value_at}
 use Rattle.ck_types.specs.declared.errors.RvError.{RvError}
 use Rattle.ck_types.specs.declared.errors.RvError.TheVariants as rv_error

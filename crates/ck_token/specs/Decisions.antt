@@ -21,7 +21,7 @@ use Rattle.ck_token.specs.declared.decisions.Decision.{Decision}
 use Rattle.ck_token.specs.declared.decisions.Refused.{Refused}
 use Rattle.ck_token.specs.declared.decisions.Refused.TheVariants as refused
 
--- the calls that may take memory beside that of their entry: for a session, an object or its
+-- the calls that may take memory besides that of their entry: for a session, an object or its
 -- attributes, a search, an operation, or a list or bytes in the reply; one that asks only for a
 -- length gets no bytes
 abbrev pub takes_memory : Call → Bool
@@ -70,8 +70,8 @@ IsCheckAbout who error (Err (refused.Error code change)) =
 IsCheckAbout who error (Err refused.Memory) = ⊥
 
 -- the last checks of a call that makes an object of this placement
-abbrev pub new_object_error : Ranges → History → ℕ → Placement → Option RvError
-new_object_error limits h session placement = first_of (
+abbrev pub addition_error : Ranges → History → ℕ → Placement → Option RvError
+addition_error limits h session placement = first_of (
     placement_error h session placement
     ∷ creations_error limits h
     ∷ [])

@@ -20,7 +20,7 @@ pub struct Stopped {
 
 /// Makes these calls, each with its caller, one after the other. Where one finds no memory, the
 /// token is as the calls before it left it. Where the journal has room for all of them, calls that
-/// take no memory beside their entries are all answered.
+/// take no memory besides their entries are all answered.
 pub fn run(token: &mut Token, alloc: Global, calls: Vec<(u32, Call)>) -> Result<(), Stopped>
     ensures run { IsRun token.old token.new calls.items result }
     ensures succeeds { length calls.items ≤ token.old.spare

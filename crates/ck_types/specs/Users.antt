@@ -19,12 +19,12 @@ same_user user.User user.User = true
 same_user user.So user.User = false
 same_user user.User user.So = false
 
-abbrev pub state_number : SessionState → ℕ
-state_number state.RoPublic = 0
-state_number state.RoUser = 1
-state_number state.RwPublic = 2
-state_number state.RwUser = 3
-state_number state.RwSo = 4
+abbrev pub session_state_number : SessionState → ℕ
+session_state_number state.RoPublic = 0
+session_state_number state.RoUser = 1
+session_state_number state.RwPublic = 2
+session_state_number state.RwUser = 3
+session_state_number state.RwSo = 4
 
 -- the state of a session, by who is logged in and whether the session is read/write. While the
 -- security officer is logged in, no session is read-only.

@@ -57,13 +57,7 @@ impl Mechanism {
     {
         let parameter = self.parameter.as_slice();
         match algorithm_of(self.kind)? {
-            Algorithm::Hmac(hash) => {
-                if parameter.is_empty() {
-                    Some(hash.len())
-                } else {
-                    None
-                }
-            }
+            Algorithm::Hmac(hash) => parameter.is_empty().then_some(hash.len()),
             Algorithm::GeneralHmac(hash) => given_tag_length(hash, parameter),
             Algorithm::Digest(_) | Algorithm::GenericSecretKey => None,
         }
@@ -76,11 +70,7 @@ fn given_tag_length(hash: Hash, parameter: &[u8]) -> Option<u64>
     ensures { result ≡ given_tag_length hash parameter.now }
 {
     let length = number_of(parameter)?;
-    if (1..=hash.len()).contains(&length) {
-        Some(length)
-    } else {
-        None
-    }
+    (1..=hash.len()).contains(&length).then_some(length)
 }
 
 /// What a mechanism computes.

@@ -76,7 +76,8 @@ impl<T> Sequence<T> {
 impl Sequence<u8> {
     ghost use Rattle.std.specs.Prelude.{◌≡◌, [], IfOk, IsOk};
 
-    /// A copy of these bytes. A copy of no bytes takes no memory.
+    /// A copy of these bytes. A copy of no bytes takes no memory, which `Vec::from_slice` doesn't
+    /// promise.
     pub fn from_slice(alloc: Global, bytes: &[u8]) -> Result<Bytes, NoMemory>
         ensures copied { IfOk result (λ copied. copied ≡ bytes.now) }
         ensures empty { bytes.now ≡ [] → IsOk result }

@@ -1,5 +1,5 @@
 ghost use Rattle.std.specs.Prelude.{◌≡◌, Some};
-ghost use Rattle.ck_types.specs.Users.{user_of, user_number, state_number};
+ghost use Rattle.ck_types.specs.Users.{user_of, user_number, session_state_number};
 
 /// Who logs in (CK_USER_TYPE; PKCS #11 Base 3.0, Session types).
 #[derive(Clone, Copy, Debug, PartialEq, Eq)]
@@ -49,7 +49,7 @@ pub enum SessionState {
 impl SessionState {
     /// The number that the standard gives the state.
     pub fn number(self) -> u64
-        ensures { result ≡ state_number self }
+        ensures { result ≡ session_state_number self }
     {
         match self {
             SessionState::RoPublic => 0,

@@ -50,7 +50,7 @@ impl Token {
     ghost use Rattle.ck_journal.specs.declared.replies.Body.TheVariants as body;
     ghost use Rattle.ck_journal.specs.declared.calls.Call.TheVariants as call;
     ghost use Rattle.ck_sessions.specs.Agreement.{session_row};
-    ghost use Rattle.ck_token.specs.Decisions.{IsDecision, new_object_error, reply_of};
+    ghost use Rattle.ck_token.specs.Decisions.{IsDecision, addition_error, reply_of};
     ghost use Rattle.ck_parts.specs.declared.changes.Change.TheVariants as change;
 
     // ---- checks
@@ -89,10 +89,10 @@ impl Token {
         ensures bound { IfOk result (λ number. number < 2 ^ 32) }
         ensures passes { (s : ℕ) → row.now ≡ session_row self.now.history s
             → IfOk result (λ number.
-            new_object_error self.now.limits self.now.history s placement ≡ None) }
+            addition_error self.now.limits self.now.history s placement ≡ None) }
         ensures fails { (s : ℕ) → row.now ≡ session_row self.now.history s
             → IfErr result (λ code.
-            new_object_error self.now.limits self.now.history s placement ≡ Some code) }
+            addition_error self.now.limits self.now.history s placement ≡ Some code) }
     {
         self.check_placement(row, placement)?;
         let creations = self.creations();

@@ -1,7 +1,7 @@
 use Rattle.std.specs.Prelude.{◌≡◌, ◌++◌, ℕ, List, All, vec_items}
 use Rattle.std.specs.Vec.Iter.{into_iter_items}
 use Rattle.ck_journal.specs.declared.calls.Call.{Call}
-use Rattle.ck_program.specs.CallerCalls.{HadThread, HasMadeAll, IsPlayedAll, numbers}
+use Rattle.ck_program.specs.CallerCalls.{HadThread, HasMadeAll, IsPlayedAll, caller_numbers}
 use Rattle.ck_program.specs.CallerCalls.{script_numbers}
 use Rattle.ck_program.proofs.thread_plays.callers_of.Given as goal
 
@@ -14,6 +14,6 @@ invariant-loop-script g l =
     × ((calls : List (ℕ × Call)) → All (IsPlayedAll calls) (vec_items l.fn.scripts)
     → All (HasMadeAll calls) (vec_items l.callers) × All (IsPlayedAll calls)
     (into_iter_items l.script-iterator))
-    × (numbers (vec_items l.callers) ++ script_numbers (into_iter_items l.script-iterator)
+    × (caller_numbers (vec_items l.callers) ++ script_numbers (into_iter_items l.script-iterator)
     ≡ script_numbers (vec_items l.fn.scripts))
     × (All HadThread (vec_items l.fn.scripts) → All HadThread (into_iter_items l.script-iterator))

@@ -2,7 +2,7 @@ use Rattle.std.proofs.Common.{◌≡◌, ℕ, ◌≤◌, true, false, sym, ap, �
 use Rattle.std.specs.Prelude.{All, vec_items}
 use Rattle.ck_callers.specs.Accounts.{new_accounts}
 use Rattle.ck_callers.specs.Callers.{new_callers}
-use Rattle.ck_program.specs.CallerCalls.{numbers, IsNewCaller}
+use Rattle.ck_program.specs.CallerCalls.{caller_numbers, IsNewCaller}
 use Rattle.ck_program.proofs.CallerCallLemmas.{none_made, of_each, was_new}
 use Rattle.ck_program.proofs.NumberLemmas.{all_back}
 use Rattle.ck_program.proofs.thread_plays.play_shared.Goals as goal
@@ -18,7 +18,8 @@ pub unreachable-requires : goal.unreachable-requires
 unreachable-requires g c =
     let all = all_back g.K.HistoryId.base g.K.TokenId.callers (vec_items c.in_ok-callers.callers)
     (c.in_ok-callers.ensures.numbers
-    ∙ ap numbers (c.in_ok-token.ensures ∙ ap (new_callers g.K.HistoryId.base) c.requires.callers.2))
+    ∙ ap caller_numbers
+    (c.in_ok-token.ensures ∙ ap (new_callers g.K.HistoryId.base) c.requires.callers.2))
     in
     let no : true ≡ false = sym all ∙ c.in-Err.ensures.missing in cc no
 

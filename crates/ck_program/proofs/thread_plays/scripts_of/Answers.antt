@@ -2,7 +2,7 @@ use Rattle.std.proofs.Common.{sym, subst, arith}
 use Rattle.std.specs.Prelude.{All, vec_items}
 use Rattle.std.specs.Vec.Iter.{into_iter_items}
 use Rattle.std.proofs.lemmas.List.Elements.{All-push, All-tail}
-use Rattle.ck_program.specs.CallerCalls.{numbers, IsNewCaller, IsUnplayed}
+use Rattle.ck_program.specs.CallerCalls.{caller_numbers, IsNewCaller, IsUnplayed}
 use Rattle.ck_program.proofs.NumberLemmas.{one_moved}
 use Rattle.ck_program.proofs.thread_plays.scripts_of.Goals as goal
 
@@ -25,6 +25,6 @@ loop-caller-preserved g c =
       one_moved (λ s. s.caller.number) (λ x. x.number) (vec_items c.loop-caller.scripts)
           _ c.in_ok-script.script
           (into_iter_items c.loop-caller.caller-iterator) (into_iter_items c.next.new.self)
-          c.in-Some.caller (numbers (vec_items c.args.callers)) c.loop-caller.invariant.4
+          c.in-Some.caller (caller_numbers (vec_items c.args.callers)) c.loop-caller.invariant.4
           c.in-Some.ensures.steps.0 c.in_ok-push.ensures.items c.in_ok-script.ensures.number,
     )

@@ -1,6 +1,6 @@
 use Rattle.std.specs.Prelude.{◌≡◌, ◌++◌, All, vec_items}
 use Rattle.std.specs.Vec.Iter.{into_iter_items}
-use Rattle.ck_program.specs.CallerCalls.{IsNewCaller, IsUnplayed, numbers, script_numbers}
+use Rattle.ck_program.specs.CallerCalls.{IsNewCaller, IsUnplayed, caller_numbers, script_numbers}
 use Rattle.ck_program.proofs.thread_plays.scripts_of.Given as goal
 
 -- the scripts of the callers so far; those that are left have made no calls, and
@@ -11,5 +11,5 @@ invariant-loop-caller g l =
     × (goal.iterator-loop-caller g).is_finite l.caller-iterator
     × All (IsUnplayed l.calls) (vec_items l.scripts)
     × All IsNewCaller (into_iter_items l.caller-iterator)
-    × (script_numbers (vec_items l.scripts) ++ numbers (into_iter_items l.caller-iterator)
-    ≡ numbers (vec_items l.fn.callers))
+    × (script_numbers (vec_items l.scripts) ++ caller_numbers (into_iter_items l.caller-iterator)
+    ≡ caller_numbers (vec_items l.fn.callers))

@@ -3,7 +3,7 @@ use Rattle.slab.specs.Slab.{slab_len}
 use Rattle.ck_store.specs.Index.{is_there, objects_at, IsIndex}
 use Rattle.ck_store.proofs.BoundLemmas.{places-le-objects}
 use Rattle.ck_store.proofs.PlaceLemmas.{Contains-unfiltered, Contains-passes}
-use Rattle.ck_store.proofs.SoundLemmas.{compacted-objects, compacted-is_index}
+use Rattle.ck_store.proofs.IntactLemmas.{compacted-objects, compacted-is_index}
 use Rattle.ck_store.proofs.places.compact.Goals as goal
 
 pub returns-then-len-clause-objects : goal.returns-then-len-clause-objects

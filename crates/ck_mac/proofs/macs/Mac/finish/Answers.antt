@@ -1,4 +1,5 @@
-use Rattle.ck_mac.specs.Macs.{HoldsMac, hmac}
+use Rattle.ck_mac.specs.Macs.{hmac}
+use Rattle.ck_mac.specs.RunningTags.{HoldsMac}
 use Rattle.ck_mac.proofs.macs.Mac.finish.Goals as goal
 
 pub returns : goal.returns

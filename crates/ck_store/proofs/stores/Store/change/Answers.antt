@@ -7,7 +7,8 @@ use Rattle.ck_store.proofs.LabelLemmas.{IsChanged-none, with_attributes-other, I
 use Rattle.ck_store.proofs.Moves.{StoreAgrees-changed}
 use Rattle.ck_store.proofs.Readings.{named-row}
 use Rattle.ck_store.proofs.PlaceLemmas.{find-key}
-use Rattle.ck_store.proofs.SoundLemmas.{objects_at-changed, with_attributes-number, IsSound-changed}
+use Rattle.ck_store.proofs.IntactLemmas.{objects_at-changed, with_attributes-number}
+use Rattle.ck_store.proofs.IntactLemmas.{IsIntact-changed}
 use Rattle.ck_store.proofs.stores.Store.change.Goals as goal
 
 pub returns-in_default : goal.returns-in_default
@@ -39,7 +40,7 @@ pub invariant_of-self : goal.invariant_of-self
 invariant_of-self c =
     let is_key = (rw c.deref.ensures.value at c.in-Some.ensures) c.self.invariant.0.indexed in
     let given = c.change_at-mark.ensures.given c.args.number is_key in (
-      IsSound-changed c.self.inside.objects c.change_at-mark.new.objects c.args.number
+      IsIntact-changed c.self.inside.objects c.change_at-mark.new.objects c.args.number
           given.attributes
           given.changed c.self.inside.index.items c.self.inside.lists.items
           c.self.inside.unlisted c.self.inside.creations c.self.invariant.0

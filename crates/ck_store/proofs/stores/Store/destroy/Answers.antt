@@ -1,21 +1,22 @@
 use Rattle.std.proofs.Common.{refl, ◌∙◌}
 use Rattle.ck_store.specs.Rows.{has_number}
 use Rattle.ck_store.proofs.Moves.{StoreAgrees-destroyed}
-use Rattle.ck_store.proofs.PlaceLemmas.{IsLeft-was, objects_at-left}
-use Rattle.ck_store.proofs.SoundLemmas.{IsSound-fewer, invariant-compacted}
+use Rattle.ck_store.proofs.PlaceLemmas.{LeavesOthers-was, objects_at-left}
+use Rattle.ck_store.proofs.IntactLemmas.{IsIntact-fewer, invariant-compacted}
 use Rattle.ck_store.proofs.stores.Store.destroy.Goals as goal
 
 pub invariant_of-self : goal.invariant_of-self
 invariant_of-self c =
     let left = (rw c.deref.ensures.value at c.remove_numbered.ensures.left)
     c.self.invariant.0.indexed in
-    let sound =
-    IsSound-fewer c.self.inside.objects c.remove_numbered.new.objects c.self.inside.index.items
+    let intact =
+    IsIntact-fewer c.self.inside.objects c.remove_numbered.new.objects c.self.inside.index.items
     c.self.inside.lists.items c.self.inside.unlisted c.self.inside.creations c.self.invariant.0
-    (IsLeft-was (has_number c.args.number) c.self.inside.objects c.remove_numbered.new.objects left)
+    (LeavesOthers-was (has_number c.args.number) c.self.inside.objects
+    c.remove_numbered.new.objects left)
     in
     invariant-compacted (has_number c.args.number) c.self.inside.objects _ _
-    c.compact.new.index.items _ _ _ c.self.inside.marks.items left sound c.self.invariant.1
+    c.compact.new.index.items _ _ _ c.self.inside.marks.items left intact c.self.invariant.1
     c.self.invariant.2 c.compact.ensures.is_index c.compact.ensures.only c.compact.ensures.short
 
 pub returns : goal.returns

@@ -2,7 +2,7 @@ use Rattle.std.proofs.Common.{◌++◌, ◌∷◌, [], ◌≤◌, ap, refl, ◌�
 use Rattle.std.proofs.lemmas.List.{take_all}
 use Rattle.ck_journal.specs.declared.bases.KeptObject.{KeptObject}
 use Rattle.ck_store.proofs.KeptLemmas.{kept_row, HasFirst-more, StoreAgrees-started}
-use Rattle.ck_store.proofs.SoundLemmas.{IsSound-later}
+use Rattle.ck_store.proofs.IntactLemmas.{IsIntact-later}
 use Rattle.ck_store.proofs.stores.Store.from_base.Goals as goal
 
 pub loop-object-preserved : goal.loop-object-preserved
@@ -24,7 +24,7 @@ loop-object-preserved c =
 
 pub invariant_of-store : goal.invariant_of-store
 invariant_of-store c = (
-  IsSound-later c.store-2.inside.objects c.store-2.inside.index.items c.store-2.inside.lists.items
+  IsIntact-later c.store-2.inside.objects c.store-2.inside.index.items c.store-2.inside.lists.items
       c.store-2.inside.unlisted c.store-2.inside.creations c.args.base.now.creations
       (rw (← c.store-2.view_is) at c.loop-object.invariant.first.within) c.store-2.invariant.0,
   c.requires.creations,

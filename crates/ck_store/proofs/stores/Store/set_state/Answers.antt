@@ -3,16 +3,16 @@ use Rattle.ck_store.specs.Rows.{with_key_state}
 use Rattle.ck_store.proofs.BoundLemmas.{changed-count}
 use Rattle.ck_store.proofs.LabelLemmas.{IsChanged-none, with_key_state-other, IsMarked-in_state}
 use Rattle.ck_store.proofs.Moves.{StoreAgrees-state_set}
-use Rattle.ck_store.proofs.SoundLemmas.{IsSound-was, changed-was, objects_at-changed}
-use Rattle.ck_store.proofs.SoundLemmas.{with_key_state-number, with_key_state-session}
-use Rattle.ck_store.proofs.SoundLemmas.{changed-marks, with_key_state-private}
+use Rattle.ck_store.proofs.IntactLemmas.{IsIntact-was, changed-was, objects_at-changed}
+use Rattle.ck_store.proofs.IntactLemmas.{with_key_state-number, with_key_state-session}
+use Rattle.ck_store.proofs.IntactLemmas.{changed-marks, with_key_state-private}
 use Rattle.ck_store.proofs.stores.Store.set_state.Goals as goal
 
 pub invariant_of-self : goal.invariant_of-self
 invariant_of-self c =
     let is_key = (rw c.deref.ensures.value at c.in-Some.ensures) c.self.invariant.0.indexed in
     let changed = c.set_state_at.ensures c.args.number is_key in (
-      IsSound-was c.self.inside.objects c.set_state_at.new.objects c.self.inside.index.items
+      IsIntact-was c.self.inside.objects c.set_state_at.new.objects c.self.inside.index.items
           c.self.inside.lists.items c.self.inside.unlisted c.self.inside.creations
           c.self.invariant.0
           (changed-was (with_key_state c.args.number c.args.state) c.self.inside.objects

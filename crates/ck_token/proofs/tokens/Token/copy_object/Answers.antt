@@ -7,7 +7,7 @@ use Rattle.ck_journal.specs.Answers.{ok, new_handle, copy_object_error}
 use Rattle.ck_journal.specs.declared.calls.Call.TheVariants as call
 use Rattle.ck_journal.specs.declared.replies.Body.TheVariants as body
 use Rattle.ck_parts.specs.declared.changes.Change.TheVariants as change
-use Rattle.ck_token.specs.Decisions.{new_object_error}
+use Rattle.ck_token.specs.Decisions.{addition_error}
 use Rattle.ck_token.proofs.DecisionLemmas.{refused-decision, memory-decision, object-checks}
 use Rattle.ck_token.proofs.DecisionLemmas.{pass, stop}
 use Rattle.ck_token.proofs.tokens.Token.copy_object.Goals.{In_ok-number}
@@ -55,7 +55,7 @@ returns-in_err-number c =
     c.in_ok-source.ensures.attributes
     (pass _ _ _ _ c.check_flag.ensures c.in_ok-check_flag.was
     ∙ pass _ _ _ _ c.check_copy.ensures c.in_ok-check_copy.was
-    ∙ ap (new_object_error c.args.self.now.limits h s) (sym c.copy_placement.ensures)
+    ∙ ap (addition_error c.args.self.now.limits h s) (sym c.copy_placement.ensures)
     ∙ c.in_err-number.ensures.fails s c.in_ok-row.ensures.row)) refl
 
 -- ---- all checks pass
@@ -70,7 +70,7 @@ allowed c =
     c.in_ok-source.ensures.attributes
     (pass _ _ _ _ c.check_flag.ensures c.in_ok-check_flag.was
     ∙ pass _ _ _ _ c.check_copy.ensures c.in_ok-check_copy.was
-    ∙ ap (new_object_error c.args.self.now.limits h s) (sym c.copy_placement.ensures)
+    ∙ ap (addition_error c.args.self.now.limits h s) (sym c.copy_placement.ensures)
     ∙ c.in_ok-number.ensures.passes s c.in_ok-row.ensures.row)
 
 pub returns-in_err-made : goal.returns-in_err-made

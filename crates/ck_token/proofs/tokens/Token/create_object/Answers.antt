@@ -4,7 +4,7 @@ use Rattle.ck_journal.specs.Answers.{ok, new_handle, create_object_error}
 use Rattle.ck_journal.specs.declared.replies.Body.TheVariants as body
 use Rattle.ck_journal.specs.declared.calls.Call.TheVariants as call
 use Rattle.ck_parts.specs.declared.changes.Change.TheVariants as change
-use Rattle.ck_token.specs.Decisions.{new_object_error}
+use Rattle.ck_token.specs.Decisions.{addition_error}
 use Rattle.ck_token.proofs.DecisionLemmas.{refused-decision, memory-decision, skip, pass, stop}
 use Rattle.ck_token.proofs.DecisionLemmas.{session-passes}
 use Rattle.ck_token.proofs.tokens.Token.create_object.Goals.{In_ok-number}
@@ -31,7 +31,7 @@ returns-in_err-number c =
     c.in_err-number.field-0.0 c.from_residual-in_err-number.ensures.1
     (skip _ _ (session-passes h s c.in_ok-row.ensures.open)
     ∙ pass _ _ _ _ c.check_creation.ensures c.in_ok-check_creation.was
-    ∙ ap (new_object_error limits h s) (sym c.creation_placement.ensures)
+    ∙ ap (addition_error limits h s) (sym c.creation_placement.ensures)
     ∙ c.in_err-number.ensures.fails s c.in_ok-row.ensures.row) refl
 
 -- ---- all checks pass
@@ -44,7 +44,7 @@ allowed c =
     let s = c.args.session in
     skip _ _ (session-passes h s c.in_ok-row.ensures.open)
     ∙ pass _ _ _ _ c.check_creation.ensures c.in_ok-check_creation.was
-    ∙ ap (new_object_error c.args.self.now.limits h s) (sym c.creation_placement.ensures)
+    ∙ ap (addition_error c.args.self.now.limits h s) (sym c.creation_placement.ensures)
     ∙ c.in_ok-number.ensures.passes s c.in_ok-row.ensures.row
 
 pub returns-in_err-made : goal.returns-in_err-made

@@ -8,7 +8,7 @@ use Rattle.ck_journal.specs.Answers.{ok, new_handle, generate_key_error}
 use Rattle.ck_journal.specs.declared.replies.Body.TheVariants as body
 use Rattle.ck_journal.specs.declared.calls.Call.TheVariants as call
 use Rattle.ck_parts.specs.declared.changes.Change.TheVariants as change
-use Rattle.ck_token.specs.Decisions.{new_object_error}
+use Rattle.ck_token.specs.Decisions.{addition_error}
 use Rattle.ck_token.proofs.DecisionLemmas.{refused-decision, memory-decision, skip, pass, stop}
 use Rattle.ck_token.proofs.DecisionLemmas.{same_check, session-passes}
 use Rattle.ck_token.proofs.tokens.Token.generate_key.Goals.{After-error_if, In_ok-number}
@@ -74,7 +74,7 @@ returns-in_err-number c =
     ∙ pass _ _ _ _ (generates p) c.in_ok-error_if.was
     ∙ pass _ _ _ _ c.check_no_parameter.ensures c.in_ok-check_no_parameter.was
     ∙ pass _ _ _ _ c.check_generation.ensures c.in_ok-check_generation.was
-    ∙ ap (new_object_error c.args.self.now.limits h s)
+    ∙ ap (addition_error c.args.self.now.limits h s)
     (sym (c.generation_placement.ensures c.args.random.now))
     ∙ c.in_err-number.ensures.fails s c.in_ok-row.ensures.row) refl
 
@@ -92,7 +92,7 @@ allowed c =
     c.is_key_generator-generates.ensures c.error_if.ensures) c.in_ok-error_if.was
     ∙ pass _ _ _ _ c.check_no_parameter.ensures c.in_ok-check_no_parameter.was
     ∙ pass _ _ _ _ c.check_generation.ensures c.in_ok-check_generation.was
-    ∙ ap (new_object_error c.args.self.now.limits h s)
+    ∙ ap (addition_error c.args.self.now.limits h s)
     (sym (c.generation_placement.ensures c.args.random.now))
     ∙ c.in_ok-number.ensures.passes s c.in_ok-row.ensures.row
 

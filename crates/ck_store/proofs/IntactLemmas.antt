@@ -1,4 +1,4 @@
--- How the index and the lists stay sound
+-- How the index and the lists stay intact
 use Rattle.std.proofs.Common.{◌≡◌, ◌⊎◌, ℕ, ◌<◌, ◌≤◌, ◌^◌, Bool, true, false, cond, not, List, []}
 use Rattle.std.proofs.Common.{◌∷◌, ◌++◌, Option, Some, None, Contains, refl, sym, ap, ◌∙◌, subst}
 use Rattle.std.proofs.Common.{inl, inr, arith, get_or, ◌&&◌}
@@ -20,7 +20,7 @@ use Rattle.ck_objects.specs.declared.key_states.KeyState.{KeyState}
 use Rattle.ck_objects.specs.declared.attributes.Attribute.TheVariants as attribute
 use Rattle.ck_store.specs.Index.{place, numbered, object_at, objects_at, is_there, IsIndex}
 use Rattle.ck_store.specs.Index.{IsListed, IsShort}
-use Rattle.ck_store.specs.Index.{IsSound, IsOwn, IsChanged, IsLeft, EndsAll, HasNone}
+use Rattle.ck_store.specs.Index.{IsIntact, IsOwn, IsChanged, LeavesOthers, EndsAll, HasNone}
 use Rattle.ck_store.specs.Labels.{IsMarked}
 use Rattle.ck_store.specs.Rows.{ObjectRow, has_number, is_ended_by, concerns, is_private_row}
 use Rattle.ck_store.specs.Rows.{with_attributes, with_key_state}
@@ -29,7 +29,7 @@ use Rattle.ck_store.specs.declared.endings.Ending.TheVariants as ending
 use Rattle.ck_store.specs.declared.places.Place.{Place}
 use Rattle.ck_store.specs.declared.session_lists.SessionList.{SessionList}
 use Rattle.ck_store.proofs.LabelLemmas.{IsMarked-fewer}
-use Rattle.ck_store.proofs.PlaceLemmas.{object_at-Some, object_at-here, IsLeft-was}
+use Rattle.ck_store.proofs.PlaceLemmas.{object_at-Some, object_at-here, LeavesOthers-was}
 use Rattle.ck_store.proofs.PlaceLemmas.{Contains-passing}
 use Rattle.ck_store.proofs.PlaceLemmas.{Contains-unfiltered, filter_map-mapped, filter_map-agree}
 use Rattle.ck_store.proofs.PlaceLemmas.{filter_map-there}
@@ -53,7 +53,7 @@ module _ (objects : Slab ObjectRow) (index : List Place) where
 -- ---- other objects under the keys
 
 module _ (old new : Slab ObjectRow) (index : List Place) (lists : List SessionList)
-    (unlisted : Option Place) (creations : ℕ) (sound : IsSound old index lists unlisted creations)
+    (unlisted : Option Place) (creations : ℕ) (intact : IsIntact old index lists unlisted creations)
   where
     -- each object was there, perhaps with other attributes
     module _ (was : (key : ℕ) (row : ObjectRow) → get new key ≡ Some row
@@ -62,40 +62,40 @@ module _ (old new : Slab ObjectRow) (index : List Place) (lists : List SessionLi
         (marks : (session : ℕ) (private : Bool) (p : Place) (row : ObjectRow)
         → IsListed lists session private p → object_at new p ≡ Some row
         → is_private_row row ≡ private) where
-      pub IsSound-was : IsSound new index lists unlisted creations
-      IsSound-was = record {
+      pub IsIntact-was : IsIntact new index lists unlisted creations
+      IsIntact-was = record {
         indexed = record {
-          rises = sound.indexed.rises;
+          rises = intact.indexed.rises;
           named = λ key row is.
               let w = was key row is in
-              subst (λ n. Contains index (place n key)) w.2 (sound.indexed.named key w.0 w.1);
+              subst (λ n. Contains index (place n key)) w.2 (intact.indexed.named key w.0 w.1);
         };
         listed = λ key row session is of_session.
             let w = was key row is in
             subst (λ n. ((private : Bool) × IsListed lists session private (place n key))
             ⊎ (unlisted ≡ Some (place n key))) w.2
-            (sound.listed key w.0 session w.1 (w.3 ∙ of_session));
+            (intact.listed key w.0 session w.1 (w.3 ∙ of_session));
         own = λ session private p row listed is.
             let at = object_at-Some new p row is in
             let w = was p.key row at.0 in
             record {
-              owner = sym w.3 ∙ (sound.own session private p w.0 listed
+              owner = sym w.3 ∙ (intact.own session private p w.0 listed
                   (ap (λ n. object_at old (place n p.key)) (sym (w.2 ∙ at.1))
                   ∙ object_at-here old p.key w.0 w.1)).owner;
               mark = marks session private p row listed is;
             };
-        index_created = sound.index_created;
-        unlisted_created = sound.unlisted_created;
-        lists_created = sound.lists_created;
+        index_created = intact.index_created;
+        unlisted_created = intact.unlisted_created;
+        lists_created = intact.lists_created;
       }
 
-    pub IsSound-fewer : ((key : ℕ) (row : ObjectRow) → get new key ≡ Some row
-        → get old key ≡ Some row) → IsSound new index lists unlisted creations
-    IsSound-fewer was =
-        IsSound-was (λ key row is. (row, was key row is, refl, refl))
+    pub IsIntact-fewer : ((key : ℕ) (row : ObjectRow) → get new key ≡ Some row
+        → get old key ≡ Some row) → IsIntact new index lists unlisted creations
+    IsIntact-fewer was =
+        IsIntact-was (λ key row is. (row, was key row is, refl, refl))
         (λ session private p row listed is.
         let at = object_at-Some new p row is in
-        (sound.own session private p row listed
+        (intact.own session private p row listed
         (ap (λ n. object_at old (place n p.key)) (sym at.1)
         ∙ object_at-here old p.key row (was p.key row at.0))).mark)
 
@@ -148,7 +148,7 @@ module _ (change : ObjectRow → ObjectRow) (old new : Slab ObjectRow)
 
   -- where each object stays private or public, each list still says which its objects are
   module _ (index : List Place) (lists : List SessionList) (unlisted : Option Place) (creations : ℕ)
-      (sound : IsSound old index lists unlisted creations)
+      (intact : IsIntact old index lists unlisted creations)
       (private : (key : ℕ) (row : ObjectRow) → get old key ≡ Some row
       → is_private_row (change row) ≡ is_private_row row) where
     pub changed-marks : (session : ℕ) (mark : Bool) (p : Place) (row : ObjectRow)
@@ -167,7 +167,7 @@ module _ (change : ObjectRow → ObjectRow) (old new : Slab ObjectRow)
             sym (number before) ∙ ap (λ (r : ObjectRow). r.number) same ∙ n in
             ap is_private_row (sym same)
             ∙ private p.key before e
-            ∙ (sound.own session mark p before listed
+            ∙ (intact.own session mark p before listed
             (ap (λ k. object_at old (place k p.key)) (sym numbered)
             ∙ object_at-here old p.key before e)).mark
 
@@ -175,7 +175,7 @@ module _ (change : ObjectRow → ObjectRow) (old new : Slab ObjectRow)
 
 module _ (objects : Slab ObjectRow) (index : List Place) (lists lists' : List SessionList)
     (unlisted unlisted' : Option Place) (creations : ℕ)
-    (sound : IsSound objects index lists unlisted creations)
+    (intact : IsIntact objects index lists unlisted creations)
     (kept : (session : ℕ) (private : Bool) (p : Place) (row : ObjectRow)
     → IsListed lists session private p → object_at objects p ≡ Some row
     → IsListed lists' session private p)
@@ -188,10 +188,10 @@ module _ (objects : Slab ObjectRow) (index : List Place) (lists lists' : List Se
     ⊎ ((p.number ≤ creations)
     × ((row : ObjectRow) → object_at objects p ≡ Some row → IsOwn session private row)))
     (unlisted_was : (p : Place) → unlisted' ≡ Some p → unlisted ≡ Some p) where
-  pub IsSound-relisted : IsSound objects index lists' unlisted' creations
-  IsSound-relisted = record {
-    indexed = sound.indexed;
-    listed = λ key row session is of_session. elim (sound.listed key row session is of_session) [
+  pub IsIntact-relisted : IsIntact objects index lists' unlisted' creations
+  IsIntact-relisted = record {
+    indexed = intact.indexed;
+    listed = λ key row session is of_session. elim (intact.listed key row session is of_session) [
       | inl before ↦
           inl (
             before.0,
@@ -201,13 +201,13 @@ module _ (objects : Slab ObjectRow) (index : List Place) (lists lists' : List Se
       | inr last ↦ newest key row session is of_session last
     ];
     own = λ session private p row listed is. elim (only session private p listed) [
-      | inl before ↦ sound.own session private p row before is
+      | inl before ↦ intact.own session private p row before is
       | inr added ↦ added.1 row is
     ];
-    index_created = sound.index_created;
-    unlisted_created = λ p is. sound.unlisted_created p (unlisted_was p is);
+    index_created = intact.index_created;
+    unlisted_created = λ p is. intact.unlisted_created p (unlisted_was p is);
     lists_created = λ session private p listed. elim (only session private p listed) [
-      | inl before ↦ sound.lists_created session private p before
+      | inl before ↦ intact.lists_created session private p before
       | inr added ↦ added.0
     ];
   }
@@ -215,7 +215,7 @@ module _ (objects : Slab ObjectRow) (index : List Place) (lists lists' : List Se
 -- ---- a new object, whose number is above all others
 
 module _ (old new : Slab ObjectRow) (index : List Place) (lists : List SessionList)
-    (creations number key : ℕ) (row : ObjectRow) (sound : IsSound old index lists None creations)
+    (creations number key : ℕ) (row : ObjectRow) (intact : IsIntact old index lists None creations)
     (above : creations < number) (is_number : row.number ≡ number) (vacant : get old key ≡ None)
     (updates : Updates old new key (Some row)) where
   abbrev newest : Place
@@ -241,7 +241,7 @@ module _ (old new : Slab ObjectRow) (index : List Place) (lists : List SessionLi
       filter_map-append (object_at new) index (newest ∷ [])
       ∙ ap (λ rows. rows ++ cons_option (object_at new newest) [])
       (filter_map-agree (object_at old) (object_at new) index
-      (λ p there. same_at p (sound.index_created p there)))
+      (λ p there. same_at p (intact.index_created p there)))
       ∙ ap (λ o. objects_at old index ++ cons_option o []) at_newest
 
   was_or_newest : (k : ℕ) (r : ObjectRow) → get new k ≡ Some r
@@ -252,43 +252,43 @@ module _ (old new : Slab ObjectRow) (index : List Place) (lists : List SessionLi
     | inr other ↦ inl (sym (updates.others k other) ∙ is)
   ]
 
-  pub IsSound-created : IsSound new (index ++ newest ∷ []) lists (Some newest) number
-  IsSound-created = record {
+  pub IsIntact-created : IsIntact new (index ++ newest ∷ []) lists (Some newest) number
+  IsIntact-created = record {
     indexed = record {
       rises = all_pairs_push (λ (p : Place) (later : Place). p.number < later.number) index newest
-          sound.indexed.rises
+          intact.indexed.rises
           (λ k d within.
-          let below = sound.index_created (get_or index k d) (Contains-get_or index k d within) in
+          let below = intact.index_created (get_or index k d) (Contains-get_or index k d within) in
           omega arith);
       named = λ k r is. elim (was_or_newest k r is) [
         | inl before ↦
             Contains-append_left index (newest ∷ []) (place r.number k)
-            (sound.indexed.named k r before)
+            (intact.indexed.named k r before)
         | inr this ↦
             subst (Contains (index ++ newest ∷ [])) (named_newest k r this.0 this.1)
             (Contains-push index newest)
       ];
     };
     listed = λ k r session is of_session. elim (was_or_newest k r is) [
-      | inl before ↦ elim (sound.listed k r session before of_session) [
+      | inl before ↦ elim (intact.listed k r session before of_session) [
         | inl listed ↦ inl listed
         | inr last ↦ absurd (cc)
       ]
       | inr this ↦ inr (ap Some (named_newest k r this.0 this.1))
     ];
     own = λ session private p r listed is.
-        sound.own session private p r listed
-        (sym (same_at p (sound.lists_created session private p listed)) ∙ is);
+        intact.own session private p r listed
+        (sym (same_at p (intact.lists_created session private p listed)) ∙ is);
     index_created = λ p there. elim (Contains-push_cases index newest p there) [
       | inl before ↦
-          let below = sound.index_created p before in
+          let below = intact.index_created p before in
           omega arith
       | inr this ↦ subst (λ (q : Place). q.number ≤ number) this (omega arith)
     ];
     unlisted_created = λ p is.
         subst (λ (q : Place). q.number ≤ number) (same_Some newest p is) (omega arith);
     lists_created = λ session private p listed.
-        let below = sound.lists_created session private p listed in
+        let below = intact.lists_created session private p listed in
         omega arith;
   }
     where
@@ -300,21 +300,21 @@ module _ (old new : Slab ObjectRow) (index : List Place) (lists : List SessionLi
 
 -- ---- a higher count of creations
 
-pub IsSound-later : (objects : Slab ObjectRow) (index : List Place) (lists : List SessionList)
+pub IsIntact-later : (objects : Slab ObjectRow) (index : List Place) (lists : List SessionList)
     (unlisted : Option Place) (creations later : ℕ) → creations ≤ later
-    → IsSound objects index lists unlisted creations → IsSound objects index lists unlisted later
-IsSound-later objects index lists unlisted creations later below sound = record {
-  indexed = sound.indexed;
-  listed = sound.listed;
-  own = sound.own;
+    → IsIntact objects index lists unlisted creations → IsIntact objects index lists unlisted later
+IsIntact-later objects index lists unlisted creations later below intact = record {
+  indexed = intact.indexed;
+  listed = intact.listed;
+  own = intact.own;
   index_created = λ p there.
-      let within = sound.index_created p there in
+      let within = intact.index_created p there in
       omega arith;
   unlisted_created = λ p is.
-      let within = sound.unlisted_created p is in
+      let within = intact.unlisted_created p is in
       omega arith;
   lists_created = λ session private p listed.
-      let within = sound.lists_created session private p listed in
+      let within = intact.lists_created session private p listed in
       omega arith;
 }
 
@@ -363,8 +363,8 @@ stays_case ending.Logout list row own mark f =
     ap not (sym mark ∙ sym (ap (λ x. is_some x && is_private_row row) own) ∙ f)
 
 module _ (e : Ending) (old new : Slab ObjectRow) (index : List Place) (lists : List SessionList)
-    (unlisted : Option Place) (creations : ℕ) (sound : IsSound old index lists unlisted creations)
-    (left : IsLeft (is_ended_by e) old new)
+    (unlisted : Option Place) (creations : ℕ) (intact : IsIntact old index lists unlisted creations)
+    (left : LeavesOthers (is_ended_by e) old new)
     (lists_end : (session : ℕ) (private : Bool) (p : Place) → IsListed lists session private p
     → concerns e session private ≡ true → HasNone (is_ended_by e) new p)
     (unlisted_ends : (p : Place) → unlisted ≡ Some p → HasNone (is_ended_by e) new p) where
@@ -378,23 +378,23 @@ module _ (e : Ending) (old new : Slab ObjectRow) (index : List Place) (lists : L
       by_case false f = f
       by_case true t =
           let of = ended_case e row row.session refl t in
-          let was = IsLeft-was (is_ended_by e) old new left key row is in
+          let was = LeavesOthers-was (is_ended_by e) old new left key row is in
           let p = place row.number key in
-          elim (sound.listed key row of.0 was of.1) [
+          elim (intact.listed key row of.0 was of.1) [
             | inl listed ↦
                 lists_end of.0 listed.0 p listed.1
-                (of.2 listed.0 (sound.own of.0 listed.0 p row listed.1
+                (of.2 listed.0 (intact.own of.0 listed.0 p row listed.1
                 (object_at-here old key row was)).mark) row at
             | inr last ↦ unlisted_ends p last row at
           ]
 
-  pub IsSound-closed : (lists' : List SessionList)
-      → lists' ≡ filter (is_kept e) lists → IsSound new index lists' unlisted creations
-  IsSound-closed lists' are =
+  pub IsIntact-closed : (lists' : List SessionList)
+      → lists' ≡ filter (is_kept e) lists → IsIntact new index lists' unlisted creations
+  IsIntact-closed lists' are =
       let fewer =
-      IsSound-fewer old new index lists unlisted creations sound
-      (IsLeft-was (is_ended_by e) old new left) in
-      IsSound-relisted new index lists lists' unlisted unlisted creations fewer
+      IsIntact-fewer old new index lists unlisted creations intact
+      (LeavesOthers-was (is_ended_by e) old new left) in
+      IsIntact-relisted new index lists lists' unlisted unlisted creations fewer
       (λ session private p row listed is.
       let at = object_at-Some new p row is in
       let own = fewer.own session private p row listed is in
@@ -426,26 +426,26 @@ module _ (e : Ending) (old new : Slab ObjectRow) (index : List Place) (lists : L
 -- objects of a test end, and the index drops the places of ended objects
 pub invariant-compacted : (test : ObjectRow → Bool) (old objects : Slab ObjectRow)
     (index index' : List Place) (lists : List SessionList) (unlisted : Option Place)
-    (creations : ℕ) (marks : List ℕ) → IsLeft test old objects
-    → IsSound objects index lists unlisted creations → creations < 2 ^ 32 → IsMarked old marks
+    (creations : ℕ) (marks : List ℕ) → LeavesOthers test old objects
+    → IsIntact objects index lists unlisted creations → creations < 2 ^ 32 → IsMarked old marks
     → (IsIndex objects index → IsIndex objects index')
     → ((p : Place) → Contains index' p → Contains index p)
     → (IsIndex objects index → IsShort objects index')
-    → IsSound objects index' lists unlisted creations × (creations < 2 ^ 32)
+    → IsIntact objects index' lists unlisted creations × (creations < 2 ^ 32)
     × IsMarked objects marks × IsShort objects index'
-invariant-compacted test old objects index index' lists unlisted creations marks left sound small
+invariant-compacted test old objects index index' lists unlisted creations marks left intact small
     marked is_index only short = (
       record {
-        indexed = is_index sound.indexed;
-        listed = sound.listed;
-        own = sound.own;
-        index_created = λ p there. sound.index_created p (only p there);
-        unlisted_created = sound.unlisted_created;
-        lists_created = sound.lists_created;
+        indexed = is_index intact.indexed;
+        listed = intact.listed;
+        own = intact.own;
+        index_created = λ p there. intact.index_created p (only p there);
+        unlisted_created = intact.unlisted_created;
+        lists_created = intact.lists_created;
       },
       small,
-      IsMarked-fewer old objects marks marked (IsLeft-was test old objects left),
-      short sound.indexed,
+      IsMarked-fewer old objects marks marked (LeavesOthers-was test old objects left),
+      short intact.indexed,
     )
 
 -- where there is room, no object is unlisted
@@ -499,27 +499,27 @@ with_key_state-session number state row =
 module _ (objects new : Slab ObjectRow) (number : ℕ) (attributes : List Item)
     (changed : IsChanged (with_attributes number attributes) objects new)
     (index : List Place) (lists : List SessionList) (unlisted : Option Place) (creations : ℕ)
-    (sound : IsSound objects index lists unlisted creations) where
-  pub IsSound-changed : ((key : ℕ) (row : ObjectRow) → get objects key ≡ Some row
+    (intact : IsIntact objects index lists unlisted creations) where
+  pub IsIntact-changed : ((key : ℕ) (row : ObjectRow) → get objects key ≡ Some row
       → has_number number row ≡ true → is_set attributes attribute.Private ≡ is_private_row row)
-      → IsSound new index lists unlisted creations
-  IsSound-changed same =
-      IsSound-was objects new index lists unlisted creations sound
+      → IsIntact new index lists unlisted creations
+  IsIntact-changed same =
+      IsIntact-was objects new index lists unlisted creations intact
       (changed-was (with_attributes number attributes) objects new changed
       (with_attributes-number number attributes) (with_attributes-session number attributes))
       (changed-marks (with_attributes number attributes) objects new changed
-      (with_attributes-number number attributes) index lists unlisted creations sound
+      (with_attributes-number number attributes) index lists unlisted creations intact
       (λ key row is. private_case (has_number number row) row attributes (same key row is)))
 
 -- ---- the newest object gets into its session's list
 
 -- one that is nobody's needs none
-pub IsSound-unowned : (objects : Slab ObjectRow) (index : List Place) (lists : List SessionList)
+pub IsIntact-unowned : (objects : Slab ObjectRow) (index : List Place) (lists : List SessionList)
     (creations : ℕ) (p : Place)
     → ((row : ObjectRow) → object_at objects p ≡ Some row → row.session ≡ None)
-    → IsSound objects index lists (Some p) creations → IsSound objects index lists None creations
-IsSound-unowned objects index lists creations p unowned sound =
-    IsSound-relisted objects index lists lists (Some p) None creations sound
+    → IsIntact objects index lists (Some p) creations → IsIntact objects index lists None creations
+IsIntact-unowned objects index lists creations p unowned intact =
+    IsIntact-relisted objects index lists lists (Some p) None creations intact
     (λ session private q row listed is. listed)
     (λ key row session is of_session last.
     let this : p ≡ place row.number key = same_Some p (place row.number key) last in
@@ -532,7 +532,7 @@ module _ (objects : Slab ObjectRow) (index : List Place) (lists lists' : List Se
     (creations : ℕ) (p : Place) (object : ObjectRow) (at : Some object ≡ object_at objects p)
     (session : ℕ) (of_session : Some session ≡ object.session)
     (private : Bool) (of_private : private ≡ is_private_row object)
-    (sound : IsSound objects index lists (Some p) creations)
+    (intact : IsIntact objects index lists (Some p) creations)
     (kept : (s : ℕ) (m : Bool) (q : Place) (row : ObjectRow) → IsListed lists s m q
     → object_at objects q ≡ Some row → IsListed lists' s m q)
     (only : (s : ℕ) (m : Bool) (q : Place) → IsListed lists' s m q
@@ -554,7 +554,7 @@ module _ (objects : Slab ObjectRow) (index : List Place) (lists lists' : List Se
     | inl before ↦ inl before
     | inr added ↦
         inr (
-          subst (λ (x : Place). x.number ≤ creations) (sym added.2) (sound.unlisted_created p refl),
+          subst (λ (x : Place). x.number ≤ creations) (sym added.2) (intact.unlisted_created p refl),
           λ row is.
               let here = ap (object_at objects) (sym added.2) ∙ is in
               record {
@@ -564,15 +564,15 @@ module _ (objects : Slab ObjectRow) (index : List Place) (lists lists' : List Se
         )
   ]
 
-  pub IsSound-tried : IsSound objects index lists' (Some p) creations
-  IsSound-tried =
-      IsSound-relisted objects index lists lists' (Some p) (Some p) creations sound kept
+  pub IsIntact-tried : IsIntact objects index lists' (Some p) creations
+  IsIntact-tried =
+      IsIntact-relisted objects index lists lists' (Some p) (Some p) creations intact kept
       (λ key row s is of_s last. inr last) only_own (λ q is. is)
 
-  pub IsSound-listed : IsListed lists' session private p
-      → IsSound objects index lists' None creations
-  IsSound-listed listed =
-      IsSound-relisted objects index lists lists' (Some p) None creations sound kept
+  pub IsIntact-listed : IsListed lists' session private p
+      → IsIntact objects index lists' None creations
+  IsIntact-listed listed =
+      IsIntact-relisted objects index lists lists' (Some p) None creations intact kept
       (λ key row s is of_s last.
       let this : p ≡ place row.number key = same_Some p (place row.number key) last in
       let same : session ≡ s =
