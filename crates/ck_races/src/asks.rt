@@ -34,6 +34,12 @@ const RUNS: u32 = 100;
 
 type AskingScript<K> = Script<K, Step, Answered>;
 
+/// Fails where something isn't as it must be.
+pub(crate) fn expect(holds: bool) -> anyhow::Result<()> {
+    ensure!(holds, "a reply, a status or a count is not what it must be");
+    Ok(())
+}
+
 /// Whether a question is answered by the reply that has this text.
 fn is_status(alloc: Global, status: &Option<Status>, wanted: &str) -> Result<bool, NoMemory> {
     Ok(match status {
@@ -48,11 +54,7 @@ pub(crate) fn check_status(
     status: &Option<Status>,
     wanted: &str,
 ) -> anyhow::Result<()> {
-    ensure!(
-        is_status(alloc, status, wanted)?,
-        "a question has another answer"
-    );
-    Ok(())
+    expect(is_status(alloc, status, wanted)?)
 }
 
 /// Asks, and checks that the answer has this text.
@@ -79,15 +81,10 @@ pub(crate) fn await_status<K: TokenId>(
     for _ in 0..MOST_ASKS {
         let status = caller.status(ask);
         if is_status(alloc, &status, later)? {
-            let is_next = caller.seen() == seen.saturating_add(1);
-            ensure!(is_next, "a caller doesn't know one entry more");
-            return Ok(());
+            return expect(caller.seen() == seen.saturating_add(1));
         }
         check_status(alloc, &status, earlier)?;
-        ensure!(
-            caller.seen() == seen,
-            "a caller knows more or fewer entries than at first"
-        );
+        expect(caller.seen() == seen)?;
     }
     bail!("a call of another caller isn't seen");
 }
@@ -101,11 +98,7 @@ fn check_before<K: TokenId>(
     check_ask(alloc, caller, Ask::Token, state)?;
     check_ask(alloc, caller, Ask::Session(1), "b3")?;
     let status = caller.status(Ask::Mechanisms);
-    ensure!(
-        matches!(status, Some(Status::Mechanisms(types)) if types == mechanism_types()),
-        "the mechanisms aren't those of the token",
-    );
-    Ok(())
+    expect(matches!(status, Some(Status::Mechanisms(types)) if types == mechanism_types()))
 }
 
 /// The login of the user.
@@ -128,11 +121,11 @@ fn check_script<K: TokenId>(alloc: Global, script: &AskingScript<K>) -> anyhow::
     for answer in script.replies() {
         match answer {
             Answered::Reply { seen, .. } => {
-                ensure!(known < *seen, "a caller knows no more after its call");
+                expect(known < *seen)?;
                 known = *seen;
             }
             Answered::Status { status, seen } => {
-                ensure!(known <= *seen, "a caller knows less than before");
+                expect(known <= *seen)?;
                 check_status(alloc, status, state_after(*seen))?;
                 known = *seen;
                 answered = answered.saturating_add(1);
@@ -159,10 +152,7 @@ fn check_learnt<K: TokenId>(
 ) -> anyhow::Result<()> {
     let caller = caller_at(callers, 1)?;
     caller.learn(news);
-    ensure!(
-        caller.seen() == entries && caller.count() == 0,
-        "a caller that learns doesn't know these entries, or has made a call",
-    );
+    expect(caller.seen() == entries && caller.count() == 0)?;
     check_ask(alloc, caller, Ask::Session(1), state_after(entries))
 }
 
@@ -189,11 +179,7 @@ fn await_login<K: TokenId>(alloc: Global, caller: &mut Caller<K>) -> anyhow::Res
         )?;
     }
     check_ask(alloc, caller, Ask::Session(1), state_after(WITH_LOGIN))?;
-    ensure!(
-        caller.seen() == WITH_LOGIN && caller.count() == 0,
-        "a caller that asks doesn't know of the login, or has made a call",
-    );
-    Ok(())
+    expect(caller.seen() == WITH_LOGIN && caller.count() == 0)
 }
 
 /// A caller sees that the user is logged in, and what is older takes nothing from it. It has made
@@ -206,11 +192,7 @@ fn check_older<K: TokenId>(
     let count = caller.count();
     check_ask(alloc, caller, Ask::Session(1), state_after(WITH_LOGIN))?;
     caller.learn(older);
-    ensure!(
-        caller.seen() == WITH_LOGIN && caller.count() == count,
-        "older news takes something from a caller",
-    );
-    Ok(())
+    expect(caller.seen() == WITH_LOGIN && caller.count() == count)
 }
 
 /// The second caller sees the login, and then learns of it. All callers know it then.
@@ -221,10 +203,7 @@ fn check_after<K: TokenId>(
 ) -> anyhow::Result<()> {
     await_login(alloc, caller_at(callers, 1)?)?;
     check_learning(alloc, callers, WITH_LOGIN)?;
-    ensure!(
-        caller_at(callers, 0)?.count() == WITH_LOGIN,
-        "the first caller hasn't made as many calls as there are entries",
-    );
+    expect(caller_at(callers, 0)?.count() == WITH_LOGIN)?;
     for caller in callers {
         check_older(alloc, caller, older)?;
     }
@@ -271,8 +250,7 @@ impl<'a, K: TokenId, R: Runtime> Shared<'a, K, R> {
     /// A caller makes a call, which is answered CKR_OK.
     pub(crate) fn make_call(&self, caller: &mut Caller<K>, call: Call) -> anyhow::Result<()> {
         let reply = self.call(caller, call)?;
-        ensure!(reply.rv == Rv::Ok, "a call is refused");
-        Ok(())
+        expect(reply.rv == Rv::Ok)
     }
 
     /// A caller initializes the token and opens session 1, which it then sees.
@@ -296,10 +274,7 @@ impl<'a, K: TokenId, R: Runtime> Shared<'a, K, R> {
         self.make_call(caller, Call::Logout { session })?;
         self.make_call(caller, user_login())?;
         self.make_call(caller, Call::Logout { session })?;
-        ensure!(
-            caller.seen() == FIRST && caller.count() == FIRST,
-            "the first caller doesn't know the first calls, or doesn't count them",
-        );
+        expect(caller.seen() == FIRST && caller.count() == FIRST)?;
         check_ask(self.rt.alloc(), caller, Ask::Token, "0 40c 64 1 1")
     }
 
@@ -327,11 +302,7 @@ impl<'a, K: TokenId, R: Runtime> Shared<'a, K, R> {
         self.make_call(caller_at(callers, 0)?, user_login())?;
         let second = caller_at(callers, 1)?;
         await_status(alloc, second, ask, public, user)?;
-        ensure!(
-            second.seen() == ALL && second.count() == 1,
-            "the second caller doesn't know all entries, or hasn't made one call",
-        );
-        Ok(())
+        expect(second.seen() == ALL && second.count() == 1)
     }
 
     /// One caller logs in while another asks. Before the first call this is answered about the
@@ -366,7 +337,7 @@ fn run_once<R: Runtime>(rt: R, callers: u32, token: Token, state: &str) -> anyho
     let alloc = rt.alloc();
     let work = SharedWork::LoginAndAsks(state);
     let (token, outcome) = share_with(rt, token, callers, &work)?;
-    ensure!(token.journal().len() == ALL, "not an entry for each call");
+    expect(token.journal().len() == ALL)?;
     check_audit(alloc, &token)?;
     Ok(outcome.answered)
 }

@@ -1,8 +1,9 @@
 //! A long message that is taken in before its call counts, although another caller has made a call
 //! since: its bytes aren't taken in once more under the lock.
+use crate::asks::expect;
 use crate::journals::check_audit;
 use crate::shared_work::{Shared, SharedWork, share_timed};
-use anyhow::{Context, bail, ensure};
+use anyhow::{Context, bail};
 use ck_shared::{Caller, Runtime, TokenId};
 use ck_token::{Bytes, Call, Limits, Mechanism, Pin, READ_WRITE, Rv, SHA256, Token};
 use std::alloc::Global;
@@ -50,11 +51,7 @@ impl<'a, K: TokenId, R: Runtime> Shared<'a, K, R> {
         let reply = self
             .token
             .call_after(self.rt, alloc, caller, call, message)?;
-        ensure!(
-            reply.rv == Rv::Ok,
-            "a call behind one of another caller is refused"
-        );
-        Ok(())
+        expect(reply.rv == Rv::Ok)
     }
 
     /// The first of two callers makes the calls with the messages, each after a call of the other.

@@ -1,9 +1,9 @@
 //! A caller makes calls under one lock, while another is answered without it. Then both callers are
 //! lost, and the token is taken back without them.
-use crate::asks::check_ask;
+use crate::asks::{check_ask, expect};
 use crate::journals::check_audit;
 use crate::shared_work::{Shared, SharedWork, share_with};
-use anyhow::{Context, ensure};
+use anyhow::Context;
 use ck_shared::{Ask, Caller, Runtime, TokenId};
 use ck_token::{Call, Limits, Pin, READ_WRITE, Token};
 
@@ -24,10 +24,7 @@ impl<'a, K: TokenId, R: Runtime> Shared<'a, K, R> {
         locked.step(rt, alloc, caller, Call::InitToken { pin })?;
         locked.step(rt, alloc, caller, Call::OpenSession { flags })?;
         locked.step(rt, alloc, caller, Call::OpenSession { flags })?;
-        ensure!(
-            locked.token().journal().len() == LOCKED,
-            "not an entry for each call under the lock",
-        );
+        expect(locked.token().journal().len() == LOCKED)?;
         check_ask(alloc, other, Ask::Token, "0 404 64 2 2")
     }
 
@@ -37,10 +34,7 @@ impl<'a, K: TokenId, R: Runtime> Shared<'a, K, R> {
         let caller = callers.first_mut().context("a caller is missing")?;
         self.open_under_lock(caller, &mut other)?;
         self.call(&mut other, Call::CloseAllSessions)?;
-        ensure!(
-            caller.count() == LOCKED && other.count() == 1 && other.seen() == ALL,
-            "a caller doesn't count its calls, or doesn't know all entries",
-        );
+        expect(caller.count() == LOCKED && other.count() == 1 && other.seen() == ALL)?;
         callers.push(other)?;
         Ok(())
     }
@@ -52,14 +46,13 @@ pub(crate) fn run_locked_calls<R: Runtime>(rt: R) -> anyhow::Result<u64> {
     let alloc = rt.alloc();
     let token = Token::new(alloc, Limits::largest());
     let (token, _outcome) = share_with(rt, token, 2, &SharedWork::CallsUnderLock)?;
-    ensure!(token.journal().len() == ALL, "not an entry for each call");
-    ensure!(
+    expect(token.journal().len() == ALL)?;
+    expect(
         token
             .journal()
             .iter()
             .map(|entry| entry.caller)
             .eq([1, 1, 1, 2]),
-        "the entries aren't in the order in which the callers had the lock",
-    );
+    )?;
     check_audit(alloc, &token)
 }
