@@ -60,7 +60,7 @@ MOST_SLEEPS = 20_000
 # turn there would be two, and for a moment one that has just ended. And how often this is tried at
 # most, since other work of the machine can hold up some of them until others have ended.
 LEAST_THREADS = 5
-TRIES = 6
+TRIES = 3
 
 # Two callers: the first makes six calls, the second two.
 TWO_CALLERS = FIRST_CALLS + b"2 CloseSession 1\n2 CloseSession 1\n"
@@ -215,7 +215,7 @@ ENDS = [PLAYED, bad_script(2, b""), bad_arguments(b""), READ_FAULT, WRITE_FAULT,
 REASONS = [TOO_LONG, CALLER_ABOVE_2, *(reason for _, reason in BAD_LINES)]
 
 # The seconds in which a reply comes.
-SECONDS_OF_REPLY = 60
+SECONDS_OF_REPLY = 10
 
 # The seconds of work in which a line is judged, however long it is.
 SOON = 2

@@ -59,7 +59,7 @@ RANDOM_OF_SEVEN = ("d70d3259e4e1cb631c663cf4d73c4c04022ab1ba804098e6"
 TRIES_OF_MEMORY = 3
 
 # The most seconds in which a process ends by itself while its C_Initialize waits in another thread.
-SECONDS_OF_EXIT = 60
+SECONDS_OF_EXIT = 20
 
 # Users that need not have a name.
 OWNER, OTHER_USER = 1, 2

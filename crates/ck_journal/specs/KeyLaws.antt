@@ -1,5 +1,5 @@
 -- What is so in every history that is legal from a sound base: laws of what keys reveal, of their
--- states (NIST SP 800-57 Part 1 Rev. 5, Key states and transitions) and of copies
+-- states (NIST SP 800-57 Part 1 Revision 5, Key states and transitions) and of copies
 use Rattle.std.specs.Prelude.{◌≡◌, ℕ, suc, Bool, true, false, List, Option, Some, ◌==◌}
 use Rattle.std.specs.List.{slice_get}
 use Rattle.ck_objects.specs.Attributes.{type_of}

@@ -1,5 +1,5 @@
--- The states of a key (NIST SP 800-57 Part 1 Rev. 5, Key states and transitions). The numbers and
--- the table of transitions are this token's.
+-- The states of a key (NIST SP 800-57 Part 1 Revision 5, Key states and transitions). The numbers
+-- and the table of transitions are this token's.
 use Rattle.std.specs.Prelude.{ℕ, Bool, true, false, List, [], ◌∷◌, Option, ◌==◌, find}
 use Rattle.std.specs.List.{list_any}
 use Rattle.ck_objects.specs.declared.key_states.KeyState.{KeyState}
