@@ -27,7 +27,7 @@ impl RunningTag {
     }
 
     /// The length of the tag in bytes. It is the same for every message.
-    pub fn len(&self) -> u64
+    pub fn tag_len(&self) -> u64
         ensures { (computation : Computation) (message : List ℕ)
             → HoldsTag computation self.now message → result ≡ tag_size computation }
     {

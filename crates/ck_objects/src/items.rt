@@ -21,7 +21,7 @@ use crate::attribute_values::AttributeValue;
 use crate::attributes::{Attribute, Class, Purpose};
 use crate::forms::{SECRET_KEY, is_number};
 use crate::key_states::KeyState;
-use ck_types::{NoMemory, RvError, error_if, number_of};
+use ck_types::{NoMemory, RvError, error_if, number_from_bytes};
 use std::alloc::Global;
 use std::mem;
 
@@ -166,7 +166,7 @@ pub(crate) fn number_at(items: &[Item], attribute: Attribute) -> Option<u64>
     ensures bytes { IfSome result (λ number.
         value_at items.now (type_of attribute) ≡ Some (number_bytes number)) }
 {
-    number_of(value_at(items, attribute.number())?.as_slice())
+    number_from_bytes(value_at(items, attribute.number())?.as_slice())
 }
 
 /// The key state that the items give, else `other`. In well-formed items it is pre-activation (0)

@@ -1,7 +1,7 @@
 ghost use Rattle.std.specs.Prelude.{◌≡◌, Some, IfSome};
 
-/// The state of a key (NIST SP 800-57 Part 1 Revision 5, Key states and transitions), with the number
-/// that this token gives it.
+/// The state of a key (NIST SP 800-57 Part 1 Revision 5, Key states and transitions), with the
+/// number that this token gives it.
 #[derive(Clone, Copy, Debug, PartialEq, Eq)]
 pub enum KeyState {
     PreActivation = 0,

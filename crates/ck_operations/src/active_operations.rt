@@ -100,15 +100,15 @@ impl Operation {
     }
 
     /// How many bytes its tag has.
-    pub fn len(&self) -> u64
+    pub fn tag_len(&self) -> u64
         ensures { (computation : Computation) (message : List ℕ)
             → HoldsMessage computation self.now message → result ≡ tag_size computation }
     {
-        self.running.len()
+        self.running.tag_len()
     }
 
     /// The tag of the message so far: its digest (FIPS 180-4), or the first bytes of its HMAC (FIPS
-    /// 198-1), as many as `len` says.
+    /// 198-1), as many as `tag_len` says.
     pub fn tag(&self) -> Tag
         ensures { (computation : Computation) (message : List ℕ)
             → HoldsMessage computation self.now message → result ≡ tag_of computation message }

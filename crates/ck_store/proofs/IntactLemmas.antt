@@ -554,7 +554,8 @@ module _ (objects : Slab ObjectRow) (index : List Place) (lists lists' : List Se
     | inl before ↦ inl before
     | inr added ↦
         inr (
-          subst (λ (x : Place). x.number ≤ creations) (sym added.2) (intact.unlisted_created p refl),
+          subst (λ (x : Place). x.number ≤ creations) (sym added.2)
+            (intact.unlisted_created p refl),
           λ row is.
               let here = ap (object_at objects) (sym added.2) ∙ is in
               record {

@@ -52,5 +52,5 @@ pub use ck_types::{
     Bytes, GENERIC_SECRET_KEY_GEN, Hash, Limits, MOST_SESSIONS, Mechanism, NoMemory, Pin, Rv,
     RvError, SHA224, SHA224_HMAC, SHA224_HMAC_GENERAL, SHA256, SHA256_HMAC, SHA256_HMAC_GENERAL,
     SHA384, SHA384_HMAC, SHA384_HMAC_GENERAL, SHA512, SHA512_HMAC, SHA512_HMAC_GENERAL, Sequence,
-    SessionState, TokenFlags, UserType, digest_of, mac_of, mechanism_types, number_of,
+    SessionState, TokenFlags, UserType, digest_of, mac_of, mechanism_types,
 };

@@ -1,5 +1,5 @@
-//! Return codes, mechanisms, hash functions, users, PINs, flags and limits of a PKCS #11 token, and
-//! the lists of bytes and of other items that all crates use.
+//! The plain values of which the calls of a PKCS #11 token are made, on which all other crates
+//! stand: return codes, mechanisms, users, PINs, flags, limits, and lists.
 #![tactic(auto)]
 
 mod checks;
@@ -30,8 +30,8 @@ pub use mechanisms::{
     MECHANISM_COUNT, Mechanism, digest_of, is_key_generator, mac_of, mechanism_types,
 };
 pub use memory::NoMemory;
-pub use numbers::number_of;
-pub use pins::Pin;
+pub use numbers::number_from_bytes;
+pub use pins::{MOST_TRIES, Pin};
 pub use return_codes::Rv;
 pub use sequences::{Bytes, Sequence};
 pub use token_flags::TokenFlags;

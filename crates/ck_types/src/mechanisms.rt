@@ -9,7 +9,7 @@ use crate::mechanism_numbers::{
     SHA512_HMAC_GENERAL,
 };
 use crate::memory::NoMemory;
-use crate::numbers::number_of;
+use crate::numbers::number_from_bytes;
 use crate::sequences::Bytes;
 use std::alloc::Global;
 
@@ -69,7 +69,7 @@ impl Mechanism {
 fn given_tag_length(hash: Hash, parameter: &[u8]) -> Option<u64>
     ensures { result ≡ given_tag_length hash parameter.now }
 {
-    let length = number_of(parameter)?;
+    let length = number_from_bytes(parameter)?;
     (1..=hash.len()).contains(&length).then_some(length)
 }
 
@@ -118,7 +118,8 @@ fn algorithm_of(kind: u64) -> Option<Algorithm>
     MECHANISMS.iter().find(|row| row.0 == kind).map(|row| row.1)
 }
 
-/// The hash function of the mechanism of this type, where it computes a digest; else `None`.
+/// The hash function of the mechanism of this type, where it computes a digest (PKCS #11 Current
+/// Mechanisms 3.0, SHA-224 to SHA-512); else `None`.
 pub fn digest_of(kind: u64) -> Option<Hash>
     ensures { result ≡ digest_hash kind }
 {
@@ -129,7 +130,7 @@ pub fn digest_of(kind: u64) -> Option<Hash>
 }
 
 /// The hash function of the mechanism of this type, where it computes an HMAC, whole or its first
-/// bytes; else `None`.
+/// bytes (PKCS #11 Current Mechanisms 3.0, SHA-224 to SHA-512); else `None`.
 pub fn mac_of(kind: u64) -> Option<Hash>
     ensures { result ≡ hmac_hash kind }
 {
@@ -139,7 +140,8 @@ pub fn mac_of(kind: u64) -> Option<Hash>
     }
 }
 
-/// Whether the mechanism of this type generates keys.
+/// Whether the mechanism of this type generates keys (PKCS #11 Current Mechanisms 3.0, Generic
+/// secret key).
 pub fn is_key_generator(kind: u64) -> bool
     ensures { result ≡ is_key_generator kind }
 {

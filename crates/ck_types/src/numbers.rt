@@ -4,7 +4,7 @@ ghost use Rattle.ck_types.specs.Numbers.{number_bytes};
 
 /// The number that 8 bytes stand for, the least significant first (CK_ULONG), or `None` for fewer
 /// or more bytes.
-pub fn number_of(bytes: &[u8]) -> Option<u64>
+pub fn number_from_bytes(bytes: &[u8]) -> Option<u64>
     ensures number { result
         ≡ (if length bytes.now == 8 then Some (from_le_bytes w64 bytes.now) else None) }
     ensures bytes { IfSome result (λ number. number_bytes number ≡ bytes.now) }

@@ -9,10 +9,13 @@ const SHORTEST_PIN: u64 = 4;
 /// The length in bytes of the longest PIN that may be set.
 const LONGEST_PIN: u64 = 64;
 
+/// How many wrong tries lock a PIN. The standard leaves the number to the token.
+pub const MOST_TRIES: u64 = 3;
+
 /// What the token keeps of a PIN: its length and its SHA-256 digest (FIPS 180-4). Two PINs count as
-/// the same where both are equal. `==` may stop at the first difference; the token compares by
-/// `matches`.
-#[derive(Clone, Copy, PartialEq, Eq)]
+/// the same where both are equal, as `matches` says. There is no `==`, since it would stop at the
+/// first difference.
+#[derive(Clone, Copy)]
 pub struct Pin {
     /// The length of the PIN in bytes.
     pub len: u64,

@@ -1,6 +1,7 @@
 ghost use Rattle.std.specs.Prelude.{◌≡◌, ⊤, ◌∷◌, [], codes};
 ghost use Rattle.ck_types.specs.TokenFlagBits.{token_flags, with_flag};
 
+use crate::pins::MOST_TRIES;
 use bitflags::{Flag, Flags, bitflag_items};
 
 /// The flags that C_GetTokenInfo gives (CK_TOKEN_INFO; PKCS #11 Base 3.0, Slot and token types).
@@ -64,11 +65,11 @@ impl TokenFlags {
             .with(has_user_pin, TokenFlags::USER_PIN_INITIALIZED)
             .with(is_initialized, TokenFlags::TOKEN_INITIALIZED)
             .with(user_tries >= 1, TokenFlags::USER_PIN_COUNT_LOW)
-            .with(user_tries == 2, TokenFlags::USER_PIN_FINAL_TRY)
-            .with(user_tries == 3, TokenFlags::USER_PIN_LOCKED)
+            .with(user_tries == MOST_TRIES - 1, TokenFlags::USER_PIN_FINAL_TRY)
+            .with(user_tries == MOST_TRIES, TokenFlags::USER_PIN_LOCKED)
             .with(so_tries >= 1, TokenFlags::SO_PIN_COUNT_LOW)
-            .with(so_tries == 2, TokenFlags::SO_PIN_FINAL_TRY)
-            .with(so_tries == 3, TokenFlags::SO_PIN_LOCKED)
+            .with(so_tries == MOST_TRIES - 1, TokenFlags::SO_PIN_FINAL_TRY)
+            .with(so_tries == MOST_TRIES, TokenFlags::SO_PIN_LOCKED)
     }
 
     /// The flags as one number (CK_FLAGS).

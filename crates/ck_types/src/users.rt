@@ -5,9 +5,9 @@ ghost use Rattle.ck_types.specs.Users.{user_of, user_number, session_state_numbe
 #[derive(Clone, Copy, Debug, PartialEq, Eq)]
 pub enum UserType {
     /// The security officer (CKU_SO).
-    So,
+    So = 0,
     /// The normal user (CKU_USER).
-    User,
+    User = 1,
 }
 
 impl UserType {
@@ -28,10 +28,7 @@ impl UserType {
         ensures number { result ≡ user_number self }
         ensures user { user_of result ≡ Some self }
     {
-        match self {
-            UserType::So => 0,
-            UserType::User => 1,
-        }
+        self as u64
     }
 }
 
@@ -39,11 +36,16 @@ impl UserType {
 /// and who is logged in.
 #[derive(Clone, Copy, Debug, PartialEq, Eq)]
 pub enum SessionState {
-    RoPublic,
-    RoUser,
-    RwPublic,
-    RwUser,
-    RwSo,
+    /// CKS_RO_PUBLIC_SESSION.
+    RoPublic = 0,
+    /// CKS_RO_USER_FUNCTIONS.
+    RoUser = 1,
+    /// CKS_RW_PUBLIC_SESSION.
+    RwPublic = 2,
+    /// CKS_RW_USER_FUNCTIONS.
+    RwUser = 3,
+    /// CKS_RW_SO_FUNCTIONS.
+    RwSo = 4,
 }
 
 impl SessionState {
@@ -51,12 +53,6 @@ impl SessionState {
     pub fn number(self) -> u64
         ensures { result ≡ session_state_number self }
     {
-        match self {
-            SessionState::RoPublic => 0,
-            SessionState::RoUser => 1,
-            SessionState::RwPublic => 2,
-            SessionState::RwUser => 3,
-            SessionState::RwSo => 4,
-        }
+        self as u64
     }
 }

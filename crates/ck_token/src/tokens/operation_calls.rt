@@ -21,8 +21,8 @@ use ck_parts::Change;
 use ck_types::{Bytes, Mechanism, NoMemory, Rv, RvError, digest_of, error_if, mac_of};
 use std::alloc::Global;
 
-/// The change of a reply that may end the session's operation. Where `ends` is false it stays.
-fn operation_end(kind: OperationKind, session: u64, ends: bool) -> Change
+/// The change of a reply to a message. Where `ends` is false the operation stays.
+fn finish_operation(kind: OperationKind, session: u64, ends: bool) -> Change
     ensures { result ≡ change.FinishOperation kind session ends }
 {
     Change::FinishOperation {
@@ -53,7 +53,7 @@ fn length_decision(
     Some(Decision {
         rv,
         body: Body::Length(len),
-        change: operation_end(kind, session, false),
+        change: finish_operation(kind, session, false),
     })
 }
 
@@ -74,7 +74,7 @@ fn bytes_decision(
     Ok(Decision {
         rv: Rv::Ok,
         body: Body::Bytes(bytes),
-        change: operation_end(kind, session, true),
+        change: finish_operation(kind, session, true),
     })
 }
 
@@ -84,7 +84,7 @@ fn ending_refusal(kind: OperationKind, session: u64, error: RvError) -> Refused
 {
     Refused::Error {
         error,
-        change: operation_end(kind, session, true),
+        change: finish_operation(kind, session, true),
     }
 }
 
@@ -325,7 +325,7 @@ impl Token {
             Err(error) => return Err(ending_refusal(kind, session, error)),
             Ok(operation) => operation,
         };
-        if let Some(length) = length_decision(kind, session, operation.len(), room) {
+        if let Some(length) = length_decision(kind, session, operation.tag_len(), room) {
             return Ok(length);
         }
         let tag = operation.tag_with(bytes, ready);
@@ -372,7 +372,7 @@ impl Token {
             Err(error) => return Err(ending_refusal(kind, session, error)),
             Ok(operation) => operation,
         };
-        if let Some(length) = length_decision(kind, session, operation.len(), room) {
+        if let Some(length) = length_decision(kind, session, operation.tag_len(), room) {
             return Ok(length);
         }
         Ok(bytes_decision(alloc, kind, session, &operation.tag())?)
@@ -424,7 +424,7 @@ impl Token {
     {
         match self.check_verify(session, bytes, signature, ready) {
             Err(error) => Err(ending_refusal(OperationKind::Verify, session, error)),
-            Ok(()) => Ok(Decision::of_change(operation_end(OperationKind::Verify, session, true))),
+            Ok(()) => Ok(Decision::of_change(finish_operation(OperationKind::Verify, session, true))),
         }
     }
 
@@ -437,7 +437,7 @@ impl Token {
     {
         match self.check_verify_final(session, signature) {
             Err(error) => Err(ending_refusal(OperationKind::Verify, session, error)),
-            Ok(()) => Ok(Decision::of_change(operation_end(OperationKind::Verify, session, true))),
+            Ok(()) => Ok(Decision::of_change(finish_operation(OperationKind::Verify, session, true))),
         }
     }
 }

@@ -9,10 +9,7 @@ use super::Token;
 use crate::decisions::{Decision, Refused};
 use ck_parts::Change;
 use ck_sessions::Credential;
-use ck_types::{Pin, RvError, SessionState, UserType, error_if};
-
-/// How many wrong tries lock a user.
-const MOST_TRIES: u64 = 3;
+use ck_types::{MOST_TRIES, Pin, RvError, SessionState, UserType, error_if};
 
 /// Whether the given PIN is the known one. Where none is known it isn't.
 fn is_pin(known: Option<Pin>, given: Pin) -> bool

@@ -12,7 +12,7 @@ fn takes_long_message(call: &Call, operation: &Operation) -> bool {
     }
     match call {
         Call::Digest { room, .. } | Call::Sign { room, .. } => {
-            room.is_some_and(|room| operation.len() <= room) && !operation.is_updated()
+            room.is_some_and(|room| operation.tag_len() <= room) && !operation.is_updated()
         }
         Call::Verify { .. } => !operation.is_updated(),
         _ => true,

@@ -7,27 +7,27 @@ use Rattle.ck_parts.specs.Changes.{finish_change}
 use Rattle.ck_token.proofs.DecisionLemmas.{gives-bytes, memory-decided, room-given}
 use Rattle.ck_token.proofs.DecisionLemmas.{refusing-decided, message-ends}
 use Rattle.ck_token.proofs.ComputedLemmas.{tag-length, single_part-tag}
-use Rattle.ck_token.proofs.tokens.Token.finish_single_part.Goals.{After-len}
+use Rattle.ck_token.proofs.tokens.Token.finish_single_part.Goals.{After-tag_len}
 use Rattle.ck_token.proofs.tokens.Token.finish_single_part.Goals as goal
 
 -- the tag of the bytes, which is as long as the operation says
-abbrev tag : After-len → List ℕ
+abbrev tag : After-tag_len → List ℕ
 tag c = tag_in c.args.kind c.args.self.now.history c.args.session c.args.bytes.now
 
-len : (c : After-len) → length (tag c) ≡ c.len.result
+len : (c : After-tag_len) → length (tag c) ≡ c.tag_len.result
 len c =
     tag-length c.args.kind c.args.self.now.history c.args.session _ c.in-Ok.ensures.agrees _ _
-    c.len.ensures
+    c.tag_len.ensures
 
 pub returns-in-Some : goal.returns-in-Some
 returns-in-Some c =
-    let p = (goal.at.returns-in-Some c).After-len in
+    let p = (goal.at.returns-in-Some c).After-tag_len in
     let given = c.in-Some.ensures (tag p) (len p) in
     (c.in-Ok.ensures.passes, sym given.0, given.1)
 
 pub returns : goal.returns
 returns c =
-    let p = (goal.at.returns c).After-len in
+    let p = (goal.at.returns c).After-tag_len in
     let given =
     gives-bytes c.args.kind c.args.session _ _ _ _ c.in_ok-bytes_decision.ensures
     (c.in_default.ensures (tag p) (len p))
@@ -39,7 +39,7 @@ pub returns-in_err-bytes_decision : goal.returns-in_err-bytes_decision
 returns-in_err-bytes_decision c =
     let k = c.args.kind in
     let session = c.args.session in
-    let p = (goal.at.returns-in_err-bytes_decision c).After-len in
+    let p = (goal.at.returns-in_err-bytes_decision c).After-tag_len in
     memory-decided (message_error k c.args.self.now.history session c.args.bytes.now)
     (bytes_reply c.args.room (tag p)) (λ b. finish_change k session rv.Ok b)
     (λ code. finish_change k session (rv.Error code) body.Empty) (is_some c.args.room) _

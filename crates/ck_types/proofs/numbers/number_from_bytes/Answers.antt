@@ -1,7 +1,7 @@
 use Rattle.std.proofs.Common.{◌≡◌, rules, arith, length}
 use Rattle.std.proofs.lemmas.Nat.{le_bytes_8}
 use Rattle.std.specs.Int.{w64, from_le_bytes}
-use Rattle.ck_types.proofs.numbers.number_of.Goals as goal
+use Rattle.ck_types.proofs.numbers.number_from_bytes.Goals as goal
 
 -- the bytes that a number is read from are its bytes
 pub returns-clause-bytes : goal.returns-clause-bytes
